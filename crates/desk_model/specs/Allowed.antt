@@ -1,0 +1,44 @@
+-- Which entry may follow, by the tables at its moment.
+use Rattle.std.specs.Prelude.{ℕ, ◌+◌, List, [], ◌∷◌, length, Bool, true, false, ◌&&◌, ◌||◌, ◌==◌, Option, Some, None, is_some, is_none, find, bytes_eq, map}
+use Rattle.std.specs.List.{list_any, list_all}
+use Rattle.desk_model.specs.Lookup.{holds}
+use Rattle.desk_model.specs.Entry.{Entry, made, issued, spent, opened, contacts_changed, account_ended, ordered, answered, reported, authorization_ended, finalized, certified, failed}
+use Rattle.desk_model.specs.Contact.{contacts_pass}
+use Rattle.desk_model.specs.Account.{is_valid as is_valid_account}
+use Rattle.desk_model.specs.Authorization.{is_pending, is_valid}
+use Rattle.desk_model.specs.Order.{is_ready, is_processing}
+use Rattle.desk_model.specs.Legal.{is_pending_challenge, is_processing_challenge, has_length, all_different, is_wanted, wanted_name, is_problem}
+use Rattle.desk_model.specs.Tables.{Tables, AccountRow, AuthorizationRow, ChallengeRow, OrderRow}
+use Rattle.desk_model.specs.Effect.{has_row}
+use Rattle.desk_model.specs.declared.status.ChallengeStatus.{ChallengeStatus}
+
+abbrev pub account_on : Tables → ℕ → Option AccountRow
+account_on T n = find (λ a. a.number == n) T.accounts
+
+abbrev pub order_on : Tables → ℕ → Option OrderRow
+order_on T n = find (λ o. o.number == n) T.orders
+
+abbrev pub authorization_on : Tables → ℕ → Option AuthorizationRow
+authorization_on T n = find (λ a. a.number == n) T.authorizations
+
+abbrev pub owner_on : Tables → ℕ → Option AuthorizationRow
+owner_on T n = find (has_row n) T.authorizations
+
+-- the challenge stands, passes, and its authorization is pending
+abbrev pub challenge_passes : (ChallengeStatus → Bool) → Tables → ℕ → Bool
+challenge_passes test T n = holds (λ a. is_pending a.status && holds (λ c. test c.status) (find (λ c. n == c.number) a.challenges)) (owner_on T n)
+
+abbrev pub may_on : Tables → Entry → Bool
+may_on T (made terms) = false
+may_on T (issued random) = length random == 16
+may_on T (spent serial) = is_some (find (λ n. n.serial == serial) T.nonces)
+may_on T (opened key contacts) = is_none (find (λ a. bytes_eq a.key key) T.accounts) && contacts_pass contacts
+may_on T (contacts_changed n contacts) = holds (λ a. is_valid_account a.status) (account_on T n) && contacts_pass contacts
+may_on T (account_ended n ending) = holds (λ a. is_valid_account a.status) (account_on T n)
+may_on T (ordered n wanted) = holds (λ a. is_valid_account a.status) (account_on T n) && (has_length 1 50 wanted && (all_different (map wanted_name wanted) && list_all is_wanted wanted))
+may_on T (answered n) = challenge_passes is_pending_challenge T n
+may_on T (reported n outcome) = challenge_passes is_processing_challenge T n
+may_on T (authorization_ended n ending) = holds (λ a. is_pending a.status || is_valid a.status) (authorization_on T n)
+may_on T (finalized n csr) = holds (λ o. is_ready o.status) (order_on T n) && has_length 1 8192 csr
+may_on T (certified n certificate) = holds (λ o. is_processing o.status) (order_on T n) && has_length 1 65536 certificate
+may_on T (failed n problem) = holds (λ o. is_processing o.status) (order_on T n) && is_problem problem

@@ -1,0 +1,89 @@
+-- What is recorded, as data: rows that are put and nonces that are removed.
+use Rattle.std.specs.Prelude.{ℕ, ◌+◌, List, [], ◌∷◌, ◌++◌, length, map, Bool, true, false, not, cond, ◌&&◌, ◌||◌, ◌==◌, nat_lt, nat_le}
+use Rattle.std.specs.List.{filter, list_any}
+use Rattle.desk_model.specs.Entry.{Entry, spent}
+use Rattle.desk_model.specs.History.{terms_after}
+use Rattle.desk_model.specs.Nonce.{Nonce, issued_by}
+use Rattle.desk_model.specs.Account.{opened_by}
+use Rattle.desk_model.specs.Authorization.{count_challenges}
+use Rattle.desk_model.specs.Order.{ordered_by}
+use Rattle.desk_model.specs.Tables.{Meta, AccountRow, AuthorizationRow, OrderRow, Tables}
+use Rattle.desk_model.specs.Derived.{restated_authorization, restated_order}
+pub use Rattle.desk_model.specs.declared.rows.Change.{Change}
+pub use Rattle.desk_model.specs.declared.rows.Change.TheVariants.{PutMeta, PutNonce, RemoveNonce, PutAccount, PutAuthorization, PutOrder}
+use Rattle.desk_model.specs.Effect.{noted_account, noted_authorization, noted_order, touches_account, touches_authorization, touches_order, fresh_account, fresh_authorization, fresh_order, new_authorizations, authorizations_after, lasts, is_overdue, falls, effect}
+use Rattle.desk_model.specs.declared.status.OrderStatus.{OrderStatus}
+use Rattle.desk_model.specs.declared.status.OrderStatus.TheVariants as order
+use Rattle.desk_model.specs.declared.status.AuthzStatus.{AuthzStatus}
+use Rattle.desk_model.specs.declared.status.AuthzStatus.TheVariants as authz
+
+-- the rows with this one in its place by number
+abbrev pub put : {X : Type 0} → (X → ℕ) → X → List X → List X
+put number x [] = x ∷ []
+put number x (y ∷ ys) = cond (number x == number y) (x ∷ ys) (cond (nat_lt (number x) (number y)) (x ∷ y ∷ ys) (y ∷ put number x ys))
+
+abbrev pub remove : {X : Type 0} → (X → ℕ) → ℕ → List X → List X
+remove number n rows = filter (λ r. not (n == number r)) rows
+
+abbrev pub applied_one : Change → Tables → Tables
+applied_one (PutMeta x) T = record T { meta = x }
+applied_one (PutNonce x) T = record T { nonces = put (λ n. n.serial) x T.nonces }
+applied_one (RemoveNonce n) T = record T { nonces = remove (λ n. n.serial) n T.nonces }
+applied_one (PutAccount x) T = record T { accounts = put (λ a. a.number) x T.accounts }
+applied_one (PutAuthorization x) T = record T { authorizations = put (λ a. a.number) x T.authorizations }
+applied_one (PutOrder x) T = record T { orders = put (λ o. o.number) x T.orders }
+
+abbrev pub applied : List Change → Tables → Tables
+applied [] T = T
+applied (c ∷ cs) T = applied cs (applied_one c T)
+
+-- ---- what an entry changes
+
+abbrev pub spent_by : Entry → List ℕ
+spent_by (spent n) = n ∷ []
+spent_by _ = []
+
+-- the rows that a table gets: those that are moved, and the new ones
+abbrev pub nonces_put : Tables → Entry → ℕ → List Nonce
+nonces_put T e m = issued_by e m (T.meta.nonces + 1)
+
+abbrev pub accounts_put : Tables → Entry → ℕ → List AccountRow
+accounts_put T e m = map (noted_account e m) (filter (touches_account e) T.accounts) ++ map fresh_account (opened_by e m (T.meta.accounts + 1))
+
+abbrev pub authorizations_put : Tables → Entry → ℕ → List AuthorizationRow
+authorizations_put T e m =
+    map (λ r. restated_authorization m (noted_authorization e m r)) (filter (touches_authorization e) T.authorizations)
+    ++ map (λ a. restated_authorization m (fresh_authorization a)) (new_authorizations T e m)
+
+abbrev pub orders_put : Tables → Entry → ℕ → List OrderRow
+orders_put T e m =
+    map (λ r. restated_order m (authorizations_after T e m) (noted_order e m r)) (filter (touches_order e T.authorizations) T.orders)
+    ++ map (λ o. restated_order m (authorizations_after T e m) (fresh_order o)) (ordered_by e m T.meta.policy (new_authorizations T e m) (T.meta.orders + 1))
+
+abbrev pub changes : ℕ → Tables → Entry → List Change
+changes m T e =
+    PutMeta (effect m T e).meta
+    ∷ (map RemoveNonce (spent_by e)
+    ++ (map PutNonce (nonces_put T e m)
+    ++ (map PutAccount (accounts_put T e m)
+    ++ (map PutAuthorization (authorizations_put T e m)
+    ++ map PutOrder (orders_put T e m)))))
+
+-- what the passing of time changes
+abbrev pub nonces_gone : ℕ → Tables → List ℕ
+nonces_gone m T = map (λ n. n.serial) (filter (λ n. not (lasts T.meta.policy m n)) T.nonces)
+
+abbrev pub authorizations_expired : ℕ → Tables → List AuthorizationRow
+authorizations_expired m T = map (λ (r : AuthorizationRow). record r { status = authz.Expired }) (filter (is_overdue m) T.authorizations)
+
+abbrev pub orders_fallen : ℕ → Tables → List OrderRow
+orders_fallen m T = map (λ (r : OrderRow). record r { status = order.Invalid }) (filter (falls m T.authorizations) T.orders)
+
+abbrev pub sweep_changes : ℕ → Tables → List Change
+sweep_changes m T =
+    PutMeta (record T.meta { clock = m })
+    ∷ (map RemoveNonce (nonces_gone m T) ++ (map PutAuthorization (authorizations_expired m T) ++ map PutOrder (orders_fallen m T)))
+
+abbrev pub all_changes : ℕ → Tables → List Entry → List Change
+all_changes m T [] = []
+all_changes m T (e ∷ es) = changes m T e ++ all_changes m (effect m T e) es

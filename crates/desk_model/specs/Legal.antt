@@ -1,0 +1,116 @@
+-- Which entry may follow a history, and which histories are legal.
+use Rattle.std.specs.Prelude.{ℕ, ◌+◌, ◌*◌, ◌^◌, ◌≤◌, ◌≡◌, List, [], ◌∷◌, ◌++◌, length, Bool, false, true, not, ◌&&◌, ◌||◌, ◌==◌, nat_lt, nat_le, Option, Some, None, is_none, is_some, IsTrue, if◌then◌else◌, map, bytes_eq, codes}
+use Rattle.std.specs.List.{list_any, list_all}
+use Rattle.desk_model.specs.Name.{Name, same_name}
+use Rattle.desk_model.specs.Entry.{Entry, made, issued, spent, opened, contacts_changed, account_ended, ordered, answered, reported, authorization_ended, finalized, certified, failed, Wanted, new, OrderProblem, Ending, Outcome, Dated, History}
+use Rattle.desk_model.specs.History.{clock}
+use Rattle.desk_model.specs.Lookup.{holds}
+use Rattle.desk_model.specs.Nonce.{nonce, nonces, is_open}
+use Rattle.desk_model.specs.Account.{accounts, account_by_number, account_by_key, account_status, is_valid as is_valid_account}
+use Rattle.desk_model.specs.Authorization.{Authorization, authorizations, authorization, authorization_of, authorization_status, challenge_status, is_pending, is_valid, kinds_of, count_challenges}
+use Rattle.desk_model.specs.Order.{orders, order_by_number, order_status, is_ready, is_processing}
+use Rattle.desk_model.specs.BaseName.{is_base_name}
+use Rattle.desk_model.specs.Keys.{IsKeyText}
+use Rattle.desk_model.specs.Terms.{are_terms}
+use Rattle.desk_model.specs.Contact.{contacts_pass}
+use Rattle.desk_model.specs.declared.status.ChallengeStatus.{ChallengeStatus}
+use Rattle.desk_model.specs.declared.status.ChallengeStatus.TheVariants as chall
+
+abbrev pub is_pending_challenge : ChallengeStatus → Bool
+is_pending_challenge chall.Pending = true
+is_pending_challenge _ = false
+
+abbrev pub is_processing_challenge : ChallengeStatus → Bool
+is_processing_challenge chall.Processing = true
+is_processing_challenge _ = false
+
+abbrev pub has_length : {X : Type 0} → ℕ → ℕ → List X → Bool
+has_length low high xs = nat_le low (length xs) && nat_le (length xs) high
+
+-- a well-formed name, and a token for each challenge
+abbrev pub is_wanted : Wanted → Bool
+is_wanted (new name tokens) = is_base_name name.base && ((length tokens == length (kinds_of name)) && list_all (λ token. length token == 16) tokens)
+
+abbrev pub wanted_name : Wanted → Name
+wanted_name (new name tokens) = name
+
+abbrev pub all_different : List Name → Bool
+all_different [] = true
+all_different (n ∷ ns) = not (list_any (same_name n) ns) && all_different ns
+
+-- an error type that the signing office may hand in, and a detail of 1 to 256 bytes
+abbrev pub is_problem : OrderProblem → Bool
+is_problem p = (bytes_eq p.kind (codes "badCSR") || bytes_eq p.kind (codes "serverInternal")) && has_length 1 256 p.detail
+
+abbrev pub is_empty : History → Bool
+is_empty [] = true
+is_empty (e ∷ before) = false
+
+-- the entry may follow the history at the moment m
+abbrev pub may_follow : History → Entry → ℕ → Bool
+may_follow F (made terms) m = is_empty F && are_terms terms
+may_follow F (issued random) m = length random == 16
+may_follow F (spent serial) m = holds (is_open F m) (nonce serial F)
+may_follow F (opened key contacts) m = is_none (account_by_key key F) && contacts_pass contacts
+may_follow F (contacts_changed account contacts) m =
+    holds (λ a. is_valid_account (account_status a F)) (account_by_number account F) && contacts_pass contacts
+may_follow F (account_ended account ending) m = holds (λ a. is_valid_account (account_status a F)) (account_by_number account F)
+may_follow F (ordered account wanted) m =
+    holds (λ a. is_valid_account (account_status a F)) (account_by_number account F)
+    && (has_length 1 50 wanted && (all_different (map wanted_name wanted) && list_all is_wanted wanted))
+may_follow F (answered challenge) m =
+    holds (λ a. is_pending (authorization_status a F m)) (authorization_of challenge F)
+    && is_pending_challenge (challenge_status challenge F)
+may_follow F (reported challenge outcome) m =
+    holds (λ a. is_pending (authorization_status a F m)) (authorization_of challenge F)
+    && is_processing_challenge (challenge_status challenge F)
+may_follow F (authorization_ended number ending) m =
+    holds (λ a. is_pending (authorization_status a F m) || is_valid (authorization_status a F m)) (authorization number F)
+may_follow F (finalized order csr) m = holds (λ o. is_ready (order_status o F m)) (order_by_number order F) && has_length 1 8192 csr
+may_follow F (certified order certificate) m =
+    holds (λ o. is_processing (order_status o F m)) (order_by_number order F) && has_length 1 65536 certificate
+may_follow F (failed order problem) m = holds (λ o. is_processing (order_status o F m)) (order_by_number order F) && is_problem problem
+
+-- no number above the greatest was given
+abbrev pub numbers_fit : History → Bool
+numbers_fit F =
+    nat_le (length (nonces F)) (2 ^ 62)
+    && (nat_le (length (accounts F)) (2 ^ 62)
+    && (nat_le (length (orders F)) (2 ^ 62)
+    && (nat_le (length (authorizations F)) (2 ^ 62)
+    && nat_le (count_challenges (authorizations F)) (2 ^ 62))))
+
+abbrev pub last_moment : ℕ
+last_moment = 250000000000
+
+-- the key of a new account is one that the desk accepts
+abbrev pub IsFormed : Entry → Type 0
+IsFormed (opened key contacts) = IsKeyText key
+IsFormed _ = Unit {0}
+
+-- the entry may follow the history
+pub record Follows (e : Dated) (before : History) : Type 0 where
+  pub allowed : IsTrue (may_follow before e.entry e.date)
+  pub formed : IsFormed e.entry
+  pub in_order : clock before ≤ e.date
+  pub in_time : e.date ≤ last_moment
+
+-- each entry may follow those before it
+abbrev pub EachFollows : History → Type 0
+EachFollows [] = Unit {0}
+EachFollows (e ∷ before) = Follows e before × EachFollows before
+
+abbrev pub IsMade : Entry → Type 0
+IsMade (made terms) = Unit {0}
+IsMade _ = ⊥
+
+-- the first entry is the making of the desk
+abbrev pub BeginsMade : History → Type 0
+BeginsMade [] = ⊥
+BeginsMade (e ∷ []) = IsMade e.entry
+BeginsMade (e ∷ f ∷ before) = BeginsMade (f ∷ before)
+
+pub record Legal (F : History) : Type 0 where
+  pub begins : BeginsMade F
+  pub each : EachFollows F
+  pub numbered : IsTrue (numbers_fit F)

@@ -1,0 +1,93 @@
+-- The tables of a history at a moment: a row for each object, with its dated columns and its status then.
+use Rattle.std.specs.Prelude.{ℕ, ◌+◌, List, [], ◌∷◌, length, map}
+use Rattle.std.specs.List.{filter}
+use Rattle.desk_model.specs.Entry.{History}
+use Rattle.desk_model.specs.History.{clock, terms}
+use Rattle.desk_model.specs.Nonce.{Nonce, nonces, is_open}
+use Rattle.desk_model.specs.Account.{Account, accounts, account_end, account_status, contacts, key_of}
+use Rattle.desk_model.specs.Authorization.{Authorization, Challenge, authorizations, authorization_end, authorization_status, report, when_answered, challenge_status, count_challenges}
+use Rattle.desk_model.specs.Order.{Order, orders, csr, certificate, failure, order_status}
+pub use Rattle.desk_model.specs.declared.rows.Meta.{Meta}
+pub use Rattle.desk_model.specs.declared.rows.AccountRow.{AccountRow}
+pub use Rattle.desk_model.specs.declared.rows.ChallengeRow.{ChallengeRow}
+pub use Rattle.desk_model.specs.declared.rows.AuthorizationRow.{AuthorizationRow}
+pub use Rattle.desk_model.specs.declared.rows.OrderRow.{OrderRow}
+pub use Rattle.desk_model.specs.declared.rows.Listed.{Listed}
+
+-- an authorization's row holds those of its challenges, an order's row the places of its authorizations
+pub record Tables : Type 0 where
+  pub meta : Meta
+  pub nonces : List Nonce
+  pub accounts : List AccountRow
+  pub authorizations : List AuthorizationRow
+  pub orders : List OrderRow
+
+abbrev pub account_row : History → Account → AccountRow
+account_row F a =
+    record { number = a.number; key = key_of a F; contacts = contacts a F; opened = a.opened; ended = account_end a F; status = account_status a F }
+
+abbrev pub challenge_row : History → Challenge → ChallengeRow
+challenge_row F c =
+    record {
+      number = c.number;
+      kind = c.kind;
+      token = c.token;
+      answered = when_answered c.number F;
+      reported = report c.number F;
+      status = challenge_status c.number F;
+    }
+
+abbrev pub authorization_row : History → ℕ → Authorization → AuthorizationRow
+authorization_row F t a =
+    record {
+      number = a.number;
+      account = a.account;
+      name = a.name;
+      made = a.made;
+      expires = a.expires;
+      ended = authorization_end a F;
+      challenges = map (challenge_row F) a.challenges;
+      status = authorization_status a F t;
+    }
+
+-- authorizations in their places, counted from here
+abbrev pub listed_from : ℕ → List Authorization → List Listed
+listed_from place [] = []
+listed_from place (a ∷ rest) = (record { place = place; authorization = a.number }) ∷ listed_from (place + 1) rest
+
+abbrev pub order_row : History → ℕ → Order → OrderRow
+order_row F t o =
+    record {
+      number = o.number;
+      account = o.account;
+      made = o.made;
+      expires = o.expires;
+      listed = listed_from 1 o.authorizations;
+      finalized = csr o.number F;
+      certified = certificate o.number F;
+      failed = failure o.number F;
+      status = order_status o F t;
+    }
+
+-- the counters are the last numbers given; a nonce has a row while it is open
+abbrev pub tables_at : History → ℕ → Tables
+tables_at F t =
+    record {
+      meta = record {
+        policy = terms F;
+        clock = t;
+        nonces = length (nonces F);
+        accounts = length (accounts F);
+        orders = length (orders F);
+        authorizations = length (authorizations F);
+        challenges = count_challenges (authorizations F);
+      };
+      nonces = filter (is_open F t) (nonces F);
+      accounts = map (account_row F) (accounts F);
+      authorizations = map (authorization_row F t) (authorizations F);
+      orders = map (order_row F t) (orders F);
+    }
+
+-- what a desk keeps of a history: its tables at its clock
+abbrev pub picture : History → Tables
+picture F = tables_at F (clock F)

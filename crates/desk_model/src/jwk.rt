@@ -1,0 +1,17 @@
+//! Public keys of accounts.
+use crate::text::Text;
+use std::marker::Model;
+
+/// A key, which contracts see as its canonical text (RFC 7638, 3).
+#[derive(Drop, Debug)]
+pub struct Jwk {
+    canonical: Text,
+}
+
+impl Model for Jwk {
+    ghost use Rattle.std.specs.Prelude.{List, ℕ};
+
+    ghost Value = { List ℕ };
+
+    ghost view = { λ k. k.canonical };
+}

@@ -1,0 +1,36 @@
+//! The types and definitions of the desk.
+#![tactic(auto)]
+
+mod call;
+mod dns_name;
+mod document;
+mod entry;
+mod jwk;
+mod objects;
+mod policy;
+mod reply;
+mod rows;
+mod sequence;
+mod status;
+mod text;
+mod verdict;
+
+pub use call::{Ask, BadKey, Call, FetchError, Finding, OrderProblem, Signed, Target};
+pub use dns_name::DnsName;
+pub use document::Document;
+pub use entry::{Dated, Ending, Entry, Outcome, Wanted};
+pub use jwk::Jwk;
+pub use objects::{
+    Account, AccountEnd, Authorization, AuthorizationEnd, Challenge, EndKind, Kind, Nonce, Order,
+    Report,
+};
+pub use policy::Policy;
+pub use reply::{Allow, Body, Problem, Reply, Subproblem};
+pub use rows::{
+    AccountRow, AuthorizationRow, ChallengeRow, Change, DatedBytes, DatedProblem, Listed, Meta,
+    OrderRow, StatusFault,
+};
+pub use sequence::Sequence;
+pub use status::{AccountStatus, AuthzStatus, ChallengeStatus, OrderStatus};
+pub use text::Text;
+pub use verdict::{Shows, Verdict};

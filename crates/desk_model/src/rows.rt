@@ -1,0 +1,126 @@
+//! The rows of a desk's tables, and changes of them.
+use crate::call::OrderProblem;
+use crate::dns_name::DnsName;
+use crate::jwk::Jwk;
+use crate::objects::{AccountEnd, AuthorizationEnd, Kind, Nonce, Report};
+use crate::policy::Policy;
+use crate::sequence::Sequence;
+use crate::status::{AccountStatus, AuthzStatus, ChallengeStatus, OrderStatus};
+use crate::text::Text;
+
+/// The one row of a desk's own: its policy, its clock, and the last number given of each kind.
+#[derive(Drop, Debug)]
+pub struct Meta {
+    pub policy: Policy,
+    /// The latest recorded moment, in seconds since 1970.
+    pub clock: u64,
+    pub nonces: u64,
+    pub accounts: u64,
+    pub orders: u64,
+    pub authorizations: u64,
+    pub challenges: u64,
+}
+
+#[derive(Drop, Debug)]
+pub struct AccountRow {
+    pub number: u64,
+    pub key: Jwk,
+    pub contacts: Sequence<Text>,
+    pub opened: u64,
+    pub ended: Option<AccountEnd>,
+    pub status: AccountStatus,
+}
+
+#[derive(Drop, Debug)]
+pub struct ChallengeRow {
+    pub number: u64,
+    pub kind: Kind,
+    pub token: [u8; 16],
+    pub answered: Option<u64>,
+    pub reported: Option<Report>,
+    pub status: ChallengeStatus,
+}
+
+/// An authorization with its challenges.
+#[derive(Drop, Debug)]
+pub struct AuthorizationRow {
+    pub number: u64,
+    pub account: u64,
+    pub name: DnsName,
+    pub made: u64,
+    pub expires: u64,
+    pub ended: Option<AuthorizationEnd>,
+    pub challenges: Sequence<ChallengeRow>,
+    pub status: AuthzStatus,
+}
+
+/// The place of an authorization in its order, from 1, and its number.
+#[derive(Clone, Copy, Debug, PartialEq, Eq)]
+pub struct Listed {
+    pub place: u64,
+    pub authorization: u64,
+}
+
+/// When bytes were handed in, and the bytes: a CSR or a certificate.
+#[derive(Drop, Debug)]
+pub struct DatedBytes {
+    pub date: u64,
+    pub bytes: Sequence<u8>,
+}
+
+/// When the signing office failed an order, and why.
+#[derive(Drop, Debug)]
+pub struct DatedProblem {
+    pub date: u64,
+    pub problem: OrderProblem,
+}
+
+/// An order with the authorizations that it lists.
+#[derive(Drop, Debug)]
+pub struct OrderRow {
+    pub number: u64,
+    pub account: u64,
+    pub made: u64,
+    pub expires: u64,
+    pub listed: Sequence<Listed>,
+    pub finalized: Option<DatedBytes>,
+    pub certified: Option<DatedBytes>,
+    pub failed: Option<DatedProblem>,
+    pub status: OrderStatus,
+}
+
+/// A row put in the place of the one with its number, or the row of a nonce removed.
+#[derive(Drop, Debug)]
+pub enum Change {
+    PutMeta(Meta),
+    PutNonce(Nonce),
+    RemoveNonce(u64),
+    PutAccount(AccountRow),
+    PutAuthorization(AuthorizationRow),
+    PutOrder(OrderRow),
+}
+
+/// A row whose stored status is not the one that its columns give.
+#[derive(Clone, Copy, Debug, PartialEq, Eq)]
+pub enum StatusFault {
+    Account {
+        number: u64,
+        stored: AccountStatus,
+        derived: AccountStatus,
+    },
+    Order {
+        number: u64,
+        stored: OrderStatus,
+        derived: OrderStatus,
+    },
+    Authz {
+        number: u64,
+        stored: AuthzStatus,
+        derived: AuthzStatus,
+    },
+    Chall {
+        number: u64,
+        stored: ChallengeStatus,
+        derived: ChallengeStatus,
+    },
+}
