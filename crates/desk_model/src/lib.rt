@@ -7,6 +7,7 @@ mod document;
 mod entry;
 mod jwk;
 mod objects;
+mod payload;
 mod policy;
 mod reply;
 mod rows;
@@ -24,6 +25,7 @@ pub use objects::{
     Account, AccountEnd, Authorization, AuthorizationEnd, Challenge, EndKind, Kind, Nonce, Order,
     Report,
 };
+pub use payload::{AccountChange, AuthorizationChange, ChallengeChange, Identifier, NewAccount};
 pub use policy::Policy;
 pub use reply::{Allow, Body, Problem, Reply, Subproblem};
 pub use rows::{

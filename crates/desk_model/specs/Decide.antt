@@ -1,0 +1,70 @@
+-- What the desk decides on a call: a reply, and the entries to record, all at the moment at which the call acts.
+use Rattle.std.specs.Prelude.{ℕ, List, [], ◌∷◌, ◌++◌, take, drop, Bool, false, true, Option, Some, None}
+use Rattle.desk_model.specs.Entry.{Entry, issued, spent, History}
+use Rattle.desk_model.specs.History.{moment_of, record_all}
+use Rattle.desk_model.specs.Tables.{Tables, tables_at}
+use Rattle.desk_model.specs.Verdict.{Verdict, refused, accepted}
+use Rattle.desk_model.specs.Rules.{signed_verdict, office_verdict, open_nonce}
+use Rattle.desk_model.specs.Shown.{Reply, reply_of, refusal_reply, nonce_reply, with_nonce, fresh_nonce}
+use Rattle.desk_model.specs.declared.call.Call.{Call}
+use Rattle.desk_model.specs.declared.call.Ask.{Ask}
+use Rattle.desk_model.specs.declared.call.Ask.TheVariants as ask
+use Rattle.desk_model.specs.declared.call.Signed.{Signed}
+
+pub record Decision : Type 0 where
+  pub reply : Reply
+  pub entries : List Entry
+
+abbrev pub listed_entry : Option Entry → List Entry
+listed_entry None = []
+listed_entry (Some e) = e ∷ []
+
+-- the entries that a verdict records
+abbrev pub entries_of : Verdict → List Entry
+entries_of (refused number subproblems) = []
+entries_of (accepted entry what) = listed_entry entry
+
+-- the reply of a verdict, by the tables after its entries
+abbrev pub verdict_reply : (index : Bool) → Tables → Verdict → Reply
+verdict_reply index T (refused number subproblems) = refusal_reply index number subproblems
+verdict_reply index T (accepted entry what) = reply_of T what
+
+-- the tables after these entries, recorded at m
+abbrev pub tables_after : ℕ → List Entry → History → Tables
+tables_after m es F = tables_at (record_all m es F) m
+
+-- a call that carries no nonce
+abbrev pub office_decision : History → ℕ → Verdict → Decision
+office_decision F m v = record { reply = verdict_reply false (tables_after m (entries_of v) F) v; entries = entries_of v }
+
+-- the nonce is spent and a fresh one issued
+abbrev pub nonce_entries : ℕ → List ℕ → List Entry
+nonce_entries serial random = spent serial ∷ issued (take 16 random) ∷ []
+
+abbrev pub passed_decision : History → ℕ → List ℕ → ℕ → Verdict → Decision
+passed_decision F m random serial v =
+    record {
+      reply = with_nonce (fresh_nonce (tables_at F m) random) (verdict_reply true (tables_after m (nonce_entries serial random ++ entries_of v) F) v);
+      entries = nonce_entries serial random ++ entries_of v;
+    }
+
+-- a signed request without an open nonce is refused with a fresh one; another is judged by the tables
+-- after its nonce was spent and a fresh one issued (RFC 8555, 6.5)
+abbrev pub signed_decision : History → ℕ → List ℕ → Signed → Option ℕ → Decision
+signed_decision F m random s None =
+    record { reply = with_nonce (fresh_nonce (tables_at F m) random) (refusal_reply true 4 []); entries = issued (take 16 random) ∷ [] }
+signed_decision F m random s (Some serial) =
+    passed_decision F m random serial (signed_verdict (tables_after m (nonce_entries serial random) F) (drop 16 random) s)
+
+abbrev pub decide_at : History → ℕ → List ℕ → Ask → Decision
+decide_at F m random (ask.NewNonce head) =
+    record { reply = with_nonce (fresh_nonce (tables_at F m) random) (nonce_reply head); entries = issued (take 16 random) ∷ [] }
+decide_at F m random (ask.Signed s) = signed_decision F m random s (open_nonce (tables_at F m) s.nonce)
+decide_at F m random other = office_decision F m (office_verdict (tables_at F m) other)
+
+abbrev pub decide : History → Call → Decision
+decide F call = decide_at F (moment_of call.at F) call.random call.ask
+
+-- the history after a call
+abbrev pub after : History → Call → History
+after F call = record_all (moment_of call.at F) (decide F call).entries F

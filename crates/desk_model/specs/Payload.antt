@@ -1,0 +1,121 @@
+-- What a payload says, by the route that reads it. None: it hasn't the form that the route reads.
+use Rattle.std.specs.Prelude.{ℕ, List, [], ◌∷◌, Bool, false, true, ◌||◌, Option, Some, None, is_some, if◌then◌else◌, bytes_eq, codes, option_map, option_and_then}
+use Rattle.serde_json.specs.Data.{Data, Items, no_items, item}
+use Rattle.serde_json.specs.Find.{get, as_str, as_object, as_array, as_bool}
+use Rattle.serde_json.specs.Read.{read}
+pub use Rattle.desk_model.specs.declared.payload.NewAccount.{NewAccount}
+pub use Rattle.desk_model.specs.declared.payload.AccountChange.{AccountChange}
+pub use Rattle.desk_model.specs.declared.payload.AccountChange.TheVariants as account
+pub use Rattle.desk_model.specs.declared.payload.AuthorizationChange.{AuthorizationChange}
+pub use Rattle.desk_model.specs.declared.payload.AuthorizationChange.TheVariants as authz
+pub use Rattle.desk_model.specs.declared.payload.ChallengeChange.{ChallengeChange}
+pub use Rattle.desk_model.specs.declared.payload.ChallengeChange.TheVariants as chall
+pub use Rattle.desk_model.specs.declared.payload.Identifier.{Identifier}
+
+abbrev pub is_object : Data → Bool
+is_object d = is_some (as_object d)
+
+abbrev pub if_object : Data → Option Data
+if_object d = if is_object d then Some d else None
+
+-- the object that the text holds
+unfoldable pub object_in : List ℕ → Option Data
+object_in text = option_and_then if_object (read text)
+
+abbrev pub and_then_text : Option (List ℕ) → Option (List (List ℕ)) → Option (List (List ℕ))
+and_then_text None rest = None
+and_then_text (Some s) None = None
+and_then_text (Some s) (Some rest) = Some (s ∷ rest)
+
+abbrev pub texts : Items → Option (List (List ℕ))
+texts no_items = Some []
+texts (item d ds) = and_then_text (as_str d) (texts ds)
+
+-- a list of texts
+abbrev pub texts_in : Data → Option (List (List ℕ))
+texts_in d = option_and_then texts (as_array d)
+
+-- a member that may be left out: None where it is there in another form
+abbrev pub optional : {X : Type 0} → (Data → Option X) → Option Data → Option (Option X)
+optional form None = Some None
+optional form (Some d) = option_map Some (form d)
+
+-- ---- newAccount (RFC 8555, 7.3)
+
+abbrev pub new_account_by : Option (Option (List (List ℕ))) → Option (Option Bool) → Option NewAccount
+new_account_by (Some (Some contacts)) (Some (Some only)) = Some (record { contacts = contacts; only_existing = only })
+new_account_by (Some (Some contacts)) (Some None) = Some (record { contacts = contacts; only_existing = false })
+new_account_by (Some None) (Some (Some only)) = Some (record { contacts = []; only_existing = only })
+new_account_by (Some None) (Some None) = Some (record { contacts = []; only_existing = false })
+new_account_by _ _ = None
+
+abbrev pub new_account_in : Data → Option NewAccount
+new_account_in d = new_account_by (optional texts_in (get (codes "contact") d)) (optional as_bool (get (codes "onlyReturnExisting") d))
+
+abbrev pub new_account : List ℕ → Option NewAccount
+new_account payload = option_and_then new_account_in (object_in payload)
+
+-- ---- accounts (RFC 8555, 7.3.2, 7.3.6)
+
+abbrev pub is_deactivated_text : Option (List ℕ) → Bool
+is_deactivated_text None = false
+is_deactivated_text (Some s) = bytes_eq s (codes "deactivated")
+
+abbrev pub says_deactivated : Data → Bool
+says_deactivated d = is_deactivated_text (option_and_then as_str (get (codes "status") d))
+
+abbrev pub account_change_in : Data → Option AccountChange
+account_change_in d =
+    if says_deactivated d then Some account.Deactivate
+    else option_map account.Update (optional texts_in (get (codes "contact") d))
+
+abbrev pub account_change : List ℕ → Option AccountChange
+account_change [] = Some account.Read
+account_change (b ∷ bs) = option_and_then account_change_in (object_in (b ∷ bs))
+
+-- ---- authorizations and challenges (RFC 8555, 7.5)
+
+abbrev pub authorization_change_in : Data → Option AuthorizationChange
+authorization_change_in d = if says_deactivated d then Some authz.Deactivate else None
+
+abbrev pub authorization_change : List ℕ → Option AuthorizationChange
+authorization_change [] = Some authz.Read
+authorization_change (b ∷ bs) = option_and_then authorization_change_in (object_in (b ∷ bs))
+
+abbrev pub challenge_change : List ℕ → Option ChallengeChange
+challenge_change [] = Some chall.Read
+challenge_change (b ∷ bs) = option_map (λ d. chall.Answer) (object_in (b ∷ bs))
+
+-- ---- orders (RFC 8555, 7.4)
+
+abbrev pub identifier_by : Option (List ℕ) → Option (List ℕ) → Option Identifier
+identifier_by (Some kind) (Some value) = Some (record { kind = kind; value = value })
+identifier_by _ _ = None
+
+-- an identifier is an object with two texts
+abbrev pub identifier_in : Data → Option Identifier
+identifier_in d = identifier_by (option_and_then as_str (get (codes "type") d)) (option_and_then as_str (get (codes "value") d))
+
+abbrev pub and_then_identifier : Option Identifier → Option (List Identifier) → Option (List Identifier)
+and_then_identifier (Some i) (Some rest) = Some (i ∷ rest)
+and_then_identifier _ _ = None
+
+abbrev pub identifiers_in : Items → Option (List Identifier)
+identifiers_in no_items = Some []
+identifiers_in (item d ds) = and_then_identifier (identifier_in d) (identifiers_in ds)
+
+-- an order with dates of its own is not well formed, since the desk can't keep them
+abbrev pub new_order_in : Data → Option (List Identifier)
+new_order_in d =
+    if is_some (get (codes "notBefore") d) || is_some (get (codes "notAfter") d) then None
+    else option_and_then identifiers_in (option_and_then as_array (get (codes "identifiers") d))
+
+abbrev pub new_order : List ℕ → Option (List Identifier)
+new_order payload = option_and_then new_order_in (object_in payload)
+
+-- the text of a CSR
+abbrev pub csr_text_in : Data → Option (List ℕ)
+csr_text_in d = option_and_then as_str (get (codes "csr") d)
+
+abbrev pub finalize : List ℕ → Option (List ℕ)
+finalize payload = option_and_then csr_text_in (object_in payload)

@@ -1,0 +1,276 @@
+-- The rules on requests: which are refused, and what the others record and show, by the tables at their moment.
+use Rattle.std.specs.Prelude.{ℕ, suc, zero, ◌+◌, ◌*◌, List, [], ◌∷◌, ◌++◌, map, length, take, drop, filter, Bool, false, true, not, ◌&&◌, ◌||◌, ◌==◌, nat_le, Option, Some, None, Ok, Err, is_none, is_some, if◌then◌else◌, bytes_eq, codes, option_and_then}
+use Rattle.desk_model.specs.Lookup.{holds}
+use Rattle.desk_model.specs.Name.{Name, same_name}
+use Rattle.desk_model.specs.Names.{name_of}
+use Rattle.desk_model.specs.Tokens.{NonceText, nonce_in, body_matches, records_match, from_base64url}
+use Rattle.desk_model.specs.Entry.{Entry, opened, contacts_changed, account_ended, ordered, answered, reported, authorization_ended, finalized, certified, failed, Wanted, new, Ending, deactivated, revoked, Outcome, good, incorrect_response, connection, dns, OrderProblem}
+use Rattle.desk_model.specs.Nonce.{Nonce}
+use Rattle.desk_model.specs.Account.{AccountEnd, is_valid as is_valid_account}
+use Rattle.desk_model.specs.Authorization.{Kind, http_01, dns_01, is_pending, is_valid, kinds_of}
+use Rattle.desk_model.specs.Order.{is_ready, is_processing}
+use Rattle.desk_model.specs.Contact.{contacts_fault}
+use Rattle.desk_model.specs.Legal.{is_problem, has_length, is_pending_challenge, is_processing_challenge}
+use Rattle.desk_model.specs.Tables.{Tables, AccountRow, ChallengeRow, AuthorizationRow, OrderRow}
+use Rattle.desk_model.specs.Questions.{nonce_on, account_on, account_with_key, order_on, authorization_on, owner_on, challenge_of}
+use Rattle.desk_model.specs.Payload.{NewAccount, new_account, AccountChange, account_change, AuthorizationChange, authorization_change, ChallengeChange, challenge_change, Identifier, new_order, finalize}
+use Rattle.desk_model.specs.Payload as payload
+use Rattle.desk_model.specs.Document.{expected}
+use Rattle.desk_model.specs.Verdict.{Verdict, refused, answers, records, check, given, unless_fault, choose}
+use Rattle.desk_model.specs.declared.verdict.Shows.TheVariants as show
+use Rattle.desk_model.specs.declared.reply.Subproblem.{Subproblem}
+use Rattle.desk_model.specs.declared.status.AuthzStatus.{AuthzStatus}
+use Rattle.desk_model.specs.declared.status.AuthzStatus.TheVariants as authz
+use Rattle.desk_model.specs.declared.call.Ask.{Ask}
+use Rattle.desk_model.specs.declared.call.Ask.TheVariants as ask
+use Rattle.desk_model.specs.declared.call.Signed.{Signed}
+use Rattle.desk_model.specs.declared.call.Target.{Target}
+use Rattle.desk_model.specs.declared.call.Target.TheVariants as to
+use Rattle.desk_model.specs.declared.call.Finding.{Finding}
+use Rattle.desk_model.specs.declared.call.Finding.TheVariants as found
+use Rattle.desk_model.specs.declared.call.FetchError.{FetchError}
+use Rattle.desk_model.specs.declared.call.FetchError.TheVariants as fetch
+
+-- ---- accounts (RFC 8555, 7.3)
+
+-- an account is opened, or refused: only an existing one was asked for, or a contact is at fault
+abbrev pub open_account : Tables → List ℕ → NewAccount → Verdict
+open_account T key p =
+    check (not p.only_existing) 6
+    (unless_fault (contacts_fault p.contacts)
+    (records (opened key p.contacts) (show.OpenedAccount (T.meta.accounts + 1))))
+
+-- newAccount (7.3): of the payload of a known key only the form is looked at (7.3.1)
+abbrev pub new_account_verdict : Tables → List ℕ → Option AccountRow → Option NewAccount → Verdict
+new_account_verdict T key (Some a) payload = check (is_valid_account a.status) 7 (given payload 1 (λ p. answers (show.KnownAccount a.number)))
+new_account_verdict T key None payload = given payload 1 (open_account T key)
+
+-- POST to an account (7.3.2, 7.3.6)
+abbrev pub account_verdict : ℕ → AccountChange → Verdict
+account_verdict n payload.account.Read = answers (show.Account n)
+account_verdict n payload.account.Deactivate = records (account_ended n deactivated) (show.Account n)
+account_verdict n (payload.account.Update None) = answers (show.Account n)
+account_verdict n (payload.account.Update (Some contacts)) =
+    unless_fault (contacts_fault contacts) (records (contacts_changed n contacts) (show.Account n))
+
+-- ---- orders (RFC 8555, 7.4)
+
+abbrev pub is_dns : Identifier → Bool
+is_dns i = bytes_eq i.kind (codes "dns")
+
+-- why an identifier is refused, if it is: its type is not dns, or its value is no name
+abbrev pub fault_of : Identifier → Option ℕ
+fault_of i = if is_dns i then (if is_none (name_of i.value) then Some 11 else None) else Some 10
+
+abbrev pub and_subproblem : Option ℕ → Identifier → List Subproblem → List Subproblem
+and_subproblem None i rest = rest
+and_subproblem (Some n) i rest = (record { number = n; kind = i.kind; value = i.value }) ∷ rest
+
+-- each faulty identifier, in order
+abbrev pub subproblems : List Identifier → List Subproblem
+subproblems [] = []
+subproblems (i ∷ is) = and_subproblem (fault_of i) i (subproblems is)
+
+abbrev pub and_name : Option Name → List Name → List Name
+and_name None names = names
+and_name (Some name) names = name ∷ names
+
+abbrev pub names_in : List Identifier → List Name
+names_in [] = []
+names_in (i ∷ is) = and_name (name_of i.value) (names_in is)
+
+-- names that are equal keep their first place
+abbrev pub kept : List Name → List Name
+kept [] = []
+kept (n ∷ ns) = n ∷ filter (λ other. not (same_name n other)) (kept ns)
+
+-- so many pieces of 16 bytes
+abbrev pub pieces : ℕ → List ℕ → List (List ℕ)
+pieces zero random = []
+pieces (suc k) random = take 16 random ∷ pieces k (drop 16 random)
+
+-- each name with its tokens, taken in turn
+abbrev pub wanted : List Name → List ℕ → List Wanted
+wanted [] random = []
+wanted (n ∷ ns) random = new n (pieces (length (kinds_of n)) random) ∷ wanted ns (drop (16 * length (kinds_of n)) random)
+
+-- refused by the first faulty identifier, with all of them listed; else an authorization is made for each name
+abbrev pub order_of : Tables → List ℕ → ℕ → List Identifier → List Subproblem → Verdict
+order_of T random n ids (s ∷ ss) = refused s.number (s ∷ ss)
+order_of T random n ids [] = records (ordered n (wanted (kept (names_in ids)) random)) (show.MadeOrder (T.meta.orders + 1))
+
+abbrev pub new_order_verdict : Tables → List ℕ → ℕ → List Identifier → Verdict
+new_order_verdict T random n ids = check (has_length 1 50 ids) 1 (order_of T random n ids (subproblems ids))
+
+abbrev pub if_fits : List ℕ → Option (List ℕ)
+if_fits csr = if has_length 1 8192 csr then Some csr else None
+
+-- the CSR that a text spells, of 1 to 8192 bytes
+abbrev pub csr_in : List ℕ → Option (List ℕ)
+csr_in text = option_and_then if_fits (from_base64url text)
+
+abbrev pub finalize_verdict : ℕ → OrderRow → List ℕ → Verdict
+finalize_verdict n o text =
+    check (is_ready o.status) 12 (given (csr_in text) 13 (λ csr. records (finalized n csr) (show.FinalizedOrder n)))
+
+-- the bytes of a valid order (7.4.2)
+abbrev pub certificate_verdict : ℕ → OrderRow → Verdict
+certificate_verdict n o = given o.certified 2 (λ k. answers (show.Certificate n))
+
+-- ---- authorizations and challenges (RFC 8555, 7.5)
+
+abbrev pub is_endable : AuthorizationRow → Bool
+is_endable a = is_pending a.status || is_valid a.status
+
+-- one that is over already stays as it is (7.5.2)
+abbrev pub authorization_verdict : ℕ → AuthorizationRow → AuthorizationChange → Verdict
+authorization_verdict n a payload.authz.Read = answers (show.Authorization n)
+authorization_verdict n a payload.authz.Deactivate =
+    choose (is_endable a) (records (authorization_ended n deactivated) (show.Authorization n)) (answers (show.Authorization n))
+
+-- the challenge passes, and its authorization is pending
+abbrev pub stands_open : (ChallengeRow → Bool) → AuthorizationRow → ℕ → Bool
+stands_open test a n = is_pending a.status && holds test (challenge_of n a)
+
+-- an answer that comes when nothing is pending changes nothing (7.5.1)
+abbrev pub challenge_verdict : ℕ → AuthorizationRow → ChallengeChange → Verdict
+challenge_verdict n a payload.chall.Read = answers (show.ClientChallenge n)
+challenge_verdict n a payload.chall.Answer =
+    choose (stands_open (λ c. is_pending_challenge c.status) a n) (records (answered n) (show.ClientChallenge n)) (answers (show.ClientChallenge n))
+
+-- ---- signed requests (RFC 8555, 6)
+
+-- a payload of a route that only reads
+abbrev pub nothing : List ℕ → Bool
+nothing [] = true
+nothing (b ∷ bs) = false
+
+-- an object of this account
+abbrev pub own : {X : Type 0} → (X → ℕ) → ℕ → Option X → Option X
+own account n None = None
+own account n (Some x) = if account x == n then Some x else None
+
+-- the object is there and the account's own, the payload has its form, and the rules of the target, for account n
+abbrev pub target_verdict : Tables → List ℕ → ℕ → List ℕ → Target → Verdict
+target_verdict T random n p to.NewAccount = answers (show.KnownAccount n)
+target_verdict T random n p to.NewOrder = given (new_order p) 1 (new_order_verdict T random n)
+target_verdict T random n p (to.Account k) = check (k == n) 2 (given (account_change p) 1 (account_verdict n))
+target_verdict T random n p (to.Orders k) = check (k == n) 2 (check (nothing p) 1 (answers (show.Orders n)))
+target_verdict T random n p (to.Order k) = given (own (λ o. o.account) n (order_on T k)) 2 (λ o. check (nothing p) 1 (answers (show.Order k)))
+target_verdict T random n p (to.Finalize k) = given (own (λ o. o.account) n (order_on T k)) 2 (λ o. given (finalize p) 1 (finalize_verdict k o))
+target_verdict T random n p (to.Cert k) = given (own (λ o. o.account) n (order_on T k)) 2 (λ o. check (nothing p) 1 (certificate_verdict k o))
+target_verdict T random n p (to.Authz k) =
+    given (own (λ a. a.account) n (authorization_on T k)) 2 (λ a. given (authorization_change p) 1 (authorization_verdict k a))
+target_verdict T random n p (to.Chall k) =
+    given (own (λ a. a.account) n (owner_on T k)) 2 (λ a. given (challenge_change p) 1 (challenge_verdict k a))
+
+-- the key has an account, and it is valid (6.2)
+abbrev pub holder_verdict : Tables → List ℕ → List ℕ → Target → Option AccountRow → Verdict
+holder_verdict T random p target account =
+    given account 6 (λ a. check (is_valid_account a.status) 7 (target_verdict T random a.number p target))
+
+abbrev pub key_verdict : Tables → List ℕ → List ℕ → List ℕ → Target → Verdict
+key_verdict T random key p to.NewAccount = new_account_verdict T key (account_with_key T key) (new_account p)
+key_verdict T random key p target = holder_verdict T random p target (account_with_key T key)
+
+-- a request that has passed the test of its nonce, by the tables after its nonce was spent and a fresh one issued;
+-- the random bytes are those behind the fresh nonce's
+abbrev pub signed_verdict : Tables → List ℕ → Signed → Verdict
+signed_verdict T random s = elim s.key [ Err e ↦ refused 5 [] | Ok key ↦ key_verdict T random key s.payload s.target ]
+
+-- the row is that of the nonce which the text spells
+abbrev pub if_spelled : NonceText → Option Nonce → Option ℕ
+if_spelled t None = None
+if_spelled t (Some n) = if bytes_eq n.random t.random then Some t.serial else None
+
+abbrev pub open_nonce_in : Tables → Option NonceText → Option ℕ
+open_nonce_in T None = None
+open_nonce_in T (Some t) = if_spelled t (nonce_on T t.serial)
+
+-- the serial of the open nonce that a request carries (6.5)
+abbrev pub open_nonce : Tables → Option (List ℕ) → Option ℕ
+open_nonce T text = open_nonce_in T (option_and_then nonce_in text)
+
+-- ---- the validator, the signing office and the operator
+
+abbrev pub judged : Bool → Outcome
+judged b = if b then good else incorrect_response
+
+-- what a finding shows: None where it is of another kind than the challenge (8.3, 8.4)
+abbrev pub outcome_of : Kind → List ℕ → Finding → Option Outcome
+outcome_of http_01 expected (found.Body bytes) = Some (judged (body_matches bytes expected))
+outcome_of dns_01 expected (found.Body bytes) = None
+outcome_of http_01 expected (found.Records records) = None
+outcome_of dns_01 expected (found.Records records) = Some (judged (records_match records expected))
+outcome_of kind expected (found.Error fetch.Connection) = Some connection
+outcome_of kind expected (found.Error fetch.Dns) = Some dns
+
+abbrev pub same_outcome : Outcome → Outcome → Bool
+same_outcome good good = true
+same_outcome incorrect_response incorrect_response = true
+same_outcome connection connection = true
+same_outcome dns dns = true
+same_outcome _ _ = false
+
+-- the same outcome again records nothing; another is refused where the challenge doesn't wait for one
+abbrev pub outcome_verdict : ℕ → AuthorizationRow → ChallengeRow → Outcome → Verdict
+outcome_verdict n a c outcome =
+    choose (holds (λ r. same_outcome r.outcome outcome) c.reported)
+    (answers (show.Challenge n))
+    (check (stands_open (λ c. is_processing_challenge c.status) a n) 14 (records (reported n outcome) (show.Challenge n)))
+
+abbrev pub finding_verdict : Tables → ℕ → Finding → AuthorizationRow → ChallengeRow → Verdict
+finding_verdict T n finding a c = given (outcome_of c.kind (expected T a c) finding) 1 (outcome_verdict n a c)
+
+abbrev pub report_verdict : Tables → ℕ → Finding → Verdict
+report_verdict T n finding = given (owner_on T n) 2 (λ a. given (challenge_of n a) 2 (finding_verdict T n finding a))
+
+abbrev pub certify_verdict : ℕ → List ℕ → OrderRow → Verdict
+certify_verdict n bytes o =
+    check (nat_le 1 (length bytes)) 1
+    (check (nat_le (length bytes) 65536) 16
+    (choose (holds (λ k. bytes_eq k.bytes bytes) o.certified)
+    (answers (show.Order n))
+    (check (is_processing o.status) 14 (records (certified n bytes) (show.Order n)))))
+
+abbrev pub same_problem : OrderProblem → OrderProblem → Bool
+same_problem a b = bytes_eq a.kind b.kind && bytes_eq a.detail b.detail
+
+abbrev pub fail_verdict : ℕ → OrderProblem → OrderRow → Verdict
+fail_verdict n problem o =
+    check (is_problem problem) 1
+    (choose (holds (λ f. same_problem f.problem problem) o.failed)
+    (answers (show.Order n))
+    (check (is_processing o.status) 14 (records (failed n problem) (show.Order n))))
+
+abbrev pub is_revoked_status : AuthzStatus → Bool
+is_revoked_status authz.Revoked = true
+is_revoked_status _ = false
+
+abbrev pub revoke_authorization : ℕ → AuthorizationRow → Verdict
+revoke_authorization n a =
+    choose (is_revoked_status a.status) (answers (show.Authorization n))
+    (check (is_endable a) 14 (records (authorization_ended n revoked) (show.Authorization n)))
+
+abbrev pub is_revoked : Ending → Bool
+is_revoked deactivated = false
+is_revoked revoked = true
+
+abbrev pub revoke_account : ℕ → AccountRow → Verdict
+revoke_account n a =
+    choose (holds (λ e. is_revoked e.ending) a.ended) (answers (show.Account n))
+    (check (is_valid_account a.status) 14 (records (account_ended n revoked) (show.Account n)))
+
+-- the asks that carry no nonce; newNonce and signed requests are not among them
+abbrev pub office_verdict : Tables → Ask → Verdict
+office_verdict T ask.Directory = answers show.Directory
+office_verdict T (ask.NewNonce head) = refused 2 []
+office_verdict T (ask.Signed s) = refused 2 []
+office_verdict T (ask.Report n finding) = report_verdict T n finding
+office_verdict T (ask.Certify n bytes) = given (order_on T n) 2 (certify_verdict n bytes)
+office_verdict T (ask.FailOrder n problem) = given (order_on T n) 2 (fail_verdict n problem)
+office_verdict T (ask.RevokeAuthz n) = given (authorization_on T n) 2 (revoke_authorization n)
+office_verdict T (ask.RevokeAccount n) = given (account_on T n) 2 (revoke_account n)
+office_verdict T ask.ChallengeWork = answers show.ChallengeWork
+office_verdict T ask.OrderWork = answers show.OrderWork
+office_verdict T (ask.KeyOf n) = given (account_on T n) 2 (λ a. answers (show.Key n))

@@ -1,0 +1,76 @@
+-- Runs of calls, the faults of a call, and beginnings of a history.
+use Rattle.std.specs.Prelude.{ℕ, ◌+◌, ◌*◌, ◌≡◌, List, [], ◌∷◌, ◌++◌, length, Bool, true, false, not, nat_lt, Option, Some, None, Ok, Err, if◌then◌else◌}
+use Rattle.desk_model.specs.Entry.{Entry, made, issued, ordered, Wanted, new, History}
+use Rattle.desk_model.specs.Keys.{IsKeyText}
+use Rattle.desk_model.specs.Legal.{numbers_fit, last_moment}
+use Rattle.desk_model.specs.Decide.{decide, after}
+use Rattle.desk_model.specs.declared.call.Call.{Call}
+use Rattle.desk_model.specs.declared.call.Ask.{Ask}
+use Rattle.desk_model.specs.declared.call.Ask.TheVariants as ask
+use Rattle.desk_model.specs.declared.call.Signed.{Signed}
+use Rattle.desk_model.specs.declared.reply.Reply.{Reply}
+
+-- ---- faults of a call
+
+abbrev pub count_tokens : List Wanted → ℕ
+count_tokens [] = 0
+count_tokens (new name tokens ∷ rest) = length tokens + count_tokens rest
+
+abbrev pub pieces_of : Entry → ℕ
+pieces_of (issued random) = 1
+pieces_of (ordered account wanted) = count_tokens wanted
+pieces_of _ = 0
+
+-- how many pieces of 16 random bytes the entries take
+abbrev pub count_pieces : List Entry → ℕ
+count_pieces [] = 0
+count_pieces (e ∷ es) = pieces_of e + count_pieces es
+
+-- the fault of a call: a moment above the last, a number above the greatest, too few random bytes
+abbrev pub fault : History → Call → Option ℕ
+fault F call =
+    if nat_lt last_moment call.at then Some 24
+    else (if not (numbers_fit (after F call)) then Some 26
+    else (if nat_lt (length call.random) (16 * count_pieces (decide F call).entries) then Some 25
+    else None))
+
+-- what the types of a call's parts keep: a key that was accepted has its canonical text
+abbrev pub IsFormedSigned : Signed → Type 0
+IsFormedSigned s = elim s.key [ Err e ↦ Unit {0} | Ok key ↦ IsKeyText key ]
+
+abbrev pub IsFormedAsk : Ask → Type 0
+IsFormedAsk (ask.Signed s) = IsFormedSigned s
+IsFormedAsk _ = Unit {0}
+
+abbrev pub IsFormedCall : Call → Type 0
+IsFormedCall call = IsFormedAsk call.ask
+
+-- ---- runs
+
+pub record Ran : Type 0 where
+  pub replies : List Reply
+  pub history : History
+
+abbrev pub and_reply : Reply → Ran → Ran
+and_reply reply ran = record ran { replies = reply ∷ ran.replies }
+
+abbrev pub unless_faulty : Option ℕ → History → Ran → Ran
+unless_faulty None F ran = ran
+unless_faulty (Some n) F ran = record { replies = []; history = F }
+
+-- the replies to calls made in turn and the history after them, up to the first call that has a fault
+abbrev pub run : History → List Call → Ran
+run F [] = record { replies = []; history = F }
+run F (call ∷ calls) = unless_faulty (fault F call) F (and_reply (decide F call).reply (run (after F call) calls))
+
+-- ---- beginnings
+
+-- the history after all of these calls
+abbrev pub after_all : History → List Call → History
+after_all F [] = F
+after_all F (call ∷ calls) = after_all (after F call) calls
+
+-- the later history is the earlier one with the entries of some calls, each whole
+pub record IsBeginning (before later : History) : Type 0 where
+  pub calls : List Call
+  pub reached : after_all before calls ≡ later

@@ -1,0 +1,97 @@
+-- Replies: what each shows, by the tables after its entries.
+use Rattle.std.specs.Prelude.{ℕ, ◌+◌, List, [], ◌∷◌, take, Bool, false, true, Option, Some, None, if◌then◌else◌}
+use Rattle.serde_json.specs.Data.{Data}
+use Rattle.desk_model.specs.Terms.{Terms}
+use Rattle.desk_model.specs.Tokens.{nonce_text}
+use Rattle.desk_model.specs.Order.{DatedBytes}
+use Rattle.desk_model.specs.Tables.{Tables, AccountRow, ChallengeRow, AuthorizationRow, OrderRow}
+use Rattle.desk_model.specs.Questions.{account_on, order_on, authorization_on, owner_on, challenge_of}
+use Rattle.desk_model.specs.Refusals.{refusal_of}
+use Rattle.desk_model.specs.Document.{directory, account_url, order_url, authorization_url, account_document, order_document, orders_document, authorization_document, challenge_document, challenge_work, order_work, key_document}
+use Rattle.desk_model.specs.Verdict.{Shows}
+use Rattle.desk_model.specs.declared.verdict.Shows.TheVariants as show
+use Rattle.desk_model.specs.declared.reply.Subproblem.{Subproblem}
+use Rattle.desk_model.specs.declared.reply.Allow.TheVariants as allow
+pub use Rattle.desk_model.specs.declared.reply.Reply.{Reply}
+use Rattle.desk_model.specs.declared.reply.Body.{Body}
+use Rattle.desk_model.specs.declared.reply.Body.TheVariants as body
+
+abbrev pub plain : ℕ → Body → Reply
+plain status b = record { status = status; location = None; up = None; nonce = None; body = b }
+
+abbrev pub ok : ℕ → Data → Reply
+ok status d = plain status (body.Json d)
+
+abbrev pub at : List ℕ → Reply → Reply
+at location r = record r { location = Some location }
+
+abbrev pub below : List ℕ → Reply → Reply
+below up r = record r { up = Some up }
+
+abbrev pub with_nonce : List ℕ → Reply → Reply
+with_nonce text r = record r { nonce = Some text }
+
+-- the refusal of a number; index: whether the reply has the link to the directory
+abbrev pub refusal_reply : Bool → ℕ → List Subproblem → Reply
+refusal_reply index n subproblems =
+    plain (refusal_of n).status (body.Problem (record { number = n; subproblems = subproblems; allow = allow.No; index = index }))
+
+-- the reply to newNonce (RFC 8555, 7.2)
+abbrev pub nonce_reply : Bool → Reply
+nonce_reply head = plain (if head then 200 else 204) body.Empty
+
+-- what is shown of an object that is there
+abbrev pub shown : {X : Type 0} → (X → Reply) → Option X → Reply
+shown f None = plain 200 body.Empty
+shown f (Some x) = f x
+
+abbrev pub account_reply : ℕ → Tables → AccountRow → Reply
+account_reply status T a = ok status (account_document T.meta.policy a)
+
+abbrev pub located_account : ℕ → Tables → AccountRow → Reply
+located_account status T a = at (account_url T.meta.policy a.number) (account_reply status T a)
+
+abbrev pub order_reply : ℕ → Tables → OrderRow → Reply
+order_reply status T o = ok status (order_document T o)
+
+abbrev pub located_order : ℕ → Tables → OrderRow → Reply
+located_order status T o = at (order_url T.meta.policy o.number) (order_reply status T o)
+
+abbrev pub certificate_reply : Option DatedBytes → Reply
+certificate_reply None = plain 200 body.Empty
+certificate_reply (Some k) = plain 200 (body.Certificate k.bytes)
+
+abbrev pub authorization_reply : Tables → AuthorizationRow → Reply
+authorization_reply T a = ok 200 (authorization_document T.meta.policy a)
+
+abbrev pub challenge_reply : Tables → ChallengeRow → Reply
+challenge_reply T c = ok 200 (challenge_document T.meta.policy c)
+
+-- the challenge of this number in its authorization
+abbrev pub challenge_in : Tables → ℕ → AuthorizationRow → Reply
+challenge_in T n a = shown (challenge_reply T) (challenge_of n a)
+
+-- a challenge shown to a client names its authorization (7.5.1)
+abbrev pub client_challenge_in : Tables → ℕ → AuthorizationRow → Reply
+client_challenge_in T n a = below (authorization_url T.meta.policy a.number) (challenge_in T n a)
+
+abbrev pub reply_of : Tables → Shows → Reply
+reply_of T show.Directory = ok 200 (directory T.meta.policy)
+reply_of T (show.Account n) = shown (account_reply 200 T) (account_on T n)
+reply_of T (show.KnownAccount n) = shown (located_account 200 T) (account_on T n)
+reply_of T (show.OpenedAccount n) = shown (located_account 201 T) (account_on T n)
+reply_of T (show.Orders n) = ok 200 (orders_document T n)
+reply_of T (show.Order n) = shown (order_reply 200 T) (order_on T n)
+reply_of T (show.MadeOrder n) = shown (located_order 201 T) (order_on T n)
+reply_of T (show.FinalizedOrder n) = shown (located_order 200 T) (order_on T n)
+reply_of T (show.Certificate n) = shown (λ o. certificate_reply o.certified) (order_on T n)
+reply_of T (show.Authorization n) = shown (authorization_reply T) (authorization_on T n)
+reply_of T (show.Challenge n) = shown (challenge_in T n) (owner_on T n)
+reply_of T (show.ClientChallenge n) = shown (client_challenge_in T n) (owner_on T n)
+reply_of T show.ChallengeWork = ok 200 (challenge_work T)
+reply_of T show.OrderWork = ok 200 (order_work T)
+reply_of T (show.Key n) = shown (λ a. ok 200 (key_document a.key)) (account_on T n)
+
+-- the text of the nonce that is issued next
+abbrev pub fresh_nonce : Tables → List ℕ → List ℕ
+fresh_nonce T random = nonce_text (T.meta.nonces + 1) (take 16 random)
