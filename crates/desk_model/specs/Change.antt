@@ -1,14 +1,15 @@
--- What is recorded, as data: rows that are put and nonces that are removed.
-use Rattle.std.specs.Prelude.{ℕ, ◌+◌, List, [], ◌∷◌, ◌++◌, length, map, Bool, true, false, not, cond, ◌&&◌, ◌||◌, ◌==◌, nat_lt, nat_le}
-use Rattle.std.specs.List.{filter, list_any}
+-- What is recorded, as data: the rows that are put, where they differ from those that stood there, and the nonces that are removed.
+use Rattle.std.specs.Prelude.{ℕ, ◌+◌, List, [], ◌∷◌, ◌++◌, map, Bool, not, cond, ◌&&◌, ◌||◌, ◌==◌, nat_lt, Option, is_none, is_some, bytes_eq}
+use Rattle.std.specs.Cmp.Lexicographic.{pointwise}
+use Rattle.std.specs.List.{filter, list_any, zip}
 use Rattle.desk_model.specs.Entry.{Entry, spent}
 use Rattle.desk_model.specs.History.{terms_after}
 use Rattle.desk_model.specs.Nonce.{Nonce, issued_by}
 use Rattle.desk_model.specs.Account.{opened_by}
 use Rattle.desk_model.specs.Authorization.{count_challenges}
 use Rattle.desk_model.specs.Order.{ordered_by}
-use Rattle.desk_model.specs.Tables.{Meta, AccountRow, AuthorizationRow, OrderRow, Tables}
-use Rattle.desk_model.specs.Derived.{restated_authorization, restated_order}
+use Rattle.desk_model.specs.Tables.{Meta, AccountRow, AuthorizationRow, ChallengeRow, OrderRow, Tables}
+use Rattle.desk_model.specs.Derived.{account_code, chall_code, authz_code, order_code, restated_authorization, restated_order}
 pub use Rattle.desk_model.specs.declared.rows.Change.{Change}
 pub use Rattle.desk_model.specs.declared.rows.Change.TheVariants.{PutMeta, PutNonce, RemoveNonce, PutAccount, PutAuthorization, PutOrder}
 use Rattle.desk_model.specs.Effect.{noted_account, noted_authorization, noted_order, touches_account, touches_authorization, touches_order, fresh_account, fresh_authorization, fresh_order, new_authorizations, authorizations_after, lasts, is_overdue, falls, effect}
@@ -43,21 +44,59 @@ abbrev pub spent_by : Entry → List ℕ
 spent_by (spent n) = n ∷ []
 spent_by _ = []
 
--- the rows that a table gets: those that are moved, and the new ones
+-- ---- the rows that it puts
+
+-- there was no fact, and then there is one
+abbrev pub is_gained : {X : Type 0} → (before after : Option X) → Bool
+is_gained before after = is_none before && is_some after
+
+-- an account's row differs in its contacts, its end or its status
+abbrev pub account_differs : (before after : AccountRow) → Bool
+account_differs before after =
+    not (pointwise bytes_eq before.contacts after.contacts)
+    || (is_gained before.ended after.ended || not (account_code before.status == account_code after.status))
+
+-- a challenge's row differs in its answer, its report or its status
+abbrev pub challenge_differs : (before after : ChallengeRow) → Bool
+challenge_differs before after =
+    is_gained before.answered after.answered
+    || (is_gained before.reported after.reported || not (chall_code before.status == chall_code after.status))
+
+-- an authorization's row differs in its end, its status or one of its challenges
+abbrev pub authorization_differs : (before after : AuthorizationRow) → Bool
+authorization_differs before after =
+    is_gained before.ended after.ended
+    || (not (authz_code before.status == authz_code after.status)
+    || list_any (λ p. challenge_differs p.0 p.1) (zip before.challenges after.challenges))
+
+-- an order's row differs in its CSR, its certificate, its failure or its status
+abbrev pub order_differs : (before after : OrderRow) → Bool
+order_differs before after =
+    is_gained before.finalized after.finalized
+    || (is_gained before.certified after.certified
+    || (is_gained before.failed after.failed || not (order_code before.status == order_code after.status)))
+
+-- the rows that are touched, moved, where this makes them differ
+abbrev pub moved_rows : {X : Type 0} → (touched : X → Bool) → (differs : X → X → Bool) → (move : X → X) → List X → List X
+moved_rows touched differs move rows = map move (filter (λ r. touched r && differs r (move r)) rows)
+
+-- each table gets the rows that are moved, then the new ones
 abbrev pub nonces_put : Tables → Entry → ℕ → List Nonce
 nonces_put T e m = issued_by e m (T.meta.nonces + 1)
 
 abbrev pub accounts_put : Tables → Entry → ℕ → List AccountRow
-accounts_put T e m = map (noted_account e m) (filter (touches_account e) T.accounts) ++ map fresh_account (opened_by e m (T.meta.accounts + 1))
+accounts_put T e m =
+    moved_rows (touches_account e) account_differs (noted_account e m) T.accounts
+    ++ map fresh_account (opened_by e m (T.meta.accounts + 1))
 
 abbrev pub authorizations_put : Tables → Entry → ℕ → List AuthorizationRow
 authorizations_put T e m =
-    map (λ r. restated_authorization m (noted_authorization e m r)) (filter (touches_authorization e) T.authorizations)
+    moved_rows (touches_authorization e) authorization_differs (λ r. restated_authorization m (noted_authorization e m r)) T.authorizations
     ++ map (λ a. restated_authorization m (fresh_authorization a)) (new_authorizations T e m)
 
 abbrev pub orders_put : Tables → Entry → ℕ → List OrderRow
 orders_put T e m =
-    map (λ r. restated_order m (authorizations_after T e m) (noted_order e m r)) (filter (touches_order e T.authorizations) T.orders)
+    moved_rows (touches_order e T.authorizations) order_differs (λ r. restated_order m (authorizations_after T e m) (noted_order e m r)) T.orders
     ++ map (λ o. restated_order m (authorizations_after T e m) (fresh_order o)) (ordered_by e m T.meta.policy (new_authorizations T e m) (T.meta.orders + 1))
 
 abbrev pub changes : ℕ → Tables → Entry → List Change

@@ -1,0 +1,118 @@
+-- What a map's look-up, insertion and removal are on the rows that it holds.
+use Rattle.std.proofs.Common.{◌≡◌, ℕ, ◌<◌, Bool, true, false, cond, not, List, [], ◌∷◌, map, filter, Option, Some, None, refl, sym, ap, ◌∙◌, arith, nat_cmp, is_eq, Ordering, ltb, eqb}
+use Rattle.std.specs.Prelude.{◌==◌, nat_lt, find}
+use Rattle.std.specs.List.{AllByRecursion}
+use Rattle.std.specs.Ordering.{match_ordering}
+use Rattle.std.specs.Map.{lookup, remove_entry, keys_of, values_of}
+use Rattle.std.specs.BTreeMap.{insert_entry, is_at}
+use Rattle.std.specs.List.Sorted.{IsStrictlySortedBy}
+use Rattle.std.proofs.lemmas.Bool.{eqb-true, ltb-true}
+use Rattle.std.proofs.lemmas.Bool.Decides.{nat_tests}
+use Rattle.std.proofs.lemmas.Map.Keys.{sorted_head}
+use Rattle.desk_model.specs.Change.{put, remove}
+use Rattle.desk_book.specs.Keyed.{IsKeyed}
+
+equal_test : (n k : ℕ) → is_eq (nat_cmp n k) ≡ (k == n)
+equal_test n k = grind (arith, nat_tests)
+
+found_choice : {X : Type 0} (b c : Bool) (x : X) (o p : Option X) → b ≡ c → o ≡ p → cond b (Some x) o ≡ cond c (Some x) p
+found_choice b c x o p e f = ap (λ d. cond d (Some x) o) e ∙ ap (λ q. cond c (Some x) q) f
+
+-- a look-up by number finds the row of that number
+pub lookup-find : {X : Type 0} (number : X → ℕ) (n : ℕ) (es : List (ℕ × X)) → IsKeyed number es →
+    lookup (is_at (nat_cmp n)) es ≡ find (λ r. number r == n) (values_of es)
+lookup-find number n [] h = refl
+lookup-find number n (e ∷ es) h =
+    found_choice (is_eq (nat_cmp n e.0)) (number e.1 == n) e.1 (lookup (is_at (nat_cmp n)) es) (find (λ r. number r == n) (values_of es))
+    (equal_test n e.0 ∙ ap (λ k. k == n) h.0) (lookup-find number n es h.1)
+
+equal_cmp : (k n : ℕ) → (k == n) ≡ true → nat_cmp k n ≡ Ordering.Equal
+equal_cmp k n h = grind (arith, nat_tests)
+
+less_cmp : (k n : ℕ) → nat_lt k n ≡ true → nat_cmp k n ≡ Ordering.Less
+less_cmp k n h = grind (arith, nat_tests)
+
+greater_cmp : (k n : ℕ) → (k == n) ≡ false → nat_lt k n ≡ false → nat_cmp k n ≡ Ordering.Greater
+greater_cmp k n h l = grind (arith, nat_tests)
+
+-- an insertion puts the row into its place
+pub insert-put : {X : Type 0} (number : X → ℕ) (x : X) (es : List (ℕ × X)) → IsKeyed number es →
+    values_of (insert_entry nat_cmp es (number x) x) ≡ put number x (values_of es)
+insert-put number x [] h = refl
+insert-put {X} number x (e ∷ es) h =
+    by (number x == number e.1) refl (nat_lt (number x) (number e.1)) refl (insert-put number x es h.1)
+  where
+    by : (b : Bool) → (number x == number e.1) ≡ b → (c : Bool) → nat_lt (number x) (number e.1) ≡ c →
+        values_of (insert_entry nat_cmp es (number x) x) ≡ put number x (values_of es) →
+        values_of (match_ordering (nat_cmp (number x) e.0) ((number x, x) ∷ e ∷ es) ((e.0, x) ∷ es) (e ∷ insert_entry nat_cmp es (number x) x))
+        ≡ cond b (x ∷ values_of es) (cond c (x ∷ e.1 ∷ values_of es) (e.1 ∷ put number x (values_of es)))
+    by true p c q ih =
+        ap (λ o. values_of (match_ordering o ((number x, x) ∷ e ∷ es) ((e.0, x) ∷ es) (e ∷ insert_entry nat_cmp es (number x) x)))
+        (ap (λ k. nat_cmp (number x) k) h.0 ∙ equal_cmp (number x) (number e.1) p)
+    by false p true q ih =
+        ap (λ o. values_of (match_ordering o ((number x, x) ∷ e ∷ es) ((e.0, x) ∷ es) (e ∷ insert_entry nat_cmp es (number x) x)))
+        (ap (λ k. nat_cmp (number x) k) h.0 ∙ less_cmp (number x) (number e.1) q)
+    by false p false q ih =
+        ap (λ o. values_of (match_ordering o ((number x, x) ∷ e ∷ es) ((e.0, x) ∷ es) (e ∷ insert_entry nat_cmp es (number x) x)))
+        (ap (λ k. nat_cmp (number x) k) h.0 ∙ greater_cmp (number x) (number e.1) p q)
+        ∙ ap (λ l. e.1 ∷ l) ih
+
+-- the keys are the numbers of the rows after an insertion, too
+pub IsKeyed-insert : {X : Type 0} (number : X → ℕ) (x : X) (es : List (ℕ × X)) → IsKeyed number es →
+    IsKeyed number (insert_entry nat_cmp es (number x) x)
+IsKeyed-insert number x [] h = (refl, tt)
+IsKeyed-insert {X} number x (e ∷ es) h = by (nat_cmp (number x) e.0) refl (IsKeyed-insert number x es h.1)
+  where
+    equal : nat_cmp (number x) e.0 ≡ Ordering.Equal → e.0 ≡ number x
+    equal p = let t : (e.0 == number x) ≡ true = sym (equal_test (number x) e.0) ∙ ap is_eq p in eqb-true e.0 (number x) t
+    by : (o : Ordering) → nat_cmp (number x) e.0 ≡ o → IsKeyed number (insert_entry nat_cmp es (number x) x) →
+        IsKeyed number (match_ordering o ((number x, x) ∷ e ∷ es) ((e.0, x) ∷ es) (e ∷ insert_entry nat_cmp es (number x) x))
+    by Ordering.Less p ih = (refl, (h.0, h.1))
+    by Ordering.Equal p ih = (equal p, h.1)
+    by Ordering.Greater p ih = (h.0, ih)
+
+-- the keys are the numbers of the rows after a removal, too
+pub IsKeyed-remove : {X : Type 0} (number : X → ℕ) (n : ℕ) (es : List (ℕ × X)) → IsKeyed number es →
+    IsKeyed number (remove_entry (is_at (nat_cmp n)) es)
+IsKeyed-remove number n [] h = tt
+IsKeyed-remove {X} number n (e ∷ es) h = by (is_eq (nat_cmp n e.0)) (IsKeyed-remove number n es h.1)
+  where
+    by : (b : Bool) → IsKeyed number (remove_entry (is_at (nat_cmp n)) es) → IsKeyed number (cond b es (e ∷ remove_entry (is_at (nat_cmp n)) es))
+    by true ih = h.1
+    by false ih = (h.0, ih)
+
+no_number : (n k : ℕ) → nat_cmp n k ≡ Ordering.Less → (n == k) ≡ false
+no_number n k h = grind (arith, nat_tests)
+
+-- a filter that no row fails keeps all
+none_removed : {X : Type 0} (number : X → ℕ) (n : ℕ) (es : List (ℕ × X)) → IsKeyed number es → AllByRecursion (λ k. nat_cmp n k ≡ Ordering.Less) (keys_of es) →
+    remove number n (values_of es) ≡ values_of es
+none_removed number n [] h a = refl
+none_removed {X} number n (e ∷ es) h a =
+    ap (λ b. cond (not b) (e.1 ∷ remove number n (values_of es)) (remove number n (values_of es))) (ap (λ k. n == k) (sym h.0) ∙ no_number n e.0 a.0)
+    ∙ ap (λ l. e.1 ∷ l) (none_removed number n es h.1 a.1)
+
+-- a removal by number leaves the other rows
+pub remove-remove : {X : Type 0} (number : X → ℕ) (n : ℕ) (es : List (ℕ × X)) → IsKeyed number es → IsStrictlySortedBy nat_cmp (keys_of es) →
+    values_of (remove_entry (is_at (nat_cmp n)) es) ≡ remove number n (values_of es)
+unfolding IsStrictlySortedBy
+remove-remove number n [] h s = refl
+remove-remove {X} number n (e ∷ es) h s = by (is_eq (nat_cmp n e.0)) refl (remove-remove number n es h.1 s.1)
+  where
+    same : (b : Bool) → is_eq (nat_cmp n e.0) ≡ b → (n == number e.1) ≡ b
+    same b p = ap (λ k. n == k) (sym h.0) ∙ flipped ∙ sym (equal_test n e.0) ∙ p
+      where
+        flipped : (n == e.0) ≡ (e.0 == n)
+        flipped = grind (arith, nat_tests)
+    by : (b : Bool) → is_eq (nat_cmp n e.0) ≡ b → values_of (remove_entry (is_at (nat_cmp n)) es) ≡ remove number n (values_of es) →
+        values_of (cond b es (e ∷ remove_entry (is_at (nat_cmp n)) es))
+        ≡ cond (not (n == number e.1)) (e.1 ∷ remove number n (values_of es)) (remove number n (values_of es))
+    by true p ih =
+        sym (none_removed number n es h.1 (above p))
+        ∙ sym (ap (λ c. cond (not c) (e.1 ∷ remove number n (values_of es)) (remove number n (values_of es))) (same true p))
+      where
+        above : is_eq (nat_cmp n e.0) ≡ true → AllByRecursion (λ k. nat_cmp n k ≡ Ordering.Less) (keys_of es)
+        above p = rw (eqb-true e.0 n (sym (equal_test n e.0) ∙ p)) at (sorted_head nat_cmp e.0 (keys_of es) s)
+    by false p ih =
+        ap (λ l. e.1 ∷ l) ih
+        ∙ sym (ap (λ c. cond (not c) (e.1 ∷ remove number n (values_of es)) (remove number n (values_of es))) (same false p))

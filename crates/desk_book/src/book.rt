@@ -1,0 +1,2 @@
+//! The book of a desk.
+pub struct Book;

@@ -1,0 +1,10 @@
+//! The rows of a desk in memory, and changes of them.
+#![tactic(auto)]
+
+mod book;
+mod row;
+mod table;
+
+pub use book::Book;
+pub use row::Row;
+pub use table::Table;

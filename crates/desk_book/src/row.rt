@@ -1,0 +1,45 @@
+//! Rows that are kept by their numbers.
+ghost use Rattle.std.specs.Prelude.{◌≡◌, ℕ};
+
+use desk_model::{AccountRow, AuthorizationRow, Nonce, OrderRow};
+
+/// A row of a table, which has a number of its own.
+pub trait Row {
+    ghost number: { Self → ℕ };
+
+    /// The number of the row in its table.
+    fn number(&self) -> u64
+        ensures { result ≡ number self.now };
+}
+
+impl Row for Nonce {
+    ghost number = { λ row. row.serial };
+
+    fn number(&self) -> u64 {
+        self.serial
+    }
+}
+
+impl Row for AccountRow {
+    ghost number = { λ row. row.number };
+
+    fn number(&self) -> u64 {
+        self.number
+    }
+}
+
+impl Row for AuthorizationRow {
+    ghost number = { λ row. row.number };
+
+    fn number(&self) -> u64 {
+        self.number
+    }
+}
+
+impl Row for OrderRow {
+    ghost number = { λ row. row.number };
+
+    fn number(&self) -> u64 {
+        self.number
+    }
+}

@@ -1,0 +1,73 @@
+//! Tables: rows in the order of their numbers.
+ghost use Rattle.std.specs.Prelude.{◌≡◌, ◌==◌, ◌^◌, ◌<◌, [], List, length, map, find, IfOk, OnOk, OnErr, IfSome, option_map, option_copied};
+ghost use Rattle.std.specs.Map.Iter.{ShowsInOrder, deref};
+ghost use Rattle.desk_model.specs.Change.{put, remove};
+
+use crate::row::Row;
+use std::alloc::{AllocError, Global};
+use std::collections::BTreeMap;
+use std::collections::btree_map::Values;
+use std::marker::Model;
+
+/// The rows of one kind, each under its number, which contracts see as the list of the rows.
+#[derive(Drop)]
+pub struct Table<R: Row + Drop> {
+    rows: BTreeMap<u64, R>,
+}
+
+impl<R: Row + Drop> Model for Table<R> {
+    ghost use Rattle.std.specs.Prelude.{List};
+    ghost use Rattle.std.specs.BTreeMap.{values};
+    ghost use Rattle.desk_book.specs.Keyed.{IsKeyed};
+
+    ghost Value = { List R };
+
+    ghost view = { λ t. values t.rows };
+
+    ghost invariant = { λ t. IsKeyed R.number t.rows.entries };
+}
+
+impl<R: Row + Drop> Table<R> {
+    /// A table without rows.
+    pub fn new(alloc: Global) -> Table<R>
+        ensures { result ≡ [] }
+    {
+        Table {
+            rows: BTreeMap::new(alloc),
+        }
+    }
+
+    /// The row of this number.
+    pub fn get(&self, number: u64) -> Option<&R>
+        ensures { option_copied result ≡ find (λ row. R.number row == number) self.now }
+    {
+        self.rows.get(&number)
+    }
+
+    /// The rows in the order of their numbers.
+    pub fn iter(&self) -> Values<'_, u64, R>
+        ensures rest { result ≡ self.now }
+        ensures runs { ShowsInOrder (deref {X = R}) }
+    {
+        self.rows.values()
+    }
+
+    /// Puts a row in the place of the one with its number.
+    pub fn put(&mut self, row: R) -> Result<(), AllocError>
+        ensures done { OnOk result (self.new ≡ put (λ r. R.number r) row self.old) }
+        ensures unchanged { OnErr result (self.new ≡ self.old) }
+    {
+        let number = row.number();
+        self.rows.insert(number, row)?;
+        Ok(())
+    }
+
+    /// Removes the row of this number, if there is one.
+    pub fn remove(&mut self, number: u64)
+        ensures { self.new ≡ remove (λ r. R.number r) number self.old }
+    {
+        // A map's length comes with the order of its keys: no other row has this number.
+        let _rows = self.rows.len();
+        self.rows.remove(&number);
+    }
+}

@@ -1,0 +1,11 @@
+pub mod Basics
+pub mod RowFacts
+pub mod OrderFacts
+pub mod Fresh
+pub mod Step
+pub mod RowLists
+pub mod AllowedFacts
+pub mod Differing
+pub mod Recorded
+pub mod Faults
+pub mod PutsDiffer

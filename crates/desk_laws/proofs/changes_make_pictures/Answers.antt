@@ -1,0 +1,21 @@
+use Rattle.desk_laws.proofs.PutsDiffer.{swept_puts_differ, puts_differ}
+use Rattle.desk_laws.proofs.Recorded.{tables_ordered, sweep_makes, changes_make, recorded}
+use Rattle.desk_laws.proofs.changes_make_pictures.Goals as goal
+
+pub returns-clause-ordered : goal.returns-clause-ordered
+returns-clause-ordered c = tables_ordered
+
+pub returns-clause-sweep : goal.returns-clause-sweep
+returns-clause-sweep c = sweep_makes
+
+pub returns-clause-entry : goal.returns-clause-entry
+returns-clause-entry c = changes_make
+
+pub returns-clause-picture : goal.returns-clause-picture
+returns-clause-picture c = recorded
+
+pub returns-clause-sweep_differs : goal.returns-clause-sweep_differs
+returns-clause-sweep_differs c = swept_puts_differ
+
+pub returns-clause-entry_differs : goal.returns-clause-entry_differs
+returns-clause-entry_differs c = puts_differ

@@ -1,0 +1,37 @@
+-- How changes make pictures.
+use Rattle.std.specs.Prelude.{ℕ, ◌≤◌, ◌≡◌, List, ◌∷◌, ◌++◌}
+use Rattle.desk_model.specs.Change.{applied, changes, all_changes, sweep_changes}
+use Rattle.desk_model.specs.Effect.{effect, swept}
+use Rattle.desk_model.specs.Entry.{History}
+use Rattle.desk_model.specs.History.{clock, record_all}
+use Rattle.desk_model.specs.Legal.{EachFollows}
+use Rattle.desk_model.specs.Tables.{Tables, tables_at, picture}
+use Rattle.desk_model.specs.Touched.{EachOf}
+use Rattle.desk_model.specs.declared.entry.Entry.{Entry}
+use Rattle.desk_laws.specs.News.{IsNews}
+use Rattle.desk_laws.specs.Ordered.{IsOrdered}
+
+-- the tables of a history stand by number
+abbrev pub TablesAreOrdered : Type 0
+TablesAreOrdered = (F : History) (t : ℕ) → IsOrdered (tables_at F t)
+
+-- the changes of a sweep make the swept tables
+abbrev pub SweepIsMade : Type 0
+SweepIsMade = (T : Tables) (m : ℕ) → IsOrdered T → applied (sweep_changes m T) T ≡ swept m T
+
+-- the changes of an entry make its effect
+abbrev pub EffectIsMade : Type 0
+EffectIsMade = (T : Tables) (m : ℕ) (e : Entry) → IsOrdered T → applied (changes m T e) T ≡ effect m T e
+
+-- the changes of the sweep and of the entries make the picture of the longer history
+abbrev pub PicturesAreMade : Type 0
+PicturesAreMade =
+    (F : History) (e : Entry) (es : List Entry) (m : ℕ) → clock F ≤ m → EachFollows (record_all m (e ∷ es) F) →
+    applied (sweep_changes m (picture F) ++ all_changes m (swept m (picture F)) (e ∷ es)) (picture F) ≡ picture (record_all m (e ∷ es) F)
+
+-- no row is put where it stands already, by a sweep or by an entry
+abbrev pub SweepPutsDiffer : Type 0
+SweepPutsDiffer = (T : Tables) (m : ℕ) → IsOrdered T → EachOf (IsNews T) (sweep_changes m T)
+
+abbrev pub EntryPutsDiffer : Type 0
+EntryPutsDiffer = (T : Tables) (m : ℕ) (e : Entry) → IsOrdered T → EachOf (IsNews T) (changes m T e)

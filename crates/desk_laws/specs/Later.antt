@@ -1,0 +1,7 @@
+-- Entries that do not make the desk.
+use Rattle.desk_model.specs.declared.entry.Entry.{Entry}
+use Rattle.desk_model.specs.declared.entry.Entry.TheVariants.{Made as made}
+
+abbrev pub IsLater : Entry → Type 0
+IsLater (made terms) = ⊥
+IsLater _ = Unit {0}

@@ -1,0 +1,13 @@
+-- Changes that put no row that stands already.
+use Rattle.std.specs.Prelude.{◌==◌, ◌≢◌, Some, find}
+use Rattle.desk_model.specs.Tables.{Tables}
+use Rattle.desk_model.specs.declared.rows.Change.{Change}
+use Rattle.desk_model.specs.declared.rows.Change.TheVariants.{PutNonce, PutAccount, PutAuthorization, PutOrder}
+
+-- a row that is put is not the one that stands in its place; the one row of a desk's own is always put
+abbrev pub IsNews : Tables → Change → Type 0
+IsNews T (PutNonce x) = find (λ n. n.serial == x.serial) T.nonces ≢ Some x
+IsNews T (PutAccount x) = find (λ a. a.number == x.number) T.accounts ≢ Some x
+IsNews T (PutAuthorization x) = find (λ a. a.number == x.number) T.authorizations ≢ Some x
+IsNews T (PutOrder x) = find (λ o. o.number == x.number) T.orders ≢ Some x
+IsNews T _ = Unit {0}
