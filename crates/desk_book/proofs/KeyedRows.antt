@@ -65,6 +65,7 @@ IsKeyed-insert {X} number x (e ∷ es) h = by (nat_cmp (number x) e.0) refl (IsK
   where
     equal : nat_cmp (number x) e.0 ≡ Ordering.Equal → e.0 ≡ number x
     equal p = let t : (e.0 == number x) ≡ true = sym (equal_test (number x) e.0) ∙ ap is_eq p in eqb-true e.0 (number x) t
+
     by : (o : Ordering) → nat_cmp (number x) e.0 ≡ o → IsKeyed number (insert_entry nat_cmp es (number x) x) →
         IsKeyed number (match_ordering o ((number x, x) ∷ e ∷ es) ((e.0, x) ∷ es) (e ∷ insert_entry nat_cmp es (number x) x))
     by Ordering.Less p ih = (refl, (h.0, h.1))
@@ -104,6 +105,7 @@ remove-remove {X} number n (e ∷ es) h s = by (is_eq (nat_cmp n e.0)) refl (rem
       where
         flipped : (n == e.0) ≡ (e.0 == n)
         flipped = grind (arith, nat_tests)
+
     by : (b : Bool) → is_eq (nat_cmp n e.0) ≡ b → values_of (remove_entry (is_at (nat_cmp n)) es) ≡ remove number n (values_of es) →
         values_of (cond b es (e ∷ remove_entry (is_at (nat_cmp n)) es))
         ≡ cond (not (n == number e.1)) (e.1 ∷ remove number n (values_of es)) (remove number n (values_of es))

@@ -1,2 +1,169 @@
-//! The book of a desk.
-pub struct Book;
+//! The book of a desk: its rows in memory.
+ghost use Rattle.std.specs.Prelude.{◌≡◌, ◌==◌, ◌∷◌, [], List, find, bytes_eq, OnOk, option_copied};
+ghost use Rattle.desk_model.specs.declared.entry.Entry.TheVariants.{Made as made};
+ghost use Rattle.desk_model.specs.Tables.{Tables, picture};
+ghost use Rattle.desk_model.specs.Questions.{nonce_on, account_on, account_with_key, order_on, authorization_on, owner_on};
+ghost use Rattle.desk_model.specs.Change.{applied_one, applied};
+
+use crate::table::Table;
+use desk_model::{AccountRow, AuthorizationRow, Change, Meta, Nonce, OrderRow, Policy};
+use std::alloc::{AllocError, Global};
+use std::marker::Model;
+
+/// The rows of a desk, which contracts see as its tables.
+#[derive(Drop)]
+pub struct Book {
+    meta: Meta,
+    nonces: Table<Nonce>,
+    accounts: Table<AccountRow>,
+    authorizations: Table<AuthorizationRow>,
+    orders: Table<OrderRow>,
+}
+
+impl Model for Book {
+    ghost use Rattle.desk_model.specs.Tables.{Tables};
+
+    ghost Value = { Tables };
+
+    ghost view = { λ b. record { meta = b.meta; nonces = b.nonces; accounts = b.accounts; authorizations = b.authorizations; orders = b.orders } };
+}
+
+impl Book {
+    /// The book of a desk that is made at a moment, in seconds since 1970.
+    pub fn new(alloc: Global, policy: Policy, at: u64) -> Book
+        ensures { result ≡ picture ((record { date = at; entry = made policy }) ∷ []) }
+    {
+        Book {
+            meta: Meta {
+                policy,
+                clock: at,
+                nonces: 0,
+                accounts: 0,
+                orders: 0,
+                authorizations: 0,
+                challenges: 0,
+            },
+            nonces: Table::new(alloc),
+            accounts: Table::new(alloc),
+            authorizations: Table::new(alloc),
+            orders: Table::new(alloc),
+        }
+    }
+
+    /// The policy, the clock and the counters.
+    pub fn meta(&self) -> &Meta
+        ensures { result.now ≡ self.now.meta }
+    {
+        &self.meta
+    }
+
+    /// The nonces, by serial.
+    pub fn nonces(&self) -> &Table<Nonce>
+        ensures { result.now ≡ self.now.nonces }
+    {
+        &self.nonces
+    }
+
+    /// The accounts, by number.
+    pub fn accounts(&self) -> &Table<AccountRow>
+        ensures { result.now ≡ self.now.accounts }
+    {
+        &self.accounts
+    }
+
+    /// The authorizations, by number.
+    pub fn authorizations(&self) -> &Table<AuthorizationRow>
+        ensures { result.now ≡ self.now.authorizations }
+    {
+        &self.authorizations
+    }
+
+    /// The orders, by number.
+    pub fn orders(&self) -> &Table<OrderRow>
+        ensures { result.now ≡ self.now.orders }
+    {
+        &self.orders
+    }
+
+    /// The nonce of this serial.
+    pub fn nonce(&self, serial: u64) -> Option<&Nonce>
+        ensures { option_copied result ≡ nonce_on self.now serial }
+    {
+        self.nonces.get(serial)
+    }
+
+    /// The account of this number.
+    pub fn account(&self, number: u64) -> Option<&AccountRow>
+        ensures { option_copied result ≡ account_on self.now number }
+    {
+        self.accounts.get(number)
+    }
+
+    /// The account with a key, by its canonical text.
+    pub fn account_with_key(&self, key: &str) -> Option<&AccountRow>
+        ensures { option_copied result ≡ account_with_key self.now key.now }
+    {
+        row_with_key(&self.accounts, key)
+    }
+
+    /// The order of this number.
+    pub fn order(&self, number: u64) -> Option<&OrderRow>
+        ensures { option_copied result ≡ order_on self.now number }
+    {
+        self.orders.get(number)
+    }
+
+    /// The authorization of this number.
+    pub fn authorization(&self, number: u64) -> Option<&AuthorizationRow>
+        ensures { option_copied result ≡ authorization_on self.now number }
+    {
+        self.authorizations.get(number)
+    }
+
+    /// Does all the changes, in order.
+    pub fn apply(&mut self, changes: Vec<Change>) -> Result<(), AllocError>
+        ensures { OnOk result (self.new ≡ applied changes.items self.old) }
+    {
+        for change in changes {
+            self.apply_one(change)?;
+        }
+        Ok(())
+    }
+
+    fn apply_one(&mut self, change: Change) -> Result<(), AllocError>
+        ensures { OnOk result (self.new ≡ applied_one change self.old) }
+    {
+        match change {
+            Change::PutMeta(meta) => {
+                self.meta = meta;
+                Ok(())
+            }
+            Change::PutNonce(row) => {
+                self.nonces.put(row)?;
+                Ok(())
+            }
+            Change::RemoveNonce(serial) => {
+                self.nonces.remove(serial);
+                Ok(())
+            }
+            Change::PutAccount(row) => {
+                self.accounts.put(row)?;
+                Ok(())
+            }
+            Change::PutAuthorization(row) => {
+                self.authorizations.put(row)?;
+                Ok(())
+            }
+            Change::PutOrder(row) => {
+                self.orders.put(row)?;
+                Ok(())
+            }
+        }
+    }
+}
+
+fn row_with_key<'a>(accounts: &'a Table<AccountRow>, key: &str) -> Option<&'a AccountRow>
+    ensures { option_copied result ≡ find (λ a. bytes_eq a.key key.now) accounts.now }
+{
+    accounts.iter().find(|row| row.key.canonical() == key)
+}

@@ -1,4 +1,6 @@
 //! Public keys of accounts.
+ghost use Rattle.std.specs.Prelude.{◌≡◌};
+
 use crate::text::Text;
 use std::marker::Model;
 
@@ -14,4 +16,13 @@ impl Model for Jwk {
     ghost Value = { List ℕ };
 
     ghost view = { λ k. k.canonical };
+}
+
+impl Jwk {
+    /// The canonical text.
+    pub fn canonical(&self) -> &str
+        ensures { result.now ≡ self.now }
+    {
+        self.canonical.as_str()
+    }
 }

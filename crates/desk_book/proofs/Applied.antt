@@ -1,0 +1,10 @@
+-- Changes, one after another.
+use Rattle.std.proofs.Common.{◌≡◌, List, [], ◌∷◌, ◌++◌, refl}
+use Rattle.desk_model.specs.Tables.{Tables}
+use Rattle.desk_model.specs.Change.{applied, applied_one}
+use Rattle.desk_model.specs.declared.rows.Change.{Change}
+
+-- the last change comes upon what the others made
+pub applied-last : (cs : List Change) (c : Change) (T : Tables) → applied (cs ++ c ∷ []) T ≡ applied_one c (applied cs T)
+applied-last [] c T = refl
+applied-last (d ∷ cs) c T = applied-last cs c (applied_one d T)
