@@ -1,5 +1,5 @@
 -- What a payload says, by the route that reads it. None: it hasn't the form that the route reads.
-use Rattle.std.specs.Prelude.{ℕ, List, [], ◌∷◌, Bool, false, true, ◌||◌, Option, Some, None, is_some, if◌then◌else◌, bytes_eq, codes, option_map, option_and_then}
+use Rattle.std.specs.Prelude.{ℕ, List, [], ◌∷◌, Bool, false, true, ◌||◌, Option, Some, None, is_some, if◌then◌else◌, bytes_eq, codes, option_map, option_and_then, unwrap_or}
 use Rattle.serde_json.specs.Data.{Data, Items, no_items, item}
 use Rattle.serde_json.specs.Find.{get, as_str, as_object, as_array, as_bool}
 use Rattle.serde_json.specs.Read.{read}
@@ -22,18 +22,19 @@ if_object d = if is_object d then Some d else None
 unfoldable pub object_in : List ℕ → Option Data
 object_in text = option_and_then if_object (read text)
 
-abbrev pub and_then_text : Option (List ℕ) → Option (List (List ℕ)) → Option (List (List ℕ))
-and_then_text None rest = None
-and_then_text (Some s) None = None
-and_then_text (Some s) (Some rest) = Some (s ∷ rest)
+abbrev pub and_each : {X : Type 0} → Option X → Option (List X) → Option (List X)
+and_each None rest = None
+and_each (Some x) None = None
+and_each (Some x) (Some xs) = Some (x ∷ xs)
 
-abbrev pub texts : Items → Option (List (List ℕ))
-texts no_items = Some []
-texts (item d ds) = and_then_text (as_str d) (texts ds)
+-- the items, each in this form: None where one has another
+abbrev pub each_in : {X : Type 0} → (Data → Option X) → Items → Option (List X)
+each_in form no_items = Some []
+each_in form (item d ds) = and_each (form d) (each_in form ds)
 
 -- a list of texts
 abbrev pub texts_in : Data → Option (List (List ℕ))
-texts_in d = option_and_then texts (as_array d)
+texts_in d = option_and_then (each_in as_str) (as_array d)
 
 -- a member that may be left out: None where it is there in another form
 abbrev pub optional : {X : Type 0} → (Data → Option X) → Option Data → Option (Option X)
@@ -43,10 +44,7 @@ optional form (Some d) = option_map Some (form d)
 -- ---- newAccount (RFC 8555, 7.3)
 
 abbrev pub new_account_by : Option (Option (List (List ℕ))) → Option (Option Bool) → Option NewAccount
-new_account_by (Some (Some contacts)) (Some (Some only)) = Some (record { contacts = contacts; only_existing = only })
-new_account_by (Some (Some contacts)) (Some None) = Some (record { contacts = contacts; only_existing = false })
-new_account_by (Some None) (Some (Some only)) = Some (record { contacts = []; only_existing = only })
-new_account_by (Some None) (Some None) = Some (record { contacts = []; only_existing = false })
+new_account_by (Some contacts) (Some only) = Some (record { contacts = unwrap_or contacts []; only_existing = unwrap_or only false })
 new_account_by _ _ = None
 
 abbrev pub new_account_in : Data → Option NewAccount
@@ -96,19 +94,11 @@ identifier_by _ _ = None
 abbrev pub identifier_in : Data → Option Identifier
 identifier_in d = identifier_by (option_and_then as_str (get (codes "type") d)) (option_and_then as_str (get (codes "value") d))
 
-abbrev pub and_then_identifier : Option Identifier → Option (List Identifier) → Option (List Identifier)
-and_then_identifier (Some i) (Some rest) = Some (i ∷ rest)
-and_then_identifier _ _ = None
-
-abbrev pub identifiers_in : Items → Option (List Identifier)
-identifiers_in no_items = Some []
-identifiers_in (item d ds) = and_then_identifier (identifier_in d) (identifiers_in ds)
-
 -- an order with dates of its own is not well formed, since the desk can't keep them
 abbrev pub new_order_in : Data → Option (List Identifier)
 new_order_in d =
     if is_some (get (codes "notBefore") d) || is_some (get (codes "notAfter") d) then None
-    else option_and_then identifiers_in (option_and_then as_array (get (codes "identifiers") d))
+    else option_and_then (each_in identifier_in) (option_and_then as_array (get (codes "identifiers") d))
 
 abbrev pub new_order : List ℕ → Option (List Identifier)
 new_order payload = option_and_then new_order_in (object_in payload)

@@ -1,4 +1,6 @@
 //! What the operator fixes when the desk is made.
+ghost use Rattle.std.specs.Prelude.{◌≡◌};
+
 use crate::text::Text;
 use std::marker::Model;
 
@@ -17,4 +19,13 @@ impl Model for Policy {
     ghost Value = { Terms };
 
     ghost view = { λ p. record { base = p.base; nonce_life = p.nonce_life; order_life = p.order_life; authz_life = p.authz_life } };
+}
+
+impl Policy {
+    /// How long a nonce is good, in seconds.
+    pub fn nonce_life(&self) -> u64
+        ensures { result ≡ self.now.nonce_life }
+    {
+        self.nonce_life
+    }
 }

@@ -1,0 +1,78 @@
+//! The contacts of accounts (RFC 8555, 7.3).
+ghost use Rattle.std.specs.Prelude.{◌≡◌, ◌==◌, ◌&&◌, ◌||◌, not, nat_le, ℕ, ◌<◌, length, map, codes, bytes_eq, position, IfSome};
+ghost use Rattle.std.specs.List.{list_any};
+ghost use Rattle.desk_model.specs.Contact.{lowered, parts_fault, contact_fault, first_fault, contacts_fault};
+
+use desk_model::Text;
+
+/// A contact that the desk does not accept.
+pub(crate) const INVALID_CONTACT: u8 = 9;
+
+/// A contact of a scheme that the desk does not know.
+pub(crate) const UNSUPPORTED_CONTACT: u8 = 8;
+
+/// The refusal of a list of contacts, where it has one: too many, or the first that is at fault.
+pub(crate) fn contacts_fault(contacts: &[Text]) -> Option<u8>
+    ensures { result ≡ contacts_fault contacts.now }
+{
+    if contacts.len() > 10 {
+        return Some(INVALID_CONTACT);
+    }
+    first_fault(contacts)
+}
+
+fn first_fault(contacts: &[Text]) -> Option<u8>
+    ensures { result ≡ first_fault contacts.now }
+{
+    for contact in contacts {
+        if let Some(fault) = contact_fault(contact.as_str().as_bytes()) {
+            return Some(fault);
+        }
+    }
+    None
+}
+
+fn contact_fault(contact: &[u8]) -> Option<u8>
+    ensures { result ≡ contact_fault contact.now }
+{
+    if contact.len() > 320 {
+        return Some(INVALID_CONTACT);
+    }
+    match colon_of(contact) {
+        Some(colon) => parts_fault(&contact[..colon], &contact[colon + 1..]),
+        None => Some(INVALID_CONTACT),
+    }
+}
+
+fn colon_of(contact: &[u8]) -> Option<usize>
+    ensures place { result ≡ position (λ b. b == 58) contact.now }
+    ensures within { IfSome result (λ n. n < length contact.now) }
+{
+    contact.iter().position(|byte| *byte == b':')
+}
+
+fn parts_fault(scheme: &[u8], address: &[u8]) -> Option<u8>
+    ensures { result ≡ parts_fault scheme.now address.now }
+{
+    if !is_mailto(scheme) {
+        return Some(UNSUPPORTED_CONTACT);
+    }
+    if address.is_empty() || has_many_or_fields(address) {
+        return Some(INVALID_CONTACT);
+    }
+    None
+}
+
+/// Whether a scheme is mailto, in any case.
+fn is_mailto(scheme: &[u8]) -> bool
+    ensures { result ≡ bytes_eq (map lowered scheme.now) (codes "mailto") }
+{
+    scheme.eq_ignore_ascii_case(b"mailto")
+}
+
+/// Whether an address holds a header field or a second address, which RFC 8555 does not allow.
+fn has_many_or_fields(address: &[u8]) -> bool
+    ensures { result ≡ list_any (λ b. (b == 63) || (b == 44)) address.now }
+{
+    address.iter().any(|byte| matches!(*byte, b'?' | b','))
+}

@@ -1,0 +1,276 @@
+//! The payloads of signed requests: JSON texts in the forms that the routes read.
+ghost use Rattle.std.specs.Prelude.{◌≡◌, Some, Option, option_map, option_and_then, string_bytes, IfOk, OnOk};
+ghost use Rattle.serde_json.specs.View.{view, items_view};
+ghost use Rattle.desk_model.specs.Payload.{object_in, each_in, texts_in, optional, new_account, new_account_in, is_deactivated_text, says_deactivated, account_change, account_change_in, authorization_change, authorization_change_in, challenge_change, identifier_in, new_order, new_order_in, finalize};
+ghost use Rattle.serde_json.specs.Find.{get, as_bool, as_str};
+ghost use Rattle.serde_json.specs.Read.{read};
+
+use desk_model::{
+    AccountChange, AuthorizationChange, ChallengeChange, Identifier, NewAccount, Sequence, Text,
+};
+use serde_json::Value;
+use std::alloc::{AllocError, Global};
+
+/// The JSON value of a text, `None` where it holds none.
+fn read(alloc: Global, text: &str) -> Result<Option<Value>, AllocError>
+    ensures { IfOk result (λ o. option_map (λ v. view v) o ≡ read text.now) }
+{
+    match Value::from_str(alloc, text) {
+        Ok(value) => Ok(Some(value)),
+        Err(error) => {
+            if error.is_memory() {
+                return Err(AllocError);
+            }
+            Ok(None)
+        }
+    }
+}
+
+/// The object that a text holds, `None` where it holds no JSON, or something else.
+#[tactic(auto, unfolding(desk_model::specs::Payload::object_in))]
+fn object_in(alloc: Global, text: &str) -> Result<Option<Value>, AllocError>
+    ensures { IfOk result (λ o. option_map (λ v. view v) o ≡ object_in text.now) }
+{
+    let Some(value) = read(alloc, text)? else {
+        return Ok(None);
+    };
+    if value.is_object() {
+        return Ok(Some(value));
+    }
+    Ok(None)
+}
+
+/// The texts of a list, `None` where one of its items is no text.
+fn texts(alloc: Global, items: &[Value]) -> Result<Option<Sequence<Text>>, AllocError>
+    ensures { IfOk result (λ o. o ≡ each_in as_str (items_view items.now)) }
+{
+    let mut found = Vec::new(alloc);
+    for item in items {
+        let Some(text) = item.as_str() else {
+            return Ok(None);
+        };
+        found.push(Text::new(String::from_str(alloc, text)?))?;
+    }
+    Ok(Some(Sequence::new(found)))
+}
+
+/// The texts of a value, `None` where it is no list of texts.
+fn texts_in(alloc: Global, value: &Value) -> Result<Option<Sequence<Text>>, AllocError>
+    ensures { IfOk result (λ o. o ≡ texts_in (view value.now)) }
+{
+    match value.as_array() {
+        Some(items) => texts(alloc, items.as_slice()),
+        None => Ok(None),
+    }
+}
+
+/// The texts of a member that may be left out, `None` where it is there in another form.
+fn optional_texts(
+    alloc: Global,
+    member: Option<&Value>,
+) -> Result<Option<Option<Sequence<Text>>>, AllocError>
+    ensures { IfOk result (λ o. o ≡ optional texts_in (option_map (λ v. view v.now) member.entry)) }
+{
+    let Some(value) = member else {
+        return Ok(Some(None));
+    };
+    match texts_in(alloc, value)? {
+        Some(found) => Ok(Some(Some(found))),
+        None => Ok(None),
+    }
+}
+
+/// The truth value of a member that may be left out, `None` where it is there in another form.
+fn optional_bool(member: Option<&Value>) -> Option<Option<bool>>
+    ensures { result ≡ optional as_bool (option_map (λ v. view v.now) member.entry) }
+{
+    match member {
+        Some(value) => value.as_bool().map(Some),
+        None => Some(None),
+    }
+}
+
+fn new_account_in(alloc: Global, value: &Value) -> Result<Option<NewAccount>, AllocError>
+    ensures { IfOk result (λ o. o ≡ new_account_in (view value.now)) }
+{
+    let Some(contacts) = optional_texts(alloc, value.get("contact"))? else {
+        return Ok(None);
+    };
+    let Some(only_existing) = optional_bool(value.get("onlyReturnExisting")) else {
+        return Ok(None);
+    };
+    let contacts = match contacts {
+        Some(contacts) => contacts,
+        None => Sequence::new(Vec::new(alloc)),
+    };
+    Ok(Some(NewAccount {
+        contacts,
+        only_existing: only_existing.unwrap_or(false),
+    }))
+}
+
+/// What a newAccount payload asks, `None` where it has another form (RFC 8555, 7.3).
+pub(crate) fn new_account(alloc: Global, payload: &str) -> Result<Option<NewAccount>, AllocError>
+    ensures { IfOk result (λ o. o ≡ new_account payload.now) }
+{
+    match object_in(alloc, payload)? {
+        Some(value) => new_account_in(alloc, &value),
+        None => Ok(None),
+    }
+}
+
+fn is_deactivated_text(text: Option<&str>) -> bool
+    ensures { result ≡ is_deactivated_text (option_map (λ s. s.now) text.entry) }
+{
+    match text {
+        Some(text) => text == "deactivated",
+        None => false,
+    }
+}
+
+fn says_deactivated(value: &Value) -> bool
+    ensures { result ≡ says_deactivated (view value.now) }
+{
+    is_deactivated_text(value.get("status").and_then(Value::as_str))
+}
+
+fn account_change_in(alloc: Global, value: &Value) -> Result<Option<AccountChange>, AllocError>
+    ensures { IfOk result (λ o. o ≡ account_change_in (view value.now)) }
+{
+    if says_deactivated(value) {
+        return Ok(Some(AccountChange::Deactivate));
+    }
+    match optional_texts(alloc, value.get("contact"))? {
+        Some(contacts) => Ok(Some(AccountChange::Update(contacts))),
+        None => Ok(None),
+    }
+}
+
+/// What a request to an account asks, `None` where the payload has another form (RFC 8555, 7.3.2).
+pub(crate) fn account_change(
+    alloc: Global,
+    payload: &str,
+) -> Result<Option<AccountChange>, AllocError>
+    ensures { IfOk result (λ o. o ≡ account_change payload.now) }
+{
+    if payload.is_empty() {
+        return Ok(Some(AccountChange::Read));
+    }
+    match object_in(alloc, payload)? {
+        Some(value) => account_change_in(alloc, &value),
+        None => Ok(None),
+    }
+}
+
+fn authorization_change_in(value: &Value) -> Option<AuthorizationChange>
+    ensures { result ≡ authorization_change_in (view value.now) }
+{
+    if says_deactivated(value) {
+        Some(AuthorizationChange::Deactivate)
+    } else {
+        None
+    }
+}
+
+/// What a request to an authorization asks, `None` where the payload has another form (RFC 8555, 7.5.2).
+pub(crate) fn authorization_change(
+    alloc: Global,
+    payload: &str,
+) -> Result<Option<AuthorizationChange>, AllocError>
+    ensures { IfOk result (λ o. o ≡ authorization_change payload.now) }
+{
+    if payload.is_empty() {
+        return Ok(Some(AuthorizationChange::Read));
+    }
+    match object_in(alloc, payload)? {
+        Some(value) => Ok(authorization_change_in(&value)),
+        None => Ok(None),
+    }
+}
+
+/// What a request to a challenge asks, `None` where the payload has another form (RFC 8555, 7.5.1).
+pub(crate) fn challenge_change(
+    alloc: Global,
+    payload: &str,
+) -> Result<Option<ChallengeChange>, AllocError>
+    ensures { IfOk result (λ o. o ≡ challenge_change payload.now) }
+{
+    if payload.is_empty() {
+        return Ok(Some(ChallengeChange::Read));
+    }
+    match object_in(alloc, payload)? {
+        Some(_) => Ok(Some(ChallengeChange::Answer)),
+        None => Ok(None),
+    }
+}
+
+/// The text of a member of an object.
+fn text_of<'v>(value: &'v Value, name: &str) -> Option<&'v str>
+    ensures { option_map (λ s. s.now) result ≡ option_and_then as_str (get name.now (view value.now)) }
+{
+    value.get(name).and_then(Value::as_str)
+}
+
+fn identifier_in(alloc: Global, value: &Value) -> Result<Option<Identifier>, AllocError>
+    ensures { IfOk result (λ o. o ≡ identifier_in (view value.now)) }
+{
+    let Some(kind) = text_of(value, "type") else {
+        return Ok(None);
+    };
+    let Some(text) = text_of(value, "value") else {
+        return Ok(None);
+    };
+    Ok(Some(Identifier {
+        kind: Text::new(String::from_str(alloc, kind)?),
+        value: Text::new(String::from_str(alloc, text)?),
+    }))
+}
+
+/// The identifiers of a list, `None` where one of its items is none.
+fn identifiers(alloc: Global, items: &[Value]) -> Result<Option<Vec<Identifier>>, AllocError>
+    ensures { IfOk result (λ o. option_map (λ v. v.items) o ≡ each_in identifier_in (items_view items.now)) }
+{
+    let mut found = Vec::new(alloc);
+    for item in items {
+        let Some(identifier) = identifier_in(alloc, item)? else {
+            return Ok(None);
+        };
+        found.push(identifier)?;
+    }
+    Ok(Some(found))
+}
+
+fn new_order_in(alloc: Global, value: &Value) -> Result<Option<Vec<Identifier>>, AllocError>
+    ensures { IfOk result (λ o. option_map (λ v. v.items) o ≡ new_order_in (view value.now)) }
+{
+    if value.get("notBefore").is_some() || value.get("notAfter").is_some() {
+        return Ok(None);
+    }
+    match value.get("identifiers").and_then(Value::as_array) {
+        Some(items) => identifiers(alloc, items.as_slice()),
+        None => Ok(None),
+    }
+}
+
+/// The identifiers that a newOrder payload asks for, `None` where it has another form (RFC 8555, 7.4).
+pub(crate) fn new_order(alloc: Global, payload: &str) -> Result<Option<Vec<Identifier>>, AllocError>
+    ensures { IfOk result (λ o. option_map (λ v. v.items) o ≡ new_order payload.now) }
+{
+    match object_in(alloc, payload)? {
+        Some(value) => new_order_in(alloc, &value),
+        None => Ok(None),
+    }
+}
+
+/// The text of the CSR that a finalize payload hands in, `None` where it has another form (RFC 8555, 7.4).
+pub(crate) fn finalize(alloc: Global, payload: &str) -> Result<Option<String>, AllocError>
+    ensures { IfOk result (λ o. option_map (λ s. string_bytes s) o ≡ finalize payload.now) }
+{
+    let Some(value) = object_in(alloc, payload)? else {
+        return Ok(None);
+    };
+    match text_of(&value, "csr") {
+        Some(text) => Ok(Some(String::from_str(alloc, text)?)),
+        None => Ok(None),
+    }
+}
