@@ -12,6 +12,7 @@ pub mod Effect
 pub mod Entry
 pub mod History
 pub mod Json
+pub mod KeyTexts
 pub mod Keys
 pub mod Legal
 pub mod Life

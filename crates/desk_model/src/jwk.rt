@@ -1,28 +1,175 @@
 //! Public keys of accounts.
-ghost use Rattle.std.specs.Prelude.{◌≡◌};
+ghost use Rattle.std.specs.Prelude.{◌≡◌, ◌≢◌, ◌↔◌, ◌++◌, ◌∷◌, ℕ, List, IsTrue, IfOk, MatchOption, codes, string_bytes};
+ghost use Rattle.std.specs.Int.{is_in_range};
+ghost use Rattle.std.specs.List.{list_all};
+ghost use Rattle.desk_model.specs.Keys.{IsKeyText, is_number_text, is_base64url_byte};
+ghost use Rattle.desk_model.specs.KeyTexts.{IsNumberThen, IsLastNumber, AreTwoNumbers, HasEcShape, HasKeyShape, HasTwoNumbers, HasOneNumber};
 
 use crate::text::Text;
+use std::alloc::AllocError;
 use std::marker::Model;
 
 /// A key, which contracts see as its canonical text (RFC 7638, 3).
-#[derive(Drop, Debug)]
+#[derive(Drop, Debug, PartialEq, Eq, PartialOrd, Ord)]
 pub struct Jwk {
     canonical: Text,
 }
 
 impl Model for Jwk {
     ghost use Rattle.std.specs.Prelude.{List, ℕ};
+    ghost use Rattle.desk_model.specs.Keys.{IsKeyText};
 
     ghost Value = { List ℕ };
 
     ghost view = { λ k. k.canonical };
+
+    ghost invariant = { λ k. IsKeyText k.canonical };
+
+    ghost inverse = { λ text. record { canonical = text } };
 }
 
 impl Jwk {
-    /// The canonical text.
+    /// The key with this canonical text; `from_canonical` tests whether there is one.
+    pub fn new(text: String) -> Jwk
+        requires { IsKeyText (string_bytes text) }
+        ensures { result ≡ string_bytes text }
+    {
+        let canonical = Text::new(text);
+        Jwk { canonical }
+    }
+
+    /// The key with this canonical text, or `None` where no key has it.
+    pub fn from_canonical(text: String) -> Option<Jwk>
+        ensures { MatchOption result (¬ (IsKeyText (string_bytes text)))
+            (λ key. IsKeyText (string_bytes text) × (key ≡ string_bytes text)) }
+    {
+        if is_key_text(text.as_str()) {
+            Some(Jwk::new(text))
+        } else {
+            None
+        }
+    }
+
+    /// The canonical text (RFC 7638, 3).
     pub fn canonical(&self) -> &str
-        ensures { result.now ≡ self.now }
+        ensures canonical { result.now ≡ self.now }
+        ensures of_a_key { IsKeyText self.now }
     {
         self.canonical.as_str()
     }
+}
+
+impl Clone for Jwk {
+    ghost is_clone = { λ key copy. copy ≡ key };
+
+    fn clone(&self) -> Result<Jwk, AllocError> {
+        let canonical = self.canonical.clone()?;
+        Ok(Jwk { canonical })
+    }
+}
+
+// Whether the text is the canonical text of a key.
+fn is_key_text(text: &str) -> bool
+    ensures { IsTrue result ↔ IsKeyText text.now }
+{
+    has_key_shape(text)
+}
+
+// Whether the text is of one of the shapes of canonical texts.
+fn has_key_shape(text: &str) -> bool
+    ensures { IsTrue result ↔ HasKeyShape text.now }
+{
+    has_ec_shape(text)
+        || has_two_numbers(text, "{\"e\":\"", ",\"kty\":\"RSA\",\"n\":\"")
+        || has_one_number(text, "{\"crv\":\"Ed25519\",\"kty\":\"OKP\",\"x\":\"")
+}
+
+// Whether the text has the shape of a key on a curve of the NIST.
+fn has_ec_shape(text: &str) -> bool
+    ensures { IsTrue result ↔ HasEcShape text.now }
+{
+    has_two_numbers(text, "{\"crv\":\"P-256\",\"kty\":\"EC\",\"x\":\"", ",\"y\":\"")
+        || has_two_numbers(text, "{\"crv\":\"P-384\",\"kty\":\"EC\",\"x\":\"", ",\"y\":\"")
+        || has_two_numbers(text, "{\"crv\":\"P-521\",\"kty\":\"EC\",\"x\":\"", ",\"y\":\"")
+}
+
+// Whether two numbers stand behind the head, with this between them, and end the text.
+fn has_two_numbers(text: &str, head: &str, between: &str) -> bool
+    ensures { IsTrue result ↔ HasTwoNumbers head.now between.now text.now }
+{
+    match text.strip_prefix(head) {
+        Some(rest) => are_two_numbers(rest, between),
+        None => false,
+    }
+}
+
+// Whether one number stands behind the head and ends the text.
+fn has_one_number(text: &str, head: &str) -> bool
+    ensures { IsTrue result ↔ HasOneNumber head.now text.now }
+{
+    match text.strip_prefix(head) {
+        Some(rest) => is_last_number(rest),
+        None => false,
+    }
+}
+
+// Whether the text is two numbers with this between them.
+fn are_two_numbers(text: &str, between: &str) -> bool
+    ensures { IsTrue result ↔ AreTwoNumbers between.now text.now }
+{
+    match after_number(text) {
+        Some(rest) => has_one_number(rest, between),
+        None => false,
+    }
+}
+
+// Whether the text is a number and the end of an object.
+fn is_last_number(text: &str) -> bool
+    ensures { IsTrue result ↔ IsLastNumber text.now }
+{
+    match after_number(text) {
+        Some(rest) => is_same(rest, "}"),
+        None => false,
+    }
+}
+
+// What stands behind a number and its quotation mark.
+fn after_number(text: &str) -> Option<&str>
+    ensures { MatchOption result
+        ((number rest : List ℕ) → IsTrue (is_number_text number) → text.now ≢ number ++ 34 ∷ rest)
+        (λ rest. IsNumberThen text.now rest.now) }
+{
+    let Some((number, rest)) = text.split_once('"') else {
+        return None;
+    };
+    if is_number(number) { Some(rest) } else { None }
+}
+
+// Whether two texts are the same.
+fn is_same(text: &str, other: &str) -> bool
+    ensures { IsTrue result ↔ (text.now ≡ other.now) }
+{
+    text == other
+}
+
+/// Whether a text is a number in base64url, of 1 to 4096 characters.
+pub fn is_number(text: &str) -> bool
+    ensures { result ≡ is_number_text text.now }
+{
+    is_number_len(text.len()) && has_number_bytes(text)
+}
+
+// Whether a number may have this many characters.
+fn is_number_len(len: usize) -> bool
+    ensures { result ≡ is_in_range 1 4096 len }
+{
+    (1..=4096).contains(&len)
+}
+
+// Whether each character is one of base64url.
+fn has_number_bytes(text: &str) -> bool
+    ensures { result ≡ list_all is_base64url_byte text.now }
+{
+    text.bytes()
+        .all(|b| b.is_ascii_alphanumeric() || b == b'-' || b == b'_')
 }

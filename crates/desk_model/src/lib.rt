@@ -17,10 +17,10 @@ mod text;
 mod verdict;
 
 pub use call::{Ask, BadKey, Call, FetchError, Finding, OrderProblem, Signed, Target};
-pub use dns_name::DnsName;
+pub use dns_name::{DnsName, is_well_formed};
 pub use document::Document;
 pub use entry::{Dated, Ending, Entry, Outcome, Wanted};
-pub use jwk::Jwk;
+pub use jwk::{Jwk, is_number};
 pub use objects::{
     Account, AccountEnd, Authorization, AuthorizationEnd, Challenge, EndKind, Kind, Nonce, Order,
     Report,

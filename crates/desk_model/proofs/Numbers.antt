@@ -1,0 +1,73 @@
+-- The number at the front of a text ends at its first quotation mark.
+use Rattle.std.proofs.Common.{◌≡◌, ◌≢◌, ℕ, ◌<◌, Bool, true, false, zero, suc, List, [], ◌∷◌, ◌++◌, length, get_or, refl, sym, ◌∙◌, ap, subst, arith}
+use Rattle.std.specs.Prelude.{IsTrue, ◌&&◌}
+use Rattle.std.specs.List.{list_all}
+use Rattle.std.proofs.lemmas.Bool.{eqb-true}
+use Rattle.desk_model.specs.Keys.{is_number_text, is_base64url_byte}
+use Rattle.desk_model.specs.KeyTexts.{IsNumberThen}
+
+-- a true conjunction has true parts
+pub and-first : (a b : Bool) → (a && b) ≡ true → a ≡ true
+and-first true b e = refl
+and-first false b e = e
+
+pub and-second : (a b : Bool) → (a && b) ≡ true → b ≡ true
+and-second true b e = e
+and-second false b e = absurd (cc e)
+
+-- a number has characters of base64url alone
+pub number_bytes : (n : List ℕ) → IsTrue (is_number_text n) → list_all is_base64url_byte n ≡ true
+number_bytes n e = and-second _ (list_all is_base64url_byte n) e
+
+-- a quotation mark is no such character
+no_quote : (c : ℕ) → is_base64url_byte c ≡ true → c ≡ 34 → ⊥
+no_quote c t h = let z : is_base64url_byte 34 ≡ true = subst (λ (n : ℕ). is_base64url_byte n ≡ true) h t in absurd (cc z)
+
+-- two lists of such characters before a quotation mark are one
+same_front : (a b r s : List ℕ) → list_all is_base64url_byte a ≡ true → list_all is_base64url_byte b ≡ true → a ++ 34 ∷ r ≡ b ++ 34 ∷ s → (a ≡ b) × (r ≡ s)
+same_front [] [] r s p q e = (refl, cc e)
+same_front [] (y ∷ ys) r s p q e =
+    let h : y ≡ 34 = cc e in
+    absurd (no_quote y (and-first (is_base64url_byte y) (list_all is_base64url_byte ys) q) h)
+same_front (x ∷ xs) [] r s p q e =
+    let h : x ≡ 34 = cc e in
+    absurd (no_quote x (and-first (is_base64url_byte x) (list_all is_base64url_byte xs) p) h)
+same_front (x ∷ xs) (y ∷ ys) r s p q e =
+    let h : x ≡ y = cc e in
+    let t : xs ++ 34 ∷ r ≡ ys ++ 34 ∷ s = cc e in
+    let rest = same_front xs ys r s (and-second (is_base64url_byte x) (list_all is_base64url_byte xs) p) (and-second (is_base64url_byte y) (list_all is_base64url_byte ys) q) t in
+    let u = rest.0 in
+    (cc (h, u), rest.1)
+
+-- what stands behind a number is one text
+pub IsNumberThen-unique : (text r s : List ℕ) → IsNumberThen text r → IsNumberThen text s → r ≡ s
+IsNumberThen-unique text r s m n = (same_front m.0 n.0 r s (number_bytes m.0 m.1) (number_bytes n.0 n.1) (sym m.2 ∙ n.2)).1
+
+-- no quotation mark stands in the list
+abbrev unmarked : List ℕ → Type 0
+unmarked xs = (i : ℕ) → i < length xs → get_or xs i 0 ≢ 34
+
+-- a list without a quotation mark has none in front of another
+front_without : (a b r s : List ℕ) → unmarked a → list_all is_base64url_byte b ≡ true → a ++ 34 ∷ r ≡ b ++ 34 ∷ s → a ≡ b
+front_without [] [] r s p q e = refl
+front_without [] (y ∷ ys) r s p q e =
+    let h : y ≡ 34 = cc e in
+    absurd (no_quote y (and-first (is_base64url_byte y) (list_all is_base64url_byte ys) q) h)
+front_without (x ∷ xs) [] r s p q e = absurd (p 0 (omega arith) (cc e))
+front_without (x ∷ xs) (y ∷ ys) r s p q e =
+    let h : x ≡ y = cc e in
+    let t : xs ++ 34 ∷ r ≡ ys ++ 34 ∷ s = cc e in
+    let u = front_without xs ys r s (λ i l. p (suc i) (omega arith)) (and-second (is_base64url_byte y) (list_all is_base64url_byte ys) q) t in
+    cc (h, u)
+
+-- a text without a quotation mark has no number in front
+pub no_mark_no_number : (text : List ℕ) → ((i : ℕ) → i < length text → get_or text i 0 ≢ 34) → (n rest : List ℕ) → text ≢ n ++ 34 ∷ rest
+no_mark_no_number text none [] rest e = none 0 (subst (λ (l : List ℕ). 0 < length l) (sym e) (omega arith)) (ap (λ l. get_or l 0 0) e)
+no_mark_no_number [] none (x ∷ xs) rest e = absurd (cc e)
+no_mark_no_number (y ∷ ys) none (x ∷ xs) rest e = no_mark_no_number ys (λ i l. none (suc i) (omega arith)) xs rest (cc e)
+
+-- a number in front is the part before the first quotation mark
+pub number_is_first : (text a r n rest : List ℕ) → (text ≡ a ++ 34 ∷ r) × ((i : ℕ) → i < length a → get_or a i 0 ≢ 34) → IsTrue (is_number_text n) → text ≡ n ++ 34 ∷ rest → IsTrue (is_number_text a)
+number_is_first text a r n rest m num e =
+    let same : a ≡ n = front_without a n r rest m.1 (number_bytes n num) (sym m.0 ∙ e) in
+    subst (λ (l : List ℕ). IsTrue (is_number_text l)) (sym same) num
