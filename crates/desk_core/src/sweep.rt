@@ -3,10 +3,13 @@ ghost use Rattle.std.specs.Prelude.{◌≡◌, ◌++◌, ℕ, map, IfOk, OnOk};
 ghost use Rattle.std.specs.List.{list_any};
 ghost use Rattle.desk_model.specs.Lookup.{holds};
 ghost use Rattle.desk_model.specs.Derived.{authorization_numbered, numbers_of};
+ghost use Rattle.desk_model.specs.Change.{sweep_changes, nonces_gone, authorizations_expired, orders_fallen};
+ghost use Rattle.desk_model.specs.declared.rows.Change.TheVariants.{RemoveNonce, PutAuthorization, PutOrder};
 ghost use Rattle.desk_model.specs.Effect.{is_live, is_live_order, is_overdue, falls, lasts, lists_one};
 
-use desk_book::Table;
-use desk_model::{AuthorizationRow, AuthzStatus, Listed, Nonce, OrderRow, OrderStatus, Policy};
+use desk_book::{Book, Table};
+use desk_model::{AuthorizationRow, AuthzStatus, Change, Listed, Nonce, OrderRow, OrderStatus, Policy};
+use std::alloc::{AllocError, Global};
 
 /// Whether a nonce is good at a moment: up to and including the end of its life.
 pub(crate) fn lasts(policy: &Policy, moment: u64, nonce: &Nonce) -> bool
@@ -60,4 +63,63 @@ pub(crate) fn falls(moment: u64, rows: &Table<AuthorizationRow>, row: &OrderRow)
     ensures { result ≡ falls moment rows.now row.now }
 {
     is_live_order(row.status) && (row.expires < moment || lists_overdue(moment, rows, row))
+}
+
+/// The changes that the passing of time makes, up to a moment.
+pub(crate) fn sweep_changes(
+    alloc: Global,
+    book: &Book,
+    moment: u64,
+) -> Result<Vec<Change>, AllocError>
+    ensures { IfOk result (λ v. v.items ≡ sweep_changes moment book.now) }
+{
+    let mut changes = Vec::new(alloc);
+    let mut meta = book.meta().clone()?;
+    meta.clock = moment;
+    changes.push(Change::PutMeta(meta))?;
+    remove_gone(&mut changes, book, moment)?;
+    put_expired(&mut changes, book, moment)?;
+    put_fallen(&mut changes, book, moment)?;
+    Ok(changes)
+}
+
+fn remove_gone(changes: &mut Vec<Change>, book: &Book, moment: u64) -> Result<(), AllocError>
+    ensures { OnOk result (changes.new.items ≡ changes.old.items ++ map RemoveNonce (nonces_gone moment book.now)) }
+{
+    for nonce in book.nonces().iter() {
+        if !lasts(&book.meta().policy, moment, nonce) {
+            changes.push(Change::RemoveNonce(nonce.serial))?;
+        }
+    }
+    Ok(())
+}
+
+fn put_expired(
+    changes: &mut Vec<Change>,
+    book: &Book,
+    moment: u64,
+) -> Result<(), AllocError>
+    ensures { OnOk result (changes.new.items ≡ changes.old.items ++ map PutAuthorization (authorizations_expired moment book.now)) }
+{
+    for row in book.authorizations().iter() {
+        if is_overdue(moment, row) {
+            let mut expired = row.clone()?;
+            expired.status = AuthzStatus::Expired;
+            changes.push(Change::PutAuthorization(expired))?;
+        }
+    }
+    Ok(())
+}
+
+fn put_fallen(changes: &mut Vec<Change>, book: &Book, moment: u64) -> Result<(), AllocError>
+    ensures { OnOk result (changes.new.items ≡ changes.old.items ++ map PutOrder (orders_fallen moment book.now)) }
+{
+    for row in book.orders().iter() {
+        if falls(moment, book.authorizations(), row) {
+            let mut fallen = row.clone()?;
+            fallen.status = OrderStatus::Invalid;
+            changes.push(Change::PutOrder(fallen))?;
+        }
+    }
+    Ok(())
 }

@@ -1,85 +1,110 @@
 -- Small lemmas on options and lists.
-use Rattle.std.proofs.Common.{◌≡◌, ◌≤◌, ◌<◌, ◌≢◌, ℕ, ◌+◌, List, [], ◌∷◌, ◌++◌, length, map, Option, Some, None, refl, ap, ◌∙◌, subst, true, false, Bool, cond, arith}
+use Rattle.std.proofs.Common.{◌≡◌, ◌<◌, ◌≢◌, ℕ, ◌+◌, List, [], ◌∷◌, ◌++◌, length, map, Option, Some, None, refl, ap, ◌∙◌, subst, true, false, Bool, cond, arith}
 use Rattle.std.specs.Prelude.{◌==◌, ◌&&◌, ◌||◌, find}
 use Rattle.std.specs.List.{list_any, list_all}
 use Rattle.std.specs.Option.{option_map}
-use Rattle.std.proofs.lemmas.Bool.{eq-eqb, ne_eqb}
+use Rattle.std.proofs.lemmas.Bool.{ne_eqb}
 use Rattle.desk_model.specs.History.{earlier}
 use Rattle.desk_model.specs.Touched.{EachOf}
 
+-- what came first stays first
 pub earlier-some : {X : Type 0} (x : X) (o : Option X) → earlier (Some x) o ≡ Some x
 earlier-some x None = refl
 earlier-some x (Some y) = refl
 
+-- the first fact after none
 pub none_earlier : {X : Type 0} (o : Option X) → earlier None o ≡ o
 none_earlier None = refl
 none_earlier (Some x) = refl
 
+-- `false` changes no test
 pub or_none : (a : Bool) → (a || false) ≡ a
 or_none true = refl
 or_none false = refl
 
+-- a test of some mapped item
 pub list_any-map : {X Y : Type 0} (p : Y → Bool) (f : X → Y) (xs : List X) → list_any p (map f xs) ≡ list_any (λ x. p (f x)) xs
 list_any-map p f [] = refl
 list_any-map p f (x ∷ xs) = ap (λ b. p (f x) || b) (list_any-map p f xs)
 
+-- equal tests pass the same lists
 pub list_any-same : {X : Type 0} (p q : X → Bool) (xs : List X) → ((x : X) → p x ≡ q x) → list_any p xs ≡ list_any q xs
 list_any-same p q [] h = refl
 list_any-same p q (x ∷ xs) h = ap (λ b. p x || b) (list_any-same p q xs h) ∙ ap (λ b. b || list_any q xs) (h x)
 
+-- some item passes one of two tests
+pub any_or : {X : Type 0} (p q : X → Bool) (xs : List X) → list_any (λ x. p x || q x) xs ≡ (list_any p xs || list_any q xs)
+any_or p q [] = refl
+any_or p q (x ∷ xs) = by (p x) (q x) (list_any p xs) (list_any q xs) (list_any (λ x. p x || q x) xs) (any_or p q xs)
+  where
+    by : (a b c d e : Bool) → e ≡ (c || d) → ((a || b) || e) ≡ ((a || c) || (b || d))
+    by true b c d e h = refl
+    by false true true d e h = refl
+    by false true false d e h = refl
+    by false false c d e h = h
+
+-- what follows from what holds of each item
 pub each : {X : Type 0} (P Q : X → Type 0) (xs : List X) → ((x : X) → P x → Q x) → EachOf P xs → EachOf Q xs
 each P Q [] f h = tt
 each P Q (x ∷ xs) f h = (f x h.0, each P Q xs f h.1)
 
+-- what holds of all holds of each item
 pub each_all : {X : Type 0} (P : X → Type 0) (xs : List X) → ((x : X) → P x) → EachOf P xs
 each_all P [] f = tt
 each_all P (x ∷ xs) f = (f x, each_all P xs f)
 
+-- what holds of the items of two lists
 pub each-append : {X : Type 0} (P : X → Type 0) (xs ys : List X) → EachOf P xs → EachOf P ys → EachOf P (xs ++ ys)
 each-append P [] ys h k = k
 each-append P (x ∷ xs) ys h k = (h.0, each-append P xs ys h.1 k)
 
+-- what holds of each mapped item
 pub each-map : {X Y : Type 0} (P : Y → Type 0) (f : X → Y) (xs : List X) → EachOf (λ x. P (f x)) xs → EachOf P (map f xs)
 each-map P f [] h = tt
 each-map P f (x ∷ xs) h = (h.0, each-map P f xs h.1)
 
+-- maps that agree on each item
 pub map-each : {X Y : Type 0} (f g : X → Y) (xs : List X) → EachOf (λ x. f x ≡ g x) xs → map f xs ≡ map g xs
 map-each f g [] h = refl
 map-each f g (x ∷ xs) h = λ i. h.0 i ∷ map-each f g xs h.1 i
 
-pub map-map : {X Y Z : Type 0} (f : X → Y) (g : Y → Z) (xs : List X) → map g (map f xs) ≡ map (λ x. g (f x)) xs
-map-map f g [] = refl
-map-map f g (x ∷ xs) = ap (λ l. g (f x) ∷ l) (map-map f g xs)
-
 -- moved row by row
-pub map-moved : {X Y : Type 0} (f : X → Y) (move : Y → Y) (g : X → Y) (xs : List X) → EachOf (λ x. g x ≡ move (f x)) xs → map g xs ≡ map move (map f xs)
+pub map-moved : {X Y : Type 0} (f : X → Y) (move : Y → Y) (g : X → Y) (xs : List X) → EachOf (λ x. g x ≡ move (f x)) xs →
+    map g xs ≡ map move (map f xs)
 map-moved f move g [] h = refl
 map-moved f move g (x ∷ xs) h = λ i. h.0 i ∷ map-moved f move g xs h.1 i
 
+-- the first mapped item that passes
 pub find-map : {X Y : Type 0} (p : Y → Bool) (f : X → Y) (xs : List X) → find p (map f xs) ≡ option_map f (find (λ x. p (f x)) xs)
 find-map p f [] = refl
 find-map p f (x ∷ xs) = by (p (f x)) (find-map p f xs)
   where
-    by : (b : Bool) → find p (map f xs) ≡ option_map f (find (λ x. p (f x)) xs) → cond b (Some (f x)) (find p (map f xs)) ≡ option_map f (cond b (Some x) (find (λ x. p (f x)) xs))
+    by : (b : Bool) → find p (map f xs) ≡ option_map f (find (λ x. p (f x)) xs) →
+        cond b (Some (f x)) (find p (map f xs)) ≡ option_map f (cond b (Some x) (find (λ x. p (f x)) xs))
     by true h = refl
     by false h = h
 
+-- what is found stays found
 pub find-append : {X : Type 0} (p : X → Bool) (xs ys : List X) (x : X) → find p xs ≡ Some x → find p (xs ++ ys) ≡ Some x
 find-append p [] ys x h = cc
 find-append p (y ∷ xs) ys x h = by (p y) h (find-append p xs ys x)
   where
-    by : (b : Bool) → cond b (Some y) (find p xs) ≡ Some x → (find p xs ≡ Some x → find p (xs ++ ys) ≡ Some x) → cond b (Some y) (find p (xs ++ ys)) ≡ Some x
+    by : (b : Bool) → cond b (Some y) (find p xs) ≡ Some x → (find p xs ≡ Some x → find p (xs ++ ys) ≡ Some x) →
+        cond b (Some y) (find p (xs ++ ys)) ≡ Some x
     by true k ih = k
     by false k ih = ih k
 
+-- both tests failed
 pub or_false : (a b : Bool) → (a || b) ≡ false → (a ≡ false) × (b ≡ false)
 or_false true b h = cc
 or_false false b h = (refl, h)
 
+-- a test of all mapped items
 pub list_all-map : {X Y : Type 0} (p : Y → Bool) (f : X → Y) (xs : List X) → list_all p (map f xs) ≡ list_all (λ x. p (f x)) xs
 list_all-map p f [] = refl
 list_all-map p f (x ∷ xs) = ap (λ b. p (f x) && b) (list_all-map p f xs)
 
+-- what holds of the items that come last
 pub each_after : {X : Type 0} (P : X → Type 0) (xs ys : List X) → EachOf P (xs ++ ys) → EachOf P ys
 each_after P [] ys h = h
 each_after P (x ∷ xs) ys h = each_after P xs ys h.1
@@ -89,24 +114,27 @@ abbrev pub IsNumbered : {X : Type 0} → (X → ℕ) → ℕ → List X → Type
 IsNumbered number n [] = Unit {0}
 IsNumbered number n (x ∷ xs) = (number x ≡ n) × IsNumbered number (n + 1) xs
 
-pub numbered-append : {X : Type 0} (number : X → ℕ) (n : ℕ) (xs ys : List X) (k : ℕ) → k ≡ length xs + n → IsNumbered number n xs → IsNumbered number k ys → IsNumbered number n (xs ++ ys)
+-- numbers that go on counting
+pub numbered-append : {X : Type 0} (number : X → ℕ) (n : ℕ) (xs ys : List X) (k : ℕ) → k ≡ length xs + n → IsNumbered number n xs →
+    IsNumbered number k ys → IsNumbered number n (xs ++ ys)
 numbered-append number n [] ys k e h g = let same : k ≡ n = omega arith in subst (λ j. IsNumbered number j ys) same g
 numbered-append number n (x ∷ xs) ys k e h g = (h.0, numbered-append number (n + 1) xs ys k (omega arith) h.1 g)
 
-pub numbered_found : {X : Type 0} (number : X → ℕ) (n : ℕ) (xs : List X) → IsNumbered number n xs → EachOf (λ x. find (λ y. number y == number x) xs ≡ Some x) xs
-numbered_found number n xs h = each _ _ xs (λ x p. p.0) (both number n xs h)
-  where
-    both : {X : Type 0} (number : X → ℕ) (n : ℕ) (xs : List X) → IsNumbered number n xs → EachOf (λ x. (find (λ y. number y == number x) xs ≡ Some x) × (n ≤ number x)) xs
-    both number n [] h = tt
-    both number n (x ∷ xs) h = (
-      (ap (λ b. cond b (Some x) (find (λ y. number y == number x) xs)) (eq-eqb (number x) (number x) refl), (let same : number x ≡ n = h.0 in omega arith)),
-      each _ _ xs (λ y p. let same : number x ≡ n = h.0 in let above : n + 1 ≤ number y = p.1 in
-          (ap (λ b. cond b (Some x) (find (λ z. number z == number y) xs)) (ne_eqb (number x) (number y) (differ (number x) (number y) (omega arith))) ∙ p.0, omega arith)) (both number (n + 1) xs h.1),
-    )
-      where
-        differ : (a b : ℕ) → a < b → a ≢ b
-        differ a b lt = omega arith
-
+-- two facts of each item
 pub each_both : {X : Type 0} (P Q : X → Type 0) (xs : List X) → EachOf P xs → EachOf Q xs → EachOf (λ x. P x × Q x) xs
 each_both P Q [] h k = tt
 each_both P Q (x ∷ xs) h k = ((h.0, k.0), each_both P Q xs h.1 k.1)
+
+-- numbers apart
+pub less_differs : (a b : ℕ) → a < b → (a == b) ≡ false
+less_differs a b lt = ne_eqb a b (apart a b lt)
+  where
+    apart : (a b : ℕ) → a < b → a ≢ b
+    apart a b lt = omega arith
+
+-- and so the other way round
+pub more_differs : (a b : ℕ) → b < a → (a == b) ≡ false
+more_differs a b lt = ne_eqb a b (apart a b lt)
+  where
+    apart : (a b : ℕ) → b < a → a ≢ b
+    apart a b lt = omega arith

@@ -30,18 +30,22 @@ use Rattle.desk_laws.proofs.RowFacts.{kept_challenges}
 
 -- ---- statuses by their codes
 
+-- the status of a code, for an account
 account_by_code : ℕ → AccountStatus
 account_by_code n = cond (n == 0) account.Valid (cond (n == 1) account.Deactivated account.Revoked)
 
+-- a code tells the status
 account_coded : (s : AccountStatus) → account_by_code (account_code s) ≡ s
 unfolding account_by_code
 account_coded account.Valid = refl
 account_coded account.Deactivated = refl
 account_coded account.Revoked = refl
 
+-- for a challenge
 chall_by_code : ℕ → ChallengeStatus
 chall_by_code n = cond (n == 0) chall.Pending (cond (n == 1) chall.Processing (cond (n == 2) chall.Valid chall.Invalid))
 
+-- a code tells the status
 chall_coded : (s : ChallengeStatus) → chall_by_code (chall_code s) ≡ s
 unfolding chall_by_code
 chall_coded chall.Pending = refl
@@ -49,12 +53,14 @@ chall_coded chall.Processing = refl
 chall_coded chall.Valid = refl
 chall_coded chall.Invalid = refl
 
+-- for an authorization
 authz_by_code : ℕ → AuthzStatus
 authz_by_code n =
     cond (n == 0) authz.Pending
     (cond (n == 1) authz.Valid
     (cond (n == 2) authz.Invalid (cond (n == 3) authz.Deactivated (cond (n == 4) authz.Expired authz.Revoked))))
 
+-- a code tells the status
 authz_coded : (s : AuthzStatus) → authz_by_code (authz_code s) ≡ s
 unfolding authz_by_code
 authz_coded authz.Pending = refl
@@ -64,11 +70,13 @@ authz_coded authz.Deactivated = refl
 authz_coded authz.Expired = refl
 authz_coded authz.Revoked = refl
 
+-- for an order
 order_by_code : ℕ → OrderStatus
 order_by_code n =
     cond (n == 0) order.Pending
     (cond (n == 1) order.Ready (cond (n == 2) order.Processing (cond (n == 3) order.Valid order.Invalid)))
 
+-- a code tells the status
 order_coded : (s : OrderStatus) → order_by_code (order_code s) ≡ s
 unfolding order_by_code
 order_coded order.Pending = refl
@@ -77,14 +85,15 @@ order_coded order.Processing = refl
 order_coded order.Valid = refl
 order_coded order.Invalid = refl
 
+-- a test whose negation fails
+unnegated : (b : Bool) → not b ≡ false → b ≡ true
+unnegated true h = refl
+unnegated false h = cc
+
 -- equal codes are of equal values
 same_coded : {S : Type 0} (code : S → ℕ) (by_code : ℕ → S) → ((s : S) → by_code (code s) ≡ s) → (a b : S) → not (code a == code b) ≡ false → b ≡ a
 same_coded code by_code coded a b h =
-    sym (coded b) ∙ (ap by_code (sym (eqb-true (code a) (code b) (equal (code a == code b) h))) ∙ coded a)
-  where
-    equal : (c : Bool) → not c ≡ false → c ≡ true
-    equal true k = refl
-    equal false k = cc
+    sym (coded b) ∙ (ap by_code (sym (eqb-true (code a) (code b) (unnegated (code a == code b) h))) ∙ coded a)
 
 -- a value's code is its own
 own_code : (n : ℕ) → not (n == n) ≡ false
@@ -99,18 +108,16 @@ earlier_stays None (Some y) h = cc
 earlier_stays (Some x) None h = refl
 earlier_stays (Some x) (Some y) h = refl
 
+-- no fact is gained where nothing changes
 none_gained : {X : Type 0} (x : Option X) → is_gained x x ≡ false
 none_gained None = refl
 none_gained (Some x) = refl
 
 -- ---- accounts
 
+-- contacts that do not differ are equal
 same_contacts : (xs ys : List (List ℕ)) → not (pointwise bytes_eq xs ys) ≡ false → ys ≡ xs
-same_contacts xs ys h = sym ((slice_eq-Decides bytes_eq-Decides xs ys (pointwise bytes_eq xs ys) refl).0 (equal (pointwise bytes_eq xs ys) h))
-  where
-    equal : (c : Bool) → not c ≡ false → c ≡ true
-    equal true k = refl
-    equal false k = cc
+same_contacts xs ys h = sym ((slice_eq-Decides bytes_eq-Decides xs ys (pointwise bytes_eq xs ys) refl).0 (unnegated (pointwise bytes_eq xs ys) h))
 
 -- an account's row that does not differ is the same
 pub account_unmoved : (e : Entry) (m : ℕ) (row : AccountRow) → account_differs row (noted_account e m row) ≡ false → noted_account e m row ≡ row
@@ -134,7 +141,8 @@ account_differs_not row =
 -- ---- challenges
 
 -- a challenge's row that does not differ is the same
-pub challenge_unmoved : (e : Entry) (m : ℕ) (row : ChallengeRow) → challenge_differs row (noted_challenge e m row) ≡ false → noted_challenge e m row ≡ row
+pub challenge_unmoved : (e : Entry) (m : ℕ) (row : ChallengeRow) → challenge_differs row (noted_challenge e m row) ≡ false →
+    noted_challenge e m row ≡ row
 challenge_unmoved (answered n) m row h = by (n == row.number) h
   where
     by : (b : Bool) → challenge_differs row (cond b (answered_challenge m row) row) ≡ false → cond b (answered_challenge m row) row ≡ row
@@ -142,7 +150,8 @@ challenge_unmoved (answered n) m row h = by (n == row.number) h
         let p = or_false (is_gained row.answered (answered_challenge m row).answered) _ k in
         let q = or_false (is_gained row.reported row.reported) _ p.1 in
         let fact : (answered_challenge m row).answered ≡ row.answered = earlier_stays row.answered (Some m) p.0 in
-        let status : (answered_challenge m row).status ≡ row.status = same_coded chall_code chall_by_code chall_coded row.status (answered_challenge m row).status q.1 in
+        let status : (answered_challenge m row).status ≡ row.status =
+        same_coded chall_code chall_by_code chall_coded row.status (answered_challenge m row).status q.1 in
         λ i. record row { answered = fact i; status = status i }
     by false k = refl
 challenge_unmoved (reported n o) m row h = by (n == row.number) h
@@ -152,17 +161,21 @@ challenge_unmoved (reported n o) m row h = by (n == row.number) h
         let p = or_false (is_gained row.answered row.answered) _ k in
         let q = or_false (is_gained row.reported (reported_challenge o m row).reported) _ p.1 in
         let fact : (reported_challenge o m row).reported ≡ row.reported = earlier_stays row.reported (Some (record { date = m; outcome = o })) q.0 in
-        let status : (reported_challenge o m row).status ≡ row.status = same_coded chall_code chall_by_code chall_coded row.status (reported_challenge o m row).status q.1 in
+        let status : (reported_challenge o m row).status ≡ row.status =
+        same_coded chall_code chall_by_code chall_coded row.status (reported_challenge o m row).status q.1 in
         λ i. record row { reported = fact i; status = status i }
     by false k = refl
 challenge_unmoved _ m row h = refl
 
+-- no challenge's row differs from itself
 challenge_differs_not : (row : ChallengeRow) → challenge_differs row row ≡ false
 challenge_differs_not row = λ i. none_gained row.answered i || (none_gained row.reported i || own_code (chall_code row.status) i)
 
 -- ---- authorizations
 
-challenges_unmoved : (e : Entry) (m : ℕ) (cs : List ChallengeRow) → list_any (λ p. challenge_differs p.0 p.1) (zip cs (map (noted_challenge e m) cs)) ≡ false →
+-- challenges that do not differ are the same
+challenges_unmoved : (e : Entry) (m : ℕ) (cs : List ChallengeRow) →
+    list_any (λ p. challenge_differs p.0 p.1) (zip cs (map (noted_challenge e m) cs)) ≡ false →
     EachOf (λ c. noted_challenge e m c ≡ c) cs
 challenges_unmoved e m [] h = tt
 challenges_unmoved e m (c ∷ cs) h =
@@ -171,16 +184,19 @@ challenges_unmoved e m (c ∷ cs) h =
 
 -- an authorization's row that does not differ is the same
 pub authorization_unmoved : (e : Entry) (m : ℕ) (row : AuthorizationRow) →
-    authorization_differs row (restated_authorization m (noted_authorization e m row)) ≡ false → restated_authorization m (noted_authorization e m row) ≡ row
+    authorization_differs row (restated_authorization m (noted_authorization e m row)) ≡ false →
+    restated_authorization m (noted_authorization e m row) ≡ row
 authorization_unmoved e m row h =
     let after : AuthorizationRow = restated_authorization m (noted_authorization e m row) in
     let p = or_false (is_gained row.ended after.ended) _ h in
     let q = or_false (not (authz_code row.status == authz_code after.status)) _ p.1 in
     let ended : after.ended ≡ row.ended = earlier_stays row.ended _ p.0 in
     let status : after.status ≡ row.status = same_coded authz_code authz_by_code authz_coded row.status after.status q.0 in
-    let challenges : after.challenges ≡ row.challenges = kept_challenges (noted_challenge e m) row.challenges (challenges_unmoved e m row.challenges q.1) in
+    let challenges : after.challenges ≡ row.challenges =
+    kept_challenges (noted_challenge e m) row.challenges (challenges_unmoved e m row.challenges q.1) in
     λ i. record row { ended = ended i; status = status i; challenges = challenges i }
 
+-- no challenge of an authorization differs from itself
 none_differs : (cs : List ChallengeRow) → list_any (λ p. challenge_differs p.0 p.1) (zip cs cs) ≡ false
 none_differs [] = refl
 none_differs (c ∷ cs) = λ i. challenge_differs_not c i || none_differs cs i

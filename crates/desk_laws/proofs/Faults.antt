@@ -21,13 +21,17 @@ use Rattle.desk_laws.proofs.Basics.{each, each_all, each-append}
 use Rattle.desk_laws.proofs.RowFacts.{authorization_stated}
 use Rattle.desk_laws.proofs.OrderFacts.{listed_found, order_stated}
 
-none_of : {X Y : Type 0} (row : X → Y) (faults : Y → List StatusFault) (xs : List X) → EachOf (λ x. faults (row x) ≡ []) xs → flat_map faults (map row xs) ≡ []
+-- rows without a fault, one by one
+none_of : {X Y : Type 0} (row : X → Y) (faults : Y → List StatusFault) (xs : List X) → EachOf (λ x. faults (row x) ≡ []) xs →
+    flat_map faults (map row xs) ≡ []
 none_of row faults [] h = refl
 none_of row faults (x ∷ xs) h = λ i. h.0 i ++ none_of row faults xs h.1 i
 
+-- equal codes are no fault
 no_fault : (a b : ℕ) (f : StatusFault) → a ≡ b → unless (a == b) f ≡ []
 no_fault a b f e = ap (λ c. cond c [] (f ∷ [])) (eq-eqb a b e)
 
+-- items without a fault
 no_faults_of : {Y : Type 0} (faults : Y → List StatusFault) (ys : List Y) → EachOf (λ y. faults y ≡ []) ys → flat_map faults ys ≡ []
 no_faults_of faults [] h = refl
 no_faults_of faults (y ∷ ys) h = λ i. h.0 i ++ no_faults_of faults ys h.1 i
@@ -41,6 +45,7 @@ each_inserted P c (d ∷ ds) p h = by (nat_le c.number d.number) (each_inserted 
     by true k = (p, h)
     by false k = (h.0, k)
 
+-- and so when all are sorted
 each_sorted : (P : ChallengeRow → Type 0) (cs : List ChallengeRow) → EachOf P cs → EachOf P (sorted_challenges cs)
 each_sorted P [] h = tt
 each_sorted P (c ∷ cs) h = each_inserted P c (sorted_challenges cs) h.0 (each_sorted P cs h.1)
@@ -50,7 +55,9 @@ challenges_are_fine : (F : History) (cs : List Challenge) → EachOf (λ c. chal
 challenges_are_fine F [] = tt
 challenges_are_fine F (c ∷ cs) = (no_fault _ _ _ refl, challenges_are_fine F cs)
 
-all_fine : (F : History) (t : ℕ) (xs : List Authorization) → EachOf (λ c. challenge_faults c ≡ []) (flat_map (λ (a : AuthorizationRow). a.challenges) (map (authorization_row F t) xs))
+-- no challenge of these authorizations has a fault
+all_fine : (F : History) (t : ℕ) (xs : List Authorization) →
+    EachOf (λ c. challenge_faults c ≡ []) (flat_map (λ (a : AuthorizationRow). a.challenges) (map (authorization_row F t) xs))
 all_fine F t [] = tt
 all_fine F t (a ∷ xs) = each-append _ (map (challenge_row F) a.challenges) _ (challenges_are_fine F a.challenges) (all_fine F t xs)
 
@@ -65,6 +72,7 @@ no_faults F t h =
     let authorizations_fine : flat_map (authorization_faults t) (map (authorization_row F t) (authorizations F)) ≡ [] =
     none_of (authorization_row F t) (authorization_faults t) (authorizations F)
     (each_all _ (authorizations F) (λ a. no_fault _ _ _ (ap (λ (r : AuthorizationRow). authz_code r.status) (authorization_stated F h t t a)))) in
-    let challenges_fine : flat_map challenge_faults (sorted_challenges (flat_map (λ (a : AuthorizationRow). a.challenges) (map (authorization_row F t) (authorizations F)))) ≡ [] =
+    let challenges_fine : flat_map challenge_faults
+    (sorted_challenges (flat_map (λ (a : AuthorizationRow). a.challenges) (map (authorization_row F t) (authorizations F)))) ≡ [] =
     no_faults_of challenge_faults _ (each_sorted _ _ (all_fine F t (authorizations F))) in
     λ i. accounts_fine i ++ (orders_fine i ++ (authorizations_fine i ++ challenges_fine i))

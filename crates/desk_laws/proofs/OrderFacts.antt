@@ -1,5 +1,5 @@
 -- What an entry, and the passing of time, does to the row of an order.
-use Rattle.std.proofs.Common.{◌≡◌, ◌≤◌, ℕ, ◌+◌, List, [], ◌∷◌, length, map, Option, Some, None, refl, sym, ap, ◌∙◌, true, false, Bool, cond, arith, not}
+use Rattle.std.proofs.Common.{◌≡◌, ◌≤◌, ℕ, ◌+◌, List, [], ◌∷◌, length, map, Option, Some, None, refl, sym, ap, ◌∙◌, true, false, Bool, cond, arith}
 use Rattle.std.specs.Prelude.{nat_lt, ◌==◌, ◌&&◌, ◌||◌, is_some}
 use Rattle.std.specs.List.{list_any, list_all}
 use Rattle.std.specs.Option.{option_map}
@@ -28,106 +28,152 @@ use Rattle.desk_model.specs.declared.rows.AuthorizationRow.{AuthorizationRow}
 use Rattle.desk_model.specs.declared.rows.DatedBytes.{DatedBytes}
 use Rattle.desk_model.specs.declared.rows.DatedProblem.{DatedProblem}
 use Rattle.desk_model.specs.declared.rows.OrderRow.{OrderRow}
-use Rattle.desk_laws.proofs.Basics.{or_false, list_any-map, list_all-map, list_any-same, each, each-append, each_after, map-each, find-map, find-append, IsNumbered, numbered-append, numbered_found}
+use Rattle.desk_laws.proofs.Basics.{or_false, list_any-map, list_all-map, list_any-same, any_or, each, each-append, each_after, map-each, find-map, find-append, IsNumbered, numbered-append}
+use Rattle.desk_laws.proofs.RowLists.{ascends_found, numbered_ascends}
 use Rattle.desk_laws.proofs.RowFacts.{authorization_kept, authorization_later, past_later}
 
 -- ---- the authorizations of an order are found by their numbers
 
+-- the authorization is found by its number
 abbrev pub IsFound : History → Authorization → Type 0
 IsFound F a = authorization a.number F ≡ Some a
 
+-- each authorization of the order is
 abbrev pub AreFound : History → Order → Type 0
 AreFound F o = EachOf (IsFound F) o.authorizations
 
+-- new authorizations count up
 made_for_numbered : (account date expires : ℕ) (ws : List Wanted) (n c : ℕ) → IsNumbered (λ a. a.number) n (made_for account date expires ws n c)
 made_for_numbered account date expires [] n c = tt
 made_for_numbered account date expires (new name tokens ∷ ws) n c = (refl, made_for_numbered account date expires ws (n + 1) _)
 
+-- those of an entry count up
 pub made_by_numbered : (e : Entry) (date life n c : ℕ) → IsNumbered (λ a. a.number) n (made_by e date life n c)
 made_by_numbered (ordered account ws) date life n c = made_for_numbered account date (date + life) ws n c
 made_by_numbered _ date life n c = tt
 
+-- numbers of authorizations count up from 1
 pub authorizations_numbered : (F : History) → IsNumbered (λ a. a.number) 1 (authorizations F)
 authorizations_numbered [] = tt
-authorizations_numbered (e ∷ F) = numbered-append (λ a. a.number) 1 (authorizations F) _ (length (authorizations F) + 1) (omega arith) (authorizations_numbered F) (made_by_numbered e.entry e.date _ _ _)
+authorizations_numbered (e ∷ F) =
+    numbered-append (λ a. a.number) 1 (authorizations F) _ (length (authorizations F) + 1) (omega arith) (authorizations_numbered F)
+    (made_by_numbered e.entry e.date _ _ _)
 
+-- each authorization is found
 pub all_found : (F : History) → EachOf (IsFound F) (authorizations F)
-all_found F = numbered_found (λ a. a.number) 1 (authorizations F) (authorizations_numbered F)
+all_found F = ascends_found (λ a. a.number) 1 (authorizations F) (numbered_ascends (λ a. a.number) 1 (authorizations F) (authorizations_numbered F))
 
+-- and stays found
 pub found_later : (F : History) (e : Dated) (a : Authorization) → IsFound F a → IsFound (e ∷ F) a
 found_later F e a h = find-append (λ x. x.number == a.number) (authorizations F) _ a h
 
+-- the authorizations of each order are found
 pub listed_found : (F : History) → EachOf (AreFound F) (orders F)
 listed_found [] = tt
 listed_found (e ∷ F) =
-    each-append (AreFound (e ∷ F)) (orders F) _ (each (AreFound F) (AreFound (e ∷ F)) (orders F) (λ o. each (IsFound F) (IsFound (e ∷ F)) o.authorizations (found_later F e)) (listed_found F))
+    each-append (AreFound (e ∷ F)) (orders F) _
+    (each (AreFound F) (AreFound (e ∷ F)) (orders F) (λ o. each (IsFound F) (IsFound (e ∷ F)) o.authorizations (found_later F e))
+    (listed_found F))
     (now e.entry (each_after (IsFound (e ∷ F)) (authorizations F) _ (all_found (e ∷ F))))
   where
-    now : (entry : Entry) → EachOf (IsFound (e ∷ F)) (made_by e.entry e.date (terms F).authz_life (length (authorizations F) + 1) (count_challenges (authorizations F) + 1)) →
-        EachOf (AreFound (e ∷ F)) (ordered_by entry e.date (terms F) (made_by e.entry e.date (terms F).authz_life (length (authorizations F) + 1) (count_challenges (authorizations F) + 1)) (length (orders F) + 1))
+    now : (entry : Entry) →
+        EachOf (IsFound (e ∷ F))
+        (made_by e.entry e.date (terms F).authz_life (length (authorizations F) + 1) (count_challenges (authorizations F) + 1)) →
+        EachOf (AreFound (e ∷ F))
+        (ordered_by entry e.date (terms F)
+        (made_by e.entry e.date (terms F).authz_life (length (authorizations F) + 1) (count_challenges (authorizations F) + 1))
+        (length (orders F) + 1))
     now (ordered account ws) h = (h, tt)
     now _ h = tt
 
+-- the numbers of authorizations in their places are their numbers
+pub numbers_listed : (place : ℕ) (xs : List Authorization) → numbers_of (listed_from place xs) ≡ map (λ a. a.number) xs
+numbers_listed place [] = refl
+numbers_listed place (a ∷ xs) = ap (λ ns. a.number ∷ ns) (numbers_listed (place + 1) xs)
+
 -- ---- look-ups in the rows
 
-numbered_row : (F : History) (t : ℕ) (a : Authorization) → IsFound F a → authorization_numbered a.number (map (authorization_row F t) (authorizations F)) ≡ Some (authorization_row F t a)
+-- the row of an authorization that is found
+numbered_row : (F : History) (t : ℕ) (a : Authorization) → IsFound F a →
+    authorization_numbered a.number (map (authorization_row F t) (authorizations F)) ≡ Some (authorization_row F t a)
 numbered_row F t a h = find-map (λ r. r.number == a.number) (authorization_row F t) (authorizations F) ∙ ap (option_map (authorization_row F t)) h
 
+-- the statuses of these authorizations
 abbrev statuses_of : History → ℕ → List Authorization → List AuthzStatus
 statuses_of F t xs = map (λ a. authorization_status a F t) xs
 
-stored : (F : History) (t p : ℕ) (xs : List Authorization) → EachOf (IsFound F) xs → stored_statuses (map (authorization_row F t) (authorizations F)) (numbers_of (listed_from p xs)) ≡ statuses_of F t xs
+-- the stored statuses are those that the history gives
+stored : (F : History) (t p : ℕ) (xs : List Authorization) → EachOf (IsFound F) xs →
+    stored_statuses (map (authorization_row F t) (authorizations F)) (numbers_of (listed_from p xs)) ≡ statuses_of F t xs
 stored F t p [] h = refl
 stored F t p (a ∷ xs) h = λ i. and_status (numbered_row F t a h.0 i) (stored F t (p + 1) xs h.1 i)
 
 -- the status of an order, by its facts and the statuses of its authorizations
 abbrev status_by : History → ℕ → Order → List AuthzStatus → OrderStatus
 status_by F t o ss =
-    order_status_by (is_some (certificate o.number F)) (is_some (failure o.number F) || (nat_lt o.expires t || list_any is_over ss)) (is_some (csr o.number F)) (list_all is_valid ss)
+    order_status_by (is_some (certificate o.number F)) (is_some (failure o.number F) || (nat_lt o.expires t || list_any is_over ss))
+    (is_some (csr o.number F)) (list_all is_valid ss)
 
+-- an order's status by those of its authorizations
 status_by_listed : (F : History) (t : ℕ) (o : Order) → order_status o F t ≡ status_by F t o (statuses_of F t o.authorizations)
 status_by_listed F t o =
-    λ i. order_status_by (is_some (certificate o.number F)) (is_some (failure o.number F) || (nat_lt o.expires t || sym (list_any-map is_over (λ a. authorization_status a F t) o.authorizations) i)) (is_some (csr o.number F)) (sym (list_all-map is_valid (λ a. authorization_status a F t) o.authorizations) i)
+    λ i. order_status_by (is_some (certificate o.number F))
+    (is_some (failure o.number F) || (nat_lt o.expires t || sym (list_any-map is_over (λ a. authorization_status a F t) o.authorizations) i))
+    (is_some (csr o.number F)) (sym (list_all-map is_valid (λ a. authorization_status a F t) o.authorizations) i)
 
 -- the status that a history gives is the one that the row ought to have
-pub order_stated : (F : History) (t u : ℕ) (o : Order) → AreFound F o → order_row F t o ≡ restated_order t (map (authorization_row F t) (authorizations F)) (order_row F u o)
+pub order_stated : (F : History) (t u : ℕ) (o : Order) → AreFound F o →
+    order_row F t o ≡ restated_order t (map (authorization_row F t) (authorizations F)) (order_row F u o)
 order_stated F t u o found =
-    let same : order_status o F t ≡ status_by F t o (stored_statuses (map (authorization_row F t) (authorizations F)) (numbers_of (listed_from 1 o.authorizations))) =
+    let same : order_status o F t ≡ status_by F t o
+    (stored_statuses (map (authorization_row F t) (authorizations F)) (numbers_of (listed_from 1 o.authorizations))) =
     status_by_listed F t o ∙ ap (status_by F t o) (sym (stored F t 1 o.authorizations found)) in
     λ i. record (order_row F t o) { status = same i }
 
 -- ---- an entry
 
+-- the row of an order after an entry, in general
 pub order_noted : (F : History) (e : Entry) (m t : ℕ) (o : Order) → AreFound F o →
-    (let G : History = record { date = m; entry = e } ∷ F in order_row G m o ≡ restated_order m (map (authorization_row G m) (authorizations G)) (noted_order e m (order_row F t o)))
+    (let G : History = record { date = m; entry = e } ∷ F in order_row G m o
+    ≡ restated_order m (map (authorization_row G m) (authorizations G)) (noted_order e m (order_row F t o)))
 order_noted F e m t o found =
     let G : History = record { date = m; entry = e } ∷ F in
     order_stated G m m o (each (IsFound F) (IsFound G) o.authorizations (found_later F _) found)
 
+-- a test of the listed rows is one of the authorizations
 none_listed : (F : History) (t p : ℕ) (test : AuthorizationRow → Bool) (xs : List Authorization) → EachOf (IsFound F) xs →
-    lists_one test (map (authorization_row F t) (authorizations F)) (numbers_of (listed_from p xs)) ≡ list_any (λ a. test (authorization_row F t a)) xs
+    lists_one test (map (authorization_row F t) (authorizations F)) (numbers_of (listed_from p xs))
+    ≡ list_any (λ a. test (authorization_row F t a)) xs
 none_listed F t p test [] h = refl
 none_listed F t p test (a ∷ xs) h = λ i. holds test (numbered_row F t a h.0 i) || none_listed F t (p + 1) test xs h.1 i
 
+-- where no item passes, each fails
 each_not : {X : Type 0} (p : X → Bool) (xs : List X) → list_any p xs ≡ false → EachOf (λ x. p x ≡ false) xs
 each_not p [] h = tt
 each_not p (x ∷ xs) h = let k = or_false (p x) _ h in (k.0, each_not p xs k.1)
 
 -- the three facts of an order that the entry doesn't name
 csr_other : (F : History) (e : Entry) (m n : ℕ) → names_order e n ≡ false → earlier (csr n F) (finalizing n e m) ≡ csr n F
-csr_other F (finalized k bytes) m n h = ap (λ b. earlier (csr n F) (cond {A = Option DatedBytes} b (Some (record { date = m; bytes = bytes })) None)) h
+csr_other F (finalized k bytes) m n h =
+    ap (λ b. earlier (csr n F) (cond {A = Option DatedBytes} b (Some (record { date = m; bytes = bytes })) None)) h
 csr_other F _ m n h = refl
 
+-- no certificate of it
 certificate_other : (F : History) (e : Entry) (m n : ℕ) → names_order e n ≡ false → earlier (certificate n F) (certifying n e m) ≡ certificate n F
-certificate_other F (certified k bytes) m n h = ap (λ b. earlier (certificate n F) (cond {A = Option DatedBytes} b (Some (record { date = m; bytes = bytes })) None)) h
+certificate_other F (certified k bytes) m n h =
+    ap (λ b. earlier (certificate n F) (cond {A = Option DatedBytes} b (Some (record { date = m; bytes = bytes })) None)) h
 certificate_other F _ m n h = refl
 
+-- no failure of it
 failure_other : (F : History) (e : Entry) (m n : ℕ) → names_order e n ≡ false → earlier (failure n F) (failing n e m) ≡ failure n F
-failure_other F (failed k f) m n h = ap (λ b. earlier (failure n F) (cond {A = Option DatedProblem} b (Some (record { date = m; problem = f })) None)) h
+failure_other F (failed k f) m n h =
+    ap (λ b. earlier (failure n F) (cond {A = Option DatedProblem} b (Some (record { date = m; problem = f })) None)) h
 failure_other F _ m n h = refl
 
+-- an order that the entry does not touch keeps its row
 pub order_untouched : (F : History) (e : Entry) (m : ℕ) (o : Order) → EachFollows (record { date = m; entry = e } ∷ F) → clock F ≤ m → AreFound F o →
-    touches_order e (map (authorization_row F m) (authorizations F)) (order_row F m o) ≡ false → order_row (record { date = m; entry = e } ∷ F) m o ≡ order_row F m o
+    touches_order e (map (authorization_row F m) (authorizations F)) (order_row F m o) ≡ false → order_row (record { date = m; entry = e } ∷ F) m o
+    ≡ order_row F m o
 order_untouched F e m o each_follows le found h =
     let G : History = record { date = m; entry = e } ∷ F in
     let parts = or_false (names_order e o.number) _ h in
@@ -138,34 +184,31 @@ order_untouched F e m o each_follows le found h =
     (each _ _ o.authorizations (λ a k. ap (λ (r : AuthorizationRow). r.status) (authorization_kept F e m a each_follows le k)) others) in
     let status : order_status o G m ≡ order_status o F m =
     status_by_listed G m o
-    ∙ (λ i. order_status_by (is_some (certificate_other F e m o.number parts.0 i)) (is_some (failure_other F e m o.number parts.0 i) || (nat_lt o.expires m || list_any is_over (statuses i)))
+    ∙ (λ i. order_status_by (is_some (certificate_other F e m o.number parts.0 i))
+    (is_some (failure_other F e m o.number parts.0 i) || (nat_lt o.expires m || list_any is_over (statuses i)))
     (is_some (csr_other F e m o.number parts.0 i)) (list_all is_valid (statuses i)))
     ∙ sym (status_by_listed F m o) in
     λ i. record (order_row F m o) { finalized = csr_other F e m o.number parts.0 i; certified = certificate_other F e m o.number parts.0 i; failed = failure_other F e m o.number parts.0 i; status = status i }
 
+-- the row of an order after an entry
 pub order_moves : (F : History) (e : Entry) (m : ℕ) (o : Order) → EachFollows (record { date = m; entry = e } ∷ F) → clock F ≤ m → AreFound F o →
     (let G : History = record { date = m; entry = e } ∷ F in
-    order_row G m o ≡ moved_order e m (map (authorization_row F m) (authorizations F)) (map (authorization_row G m) (authorizations G)) (order_row F m o))
+    order_row G m o ≡ moved_order e m (map (authorization_row F m) (authorizations F)) (map (authorization_row G m) (authorizations G))
+    (order_row F m o))
 order_moves F e m o each_follows le found = by (touches_order e (map (authorization_row F m) (authorizations F)) (order_row F m o)) refl
   where
     by : (b : Bool) → touches_order e (map (authorization_row F m) (authorizations F)) (order_row F m o) ≡ b →
         (let G : History = record { date = m; entry = e } ∷ F in
-        order_row G m o ≡ cond b (restated_order m (map (authorization_row G m) (authorizations G)) (noted_order e m (order_row F m o))) (order_row F m o))
+        order_row G m o ≡ cond b (restated_order m (map (authorization_row G m) (authorizations G)) (noted_order e m (order_row F m o)))
+        (order_row F m o))
     by true h = order_noted F e m m o found
     by false h = order_untouched F e m o each_follows le found h
 
 -- ---- the passing of time
 
-live_or_over : (s : AuthzStatus) → is_over s ≡ not (is_live s)
-live_or_over authz.Pending = refl
-live_or_over authz.Valid = refl
-live_or_over authz.Expired = refl
-live_or_over authz.Invalid = refl
-live_or_over authz.Deactivated = refl
-live_or_over authz.Revoked = refl
-
 -- an authorization that is over stays so; another is over at the later moment exactly where it is overdue
-over_later : (F : History) (t m : ℕ) (a : Authorization) → t ≤ m → is_over (authorization_status a F m) ≡ (is_over (authorization_status a F t) || is_overdue m (authorization_row F t a))
+over_later : (F : History) (t m : ℕ) (a : Authorization) → t ≤ m →
+    is_over (authorization_status a F m) ≡ (is_over (authorization_status a F t) || is_overdue m (authorization_row F t a))
 over_later F t m a le = ap is_over (authorization_later F t m a le) ∙ by (authorization_status a F t) (nat_lt a.expires m)
   where
     by : (s : AuthzStatus) (b : Bool) → is_over (cond (is_live s && b) authz.Expired s) ≡ (is_over s || (is_live s && b))
@@ -178,31 +221,28 @@ over_later F t m a le = ap is_over (authorization_later F t m a le) ∙ by (auth
     by authz.Deactivated b = refl
     by authz.Revoked b = refl
 
-any_or : {X : Type 0} (p q : X → Bool) (xs : List X) → list_any (λ x. p x || q x) xs ≡ (list_any p xs || list_any q xs)
-any_or p q [] = refl
-any_or p q (x ∷ xs) = by (p x) (q x) (list_any p xs) (list_any q xs) (list_any (λ x. p x || q x) xs) (any_or p q xs)
-  where
-    by : (a b c d e : Bool) → e ≡ (c || d) → ((a || b) || e) ≡ ((a || c) || (b || d))
-    by true b c d e h = refl
-    by false true true d e h = refl
-    by false true false d e h = refl
-    by false false c d e h = h
-
-lost_later : (F : History) (t m : ℕ) (o : Order) → t ≤ m → has_lost o F m ≡ (has_lost o F t || list_any (λ a. is_overdue m (authorization_row F t a)) o.authorizations)
+-- an order has lost one at the later moment where it had before, or one is overdue
+lost_later : (F : History) (t m : ℕ) (o : Order) → t ≤ m →
+    has_lost o F m ≡ (has_lost o F t || list_any (λ a. is_overdue m (authorization_row F t a)) o.authorizations)
 lost_later F t m o le =
-    list_any-same (λ a. is_over (authorization_status a F m)) (λ a. is_over (authorization_status a F t) || is_overdue m (authorization_row F t a)) o.authorizations (λ a. over_later F t m a le)
+    list_any-same (λ a. is_over (authorization_status a F m))
+    (λ a. is_over (authorization_status a F t) || is_overdue m (authorization_row F t a)) o.authorizations (λ a. over_later F t m a le)
     ∙ any_or (λ a. is_over (authorization_status a F t)) (λ a. is_overdue m (authorization_row F t a)) o.authorizations
 
+-- tests that agree on each item
 all_same : {X : Type 0} (p q : X → Bool) (xs : List X) → EachOf (λ x. p x ≡ q x) xs → list_all p xs ≡ list_all q xs
 all_same p q [] h = refl
 all_same p q (x ∷ xs) h = λ i. h.0 i && all_same p q xs h.1 i
 
 -- none is overdue: as many are valid
-valid_later : (F : History) (t m : ℕ) (o : Order) → t ≤ m → list_any (λ a. is_overdue m (authorization_row F t a)) o.authorizations ≡ false → all_valid o F m ≡ all_valid o F t
+valid_later : (F : History) (t m : ℕ) (o : Order) → t ≤ m → list_any (λ a. is_overdue m (authorization_row F t a)) o.authorizations ≡ false →
+    all_valid o F m ≡ all_valid o F t
 valid_later F t m o le h =
     all_same (λ a. is_valid (authorization_status a F m)) (λ a. is_valid (authorization_status a F t)) o.authorizations
-    (each _ _ o.authorizations (λ a k. ap is_valid (authorization_later F t m a le ∙ ap (λ b. cond b authz.Expired (authorization_status a F t)) k)) (each_not _ o.authorizations h))
+    (each _ _ o.authorizations (λ a k. ap is_valid (authorization_later F t m a le ∙ ap (λ b. cond b authz.Expired (authorization_status a F t)) k))
+    (each_not _ o.authorizations h))
 
+-- an order's status at a later moment, case by case
 order_status_later : (c f x y z v w l d : Bool) → (x ≡ true → y ≡ true) → (d ≡ false → w ≡ v) →
     order_status_by c (f || (y || (l || d))) z w
     ≡ cond (is_live_order (order_status_by c (f || (x || l)) z v) && (y || d)) order.Invalid (order_status_by c (f || (x || l)) z v)
@@ -222,17 +262,24 @@ order_status_later false false false false true v w false false more same = refl
 order_status_later false false false false false true w false false more same = rw (same refl) refl
 order_status_later false false false false false false w false false more same = rw (same refl) refl
 
+-- an order's status at a later moment
 pub order_later : (F : History) (t m : ℕ) (o : Order) → t ≤ m → AreFound F o →
     order_status o F m ≡ cond (falls m (map (authorization_row F t) (authorizations F)) (order_row F t o)) order.Invalid (order_status o F t)
 order_later F t m o le found =
-    ap (λ b. order_status_by (is_some (certificate o.number F)) (is_some (failure o.number F) || (nat_lt o.expires m || b)) (is_some (csr o.number F)) (all_valid o F m)) (lost_later F t m o le)
-    ∙ order_status_later (is_some (certificate o.number F)) (is_some (failure o.number F)) (nat_lt o.expires t) (nat_lt o.expires m) (is_some (csr o.number F)) (all_valid o F t) (all_valid o F m) (has_lost o F t)
+    ap (λ b. order_status_by (is_some (certificate o.number F)) (is_some (failure o.number F) || (nat_lt o.expires m || b)) (is_some (csr o.number F))
+    (all_valid o F m)) (lost_later F t m o le)
+    ∙ order_status_later (is_some (certificate o.number F)) (is_some (failure o.number F)) (nat_lt o.expires t) (nat_lt o.expires m)
+    (is_some (csr o.number F)) (all_valid o F t) (all_valid o F m) (has_lost o F t)
     (list_any (λ a. is_overdue m (authorization_row F t a)) o.authorizations) (past_later o.expires t m le) (valid_later F t m o le)
-    ∙ ap (λ b. cond (is_live_order (order_status o F t) && (nat_lt o.expires m || b)) order.Invalid (order_status o F t)) (sym (none_listed F t 1 (is_overdue m) o.authorizations found))
+    ∙ ap (λ b. cond (is_live_order (order_status o F t) && (nat_lt o.expires m || b)) order.Invalid (order_status o F t))
+    (sym (none_listed F t 1 (is_overdue m) o.authorizations found))
 
-pub order_swept : (F : History) (t m : ℕ) (o : Order) → t ≤ m → AreFound F o → order_row F m o ≡ swept_order m (map (authorization_row F t) (authorizations F)) (order_row F t o)
+-- an order's row at a later moment
+pub order_swept : (F : History) (t m : ℕ) (o : Order) → t ≤ m → AreFound F o →
+    order_row F m o ≡ swept_order m (map (authorization_row F t) (authorizations F)) (order_row F t o)
 order_swept F t m o le found =
-    (λ i. record (order_row F t o) { status = order_later F t m o le found i }) ∙ by (falls m (map (authorization_row F t) (authorizations F)) (order_row F t o))
+    (λ i. record (order_row F t o) { status = order_later F t m o le found i })
+    ∙ by (falls m (map (authorization_row F t) (authorizations F)) (order_row F t o))
   where
     by : (b : Bool) → (let r : OrderRow = record (order_row F t o) { status = cond b order.Invalid (order_status o F t) } in
         r ≡ cond b (record (order_row F t o) { status = order.Invalid }) (order_row F t o))

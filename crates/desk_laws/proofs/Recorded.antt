@@ -1,5 +1,7 @@
 -- What is recorded makes the tables of the longer history.
-use Rattle.std.proofs.Common.{◌≡◌, ◌≤◌, ◌<◌, ℕ, ◌+◌, List, [], ◌∷◌, ◌++◌, length, map, filter, refl, sym, ap, ◌∙◌, true, false, Bool, cond, arith}
+use Rattle.std.proofs.Common.{length, ◌≡◌, ◌≤◌, ◌<◌, ℕ, ◌+◌, List, [], ◌∷◌, ◌++◌, map, filter, refl, sym, ap, ◌∙◌, true, false, Bool, cond, arith}
+use Rattle.std.specs.List.{flat_map}
+use Rattle.std.proofs.lemmas.List.{length-map}
 use Rattle.desk_model.specs.Entry.{History}
 use Rattle.desk_model.specs.History.{clock, record_all}
 use Rattle.desk_model.specs.Nonce.{nonces, issued_by}
@@ -8,7 +10,7 @@ use Rattle.desk_model.specs.Authorization.{authorizations, made_by}
 use Rattle.desk_model.specs.Order.{orders, ordered_by}
 use Rattle.desk_model.specs.Terms.{Terms}
 use Rattle.desk_model.specs.Legal.{EachFollows}
-use Rattle.desk_model.specs.Tables.{Tables, account_row, authorization_row, order_row, tables_at, picture}
+use Rattle.desk_model.specs.Tables.{challenge_row, Tables, account_row, authorization_row, order_row, tables_at, picture}
 use Rattle.desk_model.specs.Derived.{restated_authorization, restated_order}
 use Rattle.desk_model.specs.Effect.{noted_account, noted_authorization, noted_order, touches_account, touches_authorization, touches_order, fresh_account, fresh_authorization, fresh_order, not_spent, new_authorizations, authorizations_after, effect, lasts, swept, is_overdue, falls}
 use Rattle.desk_model.specs.Change.{moved_rows, account_differs, authorization_differs, order_differs, applied_one, applied, spent_by, nonces_put, accounts_put, authorizations_put, orders_put, changes, sweep_changes, all_changes, nonces_gone, authorizations_expired, orders_fallen}
@@ -23,50 +25,65 @@ use Rattle.desk_model.specs.declared.rows.AuthorizationRow.{AuthorizationRow}
 use Rattle.desk_model.specs.declared.rows.Change.{Change}
 use Rattle.desk_model.specs.declared.rows.Change.TheVariants.{PutNonce, RemoveNonce, PutAccount, PutAuthorization, PutOrder}
 use Rattle.desk_model.specs.declared.rows.OrderRow.{OrderRow}
-use Rattle.desk_laws.proofs.Basics.{IsNumbered}
+use Rattle.desk_laws.proofs.Basics.{numbered-append, IsNumbered}
 use Rattle.desk_laws.specs.Ordered.{Ascends, Below, IsTable, IsOrdered}
 use Rattle.desk_laws.proofs.RowLists.{puts, removes, numbered_ascends, ascends_map, ascends_filter, puts_moved, puts_differing, puts_last, puts-append, removes_filter}
 use Rattle.desk_laws.proofs.OrderFacts.{authorizations_numbered, made_by_numbered}
-use Rattle.desk_laws.proofs.Fresh.{nonces_numbered, accounts_numbered, orders_numbered}
+use Rattle.desk_laws.proofs.Numbers.{AreNumbered, challenges_count, nonces_numbered, accounts_numbered, orders_numbered}
 use Rattle.desk_laws.proofs.Differing.{account_unmoved, authorization_unmoved, order_unmoved}
-use Rattle.desk_laws.proofs.Step.{step, sweep}
+use Rattle.desk_laws.proofs.Step.{clock_after, follows_before, step, sweep}
 
 -- ---- changes of one table in a row
 
+-- changes after changes
 pub applied-append : (cs ds : List Change) (T : Tables) → applied (cs ++ ds) T ≡ applied ds (applied cs T)
 applied-append [] ds T = refl
 applied-append (c ∷ cs) ds T = applied-append cs ds (applied_one c T)
 
-removing : (ns : List ℕ) (cs : List Change) (T : Tables) → applied (map RemoveNonce ns ++ cs) T ≡ applied cs (record T { nonces = removes (λ n. n.serial) ns T.nonces })
+-- removals of nonces
+removing : (ns : List ℕ) (cs : List Change) (T : Tables) →
+    applied (map RemoveNonce ns ++ cs) T ≡ applied cs (record T { nonces = removes (λ n. n.serial) ns T.nonces })
 removing [] cs T = refl
 removing (n ∷ ns) cs T = removing ns cs (applied_one (RemoveNonce n) T)
 
-putting_nonces : (xs : List Nonce) (cs : List Change) (T : Tables) → applied (map PutNonce xs ++ cs) T ≡ applied cs (record T { nonces = puts (λ n. n.serial) xs T.nonces })
+-- nonces that are put
+putting_nonces : (xs : List Nonce) (cs : List Change) (T : Tables) →
+    applied (map PutNonce xs ++ cs) T ≡ applied cs (record T { nonces = puts (λ n. n.serial) xs T.nonces })
 putting_nonces [] cs T = refl
 putting_nonces (x ∷ xs) cs T = putting_nonces xs cs (applied_one (PutNonce x) T)
 
-putting_accounts : (xs : List AccountRow) (cs : List Change) (T : Tables) → applied (map PutAccount xs ++ cs) T ≡ applied cs (record T { accounts = puts (λ n. n.number) xs T.accounts })
+-- accounts that are put
+putting_accounts : (xs : List AccountRow) (cs : List Change) (T : Tables) →
+    applied (map PutAccount xs ++ cs) T ≡ applied cs (record T { accounts = puts (λ n. n.number) xs T.accounts })
 putting_accounts [] cs T = refl
 putting_accounts (x ∷ xs) cs T = putting_accounts xs cs (applied_one (PutAccount x) T)
 
-putting_authorizations : (xs : List AuthorizationRow) (cs : List Change) (T : Tables) → applied (map PutAuthorization xs ++ cs) T ≡ applied cs (record T { authorizations = puts (λ n. n.number) xs T.authorizations })
+-- authorizations that are put
+putting_authorizations : (xs : List AuthorizationRow) (cs : List Change) (T : Tables) →
+    applied (map PutAuthorization xs ++ cs) T ≡ applied cs (record T { authorizations = puts (λ n. n.number) xs T.authorizations })
 putting_authorizations [] cs T = refl
 putting_authorizations (x ∷ xs) cs T = putting_authorizations xs cs (applied_one (PutAuthorization x) T)
 
+-- orders that are put
 putting_orders : (xs : List OrderRow) (T : Tables) → applied (map PutOrder xs) T ≡ record T { orders = puts (λ n. n.number) xs T.orders }
 putting_orders [] T = refl
 putting_orders (x ∷ xs) T = putting_orders xs (applied_one (PutOrder x) T)
 
 -- ---- tables in order
 
+-- numbers that count up are below their end
 numbered_below : {X : Type 0} (number : X → ℕ) (n k : ℕ) (xs : List X) → k ≡ n + length xs → IsNumbered number n xs → Below number k xs
 numbered_below number n k [] e h = tt
 numbered_below number n k (x ∷ xs) e h = ((let same : number x ≡ n = h.0 in omega arith), numbered_below number (n + 1) k xs (omega arith) h.1)
 
-below_map : {X Y : Type 0} (number : X → ℕ) (other : Y → ℕ) (f : X → Y) (same : (x : X) → other (f x) ≡ number x) (k : ℕ) (xs : List X) → Below number k xs → Below other k (map f xs)
+-- maps that keep numbers keep them below
+below_map : {X Y : Type 0} (number : X → ℕ) (other : Y → ℕ) (f : X → Y) (same : (x : X) → other (f x) ≡ number x) (k : ℕ) (xs : List X) →
+    Below number k xs → Below other k (map f xs)
 below_map number other f same k [] h = tt
-below_map number other f same k (x ∷ xs) h = ((let e : other (f x) ≡ number x = same x in let lt : number x < k = h.0 in omega arith), below_map number other f same k xs h.1)
+below_map number other f same k (x ∷ xs) h =
+    ((let e : other (f x) ≡ number x = same x in let lt : number x < k = h.0 in omega arith), below_map number other f same k xs h.1)
 
+-- what is left is below
 below_filter : {X : Type 0} (number : X → ℕ) (p : X → Bool) (k : ℕ) (xs : List X) → Below number k xs → Below number k (filter p xs)
 below_filter number p k [] h = tt
 below_filter number p k (x ∷ xs) h = by (p x) (below_filter number p k xs h.1)
@@ -75,27 +92,59 @@ below_filter number p k (x ∷ xs) h = by (p x) (below_filter number p k xs h.1)
     by true g = (h.0, g)
     by false g = g
 
+-- the tables of a history stand by number
 pub tables_ordered : (F : History) (t : ℕ) → IsOrdered (tables_at F t)
 tables_ordered F t =
     record {
-      nonces = (ascends_filter _ _ 1 (nonces F) (numbered_ascends _ 1 (nonces F) (nonces_numbered F)), below_filter _ _ _ (nonces F) (numbered_below _ 1 (length (nonces F) + 1) (nonces F) (omega arith) (nonces_numbered F)));
+      nonces = (
+        ascends_filter _ _ 1 (nonces F) (numbered_ascends _ 1 (nonces F) (nonces_numbered F)),
+        below_filter _ _ _ (nonces F)
+            (numbered_below _ 1 (length (nonces F) + 1) (nonces F) (omega arith) (nonces_numbered F)),
+      );
       accounts = (
         ascends_map (λ a. a.number) _ (account_row F) (λ a. refl) 1 (accounts F) (numbered_ascends _ 1 (accounts F) (accounts_numbered F)),
-        below_map (λ a. a.number) _ (account_row F) (λ a. refl) _ (accounts F) (numbered_below _ 1 (length (accounts F) + 1) (accounts F) (omega arith) (accounts_numbered F)),
+        below_map (λ a. a.number) _ (account_row F) (λ a. refl) _ (accounts F)
+            (numbered_below _ 1 (length (accounts F) + 1) (accounts F) (omega arith) (accounts_numbered F)),
       );
       authorizations = (
-        ascends_map (λ a. a.number) _ (authorization_row F t) (λ a. refl) 1 (authorizations F) (numbered_ascends _ 1 (authorizations F) (authorizations_numbered F)),
-        below_map (λ a. a.number) _ (authorization_row F t) (λ a. refl) _ (authorizations F) (numbered_below _ 1 (length (authorizations F) + 1) (authorizations F) (omega arith) (authorizations_numbered F)),
+        ascends_map (λ a. a.number) _ (authorization_row F t) (λ a. refl) 1 (authorizations F)
+            (numbered_ascends _ 1 (authorizations F) (authorizations_numbered F)),
+        below_map (λ a. a.number) _ (authorization_row F t) (λ a. refl) _ (authorizations F)
+            (numbered_below _ 1 (length (authorizations F) + 1) (authorizations F) (omega arith) (authorizations_numbered F)),
       );
       orders = (
         ascends_map (λ a. a.number) _ (order_row F t) (λ a. refl) 1 (orders F) (numbered_ascends _ 1 (orders F) (orders_numbered F)),
-        below_map (λ a. a.number) _ (order_row F t) (λ a. refl) _ (orders F) (numbered_below _ 1 (length (orders F) + 1) (orders F) (omega arith) (orders_numbered F)),
+        below_map (λ a. a.number) _ (order_row F t) (λ a. refl) _ (orders F)
+            (numbered_below _ 1 (length (orders F) + 1) (orders F) (omega arith) (orders_numbered F)),
       );
     }
 
+-- numbers that count up still do in rows that keep them
+numbered_map : {X Y : Type 0} (number : X → ℕ) (other : Y → ℕ) (f : X → Y) → ((x : X) → other (f x) ≡ number x) → (n : ℕ) (xs : List X) →
+    IsNumbered number n xs → IsNumbered other n (map f xs)
+numbered_map number other f same n [] h = tt
+numbered_map number other f same n (x ∷ xs) h = (same x ∙ h.0, numbered_map number other f same (n + 1) xs h.1)
+
+-- challenges that count up through authorizations count up in their rows
+challenges_in_rows : (F : History) (t n : ℕ) (xs : List Authorization) → AreNumbered n xs →
+    IsNumbered (λ c. c.number) n (flat_map (λ (a : AuthorizationRow). a.challenges) (map (authorization_row F t) xs))
+challenges_in_rows F t n [] h = tt
+challenges_in_rows F t n (a ∷ xs) h =
+    numbered-append (λ c. c.number) n (map (challenge_row F) a.challenges) _ (n + length a.challenges)
+    (let e = length-map a.challenges (challenge_row F) in omega arith)
+    (numbered_map (λ c. c.number) (λ c. c.number) (challenge_row F) (λ c. refl) n a.challenges h.0)
+    (challenges_in_rows F t (n + length a.challenges) xs h.1)
+
+-- the challenges of a history stand by number
+pub challenges_ordered : (F : History) (t : ℕ) →
+    Ascends (λ c. c.number) 1 (flat_map (λ (a : AuthorizationRow). a.challenges) (tables_at F t).authorizations)
+challenges_ordered F t = numbered_ascends (λ c. c.number) 1 _ (challenges_in_rows F t 1 (authorizations F) (challenges_count F))
+
 -- ---- one table
 
-picked_same : {X : Type 0} (number : X → ℕ) (test : X → Bool) (move : X → X) → ((x : X) → number (move x) ≡ number x) → (x : X) → number (cond (test x) (move x) x) ≡ number x
+-- moving some rows keeps their numbers
+picked_same : {X : Type 0} (number : X → ℕ) (test : X → Bool) (move : X → X) → ((x : X) → number (move x) ≡ number x) → (x : X) →
+    number (cond (test x) (move x) x) ≡ number x
 picked_same number test move same x = by (test x)
   where
     by : (b : Bool) → number (cond b (move x) x) ≡ number x
@@ -103,8 +152,10 @@ picked_same number test move same x = by (test x)
     by false = refl
 
 -- moved rows that differ, then new ones, all put
-puts_all : {X : Type 0} (number : X → ℕ) (touched : X → Bool) (differs : X → X → Bool) (move : X → X) → (same : (x : X) → number (move x) ≡ number x) →
-    ((x : X) → differs x (move x) ≡ false → move x ≡ x) → (last : ℕ) (rows fresh : List X) → IsTable number last rows → Ascends number (last + 1) fresh →
+puts_all : {X : Type 0} (number : X → ℕ) (touched : X → Bool) (differs : X → X → Bool) (move : X → X) →
+    (same : (x : X) → number (move x) ≡ number x) →
+    ((x : X) → differs x (move x) ≡ false → move x ≡ x) → (last : ℕ) (rows fresh : List X) → IsTable number last rows →
+    Ascends number (last + 1) fresh →
     puts number (moved_rows touched differs move rows ++ fresh) rows ≡ map (λ r. cond (touched r) (move r) r) rows ++ fresh
 puts_all number touched differs move same unmoved last rows fresh h up =
     puts-append number (moved_rows touched differs move rows) fresh rows
@@ -114,23 +165,30 @@ puts_all number touched differs move same unmoved last rows fresh h up =
 
 -- ---- the new rows ascend
 
+-- a new nonce's serial goes on counting
 pub issued_up : (e : Entry) (m n : ℕ) → Ascends (λ x. x.serial) n (issued_by e m n)
 issued_up (issued r) m n = (omega arith, tt)
 issued_up _ m n = tt
 
+-- and a new account's number
 pub opened_up : (e : Entry) (m n : ℕ) → Ascends (λ x. x.number) n (map fresh_account (opened_by e m n))
 opened_up (opened k cs) m n = (omega arith, tt)
 opened_up _ m n = tt
 
-pub ordered_up : (e : Entry) (m : ℕ) (t : Terms) (xs : List Authorization) (n : ℕ) (rows : List AuthorizationRow) → Ascends (λ x. x.number) n (map (λ o. restated_order m rows (fresh_order o)) (ordered_by e m t xs n))
+-- and a new order's
+pub ordered_up : (e : Entry) (m : ℕ) (t : Terms) (xs : List Authorization) (n : ℕ) (rows : List AuthorizationRow) →
+    Ascends (λ x. x.number) n (map (λ o. restated_order m rows (fresh_order o)) (ordered_by e m t xs n))
 ordered_up (ordered k ws) m t xs n rows = (omega arith, tt)
 ordered_up _ m t xs n rows = tt
 
-pub made_up : (e : Entry) (m life n c : ℕ) → Ascends (λ x. x.number) n (map (λ a. restated_authorization m (fresh_authorization a)) (made_by e m life n c))
+-- and those of new authorizations
+pub made_up : (e : Entry) (m life n c : ℕ) →
+    Ascends (λ x. x.number) n (map (λ a. restated_authorization m (fresh_authorization a)) (made_by e m life n c))
 made_up e m life n c =
     ascends_map (λ a. a.number) (λ x. x.number) (λ a. restated_authorization m (fresh_authorization a)) (λ a. refl) n (made_by e m life n c)
     (numbered_ascends (λ a. a.number) n (made_by e m life n c) (made_by_numbered e m life n c))
 
+-- removing the spent nonce
 spent_removed : (e : Entry) (rows : List Nonce) → removes (λ n. n.serial) (spent_by e) rows ≡ filter (not_spent e) rows
 spent_removed (spent n) rows = refl
 spent_removed _ rows = all_kept rows
@@ -141,6 +199,7 @@ spent_removed _ rows = all_kept rows
 
 -- ---- the changes of an entry make its effect
 
+-- the changes of an entry make its effect
 pub changes_make : (T : Tables) (m : ℕ) (e : Entry) → IsOrdered T → applied (changes m T e) T ≡ effect m T e
 changes_make T m e h =
     removing (spent_by e) _ (record T { meta = (effect m T e).meta })
@@ -157,49 +216,62 @@ changes_make T m e h =
     ∙ (λ i. record {
       meta = (effect m T e).meta;
       nonces = nonces_all i;
-      accounts = puts_all (λ a. a.number) (touches_account e) account_differs (noted_account e m) (λ a. refl) (account_unmoved e m) T.meta.accounts T.accounts _ h.accounts (opened_up e m (T.meta.accounts + 1)) i;
-      authorizations = puts_all (λ a. a.number) (touches_authorization e) authorization_differs (λ r. restated_authorization m (noted_authorization e m r)) (λ a. refl) (authorization_unmoved e m) T.meta.authorizations T.authorizations _ h.authorizations (made_up e m T.meta.policy.authz_life (T.meta.authorizations + 1) (T.meta.challenges + 1)) i;
-      orders = puts_all (λ o. o.number) (touches_order e T.authorizations) order_differs (λ r. restated_order m (authorizations_after T e m) (noted_order e m r)) (λ o. refl) (order_unmoved e m (authorizations_after T e m)) T.meta.orders T.orders _ h.orders (ordered_up e m T.meta.policy (new_authorizations T e m) (T.meta.orders + 1) (authorizations_after T e m)) i;
+      accounts =
+          puts_all (λ a. a.number) (touches_account e) account_differs (noted_account e m) (λ a. refl)
+          (account_unmoved e m) T.meta.accounts T.accounts _ h.accounts (opened_up e m (T.meta.accounts + 1)) i;
+      authorizations =
+          puts_all (λ a. a.number) (touches_authorization e) authorization_differs (λ r. restated_authorization m (noted_authorization e m r))
+          (λ a. refl) (authorization_unmoved e m) T.meta.authorizations T.authorizations _ h.authorizations
+          (made_up e m T.meta.policy.authz_life (T.meta.authorizations + 1) (T.meta.challenges + 1)) i;
+      orders =
+          puts_all (λ o. o.number) (touches_order e T.authorizations) order_differs
+          (λ r. restated_order m (authorizations_after T e m) (noted_order e m r)) (λ o. refl)
+          (order_unmoved e m (authorizations_after T e m)) T.meta.orders T.orders _ h.orders
+          (ordered_up e m T.meta.policy (new_authorizations T e m) (T.meta.orders + 1) (authorizations_after T e m)) i;
     })
   where
-    nonces_all : puts (λ n. n.serial) (nonces_put T e m) (removes (λ n. n.serial) (spent_by e) T.nonces) ≡ filter (not_spent e) T.nonces ++ nonces_put T e m
+    nonces_all : puts (λ n. n.serial) (nonces_put T e m) (removes (λ n. n.serial) (spent_by e) T.nonces) ≡ filter (not_spent e) T.nonces
+        ++ nonces_put T e m
     nonces_all =
         ap (puts (λ n. n.serial) (nonces_put T e m)) (spent_removed e T.nonces)
-        ∙ puts_last (λ n. n.serial) (T.meta.nonces + 1) (nonces_put T e m) (filter (not_spent e) T.nonces) (issued_up e m (T.meta.nonces + 1)) (below_filter (λ n. n.serial) (not_spent e) (T.meta.nonces + 1) T.nonces h.nonces.1)
+        ∙ puts_last (λ n. n.serial) (T.meta.nonces + 1) (nonces_put T e m) (filter (not_spent e) T.nonces) (issued_up e m (T.meta.nonces + 1))
+        (below_filter (λ n. n.serial) (not_spent e) (T.meta.nonces + 1) T.nonces h.nonces.1)
 
+-- the changes of a sweep make the swept tables
 pub sweep_makes : (T : Tables) (m : ℕ) → IsOrdered T → applied (sweep_changes m T) T ≡ swept m T
 sweep_makes T m h =
-    removing (nonces_gone m T) (map PutAuthorization (authorizations_expired m T) ++ map PutOrder (orders_fallen m T)) (record T { meta = record T.meta { clock = m } })
-    ∙ putting_authorizations (authorizations_expired m T) (map PutOrder (orders_fallen m T)) (record T { meta = record T.meta { clock = m }; nonces = removes (λ n. n.serial) (nonces_gone m T) T.nonces })
+    removing (nonces_gone m T) (map PutAuthorization (authorizations_expired m T) ++ map PutOrder (orders_fallen m T))
+    (record T { meta = record T.meta { clock = m } })
+    ∙ putting_authorizations (authorizations_expired m T) (map PutOrder (orders_fallen m T))
+    (record T { meta = record T.meta { clock = m }; nonces = removes (λ n. n.serial) (nonces_gone m T) T.nonces })
     ∙ putting_orders (orders_fallen m T) _
     ∙ (λ i. record {
       meta = record T.meta { clock = m };
       nonces = removes_filter (λ n. n.serial) (lasts T.meta.policy m) 1 T.nonces h.nonces.0 i;
       accounts = T.accounts;
-      authorizations = puts_moved (λ a. a.number) (is_overdue m) (λ (r : AuthorizationRow). record r { status = authz.Expired }) (λ a. refl) 1 T.authorizations h.authorizations.0 i;
-      orders = puts_moved (λ o. o.number) (falls m T.authorizations) (λ (r : OrderRow). record r { status = order.Invalid }) (λ o. refl) 1 T.orders h.orders.0 i;
+      authorizations =
+          puts_moved (λ a. a.number) (is_overdue m) (λ (r : AuthorizationRow). record r { status = authz.Expired })
+          (λ a. refl) 1 T.authorizations h.authorizations.0 i;
+      orders =
+          puts_moved (λ o. o.number) (falls m T.authorizations) (λ (r : OrderRow). record r { status = order.Invalid })
+          (λ o. refl) 1 T.orders h.orders.0 i;
     })
 
 -- ---- the whole: from the picture of a history, what is recorded makes the picture of the longer one
 
-pub entries_make : (F : History) (m : ℕ) (es : List Entry) → EachFollows (record_all m es F) → applied (all_changes m (tables_at F m) es) (tables_at F m) ≡ tables_at (record_all m es F) m
+-- the changes of entries in a row make the tables after them
+pub entries_make : (F : History) (m : ℕ) (es : List Entry) → EachFollows (record_all m es F) →
+    applied (all_changes m (tables_at F m) es) (tables_at F m) ≡ tables_at (record_all m es F) m
 entries_make F m [] h = refl
 entries_make F m (e ∷ es) h =
     let G : History = record { date = m; entry = e } ∷ F in
-    let one : effect m (tables_at F m) e ≡ tables_at G m = sym (step F e m (before es G h)) in
+    let one : effect m (tables_at F m) e ≡ tables_at G m = sym (step F e m (follows_before m es G h)) in
     applied-append (changes m (tables_at F m) e) (all_changes m (effect m (tables_at F m) e) es) (tables_at F m)
     ∙ ap (applied (all_changes m (effect m (tables_at F m) e) es)) (changes_make (tables_at F m) m e (tables_ordered F m))
     ∙ (λ i. applied (all_changes m (one i) es) (one i))
     ∙ entries_make G m es h
-  where
-    before : (xs : List Entry) (H : History) → EachFollows (record_all m xs H) → EachFollows H
-    before [] H h = h
-    before (x ∷ xs) H h = (before xs (record { date = m; entry = x } ∷ H) h).1
 
-pub clock_after : (m : ℕ) (es : List Entry) (F : History) → clock F ≡ m → clock (record_all m es F) ≡ m
-clock_after m [] F h = h
-clock_after m (e ∷ es) F h = clock_after m es (record { date = m; entry = e } ∷ F) (omega arith)
-
+-- what is recorded makes the picture of the longer history
 pub recorded : (F : History) (e : Entry) (es : List Entry) (m : ℕ) → clock F ≤ m → EachFollows (record_all m (e ∷ es) F) →
     applied (sweep_changes m (picture F) ++ all_changes m (swept m (picture F)) (e ∷ es)) (picture F) ≡ picture (record_all m (e ∷ es) F)
 recorded F e es m le h =

@@ -25,22 +25,34 @@ use Rattle.desk_model.specs.declared.objects.EndKind.{EndKind}
 use Rattle.desk_model.specs.declared.objects.Report.{Report}
 use Rattle.desk_model.specs.declared.rows.AuthorizationRow.{AuthorizationRow}
 use Rattle.desk_model.specs.declared.rows.ChallengeRow.{ChallengeRow}
-use Rattle.desk_laws.proofs.Basics.{earlier-some, none_earlier, or_none, or_false, list_any-map, list_any-same, each, each_all, map-moved}
+use Rattle.desk_laws.proofs.Basics.{earlier-some, none_earlier, or_none, or_false, list_any-map, list_any-same, any_or, each, each_all, map-moved}
 
 -- ---- challenges: by computing
 
-challenge_moves : (F : History) (e : Entry) (m : ℕ) (c : Challenge) → challenge_row (record { date = m; entry = e } ∷ F) c ≡ noted_challenge e m (challenge_row F c)
+-- the row of a challenge after an entry
+challenge_moves : (F : History) (e : Entry) (m : ℕ) (c : Challenge) →
+    challenge_row (record { date = m; entry = e } ∷ F) c ≡ noted_challenge e m (challenge_row F c)
 challenge_moves F (answered n) m c = by (n == c.number)
   where
     by : (b : Bool) → (let d : Option ℕ = earlier (when_answered c.number F) (cond b (Some m) None) in
-        let x : ChallengeRow = record { number = c.number; kind = c.kind; token = c.token; answered = d; reported = report c.number F; status = challenge_status_by (report c.number F) d } in
+        let x : ChallengeRow =
+        record {
+          number = c.number;
+          kind = c.kind;
+          token = c.token;
+          answered = d;
+          reported = report c.number F;
+          status = challenge_status_by
+              (report c.number F) d;
+        } in
         x ≡ cond b (answered_challenge m (challenge_row F c)) (challenge_row F c))
     by true = refl
     by false = refl
 challenge_moves F (reported n o) m c = by (n == c.number)
   where
     by : (b : Bool) → (let r : Option Report = earlier (report c.number F) (cond b (Some (record { date = m; outcome = o })) None) in
-        let x : ChallengeRow = record { number = c.number; kind = c.kind; token = c.token; answered = when_answered c.number F; reported = r; status = challenge_status_by r (when_answered c.number F) } in
+        let x : ChallengeRow =
+        record { number = c.number; kind = c.kind; token = c.token; answered = when_answered c.number F; reported = r; status = challenge_status_by r (when_answered c.number F) } in
         x ≡ cond b (reported_challenge o m (challenge_row F c)) (challenge_row F c))
     by true = refl
     by false = refl
@@ -48,12 +60,15 @@ challenge_moves F _ m c = refl
 
 -- ---- the end of an authorization
 
+-- an authorization has the challenges of its row
 pub has_row-row : (n : ℕ) (F : History) (t : ℕ) (a : Authorization) → has_row n (authorization_row F t a) ≡ has_challenge n a
 has_row-row n F t a = list_any-map (λ c. n == c.number) (challenge_row F) a.challenges
 
+-- an entry ends an authorization where it ends its row
 row_ends-row : (F : History) (t : ℕ) (a : Authorization) (e : Entry) (m : ℕ) → row_ends (authorization_row F t a) e m ≡ ends a e m
 row_ends-row F t a (reported n o) m =
-    ap (λ b. cond {A = Option AuthorizationEnd} (is_good o) None (cond {A = Option AuthorizationEnd} b (Some (record { date = m; kind = kind.Invalid })) None)) (has_row-row n F t a)
+    ap (λ b. cond {A = Option AuthorizationEnd} (is_good o) None
+    (cond {A = Option AuthorizationEnd} b (Some (record { date = m; kind = kind.Invalid })) None)) (has_row-row n F t a)
 row_ends-row F t a (authorization_ended n x) m = refl
 row_ends-row F t a (account_ended n x) m = refl
 row_ends-row F t a _ m = refl
@@ -67,16 +82,21 @@ end_if true m s x k =
     sym (ap (λ (z : AuthorizationEnd). z.date) same)
 end_if false m s x k = cc
 
+-- and so for all kinds
 end_at : (a : Authorization) (e : Entry) (m : ℕ) (x : AuthorizationEnd) → ends a e m ≡ Some x → x.date ≡ m
 end_at a (reported n o) m x h = by (is_good o) h
   where
-    by : (b : Bool) → cond {A = Option AuthorizationEnd} b None (cond {A = Option AuthorizationEnd} (has_challenge n a) (Some (record { date = m; kind = kind.Invalid })) None) ≡ Some x → x.date ≡ m
+    by : (b : Bool) →
+        cond {A = Option AuthorizationEnd} b None
+        (cond {A = Option AuthorizationEnd} (has_challenge n a) (Some (record { date = m; kind = kind.Invalid })) None) ≡ Some x →
+        x.date ≡ m
     by true k = cc
     by false k = end_if (has_challenge n a) m kind.Invalid x k
 end_at a (authorization_ended n s) m x h = end_if (n == a.number) m (kind_of s) x h
 end_at a (account_ended n s) m x h = end_if (n == a.account) m (kind_of s) x h
 end_at a _ m x h = cc
 
+-- the first end of an authorization, in time or not
 abbrev first_end : Authorization → History → Option AuthorizationEnd
 first_end a F = first (λ e. ends a e.entry e.date) F
 
@@ -85,7 +105,8 @@ end_by : (a : Authorization) (F : History) (x : AuthorizationEnd) → first_end 
 end_by a [] x h = cc
 end_by a (e ∷ F) x h = by (end_by a F x) (first_end a F) refl (ends a e.entry e.date) refl h
   where
-    by : (first_end a F ≡ Some x → x.date ≤ clock F) → (o : Option AuthorizationEnd) → first_end a F ≡ o → (p : Option AuthorizationEnd) → ends a e.entry e.date ≡ p
+    by : (first_end a F ≡ Some x → x.date ≤ clock F) → (o : Option AuthorizationEnd) → first_end a F ≡ o → (p : Option AuthorizationEnd) →
+        ends a e.entry e.date ≡ p
         → earlier o p ≡ Some x → x.date ≤ clock (e ∷ F)
     by ih (Some y) q p r k = let below : x.date ≤ clock F = ih (q ∙ (sym (earlier-some y p) ∙ k)) in omega arith
     by ih None q p r k = let dated : x.date ≡ e.date = end_at a e.entry e.date x (r ∙ sym (none_earlier p) ∙ k) in omega arith
@@ -96,7 +117,8 @@ end_moves : (a : Authorization) (F : History) (e : Entry) (m : ℕ) → clock F 
 end_moves a F e m le = by (first (λ d. ends a d.entry d.date) F) refl (ends a e m) refl
   where
     late : (x y : AuthorizationEnd) (b c : Bool) → leb x.date a.expires ≡ b → leb y.date a.expires ≡ c → x.date ≤ y.date →
-        cond {A = Option AuthorizationEnd} b (Some x) None ≡ earlier (cond {A = Option AuthorizationEnd} b (Some x) None) (cond {A = Option AuthorizationEnd} c (Some y) None)
+        cond {A = Option AuthorizationEnd} b (Some x) None ≡ earlier (cond {A = Option AuthorizationEnd} b (Some x) None)
+        (cond {A = Option AuthorizationEnd} c (Some y) None)
     late x y true c p q h = sym (earlier-some x _)
     late x y false true p q h =
         let low : y.date ≤ a.expires = leb-true y.date a.expires q in
@@ -113,27 +135,19 @@ end_moves a F e m le = by (first (λ d. ends a d.entry d.date) F) refl (ends a e
 
 -- ---- a good report
 
-any_or : {X : Type 0} (p q : X → Bool) (xs : List X) → list_any (λ x. p x || q x) xs ≡ (list_any p xs || list_any q xs)
-any_or p q [] = refl
-any_or p q (x ∷ xs) = by (p x) (q x) (list_any p xs) (list_any q xs) (list_any (λ x. p x || q x) xs) (any_or p q xs)
-  where
-    by : (a b c d e : Bool) → e ≡ (c || d) → ((a || b) || e) ≡ ((a || c) || (b || d))
-    by true b c d e h = refl
-    by false true true d e h = refl
-    by false true false d e h = refl
-    by false false c d e h = h
-
+-- there is a first fact where there is one of the two
 is_some-earlier : {X : Type 0} (x y : Option X) → is_some (earlier x y) ≡ (is_some x || is_some y)
 is_some-earlier None None = refl
 is_some-earlier None (Some y) = refl
 is_some-earlier (Some x) None = refl
 is_some-earlier (Some x) (Some y) = refl
 
+-- there is a report, and it is good
 abbrev is_good_report : Option Report → Bool
 is_good_report r = holds (λ r. is_good r.outcome) r
 
 -- a challenge that is processing has no report
-processing_unreported : (n : ℕ) (F : History) → is_processing_challenge (challenge_status n F) ≡ true → report n F ≡ None
+pub processing_unreported : (n : ℕ) (F : History) → is_processing_challenge (challenge_status n F) ≡ true → report n F ≡ None
 processing_unreported n F h = by (report n F) (when_answered n F) h
   where
     by : (r : Option Report) (d : Option ℕ) → is_processing_challenge (challenge_status_by r d) ≡ true → r ≡ None
@@ -144,8 +158,10 @@ processing_unreported n F h = by (report n F) (when_answered n F) h
         other true k = cc
         other false k = cc
 
+-- a report on a challenge that had none
 good_on : (n : ℕ) (o : Outcome) (m : ℕ) (F : History) → report n F ≡ None → (c : Challenge) →
-    is_good_report (earlier (report c.number F) (reporting c.number (reported n o) m)) ≡ (is_good_report (report c.number F) || is_good_report (reporting c.number (reported n o) m))
+    is_good_report (earlier (report c.number F) (reporting c.number (reported n o) m))
+    ≡ (is_good_report (report c.number F) || is_good_report (reporting c.number (reported n o) m))
 good_on n o m F none c = by (n == c.number) refl
   where
     by : (b : Bool) → (n == c.number) ≡ b → (let r : Option Report = cond b (Some (record { date = m; outcome = o })) None in
@@ -153,7 +169,9 @@ good_on n o m F none c = by (n == c.number) refl
     by true e = let same : n ≡ c.number = eqb-true n c.number e in let here : report c.number F ≡ None = rw (← same) none in rw here refl
     by false e = sym (or_none _)
 
-proving_any : (a : Authorization) (n : ℕ) (o : Outcome) (m : ℕ) → is_some (proving a (reported n o) m) ≡ list_any (λ c. is_good_report (reporting c.number (reported n o) m)) a.challenges
+-- an entry proves an authorization where it reports well on one of its challenges
+proving_any : (a : Authorization) (n : ℕ) (o : Outcome) (m : ℕ) →
+    is_some (proving a (reported n o) m) ≡ list_any (λ c. is_good_report (reporting c.number (reported n o) m)) a.challenges
 proving_any a n o m = by (is_good o) refl
   where
     each_one : (b c : Bool) → is_good o ≡ b → is_good_report (cond c (Some (record { date = m; outcome = o })) None) ≡ cond b c false
@@ -170,12 +188,15 @@ proving_any a n o m = by (is_good o) refl
     chosen true = refl
     chosen false = refl
 
-    by : (b : Bool) → is_good o ≡ b → is_some (cond {A = Option ℕ} b (cond {A = Option ℕ} (has_challenge n a) (Some m) None) None) ≡ list_any (λ c. is_good_report (reporting c.number (reported n o) m)) a.challenges
+    by : (b : Bool) → is_good o ≡ b →
+        is_some (cond {A = Option ℕ} b (cond {A = Option ℕ} (has_challenge n a) (Some m) None) None)
+        ≡ list_any (λ c. is_good_report (reporting c.number (reported n o) m)) a.challenges
     by true e = chosen (has_challenge n a) ∙ sym (list_any-same _ (λ c. n == c.number) a.challenges (λ c. each_one true (n == c.number) e))
     by false e = sym (list_any-same _ (λ c. false) a.challenges (λ c. each_one false (n == c.number) e) ∙ nowhere a.challenges)
 
 -- a good report stands exactly where one of the challenges has a good one: there is never a second report
-pub proved_by : (a : Authorization) (F : History) → EachFollows F → is_some (when_proved a F) ≡ list_any (λ c. is_good_report (report c.number F)) a.challenges
+pub proved_by : (a : Authorization) (F : History) → EachFollows F →
+    is_some (when_proved a F) ≡ list_any (λ c. is_good_report (report c.number F)) a.challenges
 proved_by a [] each = none a.challenges
   where
     none : (cs : List Challenge) → false ≡ list_any (λ (c : Challenge). false) cs
@@ -183,8 +204,10 @@ proved_by a [] each = none a.challenges
     none (c ∷ cs) = none cs
 proved_by a (e ∷ F) each = by e.entry e.date each.0.allowed (proved_by a F each.1)
   where
-    by : (entry : Entry) (m : ℕ) → may_follow F entry m ≡ true → is_some (when_proved a F) ≡ list_any (λ c. is_good_report (report c.number F)) a.challenges →
-        is_some (earlier (when_proved a F) (proving a entry m)) ≡ list_any (λ c. is_good_report (earlier (report c.number F) (reporting c.number entry m))) a.challenges
+    by : (entry : Entry) (m : ℕ) → may_follow F entry m ≡ true →
+        is_some (when_proved a F) ≡ list_any (λ c. is_good_report (report c.number F)) a.challenges →
+        is_some (earlier (when_proved a F) (proving a entry m))
+        ≡ list_any (λ c. is_good_report (earlier (report c.number F) (reporting c.number entry m))) a.challenges
     by (reported n o) m may ih =
         let none : report n F ≡ None = processing_unreported n F (and_parts _ (is_processing_challenge (challenge_status n F)) may).1 in
         is_some-earlier (when_proved a F) (proving a (reported n o) m)
@@ -196,12 +219,14 @@ proved_by a (e ∷ F) each = by e.entry e.date each.0.allowed (proved_by a F eac
 -- ---- an authorization's row
 
 -- the status that a history gives is the one that the row ought to have
-pub authorization_stated : (F : History) → EachFollows F → (t u : ℕ) (a : Authorization) → authorization_row F t a ≡ restated_authorization t (authorization_row F u a)
+pub authorization_stated : (F : History) → EachFollows F → (t u : ℕ) (a : Authorization) →
+    authorization_row F t a ≡ restated_authorization t (authorization_row F u a)
 authorization_stated F each t u a =
     let same : is_some (when_proved a F) ≡ is_proved (authorization_row F u a) =
     proved_by a F each ∙ sym (list_any-map (λ c. holds (λ r. is_good r.outcome) c.reported) (challenge_row F) a.challenges) in
     λ i. record (authorization_row F t a) { status = authorization_status_by (authorization_end a F) (nat_lt a.expires t) (same i) }
 
+-- the row of an authorization after an entry, in general
 pub authorization_noted : (F : History) (e : Entry) (m t : ℕ) (a : Authorization) → EachFollows (record { date = m; entry = e } ∷ F) → clock F ≤ m →
     authorization_row (record { date = m; entry = e } ∷ F) m a ≡ restated_authorization m (noted_authorization e m (authorization_row F t a))
 authorization_noted F e m t a each le =
@@ -218,13 +243,16 @@ has_none : (n : ℕ) (cs : List ChallengeRow) → list_any (λ c. n == c.number)
 has_none n [] h = tt
 has_none n (c ∷ cs) h = let p = or_false (n == c.number) _ h in (p.0, has_none n cs p.1)
 
+-- challenges that stay what they are
 pub kept_challenges : (move : ChallengeRow → ChallengeRow) (cs : List ChallengeRow) → EachOf (λ c. move c ≡ c) cs → map move cs ≡ cs
 kept_challenges move [] h = refl
 kept_challenges move (c ∷ cs) h = λ i. h.0 i ∷ kept_challenges move cs h.1 i
 
+-- challenges that the entry does not concern
 other_challenges : (e : Entry) (m : ℕ) (cs : List ChallengeRow) → ((c : ChallengeRow) → noted_challenge e m c ≡ c) → map (noted_challenge e m) cs ≡ cs
 other_challenges e m cs f = kept_challenges (noted_challenge e m) cs (each_all _ cs f)
 
+-- an authorization that the entry does not touch keeps its columns
 pub authorization_untouched : (e : Entry) (m : ℕ) (row : AuthorizationRow) → touches_authorization e row ≡ false → noted_authorization e m row ≡ row
 authorization_untouched (answered n) m row h =
     let kept : map (noted_challenge (answered n) m) row.challenges ≡ row.challenges =
@@ -232,40 +260,51 @@ authorization_untouched (answered n) m row h =
     λ i. record row { challenges = kept i }
 authorization_untouched (reported n o) m row h =
     let kept : map (noted_challenge (reported n o) m) row.challenges ≡ row.challenges =
-    kept_challenges _ row.challenges (each _ _ row.challenges (λ c k. ap (λ b. cond b (reported_challenge o m c) c) k) (has_none n row.challenges h)) in
+    kept_challenges _ row.challenges
+    (each _ _ row.challenges (λ c k. ap (λ b. cond b (reported_challenge o m c) c) k) (has_none n row.challenges h)) in
     let end : row_ends row (reported n o) m ≡ None =
-    ap (λ b. cond {A = Option AuthorizationEnd} (is_good o) None (cond {A = Option AuthorizationEnd} b (Some (record { date = m; kind = kind.Invalid })) None)) h ∙ either (is_good o) in
+    ap (λ b. cond {A = Option AuthorizationEnd} (is_good o) None
+    (cond {A = Option AuthorizationEnd} b (Some (record { date = m; kind = kind.Invalid })) None)) h
+    ∙ either (is_good o) in
     λ i. record row { challenges = kept i; ended = earlier row.ended (in_time row.expires (end i)) }
   where
     either : (b : Bool) → cond {A = Option AuthorizationEnd} b None None ≡ None
     either true = refl
     either false = refl
 authorization_untouched (authorization_ended n s) m row h =
-    let end : row_ends row (authorization_ended n s) m ≡ None = ap (λ b. cond {A = Option AuthorizationEnd} b (Some (record { date = m; kind = kind_of s })) None) h in
+    let end : row_ends row (authorization_ended n s) m ≡ None =
+    ap (λ b. cond {A = Option AuthorizationEnd} b (Some (record { date = m; kind = kind_of s })) None) h in
     let kept = other_challenges (authorization_ended n s) m row.challenges (λ c. refl) in
     λ i. record row { challenges = kept i; ended = earlier row.ended (in_time row.expires (end i)) }
 authorization_untouched (account_ended n s) m row h =
-    let end : row_ends row (account_ended n s) m ≡ None = ap (λ b. cond {A = Option AuthorizationEnd} b (Some (record { date = m; kind = kind_of s })) None) h in
+    let end : row_ends row (account_ended n s) m ≡ None =
+    ap (λ b. cond {A = Option AuthorizationEnd} b (Some (record { date = m; kind = kind_of s })) None) h in
     let kept = other_challenges (account_ended n s) m row.challenges (λ c. refl) in
     λ i. record row { challenges = kept i; ended = earlier row.ended (in_time row.expires (end i)) }
 authorization_untouched e m row h = let kept = other_challenges e m row.challenges (λ c. refl) in λ i. record row { challenges = kept i }
 
+-- and its row
 pub authorization_kept : (F : History) (e : Entry) (m : ℕ) (a : Authorization) → EachFollows (record { date = m; entry = e } ∷ F) → clock F ≤ m →
     touches_authorization e (authorization_row F m a) ≡ false → authorization_row (record { date = m; entry = e } ∷ F) m a ≡ authorization_row F m a
 authorization_kept F e m a each le h =
-    authorization_noted F e m m a each le ∙ ap (restated_authorization m) (authorization_untouched e m (authorization_row F m a) h) ∙ sym (authorization_stated F each.1 m m a)
+    authorization_noted F e m m a each le
+    ∙ ap (restated_authorization m) (authorization_untouched e m (authorization_row F m a) h)
+    ∙ sym (authorization_stated F each.1 m m a)
 
+-- the row of an authorization after an entry
 pub authorization_moves : (F : History) (e : Entry) (m : ℕ) (a : Authorization) → EachFollows (record { date = m; entry = e } ∷ F) → clock F ≤ m →
     authorization_row (record { date = m; entry = e } ∷ F) m a ≡ moved_authorization e m (authorization_row F m a)
 authorization_moves F e m a each le = by (touches_authorization e (authorization_row F m a)) refl
   where
     by : (b : Bool) → touches_authorization e (authorization_row F m a) ≡ b →
-        authorization_row (record { date = m; entry = e } ∷ F) m a ≡ cond b (restated_authorization m (noted_authorization e m (authorization_row F m a))) (authorization_row F m a)
+        authorization_row (record { date = m; entry = e } ∷ F) m a
+        ≡ cond b (restated_authorization m (noted_authorization e m (authorization_row F m a))) (authorization_row F m a)
     by true h = authorization_noted F e m m a each le
     by false h = authorization_kept F e m a each le h
 
 -- ---- the passing of time
 
+-- what is past stays past
 pub past_later : (x t m : ℕ) → t ≤ m → ltb x t ≡ true → ltb x m ≡ true
 past_later x t m le h = let past : x < t = ltb-true x t h in lt-ltb x m (omega arith)
 
@@ -277,7 +316,8 @@ ended_over kind.Revoked = refl
 
 -- an authorization's status at a later moment
 swept_status : (o : Option AuthorizationEnd) (past later proved : Bool) → (past ≡ true → later ≡ true) →
-    authorization_status_by o later proved ≡ cond (is_live (authorization_status_by o past proved) && later) authz.Expired (authorization_status_by o past proved)
+    authorization_status_by o later proved ≡ cond (is_live (authorization_status_by o past proved) && later) authz.Expired
+    (authorization_status_by o past proved)
 swept_status (Some x) past later proved more = rw (ended_over x.kind) refl
 swept_status None true true proved more = refl
 swept_status None true false proved more = let no : false ≡ true = more refl in cc
@@ -286,13 +326,17 @@ swept_status None false true false more = refl
 swept_status None false false true more = refl
 swept_status None false false false more = refl
 
+-- an authorization's status at a later moment
 pub authorization_later : (F : History) (t m : ℕ) (a : Authorization) → t ≤ m →
     authorization_status a F m ≡ cond (is_overdue m (authorization_row F t a)) authz.Expired (authorization_status a F t)
 authorization_later F t m a le =
     swept_status (authorization_end a F) (nat_lt a.expires t) (nat_lt a.expires m) (is_some (when_proved a F)) (past_later a.expires t m le)
 
-pub authorization_swept : (F : History) (t m : ℕ) (a : Authorization) → t ≤ m → authorization_row F m a ≡ swept_authorization m (authorization_row F t a)
-authorization_swept F t m a le = (λ i. record (authorization_row F t a) { status = authorization_later F t m a le i }) ∙ by (is_overdue m (authorization_row F t a))
+-- an authorization's row at a later moment
+pub authorization_swept : (F : History) (t m : ℕ) (a : Authorization) → t ≤ m →
+    authorization_row F m a ≡ swept_authorization m (authorization_row F t a)
+authorization_swept F t m a le =
+    (λ i. record (authorization_row F t a) { status = authorization_later F t m a le i }) ∙ by (is_overdue m (authorization_row F t a))
   where
     by : (b : Bool) → (let r : AuthorizationRow = record (authorization_row F t a) { status = cond b authz.Expired (authorization_status a F t) } in
         r ≡ cond b (record (authorization_row F t a) { status = authz.Expired }) (authorization_row F t a))

@@ -1,5 +1,6 @@
 -- How changes make pictures.
 use Rattle.std.specs.Prelude.{ℕ, ◌≤◌, ◌≡◌, List, ◌∷◌, ◌++◌}
+use Rattle.std.specs.List.{flat_map}
 use Rattle.desk_model.specs.Change.{applied, changes, all_changes, sweep_changes}
 use Rattle.desk_model.specs.Effect.{effect, swept}
 use Rattle.desk_model.specs.Entry.{History}
@@ -8,12 +9,18 @@ use Rattle.desk_model.specs.Legal.{EachFollows}
 use Rattle.desk_model.specs.Tables.{Tables, tables_at, picture}
 use Rattle.desk_model.specs.Touched.{EachOf}
 use Rattle.desk_model.specs.declared.entry.Entry.{Entry}
-use Rattle.desk_laws.specs.News.{IsNews}
-use Rattle.desk_laws.specs.Ordered.{IsOrdered}
+use Rattle.desk_model.specs.declared.rows.AuthorizationRow.{AuthorizationRow}
+use Rattle.desk_laws.specs.News.{IsNews, KeepsChildren}
+use Rattle.desk_laws.specs.Ordered.{Ascends, IsOrdered}
 
 -- the tables of a history stand by number
 abbrev pub TablesAreOrdered : Type 0
 TablesAreOrdered = (F : History) (t : ℕ) → IsOrdered (tables_at F t)
+
+-- and so do their challenges, through all authorizations
+abbrev pub ChallengesAreOrdered : Type 0
+ChallengesAreOrdered =
+    (F : History) (t : ℕ) → Ascends (λ c. c.number) 1 (flat_map (λ (a : AuthorizationRow). a.challenges) (tables_at F t).authorizations)
 
 -- the changes of a sweep make the swept tables
 abbrev pub SweepIsMade : Type 0
@@ -29,9 +36,18 @@ PicturesAreMade =
     (F : History) (e : Entry) (es : List Entry) (m : ℕ) → clock F ≤ m → EachFollows (record_all m (e ∷ es) F) →
     applied (sweep_changes m (picture F) ++ all_changes m (swept m (picture F)) (e ∷ es)) (picture F) ≡ picture (record_all m (e ∷ es) F)
 
--- no row is put where it stands already, by a sweep or by an entry
+-- no row is put where it stands already, by a sweep
 abbrev pub SweepPutsDiffer : Type 0
 SweepPutsDiffer = (T : Tables) (m : ℕ) → IsOrdered T → EachOf (IsNews T) (sweep_changes m T)
 
+-- nor by an entry
 abbrev pub EntryPutsDiffer : Type 0
 EntryPutsDiffer = (T : Tables) (m : ℕ) (e : Entry) → IsOrdered T → EachOf (IsNews T) (changes m T e)
+
+-- a row that a sweep puts in the place of another has its challenges, or lists what it lists
+abbrev pub SweepKeepsChildren : Type 0
+SweepKeepsChildren = (T : Tables) (m : ℕ) → IsOrdered T → EachOf (KeepsChildren T) (sweep_changes m T)
+
+-- and so by an entry
+abbrev pub EntryKeepsChildren : Type 0
+EntryKeepsChildren = (T : Tables) (m : ℕ) (e : Entry) → IsOrdered T → EachOf (KeepsChildren T) (changes m T e)

@@ -1,5 +1,10 @@
 pub mod ChangeLaws
+pub mod Distinct
+pub mod Given
 pub mod Later
+pub mod LegalLaws
 pub mod News
 pub mod Ordered
+pub mod PartLaws
+pub mod Parts
 pub mod TableLaws

@@ -1,5 +1,5 @@
--- Changes that put no row that stands already.
-use Rattle.std.specs.Prelude.{◌==◌, ◌≢◌, Some, find}
+-- What a change puts, beside the row that stands in its place.
+use Rattle.std.specs.Prelude.{◌==◌, ◌≡◌, ◌≢◌, Some, IfSome, find, map}
 use Rattle.desk_model.specs.Tables.{Tables}
 use Rattle.desk_model.specs.declared.rows.Change.{Change}
 use Rattle.desk_model.specs.declared.rows.Change.TheVariants.{PutNonce, PutAccount, PutAuthorization, PutOrder}
@@ -11,3 +11,10 @@ IsNews T (PutAccount x) = find (λ a. a.number == x.number) T.accounts ≢ Some 
 IsNews T (PutAuthorization x) = find (λ a. a.number == x.number) T.authorizations ≢ Some x
 IsNews T (PutOrder x) = find (λ o. o.number == x.number) T.orders ≢ Some x
 IsNews T _ = Unit {0}
+
+-- the row has the challenges, by number, of the one that stands in its place, or lists what it lists
+abbrev pub KeepsChildren : Tables → Change → Type 0
+KeepsChildren T (PutAuthorization x) =
+    IfSome (find (λ a. a.number == x.number) T.authorizations) (λ a. map (λ c. c.number) a.challenges ≡ map (λ c. c.number) x.challenges)
+KeepsChildren T (PutOrder x) = IfSome (find (λ o. o.number == x.number) T.orders) (λ o. o.listed ≡ x.listed)
+KeepsChildren T _ = Unit {0}

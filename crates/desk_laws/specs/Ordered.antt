@@ -16,6 +16,7 @@ Below number n xs = EachOf (λ x. number x < n) xs
 abbrev pub IsTable : {X : Type 0} → (X → ℕ) → ℕ → List X → Type 0
 IsTable number last rows = Ascends number 1 rows × Below number (last + 1) rows
 
+-- each table stands by number
 pub record IsOrdered (T : Tables) : Type 0 where
   pub nonces : IsTable (λ n. n.serial) T.meta.nonces T.nonces
   pub accounts : IsTable (λ a. a.number) T.meta.accounts T.accounts

@@ -1,11 +1,11 @@
 -- How the tables follow the facts.
-use Rattle.std.specs.Prelude.{ℕ, ◌≤◌, ◌≡◌, List, [], ◌∷◌}
+use Rattle.std.specs.Prelude.{ℕ, ◌≤◌, ◌≡◌, IsTrue, List, [], ◌∷◌}
 use Rattle.desk_model.specs.Allowed.{may_on}
 use Rattle.desk_model.specs.Derived.{status_faults}
 use Rattle.desk_model.specs.Effect.{effect, effects, swept}
 use Rattle.desk_model.specs.Entry.{History}
 use Rattle.desk_model.specs.History.{clock, record_all}
-use Rattle.desk_model.specs.Legal.{EachFollows, may_follow}
+use Rattle.desk_model.specs.Legal.{EachFollows, IsFormed, last_moment, may_follow}
 use Rattle.desk_model.specs.Tables.{tables_at, picture}
 use Rattle.desk_model.specs.declared.entry.Entry.{Entry}
 use Rattle.desk_laws.specs.Later.{IsLater}
@@ -39,3 +39,9 @@ TablesHaveNoFaults = (F : History) (t : ℕ) → EachFollows F → status_faults
 -- the tables at a moment say what may follow at it, but for the making of the desk
 abbrev pub TablesSayWhatMayFollow : Type 0
 TablesSayWhatMayFollow = (F : History) (e : Entry) (m : ℕ) → IsLater e → may_follow F e m ≡ may_on (tables_at F m) e
+
+-- what the tables say may follow makes the history longer, and keeps it legal
+abbrev pub LegalGrows : Type 0
+LegalGrows =
+    (F : History) (e : Entry) (m : ℕ) → EachFollows F → clock F ≤ m → m ≤ last_moment → IsLater e → IsFormed e → IsTrue (may_on (tables_at F m) e) →
+    EachFollows (record { date = m; entry = e } ∷ F)

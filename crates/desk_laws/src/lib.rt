@@ -1,10 +1,12 @@
 //! The laws that tie the tables of a desk to its history.
 #![tactic(auto)]
 
-ghost use Rattle.desk_laws.specs.ChangeLaws.{TablesAreOrdered, SweepIsMade, EffectIsMade, PicturesAreMade, SweepPutsDiffer, EntryPutsDiffer};
-ghost use Rattle.desk_laws.specs.TableLaws.{TablesAreSwept, EntryHasEffect, EntriesHaveEffects, PicturesGrow, TablesHaveNoFaults, TablesSayWhatMayFollow};
+ghost use Rattle.desk_laws.specs.ChangeLaws.{TablesAreOrdered, ChallengesAreOrdered, SweepKeepsChildren, EntryKeepsChildren, SweepIsMade, EffectIsMade, PicturesAreMade, SweepPutsDiffer, EntryPutsDiffer};
+ghost use Rattle.desk_laws.specs.LegalLaws.{OnlyGivenAreNamed, ReportedOnce, ProvedByReports, KeysDiffer, NumbersFitCounters, CountersFitNumbers, TermsAreInLimits, AllEndInTime, KeysAreFormed, NamesAreFormed};
+ghost use Rattle.desk_laws.specs.PartLaws.{FindsAreLocal, FiltersAreLocal, MayFollowIsLocal, PartsAreSwept, PartsHaveEffect, PartsHaveEffects, SweepChangesAreLocal, ChangesAreLocal, PartsRecord, CallPartsAreClosed, CallPartsCoverSweeps, CallPartsCover, OneIsRecorded, NoncesAreRecorded, SignedIsRecorded};
+ghost use Rattle.desk_laws.specs.TableLaws.{TablesAreSwept, EntryHasEffect, EntriesHaveEffects, PicturesGrow, TablesHaveNoFaults, TablesSayWhatMayFollow, LegalGrows};
 
-/// The tables of a history change by the passing of time and by each entry, and by nothing else.
+/// The tables of a history change as `swept` says by the passing of time, and as `effect` says by each entry.
 pub fn tables_follow_facts()
     ensures sweep { TablesAreSwept }
     ensures step { EntryHasEffect }
@@ -12,22 +14,59 @@ pub fn tables_follow_facts()
     ensures picture { PicturesGrow }
 {}
 
-/// The tables of a legal history have no status fault.
+/// At each moment the tables of a legal history have no status fault.
 pub fn pictures_have_no_faults()
     ensures { TablesHaveNoFaults }
 {}
 
 /// Which entry may follow a history can be told from its tables.
 pub fn rows_say_what_may_follow()
-    ensures { TablesSayWhatMayFollow }
+    ensures allowed { TablesSayWhatMayFollow }
+    ensures legal { LegalGrows }
 {}
 
 /// What is recorded, as changes of rows, makes the picture of the longer history, and puts no row that stands already.
 pub fn changes_make_pictures()
     ensures ordered { TablesAreOrdered }
+    ensures challenges { ChallengesAreOrdered }
     ensures sweep { SweepIsMade }
     ensures entry { EffectIsMade }
     ensures picture { PicturesAreMade }
     ensures sweep_differs { SweepPutsDiffer }
     ensures entry_differs { EntryPutsDiffer }
+    ensures sweep_children { SweepKeepsChildren }
+    ensures entry_children { EntryKeepsChildren }
+{}
+
+/// The rows that a call touches answer, move and record as the whole tables do.
+pub fn parts_are_enough()
+    ensures finds { FindsAreLocal }
+    ensures filters { FiltersAreLocal }
+    ensures may_follow { MayFollowIsLocal }
+    ensures swept { PartsAreSwept }
+    ensures effect { PartsHaveEffect }
+    ensures effects { PartsHaveEffects }
+    ensures sweep_changes { SweepChangesAreLocal }
+    ensures changes { ChangesAreLocal }
+    ensures recorded { PartsRecord }
+    ensures closed { CallPartsAreClosed }
+    ensures covers_sweep { CallPartsCoverSweeps }
+    ensures covers { CallPartsCover }
+    ensures one { OneIsRecorded }
+    ensures nonces { NoncesAreRecorded }
+    ensures signed { SignedIsRecorded }
+{}
+
+/// What holds of every legal history, whatever was recorded.
+pub fn legal_histories_keep()
+    ensures named { OnlyGivenAreNamed }
+    ensures reported_once { ReportedOnce }
+    ensures proved { ProvedByReports }
+    ensures keys_differ { KeysDiffer }
+    ensures counters { NumbersFitCounters }
+    ensures numbers { CountersFitNumbers }
+    ensures terms { TermsAreInLimits }
+    ensures ends { AllEndInTime }
+    ensures keys { KeysAreFormed }
+    ensures names { NamesAreFormed }
 {}

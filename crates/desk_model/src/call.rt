@@ -84,7 +84,7 @@ pub enum FetchError {
 }
 
 /// Why an order failed: an error type without its prefix, and a text for people (RFC 8555, 6.7).
-#[derive(Drop, Debug)]
+#[derive(Drop, Debug, Clone)]
 pub struct OrderProblem {
     pub kind: Text,
     pub detail: Text,

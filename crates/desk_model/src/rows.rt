@@ -9,7 +9,7 @@ use crate::status::{AccountStatus, AuthzStatus, ChallengeStatus, OrderStatus};
 use crate::text::Text;
 
 /// The one row of a desk's own: its policy, its clock, and the last number given of each kind.
-#[derive(Drop, Debug)]
+#[derive(Drop, Debug, Clone)]
 pub struct Meta {
     pub policy: Policy,
     /// The latest recorded moment, in seconds since 1970.
@@ -21,7 +21,7 @@ pub struct Meta {
     pub challenges: u64,
 }
 
-#[derive(Drop, Debug)]
+#[derive(Drop, Debug, Clone)]
 pub struct AccountRow {
     pub number: u64,
     pub key: Jwk,
@@ -31,7 +31,7 @@ pub struct AccountRow {
     pub status: AccountStatus,
 }
 
-#[derive(Drop, Debug)]
+#[derive(Drop, Debug, Clone)]
 pub struct ChallengeRow {
     pub number: u64,
     pub kind: Kind,
@@ -42,7 +42,7 @@ pub struct ChallengeRow {
 }
 
 /// An authorization with its challenges.
-#[derive(Drop, Debug)]
+#[derive(Drop, Debug, Clone)]
 pub struct AuthorizationRow {
     pub number: u64,
     pub account: u64,
@@ -62,21 +62,21 @@ pub struct Listed {
 }
 
 /// When bytes were handed in, and the bytes: a CSR or a certificate.
-#[derive(Drop, Debug)]
+#[derive(Drop, Debug, Clone)]
 pub struct DatedBytes {
     pub date: u64,
     pub bytes: Sequence<u8>,
 }
 
 /// When the signing office failed an order, and why.
-#[derive(Drop, Debug)]
+#[derive(Drop, Debug, Clone)]
 pub struct DatedProblem {
     pub date: u64,
     pub problem: OrderProblem,
 }
 
 /// An order with the authorizations that it lists.
-#[derive(Drop, Debug)]
+#[derive(Drop, Debug, Clone)]
 pub struct OrderRow {
     pub number: u64,
     pub account: u64,

@@ -1,9 +1,12 @@
-use Rattle.desk_laws.proofs.PutsDiffer.{swept_puts_differ, puts_differ}
-use Rattle.desk_laws.proofs.Recorded.{tables_ordered, sweep_makes, changes_make, recorded}
+use Rattle.desk_laws.proofs.PutsDiffer.{swept_puts_differ, puts_differ, swept_puts_keep_children, puts_keep_children}
+use Rattle.desk_laws.proofs.Recorded.{tables_ordered, challenges_ordered, sweep_makes, changes_make, recorded}
 use Rattle.desk_laws.proofs.changes_make_pictures.Goals as goal
 
 pub returns-clause-ordered : goal.returns-clause-ordered
 returns-clause-ordered c = tables_ordered
+
+pub returns-clause-challenges : goal.returns-clause-challenges
+returns-clause-challenges c = challenges_ordered
 
 pub returns-clause-sweep : goal.returns-clause-sweep
 returns-clause-sweep c = sweep_makes
@@ -19,3 +22,9 @@ returns-clause-sweep_differs c = swept_puts_differ
 
 pub returns-clause-entry_differs : goal.returns-clause-entry_differs
 returns-clause-entry_differs c = puts_differ
+
+pub returns-clause-sweep_children : goal.returns-clause-sweep_children
+returns-clause-sweep_children c = swept_puts_keep_children
+
+pub returns-clause-entry_children : goal.returns-clause-entry_children
+returns-clause-entry_children c = puts_keep_children

@@ -1,0 +1,119 @@
+//! Thumbprints, key authorizations and the answers that challenges ask for (RFC 8555, 8.1, 8.3, 8.4).
+ghost use Rattle.std.specs.Prelude.{◌≡◌, ◌≤◌, ◌-◌, ◌&&◌, nat_lt, length, slice_index, ◌↔◌, ◌++◌, ◌∷◌, ◌==◌, ℕ, List, IsTrue, IfOk, Any, All, bytes_eq, string_bytes};
+ghost use Rattle.std.specs.List.{list_any};
+ghost use Rattle.sha2.specs.Sha256.{sha256};
+ghost use Rattle.desk_model.specs.Tokens.{base64url, authorization_of, body_matches, dns_value_of, is_blank, records_match, IsBodyMatch};
+
+use base64::engine::general_purpose::URL_SAFE_NO_PAD;
+use desk_model::{Jwk, Text};
+use sha2::{Digest, Sha256};
+use std::alloc::{AllocError, Global};
+
+/// The thumbprint of a key: the SHA-256 of its canonical text (RFC 7638, 3).
+pub fn thumbprint(key: &Jwk) -> [u8; 32]
+    ensures { result ≡ sha256 key.now }
+{
+    Sha256::digest(key.canonical())
+}
+
+/// The key authorization of a token's text under a thumbprint (RFC 8555, 8.1).
+///
+/// # Errors
+///
+/// Where there is no memory for it.
+pub fn key_authorization(
+    alloc: Global,
+    token: &str,
+    thumb: &[u8; 32],
+) -> Result<String, AllocError>
+    ensures { IfOk result (λ t. string_bytes t ≡ authorization_of token.now thumb.now) }
+{
+    let mut text = String::from_str(alloc, token)?;
+    text.push('.')?;
+    let digest = url_safe(alloc, thumb)?;
+    text.push_str(digest.as_str())?;
+    Ok(text)
+}
+
+/// What a TXT record has to hold for a key authorization (RFC 8555, 8.4).
+///
+/// # Errors
+///
+/// Where there is no memory for it.
+pub fn dns_value(alloc: Global, key_authorization: &str) -> Result<String, AllocError>
+    ensures { IfOk result (λ t. string_bytes t ≡ dns_value_of key_authorization.now) }
+{
+    let digest = Sha256::digest(key_authorization);
+    url_safe(alloc, &digest)
+}
+
+/// Whether a body is the expected text with nothing but blanks after it, and that text does not end in one
+/// (RFC 8555, 8.3).
+pub fn http_matches(body: &[u8], expected: &str) -> bool
+    ensures matching { IsTrue result ↔ IsBodyMatch body.now expected.now }
+    ensures value { result ≡ body_matches body.now expected.now }
+{
+    is_same(without_blanks(body), expected.as_bytes())
+}
+
+/// Whether one of the TXT records is the expected text (RFC 8555, 8.4).
+pub fn dns_matches(records: &[Text], expected: &str) -> bool
+    ensures matching { IsTrue result ↔ Any (λ entry. entry ≡ expected.now) records.now }
+    ensures value { result ≡ records_match records.now expected.now }
+{
+    has_text(records, expected)
+}
+
+// Whether one of the records is the text.
+fn has_text(records: &[Text], expected: &str) -> bool
+    ensures { result ≡ list_any (λ r. bytes_eq r expected.now) records.now }
+{
+    records.iter().any(|text| is_text(text, expected))
+}
+
+// Whether two lists of bytes are the same.
+fn is_same(bytes: &[u8], other: &[u8]) -> bool
+    ensures { result ≡ bytes_eq bytes.now other.now }
+{
+    bytes == other
+}
+
+// Whether a record is the text.
+fn is_text(text: &Text, expected: &str) -> bool
+    ensures { result ≡ bytes_eq text.now expected.now }
+{
+    text.as_str() == expected
+}
+
+// The bytes without the blanks at their end.
+fn without_blanks(bytes: &[u8]) -> &[u8]
+    ensures { IsBodyMatch bytes.now result.now }
+{
+    let mut end = bytes.len();
+    while ends_in_blank(bytes, end) {
+        end -= 1;
+    }
+    &bytes[..end]
+}
+
+// Whether there is a byte before the end, and it is a blank.
+fn ends_in_blank(bytes: &[u8], end: usize) -> bool
+    requires { end ≤ length bytes.now }
+    ensures { result ≡ (nat_lt 0 end && is_blank (slice_index bytes.now (end - 1))) }
+{
+    end > 0 && is_blank_byte(bytes[end - 1])
+}
+
+// Whether the byte is a space, a tab, a carriage return or a line feed.
+fn is_blank_byte(b: u8) -> bool
+    ensures { result ≡ is_blank b }
+{
+    matches!(b, b' ' | b'\t' | b'\r' | b'\n')
+}
+
+// The text of bytes in base64, in the URL-safe alphabet without padding.
+pub(crate) fn url_safe(alloc: Global, bytes: &[u8]) -> Result<String, AllocError>
+    ensures { IfOk result (λ t. string_bytes t ≡ base64url bytes.now) }
+{
+    URL_SAFE_NO_PAD.encode(alloc, bytes)
+}

@@ -1,0 +1,5 @@
+pub mod Civil
+pub mod Dates
+pub mod March
+pub mod Months
+pub mod Texts

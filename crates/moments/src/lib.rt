@@ -1,0 +1,161 @@
+//! The texts of moments (RFC 3339, 5.6).
+#![tactic(auto)]
+
+ghost use Rattle.std.specs.Prelude.{◌≡◌, ◌≢◌, ◌+◌, ◌≤◌, ◌<◌, ◌++◌, ◌∷◌, ◌*ℤ◌, ◌≤ℤ◌, pos, ℕ, List, IfOk, string_bytes};
+ghost use Rattle.jiff.specs.Words.{civil_nanos};
+ghost use Rattle.desk_model.specs.Moment.{IsCivil, IsMomentText, civil_text, moment_text as text_of_moment, two_digits};
+ghost use Rattle.moments.specs.MomentLaws.{GivesTheText, TellsMomentsApart};
+
+use jiff::Timestamp;
+use jiff::civil::DateTime;
+use jiff::tz::Offset;
+use std::alloc::{AllocError, Global};
+
+// The civil fields of a moment.
+#[derive(Drop)]
+struct Fields {
+    year: u16,
+    month: u8,
+    day: u8,
+    hour: u8,
+    minute: u8,
+    second: u8,
+}
+
+/// The text of a moment in seconds since 1970, `YYYY-MM-DDThh:mm:ssZ` (RFC 3339, 5.6).
+///
+/// # Errors
+///
+/// Where there is no memory for it.
+pub fn moment_text(alloc: Global, moment: u64) -> Result<String, AllocError>
+    requires { moment ≤ 250315360000 }
+    ensures civil { IfOk result (λ text. IsMomentText moment (string_bytes text)) }
+    ensures value { IfOk result (λ text. string_bytes text ≡ text_of_moment moment) }
+{
+    let fields = fields_of(moment);
+    fields_text(alloc, &fields)
+}
+
+/// The function `moment_text` gives the text of each moment, and different moments have different texts.
+pub fn moments_have_texts()
+    ensures gives { GivesTheText }
+    ensures apart { TellsMomentsApart }
+{
+}
+
+// The civil fields of a moment.
+fn fields_of(moment: u64) -> Fields
+    requires { moment ≤ 250315360000 }
+    ensures { IsCivil moment result.year result.month result.day result.hour result.minute result.second }
+{
+    civil_fields(datetime_of(moment), moment)
+}
+
+// The civil date and time of a moment.
+fn datetime_of(moment: u64) -> DateTime
+    requires { moment ≤ 250315360000 }
+    ensures { civil_nanos result ≡ pos moment *ℤ pos 1_000_000_000 }
+{
+    let timestamp = Timestamp::from_second(moment as i64).unwrap();
+    Offset::UTC.to_datetime(timestamp)
+}
+
+// The fields of the civil date and time of a moment.
+fn civil_fields(datetime: DateTime, moment: u64) -> Fields
+    requires { civil_nanos datetime ≡ pos moment *ℤ pos 1_000_000_000 }
+    ensures { IsCivil moment result.year result.month result.day result.hour result.minute result.second }
+{
+    Fields {
+        year: year_of(datetime),
+        month: month_of(datetime),
+        day: day_of(datetime),
+        hour: hour_of(datetime),
+        minute: minute_of(datetime),
+        second: second_of(datetime),
+    }
+}
+
+// The year.
+fn year_of(datetime: DateTime) -> u16
+    requires { pos 0 ≤ℤ datetime.date.year }
+    ensures { pos result ≡ datetime.date.year }
+{
+    datetime.year() as u16
+}
+
+// The month, from 1.
+fn month_of(datetime: DateTime) -> u8
+    ensures { result ≡ datetime.date.month }
+{
+    datetime.month() as u8
+}
+
+// The day of the month, from 1.
+fn day_of(datetime: DateTime) -> u8
+    ensures { result ≡ datetime.date.day }
+{
+    datetime.day() as u8
+}
+
+// The hour, to 23.
+fn hour_of(datetime: DateTime) -> u8
+    ensures { result ≡ datetime.time.hour }
+{
+    datetime.hour() as u8
+}
+
+// The minute, to 59.
+fn minute_of(datetime: DateTime) -> u8
+    ensures { result ≡ datetime.time.minute }
+{
+    datetime.minute() as u8
+}
+
+// The second, to 59.
+fn second_of(datetime: DateTime) -> u8
+    ensures { result ≡ datetime.time.second }
+{
+    datetime.second() as u8
+}
+
+// The text of civil fields.
+fn fields_text(alloc: Global, fields: &Fields) -> Result<String, AllocError>
+    ensures { IfOk result (λ t. string_bytes t ≡ civil_text fields.now.year fields.now.month fields.now.day fields.now.hour fields.now.minute fields.now.second) }
+{
+    let mut text = String::new(alloc);
+    push_two(&mut text, fields.year / 100 % 100)?;
+    push_two(&mut text, fields.year % 100)?;
+    text.push('-')?;
+    push_two(&mut text, u16::from(fields.month))?;
+    text.push('-')?;
+    push_two(&mut text, u16::from(fields.day))?;
+    text.push('T')?;
+    push_two(&mut text, u16::from(fields.hour))?;
+    text.push(':')?;
+    push_two(&mut text, u16::from(fields.minute))?;
+    text.push(':')?;
+    push_two(&mut text, u16::from(fields.second))?;
+    text.push('Z')?;
+    Ok(text)
+}
+
+// Two decimal digits at the end of a text.
+fn push_two(text: &mut String, n: u16) -> Result<(), AllocError>
+    ensures { IfOk result (λ _. string_bytes text.new ≡ string_bytes text.old ++ two_digits n) }
+{
+    text.push(digit(n / 10 % 10))?;
+    text.push(digit(n % 10))?;
+    Ok(())
+}
+
+// A decimal digit.
+fn digit(n: u16) -> char
+    requires { n < 10 }
+    ensures value { result ≡ 48 + n }
+    ensures ascii { result < 128 }
+{
+    char::from(b'0' + n as u8)
+}
+
+#[cfg(test)]
+mod tests;
