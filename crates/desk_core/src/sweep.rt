@@ -8,7 +8,9 @@ ghost use Rattle.desk_model.specs.declared.rows.Change.TheVariants.{RemoveNonce,
 ghost use Rattle.desk_model.specs.Effect.{is_live, is_live_order, is_overdue, falls, lasts, lists_one};
 
 use desk_book::{Book, Table};
-use desk_model::{AuthorizationRow, AuthzStatus, Change, Listed, Nonce, OrderRow, OrderStatus, Policy};
+use desk_model::{
+    AuthorizationRow, AuthzStatus, Change, Listed, Nonce, OrderRow, OrderStatus, Policy,
+};
 use std::alloc::{AllocError, Global};
 
 /// Whether a nonce is good at a moment: up to and including the end of its life.
@@ -94,11 +96,7 @@ fn remove_gone(changes: &mut Vec<Change>, book: &Book, moment: u64) -> Result<()
     Ok(())
 }
 
-fn put_expired(
-    changes: &mut Vec<Change>,
-    book: &Book,
-    moment: u64,
-) -> Result<(), AllocError>
+fn put_expired(changes: &mut Vec<Change>, book: &Book, moment: u64) -> Result<(), AllocError>
     ensures { OnOk result (changes.new.items ≡ changes.old.items ++ map PutAuthorization (authorizations_expired moment book.now)) }
 {
     for row in book.authorizations().iter() {

@@ -13,8 +13,7 @@ life_limit n e = grind (arith, nat_tests)
 pub lives_limited : (t : Terms) → IsTrue (are_terms t) → (t.nonce_life ≤ 315360000) × (t.order_life ≤ 315360000) × (t.authz_life ≤ 315360000)
 lives_limited t e =
     let lives = and-second (is_base t.base) (is_life t.nonce_life && (is_life t.order_life && is_life t.authz_life)) e in
-    let later = and-second (is_life t.nonce_life) (is_life t.order_life && is_life t.authz_life) lives in
-    (
+    let later = and-second (is_life t.nonce_life) (is_life t.order_life && is_life t.authz_life) lives in (
       life_limit t.nonce_life (and-first (is_life t.nonce_life) (is_life t.order_life && is_life t.authz_life) lives),
       life_limit t.order_life (and-first (is_life t.order_life) (is_life t.authz_life) later),
       life_limit t.authz_life (and-second (is_life t.order_life) (is_life t.authz_life) later),

@@ -3,19 +3,15 @@ use Rattle.std.specs.Prelude.{ℕ, ◌+◌, List, [], ◌∷◌, ◌++◌, map, 
 use Rattle.std.specs.Cmp.Lexicographic.{pointwise}
 use Rattle.std.specs.List.{filter, list_any, zip}
 use Rattle.desk_model.specs.Entry.{Entry, spent}
-use Rattle.desk_model.specs.History.{terms_after}
 use Rattle.desk_model.specs.Nonce.{Nonce, issued_by}
 use Rattle.desk_model.specs.Account.{opened_by}
-use Rattle.desk_model.specs.Authorization.{count_challenges}
 use Rattle.desk_model.specs.Order.{ordered_by}
-use Rattle.desk_model.specs.Tables.{Meta, AccountRow, AuthorizationRow, ChallengeRow, OrderRow, Tables}
+use Rattle.desk_model.specs.Tables.{AccountRow, AuthorizationRow, ChallengeRow, OrderRow, Tables}
 use Rattle.desk_model.specs.Derived.{account_code, chall_code, authz_code, order_code, restated_authorization, restated_order}
 pub use Rattle.desk_model.specs.declared.rows.Change.{Change}
 pub use Rattle.desk_model.specs.declared.rows.Change.TheVariants.{PutMeta, PutNonce, RemoveNonce, PutAccount, PutAuthorization, PutOrder}
 use Rattle.desk_model.specs.Effect.{noted_account, noted_authorization, noted_order, touches_account, touches_authorization, touches_order, fresh_account, fresh_authorization, fresh_order, new_authorizations, authorizations_after, lasts, is_overdue, falls, effect}
-use Rattle.desk_model.specs.declared.status.OrderStatus.{OrderStatus}
 use Rattle.desk_model.specs.declared.status.OrderStatus.TheVariants as order
-use Rattle.desk_model.specs.declared.status.AuthzStatus.{AuthzStatus}
 use Rattle.desk_model.specs.declared.status.AuthzStatus.TheVariants as authz
 
 -- the rows with this one in its place by number

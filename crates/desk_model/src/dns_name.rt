@@ -145,9 +145,7 @@ fn is_label_len(len: usize) -> bool
 fn has_label_bytes(label: &str) -> bool
     ensures { result ≡ list_all is_label_byte label.now }
 {
-    label
-        .bytes()
-        .all(|b| b.is_ascii_lowercase() || b.is_ascii_digit() || b == b'-')
+    label.bytes().all(|b| b.is_ascii_lowercase() || b.is_ascii_digit() || b == b'-')
 }
 
 // Whether a hyphen stands at an end.

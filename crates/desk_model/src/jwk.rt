@@ -88,9 +88,19 @@ fn has_key_shape(text: &str) -> bool
 fn has_ec_shape(text: &str) -> bool
     ensures { IsTrue result ↔ HasEcShape text.now }
 {
-    has_two_numbers(text, "{\"crv\":\"P-256\",\"kty\":\"EC\",\"x\":\"", ",\"y\":\"")
-        || has_two_numbers(text, "{\"crv\":\"P-384\",\"kty\":\"EC\",\"x\":\"", ",\"y\":\"")
-        || has_two_numbers(text, "{\"crv\":\"P-521\",\"kty\":\"EC\",\"x\":\"", ",\"y\":\"")
+    has_two_numbers(
+        text,
+        "{\"crv\":\"P-256\",\"kty\":\"EC\",\"x\":\"",
+        ",\"y\":\"",
+    ) || has_two_numbers(
+        text,
+        "{\"crv\":\"P-384\",\"kty\":\"EC\",\"x\":\"",
+        ",\"y\":\"",
+    ) || has_two_numbers(
+        text,
+        "{\"crv\":\"P-521\",\"kty\":\"EC\",\"x\":\"",
+        ",\"y\":\"",
+    )
 }
 
 // Whether two numbers stand behind the head, with this between them, and end the text.

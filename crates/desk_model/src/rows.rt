@@ -1,4 +1,6 @@
 //! The rows of a desk's tables, and changes of them.
+ghost use Rattle.std.specs.Prelude.{◌≡◌};
+
 use crate::call::OrderProblem;
 use crate::dns_name::DnsName;
 use crate::jwk::Jwk;
@@ -7,6 +9,7 @@ use crate::policy::Policy;
 use crate::sequence::Sequence;
 use crate::status::{AccountStatus, AuthzStatus, ChallengeStatus, OrderStatus};
 use crate::text::Text;
+use std::alloc::AllocError;
 
 /// The one row of a desk's own: its policy, its clock, and the last number given of each kind.
 #[derive(Drop, Debug, Clone)]
@@ -62,21 +65,43 @@ pub struct Listed {
 }
 
 /// When bytes were handed in, and the bytes: a CSR or a certificate.
-#[derive(Drop, Debug, Clone)]
+#[derive(Drop, Debug)]
 pub struct DatedBytes {
     pub date: u64,
     pub bytes: Sequence<u8>,
 }
 
 /// When the signing office failed an order, and why.
-#[derive(Drop, Debug, Clone)]
+#[derive(Drop, Debug)]
 pub struct DatedProblem {
     pub date: u64,
     pub problem: OrderProblem,
 }
 
+impl Clone for DatedBytes {
+    ghost is_clone = { λ row copy. copy ≡ row };
+
+    fn clone(&self) -> Result<DatedBytes, AllocError> {
+        Ok(DatedBytes {
+            date: self.date,
+            bytes: self.bytes.clone()?,
+        })
+    }
+}
+
+impl Clone for DatedProblem {
+    ghost is_clone = { λ row copy. copy ≡ row };
+
+    fn clone(&self) -> Result<DatedProblem, AllocError> {
+        Ok(DatedProblem {
+            date: self.date,
+            problem: self.problem.clone()?,
+        })
+    }
+}
+
 /// An order with the authorizations that it lists.
-#[derive(Drop, Debug, Clone)]
+#[derive(Drop, Debug)]
 pub struct OrderRow {
     pub number: u64,
     pub account: u64,
@@ -87,6 +112,24 @@ pub struct OrderRow {
     pub certified: Option<DatedBytes>,
     pub failed: Option<DatedProblem>,
     pub status: OrderStatus,
+}
+
+impl Clone for OrderRow {
+    ghost is_clone = { λ row copy. copy ≡ row };
+
+    fn clone(&self) -> Result<OrderRow, AllocError> {
+        Ok(OrderRow {
+            number: self.number,
+            account: self.account,
+            made: self.made,
+            expires: self.expires,
+            listed: self.listed.clone()?,
+            finalized: self.finalized.clone()?,
+            certified: self.certified.clone()?,
+            failed: self.failed.clone()?,
+            status: self.status,
+        })
+    }
 }
 
 /// A row put in the place of the one with its number, or the row of a nonce removed.

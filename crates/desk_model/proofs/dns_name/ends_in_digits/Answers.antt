@@ -13,13 +13,13 @@ last_is o name e = rw (← e) refl
 pub returns-in-Some : goal.returns-in-Some
 returns-in-Some c =
     let e = last-from_run c.last.result c.last.ensures.ran
-        (YieldsList-from_str_split 46 c.args.name.now (lit< tt) c.split.ensures.text c.split.ensures.has_more c.split.ensures.pattern) in
+    (YieldsList-from_str_split 46 c.args.name.now (lit< tt) c.split.ensures.text c.split.ensures.has_more c.split.ensures.pattern) in
     let l : last_label c.args.name.now ≡ c.in-Some.label.now = last_is (Some c.in-Some.label) c.args.name.now (rw c.in-Some.is at e) in
     rw l c.is_all_digits.ensures
 
 pub returns-in-None : goal.returns-in-None
 returns-in-None c =
     let e = last-from_run c.last.result c.last.ensures.ran
-        (YieldsList-from_str_split 46 c.args.name.now (lit< tt) c.split.ensures.text c.split.ensures.has_more c.split.ensures.pattern) in
+    (YieldsList-from_str_split 46 c.args.name.now (lit< tt) c.split.ensures.text c.split.ensures.has_more c.split.ensures.pattern) in
     let l : last_label c.args.name.now ≡ [] = last_is None c.args.name.now (rw c.in-None.is at e) in
     rw l refl
