@@ -1,1 +1,3 @@
 pub mod EachIn
+pub mod NoFloats
+pub mod QuietEntries

@@ -41,7 +41,7 @@ kept_rows f [] h = refl
 kept_rows f (x ∷ xs) h = λ i. h x i ∷ kept_rows f xs h i
 
 -- a nonce that is spent changes the meta row and the nonces
-spent_effect : (m : ℕ) (T : Tables) (n : ℕ) →
+pub spent_effect : (m : ℕ) (T : Tables) (n : ℕ) →
     effect m T (spent n) ≡ record T { meta = (effect m T (spent n)).meta; nonces = (effect m T (spent n)).nonces }
 spent_effect m T n =
     λ i. record (effect m T (spent n)) {
@@ -53,7 +53,7 @@ spent_effect m T n =
     }
 
 -- so does a nonce that is issued
-issued_effect : (m : ℕ) (T : Tables) (r : List ℕ) →
+pub issued_effect : (m : ℕ) (T : Tables) (r : List ℕ) →
     effect m T (issued r) ≡ record T { meta = (effect m T (issued r)).meta; nonces = (effect m T (issued r)).nonces }
 issued_effect m T r =
     λ i. record (effect m T (issued r)) {

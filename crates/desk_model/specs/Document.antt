@@ -66,13 +66,13 @@ abbrev pub account_url : Terms → ℕ → List ℕ
 account_url t n = t.base ++ (codes "/account/" ++ decimal n)
 
 abbrev pub orders_url : Terms → ℕ → List ℕ
-orders_url t n = t.base ++ (codes "/account/" ++ (decimal n ++ codes "/orders"))
+orders_url t n = account_url t n ++ codes "/orders"
 
 abbrev pub order_url : Terms → ℕ → List ℕ
 order_url t n = t.base ++ (codes "/order/" ++ decimal n)
 
 abbrev pub finalize_url : Terms → ℕ → List ℕ
-finalize_url t n = t.base ++ (codes "/order/" ++ (decimal n ++ codes "/finalize"))
+finalize_url t n = order_url t n ++ codes "/finalize"
 
 abbrev pub certificate_url : Terms → ℕ → List ℕ
 certificate_url t n = t.base ++ (codes "/cert/" ++ decimal n)

@@ -1,0 +1,106 @@
+-- What entries that touch no standing row do to the tables, and what they record.
+use Rattle.std.proofs.Common.{◌≡◌, ℕ, ◌+◌, List, [], ◌∷◌, ◌++◌, length, map, filter, Bool, true, false, not, cond, Option, Some, None, refl, sym, ap, ◌∙◌, add-zero, append-nil}
+use Rattle.std.specs.Prelude.{◌&&◌, ◌||◌, ◌==◌}
+use Rattle.desk_model.specs.Tables.{Tables}
+use Rattle.desk_model.specs.declared.rows.Meta.{Meta}
+use Rattle.desk_model.specs.declared.rows.Change.{Change}
+use Rattle.desk_model.specs.declared.rows.Change.TheVariants.{PutMeta, PutNonce, RemoveNonce, PutAccount, PutAuthorization, PutOrder}
+use Rattle.desk_model.specs.declared.objects.Nonce.{Nonce}
+use Rattle.desk_model.specs.declared.entry.Entry.{Entry}
+use Rattle.desk_model.specs.declared.entry.Entry.TheVariants.{Issued as issued, Spent as spent, Opened as opened}
+use Rattle.desk_model.specs.declared.rows.AccountRow.{AccountRow}
+use Rattle.desk_model.specs.declared.rows.AuthorizationRow.{AuthorizationRow}
+use Rattle.desk_model.specs.declared.rows.OrderRow.{OrderRow}
+use Rattle.desk_model.specs.declared.status.AccountStatus.TheVariants as account
+use Rattle.desk_model.specs.Lookup.{holds}
+use Rattle.desk_model.specs.Account.{opened_by}
+use Rattle.desk_model.specs.Order.{ordered_by}
+use Rattle.desk_model.specs.Derived.{numbers_of, authorization_numbered, restated_authorization, restated_order}
+use Rattle.desk_model.specs.Effect.{effect, effects, noted_account, noted_authorization, noted_order, touches_account, touches_authorization, touches_order, names_order, lists_one, fresh_account, fresh_authorization, fresh_order, new_authorizations, authorizations_after}
+use Rattle.desk_model.specs.Change.{changes, all_changes, moved_rows, account_differs, authorization_differs, order_differs, spent_by, nonces_put}
+use Rattle.desk_model.specs.Decide.{nonce_entries}
+use Rattle.desk_laws.proofs.Plain.{spent_effect, issued_effect}
+
+-- the same counters with nothing added
+abbrev with_nonces : ℕ → ℕ → Meta → Meta
+with_nonces m more old = record old { clock = m; nonces = old.nonces + more }
+
+counters : (m more : ℕ) (old : Meta) →
+    (let counted : Meta = record old { clock = m; nonces = old.nonces + more; accounts = old.accounts + 0; orders = old.orders + 0; authorizations = old.authorizations + 0; challenges = old.challenges + 0 } in
+    counted ≡ with_nonces m more old)
+counters m more old =
+    λ i. record old { clock = m; nonces = old.nonces + more; accounts = add-zero old.accounts i; orders = add-zero old.orders i; authorizations = add-zero old.authorizations i; challenges = add-zero old.challenges i }
+
+-- the meta row after a nonce is spent
+pub spent_meta : (m : ℕ) (T : Tables) (n : ℕ) → (effect m T (spent n)).meta ≡ record T.meta { clock = m }
+spent_meta m T n = counters m 0 T.meta ∙ (λ i. record T.meta { clock = m; nonces = add-zero T.meta.nonces i })
+
+-- the meta row after a nonce is issued
+pub issued_meta : (m : ℕ) (T : Tables) (r : List ℕ) → (effect m T (issued r)).meta ≡ record T.meta { clock = m; nonces = T.meta.nonces + 1 }
+issued_meta m T r = counters m 1 T.meta
+
+-- the meta row after an account is opened
+pub opened_meta : (m : ℕ) (T : Tables) (key : List ℕ) (contacts : List (List ℕ)) → (effect m T (opened key contacts)).meta ≡ record T.meta { clock = m; accounts = T.meta.accounts + 1 }
+opened_meta m T key contacts =
+    λ i. record T.meta { clock = m; nonces = add-zero T.meta.nonces i; accounts = T.meta.accounts + 1; orders = add-zero T.meta.orders i; authorizations = add-zero T.meta.authorizations i; challenges = add-zero T.meta.challenges i }
+
+filter_none : {X : Type 0} (p : X → Bool) (xs : List X) → ((x : X) → p x ≡ false) → filter p xs ≡ []
+filter_none p [] h = refl
+filter_none p (x ∷ xs) h = ap (λ b. cond b (x ∷ filter p xs) (filter p xs)) (h x) ∙ filter_none p xs h
+
+-- no order is touched by an entry that names none and touches no authorization
+order_untouched : (e : Entry) (T : Tables) (r : OrderRow) → ((a : AuthorizationRow) → touches_authorization e a ≡ false) → names_order e r.number ≡ false →
+    touches_order e T.authorizations r ≡ false
+order_untouched e T r none unnamed =
+    ap (λ b. b || lists_one (touches_authorization e) T.authorizations (numbers_of r.listed)) unnamed
+    ∙ lists_none (numbers_of r.listed)
+  where
+    found : (o : Option AuthorizationRow) → holds (touches_authorization e) o ≡ false
+    found None = refl
+    found (Some a) = none a
+    lists_none : (ns : List ℕ) → lists_one (touches_authorization e) T.authorizations ns ≡ false
+    lists_none [] = refl
+    lists_none (n ∷ ns) = λ i. found (authorization_numbered n T.authorizations) i || lists_none ns i
+
+unmoved_rows : {X : Type 0} (touched : X → Bool) (differs : X → X → Bool) (move : X → X) (xs : List X) → ((x : X) → touched x ≡ false) → moved_rows touched differs move xs ≡ []
+unmoved_rows touched differs move xs none = ap (map move) (filter_none (λ r. touched r && differs r (move r)) xs (λ x. ap (λ b. b && differs x (move x)) (none x)))
+
+-- an entry that touches no row that stands records what it makes
+pub quiet_changes : (m : ℕ) (T : Tables) (e : Entry) → ((a : AccountRow) → touches_account e a ≡ false) → ((a : AuthorizationRow) → touches_authorization e a ≡ false) →
+    ((n : ℕ) → names_order e n ≡ false) →
+    changes m T e ≡ PutMeta (effect m T e).meta
+        ∷ (map RemoveNonce (spent_by e)
+        ++ (map PutNonce (nonces_put T e m)
+        ++ (map PutAccount (map fresh_account (opened_by e m (T.meta.accounts + 1)))
+        ++ (map PutAuthorization (map (λ a. restated_authorization m (fresh_authorization a)) (new_authorizations T e m))
+        ++ map PutOrder (map (λ o. restated_order m (authorizations_after T e m) (fresh_order o)) (ordered_by e m T.meta.policy (new_authorizations T e m) (T.meta.orders + 1)))))))
+quiet_changes m T e no_account no_authorization no_order =
+    λ i. PutMeta (effect m T e).meta
+        ∷ (map RemoveNonce (spent_by e)
+        ++ (map PutNonce (nonces_put T e m)
+        ++ (map PutAccount (unmoved_rows (touches_account e) account_differs (noted_account e m) T.accounts no_account i ++ map fresh_account (opened_by e m (T.meta.accounts + 1)))
+        ++ (map PutAuthorization (unmoved_rows (touches_authorization e) authorization_differs (λ r. restated_authorization m (noted_authorization e m r)) T.authorizations no_authorization i
+                ++ map (λ a. restated_authorization m (fresh_authorization a)) (new_authorizations T e m))
+        ++ map PutOrder (unmoved_rows (touches_order e T.authorizations) order_differs (λ r. restated_order m (authorizations_after T e m) (noted_order e m r)) T.orders (λ r. order_untouched e T r no_authorization (no_order r.number)) i
+                ++ map (λ o. restated_order m (authorizations_after T e m) (fresh_order o)) (ordered_by e m T.meta.policy (new_authorizations T e m) (T.meta.orders + 1)))))))
+
+-- what is recorded of a nonce that is spent
+pub spent_changes : (m : ℕ) (T : Tables) (n : ℕ) → changes m T (spent n) ≡ PutMeta (record T.meta { clock = m }) ∷ RemoveNonce n ∷ []
+spent_changes m T n = quiet_changes m T (spent n) (λ a. refl) (λ a. refl) (λ k. refl) ∙ ap (λ meta. PutMeta meta ∷ RemoveNonce n ∷ []) (spent_meta m T n)
+
+-- what is recorded of a nonce that is issued
+pub issued_changes : (m : ℕ) (T : Tables) (r : List ℕ) →
+    (let fresh : Nonce = record { serial = T.meta.nonces + 1; random = r; issued = m } in
+    changes m T (issued r) ≡ PutMeta (record T.meta { clock = m; nonces = T.meta.nonces + 1 }) ∷ PutNonce fresh ∷ [])
+issued_changes m T r =
+    quiet_changes m T (issued r) (λ a. refl) (λ a. refl) (λ k. refl)
+    ∙ ap (λ meta. PutMeta meta ∷ PutNonce (record { serial = T.meta.nonces + 1; random = r; issued = m }) ∷ []) (issued_meta m T r)
+
+-- what is recorded of an account that is opened
+pub opened_changes : (m : ℕ) (T : Tables) (key : List ℕ) (contacts : List (List ℕ)) →
+    (let fresh : AccountRow = record { number = T.meta.accounts + 1; key = key; contacts = contacts; opened = m; ended = None; status = account.Valid } in
+    changes m T (opened key contacts) ≡ PutMeta (record T.meta { clock = m; accounts = T.meta.accounts + 1 }) ∷ PutAccount fresh ∷ [])
+opened_changes m T key contacts =
+    quiet_changes m T (opened key contacts) (λ a. refl) (λ a. refl) (λ k. refl)
+    ∙ ap (λ meta. PutMeta meta ∷ PutAccount (record { number = T.meta.accounts + 1; key = key; contacts = contacts; opened = m; ended = None; status = account.Valid }) ∷ [])
+    (opened_meta m T key contacts)

@@ -1,0 +1,33 @@
+//! The limits of moments, numbers and random bytes.
+ghost use Rattle.std.specs.Prelude.{◌≡◌, ◌<◌, ◌≤◌, ◌^◌, length, take, MatchResult};
+
+use crate::fault::CoreFault;
+
+/// The last moment at which a call may be made, in seconds since 1970.
+pub(crate) const LAST_MOMENT: u64 = 250_000_000_000;
+
+/// The greatest number that an object may have.
+pub(crate) const LAST_NUMBER: u64 = 1 << 62;
+
+/// Whether a number may be given after the last one.
+pub(crate) fn has_room(last: u64) -> Result<(), CoreFault>
+    ensures { MatchResult result (λ _. last < 2 ^ 62) (λ e. (e ≡ CoreFault.Full) × (2 ^ 62 ≤ last)) }
+{
+    if last < LAST_NUMBER {
+        Ok(())
+    } else {
+        Err(CoreFault::Full)
+    }
+}
+
+/// The first 16 random bytes of a call.
+pub(crate) fn first_random(random: &[u8]) -> Result<[u8; 16], CoreFault>
+    ensures { MatchResult result (λ r. (r ≡ take 16 random.now) × (16 ≤ length random.now)) (λ e. (e ≡ CoreFault.ShortRandom) × (length random.now < 16)) }
+{
+    let mut bytes = [0u8; 16];
+    if random.len() < 16 {
+        return Err(CoreFault::ShortRandom);
+    }
+    bytes.copy_from_slice(&random[..16]);
+    Ok(bytes)
+}
