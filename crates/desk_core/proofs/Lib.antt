@@ -1,3 +1,4 @@
 pub mod EachIn
+pub mod Looking
 pub mod NoFloats
 pub mod QuietEntries

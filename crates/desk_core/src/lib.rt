@@ -1,14 +1,17 @@
 //! What a call does to a book, and what is answered.
 #![tactic(auto)]
 
+mod accounts;
 mod contacts;
 mod documents;
 mod fault;
 mod limits;
+mod nonces;
 mod payload;
 mod recording;
 mod refusal;
 mod sweep;
+mod verdicts;
 
 pub use fault::CoreFault;
 pub use refusal::{refusal_detail, refusal_name, refusal_status};

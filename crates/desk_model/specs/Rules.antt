@@ -40,9 +40,13 @@ open_account T key p =
     (unless_fault (contacts_fault p.contacts)
     (records (opened key p.contacts) (show.OpenedAccount (T.meta.accounts + 1))))
 
--- newAccount (7.3): of the payload of a known key only the form is looked at (7.3.1)
+-- of the payload of a known key only the form is looked at (7.3.1)
+abbrev pub known_account_verdict : AccountRow → Option NewAccount → Verdict
+known_account_verdict a payload = check (is_valid_account a.status) 7 (given payload 1 (λ p. answers (show.KnownAccount a.number)))
+
+-- newAccount (7.3)
 abbrev pub new_account_verdict : Tables → List ℕ → Option AccountRow → Option NewAccount → Verdict
-new_account_verdict T key (Some a) payload = check (is_valid_account a.status) 7 (given payload 1 (λ p. answers (show.KnownAccount a.number)))
+new_account_verdict T key (Some a) payload = known_account_verdict a payload
 new_account_verdict T key None payload = given payload 1 (open_account T key)
 
 -- POST to an account (7.3.2, 7.3.6)

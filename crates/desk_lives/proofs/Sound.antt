@@ -1,0 +1,318 @@
+-- What a verdict records may be recorded by the tables that it was given by.
+use Rattle.std.proofs.Common.{◌≡◌, ◌≤◌, ◌*◌, ℕ, List, [], ◌∷◌, length, Option, Some, None, Ok, Err, refl, Bool, true, false, cond, not}
+use Rattle.std.specs.Prelude.{IsTrue, find, nat_le, ◌==◌, is_some, bytes_eq, option_and_then, Result}
+use Rattle.std.proofs.lemmas.Bool.{and_from}
+use Rattle.desk_model.specs.Keys.{IsKeyText}
+use Rattle.desk_model.specs.declared.entry.Entry.{Entry}
+use Rattle.desk_model.specs.declared.entry.Outcome.{Outcome}
+use Rattle.desk_model.specs.declared.call.OrderProblem.{OrderProblem}
+use Rattle.desk_model.specs.declared.objects.Nonce.{Nonce}
+use Rattle.desk_model.specs.Account.{is_valid as is_valid_account}
+use Rattle.desk_model.specs.Order.{is_ready, is_processing}
+use Rattle.desk_model.specs.Contact.{contacts_fault}
+use Rattle.desk_model.specs.Tokens.{NonceText, from_base64url, nonce_in}
+use Rattle.desk_model.specs.Legal.{IsFormed, has_length, is_pending_challenge, is_problem, is_processing_challenge}
+use Rattle.desk_model.specs.Tables.{Tables}
+use Rattle.desk_model.specs.declared.rows.AccountRow.{AccountRow}
+use Rattle.desk_model.specs.declared.rows.ChallengeRow.{ChallengeRow}
+use Rattle.desk_model.specs.declared.rows.AuthorizationRow.{AuthorizationRow}
+use Rattle.desk_model.specs.declared.rows.OrderRow.{OrderRow}
+use Rattle.desk_model.specs.Questions.{account_on, account_with_key, order_on, authorization_on, owner_on, nonce_on}
+use Rattle.desk_model.specs.Allowed.{may_on}
+use Rattle.desk_model.specs.declared.payload.NewAccount.{NewAccount}
+use Rattle.desk_model.specs.declared.payload.AccountChange.{AccountChange}
+use Rattle.desk_model.specs.declared.payload.AuthorizationChange.{AuthorizationChange}
+use Rattle.desk_model.specs.declared.payload.ChallengeChange.{ChallengeChange}
+use Rattle.desk_model.specs.declared.payload.Identifier.{Identifier}
+use Rattle.desk_model.specs.declared.payload.AccountChange.TheVariants as change
+use Rattle.desk_model.specs.declared.payload.AuthorizationChange.TheVariants as authz_change
+use Rattle.desk_model.specs.declared.payload.ChallengeChange.TheVariants as chall_change
+use Rattle.desk_model.specs.Run.{pieces_of, IsFormedSigned}
+use Rattle.desk_model.specs.Touched.{EachOf}
+use Rattle.desk_model.specs.Verdict.{answers, records, check, given, unless_fault, choose}
+use Rattle.desk_model.specs.declared.verdict.Verdict.{Verdict}
+use Rattle.desk_model.specs.declared.verdict.Shows.{Shows}
+use Rattle.desk_model.specs.declared.verdict.Verdict.TheVariants.{Refused as refused, Accepted as accepted}
+use Rattle.desk_model.specs.Rules.{open_account, new_account_verdict, account_verdict, order_of, new_order_verdict, subproblems, if_fits, csr_in, finalize_verdict, is_endable, authorization_verdict, stands_open, challenge_verdict, own, target_verdict, holder_verdict, key_verdict, signed_verdict, if_spelled, open_nonce_in, open_nonce, outcome_verdict, report_verdict, certify_verdict, fail_verdict, revoke_authorization, revoke_account, office_verdict}
+use Rattle.desk_model.specs.declared.reply.Subproblem.{Subproblem}
+use Rattle.desk_model.specs.declared.call.Ask.{Ask}
+use Rattle.desk_model.specs.declared.call.Ask.TheVariants as ask
+use Rattle.desk_model.specs.declared.call.BadKey.{BadKey}
+use Rattle.desk_model.specs.declared.call.Finding.{Finding}
+use Rattle.desk_model.specs.declared.call.Signed.{Signed}
+use Rattle.desk_model.specs.declared.call.Target.{Target}
+use Rattle.desk_model.specs.declared.call.Target.TheVariants as to
+use Rattle.desk_laws.specs.Later.{IsLater}
+use Rattle.desk_laws.specs.Ordered.{IsOrdered}
+use Rattle.desk_laws.proofs.RowLists.{ascends_found}
+use Rattle.desk_lives.proofs.Names.{wanted_fits}
+
+-- the entry may be recorded by these tables
+pub record MayRecord (T : Tables) (e : Entry) : Type 0 where
+  pub later : IsLater e
+  pub formed : IsFormed e
+  pub allowed : IsTrue (may_on T e)
+
+-- the entry of the verdict, if it has one, may be recorded
+abbrev pub Records : List ℕ → Tables → Verdict → Type 0
+Records r T (refused number subproblems) = Unit {0}
+Records r T (accepted None what) = Unit {0}
+Records r T (accepted (Some e) what) = 16 * pieces_of e ≤ length r → MayRecord T e
+
+-- what the verdict records may be recorded, where there are random bytes enough for it
+pub record IsSound (r : List ℕ) (T : Tables) (v : Verdict) : Type 0 where
+  pub records : Records r T v
+
+-- ---- steps of verdicts
+
+-- what records nothing
+none_sound : {r : List ℕ} {T : Tables} (what : Shows) → IsSound r T (answers what)
+none_sound what = record { records = tt }
+
+-- what records an entry that may follow
+one_sound : {r : List ℕ} {T : Tables} (e : Entry) (what : Shows) → IsLater e → IsFormed e → may_on T e ≡ true → IsSound r T (records e what)
+one_sound e what later formed may = record { records = λ _. record { later = later; formed = formed; allowed = may } }
+
+-- a refusal
+refused_sound : {r : List ℕ} {T : Tables} (n : ℕ) (ss : List Subproblem) → IsSound r T (refused n ss)
+refused_sound n ss = record { records = tt }
+
+-- a test
+check_sound : (r : List ℕ) (T : Tables) (b : Bool) (n : ℕ) (v : Verdict) → (b ≡ true → IsSound r T v) → IsSound r T (check b n v)
+unfolding check
+check_sound r T true n v h = h refl
+check_sound r T false n v h = refused_sound n []
+
+-- one of two
+choose_sound : (r : List ℕ) (T : Tables) (b : Bool) (v w : Verdict) → (b ≡ true → IsSound r T v) → IsSound r T w → IsSound r T (choose b v w)
+unfolding choose
+choose_sound r T true v w h k = h refl
+choose_sound r T false v w h k = k
+
+-- a value that is there
+given_sound : {X : Type 0} (r : List ℕ) (T : Tables) (o : Option X) (n : ℕ) (f : X → Verdict) →
+    ((x : X) → o ≡ Some x → IsSound r T (f x)) →
+    IsSound r T (given o n f)
+unfolding given
+given_sound r T None n f h = refused_sound n []
+given_sound r T (Some x) n f h = h x refl
+
+-- no fault
+fault_sound : (r : List ℕ) (T : Tables) (o : Option ℕ) (v : Verdict) → (o ≡ None → IsSound r T v) → IsSound r T (unless_fault o v)
+unfolding unless_fault
+fault_sound r T None v h = h refl
+fault_sound r T (Some n) v h = refused_sound n []
+
+-- ---- accounts
+
+-- an account of another key is opened
+open_sound : (r : List ℕ) (T : Tables) (key : List ℕ) (p : NewAccount) → IsKeyText key → account_with_key T key ≡ None → IsSound r T (open_account T key p)
+open_sound r T key p formed unknown =
+    check_sound r T (not p.only_existing) 6 _ (λ _. fault_sound r T (contacts_fault p.contacts) _
+    (λ pass. one_sound _ _ tt formed (rw (unknown, pass) refl)))
+
+-- newAccount
+new_account_sound : (r : List ℕ) (T : Tables) (key : List ℕ) (o : Option AccountRow) (p : Option NewAccount) → IsKeyText key →
+    account_with_key T key ≡ o →
+    IsSound r T (new_account_verdict T key o p)
+new_account_sound r T key (Some a) p formed is = check_sound r T _ 7 _ (λ _. given_sound r T p 1 _ (λ _ _. none_sound _))
+new_account_sound r T key None p formed is = given_sound r T p 1 _ (λ x _. open_sound r T key x formed is)
+
+-- a change of an account that is valid
+account_sound : (r : List ℕ) (T : Tables) (n : ℕ) (a : AccountRow) (p : AccountChange) → account_on T n ≡ Some a → is_valid_account a.status ≡ true →
+    IsSound r T (account_verdict n p)
+account_sound r T n a change.Read found valid = none_sound _
+account_sound r T n a change.Deactivate found valid = one_sound _ _ tt tt (rw found valid)
+account_sound r T n a (change.Update None) found valid = none_sound _
+account_sound r T n a (change.Update (Some contacts)) found valid =
+    fault_sound r T (contacts_fault contacts) _ (λ pass. one_sound _ _ tt tt (rw (found, pass) (and_from _ _ valid refl)))
+
+-- ---- orders
+
+-- an order of names without a fault
+order_sound : (r : List ℕ) (T : Tables) (n : ℕ) (a : AccountRow) (ids : List Identifier) (ss : List Subproblem) → account_on T n ≡ Some a →
+    is_valid_account a.status ≡ true → has_length 1 50 ids ≡ true → subproblems ids ≡ ss →
+    IsSound r T (order_of T r n ids ss)
+order_sound r T n a ids (s ∷ ss) found valid fits is = refused_sound _ (s ∷ ss)
+order_sound r T n a ids [] found valid fits is =
+    record {
+      records = λ enough. record {
+        later = tt;
+        formed = tt;
+        allowed = rw found (and_from _ _ valid (wanted_fits ids r fits is enough));
+      };
+    }
+
+-- newOrder
+new_order_sound : (r : List ℕ) (T : Tables) (n : ℕ) (a : AccountRow) (ids : List Identifier) → account_on T n ≡ Some a → is_valid_account a.status ≡ true →
+    IsSound r T (new_order_verdict T r n ids)
+new_order_sound r T n a ids found valid =
+    check_sound r T _ 1 _ (λ fits. order_sound r T n a ids (subproblems ids) found valid fits refl)
+
+-- a CSR has its length
+csr_length : (o : Option (List ℕ)) (csr : List ℕ) → option_and_then if_fits o ≡ Some csr → has_length 1 8192 csr ≡ true
+csr_length None csr h = cc
+csr_length (Some x) csr h = by (has_length 1 8192 x) refl h
+  where
+    by : (b : Bool) → has_length 1 8192 x ≡ b → cond {A = Option (List ℕ)} b (Some x) None ≡ Some csr → has_length 1 8192 csr ≡ true
+    by true e k = let same : x ≡ csr = cc in rw (← same) e
+    by false e k = cc
+
+-- an order that is ready is finalized
+finalize_sound : (r : List ℕ) (T : Tables) (n : ℕ) (o : OrderRow) (text : List ℕ) → order_on T n ≡ Some o → IsSound r T (finalize_verdict n o text)
+finalize_sound r T n o text found =
+    check_sound r T (is_ready o.status) 12 _ (λ ready. given_sound r T (csr_in text) 13 _
+    (λ csr fits. one_sound _ _ tt tt (rw found (and_from _ _ ready (csr_length (from_base64url text) csr fits)))))
+
+-- ---- authorizations and challenges
+
+-- an authorization that is not over is ended
+authorization_sound : (r : List ℕ) (T : Tables) (n : ℕ) (a : AuthorizationRow) (p : AuthorizationChange) → authorization_on T n ≡ Some a →
+    IsSound r T (authorization_verdict n a p)
+authorization_sound r T n a authz_change.Read found = none_sound _
+authorization_sound r T n a authz_change.Deactivate found =
+    choose_sound r T (is_endable a) _ _ (λ live. one_sound _ _ tt tt (rw found live)) (none_sound _)
+
+-- a pending challenge is answered
+challenge_sound : (r : List ℕ) (T : Tables) (n : ℕ) (a : AuthorizationRow) (p : ChallengeChange) → owner_on T n ≡ Some a →
+    IsSound r T (challenge_verdict n a p)
+challenge_sound r T n a chall_change.Read found = none_sound _
+challenge_sound r T n a chall_change.Answer found =
+    choose_sound r T (stands_open (λ c. is_pending_challenge c.status) a n) _ _ (λ open_one. one_sound _ _ tt tt (rw found open_one)) (none_sound _)
+
+-- ---- signed requests
+
+-- the account's own object is found
+own_found : {X : Type 0} (account : X → ℕ) (n : ℕ) (o : Option X) (x : X) → own account n o ≡ Some x → o ≡ Some x
+own_found account n None x h = cc
+own_found account n (Some y) x h = by (account y == n) h
+  where
+    by : (b : Bool) → cond {A = Option _} b (Some y) None ≡ Some x → Some y ≡ Some x
+    by true e = e
+    by false e = cc
+
+-- a request of an account that is valid
+target_sound : (r : List ℕ) (T : Tables) (n : ℕ) (a : AccountRow) (p : List ℕ) (t : Target) → account_on T n ≡ Some a → is_valid_account a.status ≡ true →
+    IsSound r T (target_verdict T r n p t)
+target_sound r T n a p to.NewAccount found valid = none_sound _
+target_sound r T n a p to.NewOrder found valid = given_sound r T _ 1 _ (λ ids _. new_order_sound r T n a ids found valid)
+target_sound r T n a p (to.Account k) found valid =
+    check_sound r T _ 2 _ (λ _. given_sound r T _ 1 _ (λ x _. account_sound r T n a x found valid))
+target_sound r T n a p (to.Orders k) found valid = check_sound r T _ 2 _ (λ _. check_sound r T _ 1 _ (λ _. none_sound _))
+target_sound r T n a p (to.Order k) found valid = given_sound r T _ 2 _ (λ o _. check_sound r T _ 1 _ (λ _. none_sound _))
+target_sound r T n a p (to.Finalize k) found valid =
+    given_sound r T _ 2 _ (λ o is. given_sound r T _ 1 _ (λ text _. finalize_sound r T k o text (own_found _ n _ o is)))
+target_sound r T n a p (to.Cert k) found valid =
+    given_sound r T _ 2 _ (λ o _. check_sound r T _ 1 _ (λ _. given_sound r T _ 2 _ (λ _ _. none_sound _)))
+target_sound r T n a p (to.Authz k) found valid =
+    given_sound r T _ 2 _ (λ x is. given_sound r T _ 1 _ (λ q _. authorization_sound r T k x q (own_found _ n _ x is)))
+target_sound r T n a p (to.Chall k) found valid =
+    given_sound r T _ 2 _ (λ x is. given_sound r T _ 1 _ (λ q _. challenge_sound r T k x q (own_found _ n _ x is)))
+
+-- what holds of each item holds of the one that is found
+pub each_found : {X : Type 0} (P : X → Type 0) (test : X → Bool) (xs : List X) (x : X) → EachOf P xs → find test xs ≡ Some x → P x
+each_found P test [] x h is = cc
+each_found P test (y ∷ ys) x h is = by (test y) is (each_found P test ys x h.1)
+  where
+    by : (b : Bool) → cond b (Some y) (find test ys) ≡ Some x → (find test ys ≡ Some x → P x) → P x
+    by true e ih = let same : y ≡ x = cc in rw (← same) h.0
+    by false e ih = ih e
+
+-- an account that is found by its key is found by its number
+pub key_number : (T : Tables) (key : List ℕ) (a : AccountRow) → IsOrdered T → account_with_key T key ≡ Some a → account_on T a.number ≡ Some a
+key_number T key a in_order found =
+    each_found (λ (x : AccountRow). account_on T x.number ≡ Some x) (λ a. bytes_eq a.key key) T.accounts a
+    (ascends_found (λ (x : AccountRow). x.number) 1 T.accounts in_order.accounts.0) found
+
+-- a request of a key that has an account
+holder_sound : (r : List ℕ) (T : Tables) (key p : List ℕ) (t : Target) → IsOrdered T → IsSound r T (holder_verdict T r p t (account_with_key T key))
+holder_sound r T key p t in_order =
+    given_sound r T _ 6 _ (λ a is. check_sound r T _ 7 _ (λ valid. target_sound r T a.number a p t (key_number T key a in_order is) valid))
+
+-- a request of a key
+key_sound : (r : List ℕ) (T : Tables) (key p : List ℕ) (t : Target) → IsOrdered T → IsKeyText key → IsSound r T (key_verdict T r key p t)
+key_sound r T key p to.NewAccount in_order formed = new_account_sound r T key (account_with_key T key) _ formed refl
+key_sound r T key p t in_order formed = holder_sound r T key p t in_order
+
+-- a signed request
+pub signed_sound : (r : List ℕ) (T : Tables) (s : Signed) → IsOrdered T → IsFormedSigned s → IsSound r T (signed_verdict T r s)
+signed_sound r T s in_order formed = by s.key formed
+  where
+    by : (k : Result (List ℕ) BadKey) → elim k as (λ _. Type 0) [ Err e ↦ Unit {0} | Ok key ↦ IsKeyText key ] →
+        IsSound r T (elim k [ Err e ↦ refused 5 [] | Ok key ↦ key_verdict T r key s.payload s.target ])
+    by (Err e) h = refused_sound 5 []
+    by (Ok key) h = key_sound r T key s.payload s.target in_order h
+
+-- ---- the other asks
+
+-- a report on a challenge that waits for it
+outcome_sound : (r : List ℕ) (T : Tables) (n : ℕ) (a : AuthorizationRow) (c : ChallengeRow) (outcome : Outcome) → owner_on T n ≡ Some a →
+    IsSound r T (outcome_verdict n a c outcome)
+outcome_sound r T n a c outcome found =
+    choose_sound r T _ _ _ (λ _. none_sound _)
+    (check_sound r T (stands_open (λ c. is_processing_challenge c.status) a n) 14 _ (λ waits. one_sound _ _ tt tt (rw found waits)))
+
+-- a report
+report_sound : (r : List ℕ) (T : Tables) (n : ℕ) (finding : Finding) → IsSound r T (report_verdict T n finding)
+report_sound r T n finding =
+    given_sound r T _ 2 _ (λ a is. given_sound r T _ 2 _ (λ c _. given_sound r T _ 1 _ (λ o _. outcome_sound r T n a c o is)))
+
+-- a certificate
+certify_sound : (r : List ℕ) (T : Tables) (n : ℕ) (bytes : List ℕ) (o : OrderRow) → order_on T n ≡ Some o → IsSound r T (certify_verdict n bytes o)
+certify_sound r T n bytes o found =
+    check_sound r T (nat_le 1 (length bytes)) 1 _ (λ low. check_sound r T (nat_le (length bytes) 65536) 16 _
+    (λ high. choose_sound r T _ _ _ (λ _. none_sound _)
+    (check_sound r T (is_processing o.status) 14 _ (λ waits. one_sound _ _ tt tt (rw found (and_from _ _ waits (and_from _ _ low high)))))))
+
+-- a failure
+fail_sound : (r : List ℕ) (T : Tables) (n : ℕ) (problem : OrderProblem) (o : OrderRow) → order_on T n ≡ Some o → IsSound r T (fail_verdict n problem o)
+fail_sound r T n problem o found =
+    check_sound r T (is_problem problem) 1 _ (λ formed. choose_sound r T _ _ _ (λ _. none_sound _)
+    (check_sound r T (is_processing o.status) 14 _ (λ waits. one_sound _ _ tt tt (rw found (and_from _ _ waits formed)))))
+
+-- the operator takes back an authorization
+revoke_authorization_sound : (r : List ℕ) (T : Tables) (n : ℕ) (a : AuthorizationRow) → authorization_on T n ≡ Some a →
+    IsSound r T (revoke_authorization n a)
+revoke_authorization_sound r T n a found =
+    choose_sound r T _ _ _ (λ _. none_sound _) (check_sound r T (is_endable a) 14 _ (λ live. one_sound _ _ tt tt (rw found live)))
+
+-- the operator ends an account
+revoke_account_sound : (r : List ℕ) (T : Tables) (n : ℕ) (a : AccountRow) → account_on T n ≡ Some a → IsSound r T (revoke_account n a)
+revoke_account_sound r T n a found =
+    choose_sound r T _ _ _ (λ _. none_sound _)
+    (check_sound r T (is_valid_account a.status) 14 _ (λ valid. one_sound _ _ tt tt (rw found valid)))
+
+-- an ask that carries no nonce
+pub office_sound : (r : List ℕ) (T : Tables) (a : Ask) → IsSound r T (office_verdict T a)
+office_sound r T ask.Directory = none_sound _
+office_sound r T (ask.NewNonce head) = refused_sound 2 []
+office_sound r T (ask.Signed s) = refused_sound 2 []
+office_sound r T (ask.Report n finding) = report_sound r T n finding
+office_sound r T (ask.Certify n bytes) = given_sound r T _ 2 _ (λ o is. certify_sound r T n bytes o is)
+office_sound r T (ask.FailOrder n problem) = given_sound r T _ 2 _ (λ o is. fail_sound r T n problem o is)
+office_sound r T (ask.RevokeAuthz n) = given_sound r T _ 2 _ (λ a is. revoke_authorization_sound r T n a is)
+office_sound r T (ask.RevokeAccount n) = given_sound r T _ 2 _ (λ a is. revoke_account_sound r T n a is)
+office_sound r T ask.ChallengeWork = none_sound _
+office_sound r T ask.OrderWork = none_sound _
+office_sound r T (ask.KeyOf n) = given_sound r T _ 2 _ (λ _ _. none_sound _)
+
+-- ---- nonces
+
+-- the nonce that a request carries may be spent
+spelled_serial : (T : Tables) (t : NonceText) (o : Option Nonce) (serial : ℕ) → nonce_on T t.serial ≡ o → if_spelled t o ≡ Some serial →
+    is_some (nonce_on T serial) ≡ true
+spelled_serial T t None serial is h = cc
+spelled_serial T t (Some n) serial is h = by (bytes_eq n.random t.random) h
+  where
+    by : (b : Bool) → cond {A = Option ℕ} b (Some t.serial) None ≡ Some serial → is_some (nonce_on T serial) ≡ true
+    by true k = let same : t.serial ≡ serial = cc in rw (← same, is) refl
+    by false k = cc
+
+-- and so in any form
+carried_serial : (T : Tables) (o : Option NonceText) (serial : ℕ) → open_nonce_in T o ≡ Some serial → is_some (nonce_on T serial) ≡ true
+carried_serial T None serial h = cc
+carried_serial T (Some t) serial h = spelled_serial T t (nonce_on T t.serial) serial refl h
+
+-- an open nonce stands in the tables
+pub open_serial : (T : Tables) (text : Option (List ℕ)) (serial : ℕ) → open_nonce T text ≡ Some serial → is_some (nonce_on T serial) ≡ true
+open_serial T text serial h = carried_serial T (option_and_then nonce_in text) serial h

@@ -1,0 +1,13 @@
+//! The laws of all lives of a desk.
+#![tactic(auto)]
+
+ghost use Rattle.desk_lives.specs.CallLaws.{MomentsDoNotFall, MomentsAreInTime, CallsFollow, CallsKeepLegal, NumbersMakeLegal};
+
+/// What a call records may follow what was recorded before it, and keeps the history legal.
+pub fn calls_keep_legal()
+    ensures clock { MomentsDoNotFall }
+    ensures in_time { MomentsAreInTime }
+    ensures each { CallsFollow }
+    ensures numbered { NumbersMakeLegal }
+    ensures legal { CallsKeepLegal }
+{}
