@@ -2,3 +2,4 @@ pub mod EachIn
 pub mod Looking
 pub mod NoFloats
 pub mod QuietEntries
+pub mod Recordings

@@ -1,2 +1,4 @@
 pub mod Lists
+pub mod Recorded
 pub mod Room
+pub mod RowDecision

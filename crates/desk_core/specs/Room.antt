@@ -1,5 +1,5 @@
 -- Whether the numbers that a verdict needs can be given.
-use Rattle.std.specs.Prelude.{ℕ, ◌<◌, ◌≤◌, ◌^◌, Some}
+use Rattle.std.specs.Prelude.{ℕ, ◌<◌, ◌≤◌, ◌^◌, List, length, Some}
 use Rattle.desk_model.specs.Tables.{Tables}
 use Rattle.desk_model.specs.declared.verdict.Verdict.{Verdict}
 use Rattle.desk_model.specs.declared.verdict.Verdict.TheVariants.{Refused as refused, Accepted as accepted}
@@ -23,3 +23,10 @@ abbrev pub IsVerdictFault : Tables → Verdict → CoreFault → Type 0
 IsVerdictFault T v fault.Memory = Unit {0}
 IsVerdictFault T v fault.Full = IsFull T v
 IsVerdictFault T v _ = ⊥
+
+-- why no nonce is issued: want of memory, of numbers, or of random bytes where there are numbers
+abbrev pub IsIssueFault : Tables → List ℕ → CoreFault → Type 0
+IsIssueFault T random fault.Memory = Unit {0}
+IsIssueFault T random fault.Full = 2 ^ 62 ≤ T.meta.nonces
+IsIssueFault T random fault.ShortRandom = (T.meta.nonces < 2 ^ 62) × (length random < 16)
+IsIssueFault T random fault.Moment = ⊥

@@ -3,6 +3,7 @@
 
 mod accounts;
 mod contacts;
+mod decide;
 mod documents;
 mod fault;
 mod limits;
@@ -10,8 +11,10 @@ mod nonces;
 mod payload;
 mod recording;
 mod refusal;
+mod replies;
 mod sweep;
 mod verdicts;
 
+pub use decide::Outcome;
 pub use fault::CoreFault;
 pub use refusal::{refusal_detail, refusal_name, refusal_status};

@@ -1,7 +1,10 @@
 //! What a call records, change by change.
 ghost use Rattle.std.specs.Prelude.{◌≡◌, ◌<◌, ◌+◌, ◌^◌, ◌++◌, ◌∷◌, [], None, IfOk, OnOk};
-ghost use Rattle.desk_model.specs.Change.{sweep_changes};
-ghost use Rattle.desk_model.specs.declared.rows.Meta.{Meta as MetaRow};
+ghost use Rattle.std.specs.Prelude.{ℕ, List};
+ghost use Rattle.desk_core.specs.Recorded.{IsRecorded};
+ghost use Rattle.desk_model.specs.Tables.{Tables};
+ghost use Rattle.desk_model.specs.declared.entry.Entry.{Entry};
+ghost use Rattle.desk_model.specs.declared.entry.Entry.TheVariants.{Issued as issued, Spent as spent, Opened as opened};
 ghost use Rattle.desk_model.specs.declared.rows.Change.TheVariants.{PutMeta, PutNonce, RemoveNonce, PutAccount};
 ghost use Rattle.desk_model.specs.declared.status.AccountStatus.TheVariants as account;
 
@@ -20,7 +23,7 @@ pub(crate) struct Recording {
 impl Recording {
     /// Begins with the passing of time up to a moment.
     pub(crate) fn begin(alloc: Global, book: &Book, moment: u64) -> Result<Recording, AllocError>
-        ensures changes { IfOk result (λ r. r.changes.items ≡ sweep_changes moment book.now) }
+        ensures recorded { IfOk result (λ r. IsRecorded moment book.now [] r.changes.items r.meta) }
         ensures meta { IfOk result (λ r. r.meta ≡ record book.now.meta { clock = moment }) }
     {
         let changes = sweep_changes(alloc, book, moment)?;
@@ -29,14 +32,25 @@ impl Recording {
         Ok(Recording { changes, meta })
     }
 
+    /// Records the meta row as it is now, and a change.
+    fn push(&mut self, change: Change) -> Result<(), AllocError>
+        ensures changes { OnOk result (self.new.changes.items ≡ self.old.changes.items ++ PutMeta self.old.meta ∷ change ∷ []) }
+        ensures meta { OnOk result (self.new.meta ≡ self.old.meta) }
+    {
+        self.changes.push(Change::PutMeta(self.meta.clone()?))?;
+        self.changes.push(change)?;
+        Ok(())
+    }
+
     /// Spends the nonce of a serial.
     pub(crate) fn spend(&mut self, serial: u64) -> Result<(), AllocError>
         ensures changes { OnOk result (self.new.changes.items ≡ self.old.changes.items ++ PutMeta self.old.meta ∷ RemoveNonce serial ∷ []) }
         ensures meta { OnOk result (self.new.meta ≡ self.old.meta) }
+        ensures recorded { OnOk result ((m : ℕ) (B : Tables) (es : List Entry)
+            → IsRecorded m B es self.old.changes.items self.old.meta
+            → IsRecorded m B (es ++ spent serial ∷ []) self.new.changes.items self.new.meta) }
     {
-        self.changes.push(Change::PutMeta(self.meta.clone()?))?;
-        self.changes.push(Change::RemoveNonce(serial))?;
-        Ok(())
+        self.push(Change::RemoveNonce(serial))
     }
 
     /// Issues the next nonce with these random bytes.
@@ -46,15 +60,17 @@ impl Recording {
             ++ PutMeta (record self.old.meta { nonces = self.old.meta.nonces + 1 })
             ∷ PutNonce (record { serial = self.old.meta.nonces + 1; random = random; issued = self.old.meta.clock }) ∷ []) }
         ensures meta { OnOk result (self.new.meta ≡ record self.old.meta { nonces = self.old.meta.nonces + 1 }) }
+        ensures recorded { OnOk result ((m : ℕ) (B : Tables) (es : List Entry)
+            → IsRecorded m B es self.old.changes.items self.old.meta
+            → IsRecorded m B (es ++ issued random ∷ []) self.new.changes.items self.new.meta) }
     {
         self.meta.nonces += 1;
-        self.changes.push(Change::PutMeta(self.meta.clone()?))?;
-        self.changes.push(Change::PutNonce(Nonce {
+        let nonce = Nonce {
             serial: self.meta.nonces,
             random,
             issued: self.meta.clock,
-        }))?;
-        Ok(())
+        };
+        self.push(Change::PutNonce(nonce))
     }
 
     /// Opens the next account.
@@ -64,17 +80,19 @@ impl Recording {
             ++ PutMeta (record self.old.meta { accounts = self.old.meta.accounts + 1 })
             ∷ PutAccount (record { number = self.old.meta.accounts + 1; key = key; contacts = contacts; opened = self.old.meta.clock; ended = None; status = account.Valid }) ∷ []) }
         ensures meta { OnOk result (self.new.meta ≡ record self.old.meta { accounts = self.old.meta.accounts + 1 }) }
+        ensures recorded { OnOk result ((m : ℕ) (B : Tables) (es : List Entry)
+            → IsRecorded m B es self.old.changes.items self.old.meta
+            → IsRecorded m B (es ++ opened key contacts ∷ []) self.new.changes.items self.new.meta) }
     {
         self.meta.accounts += 1;
-        self.changes.push(Change::PutMeta(self.meta.clone()?))?;
-        self.changes.push(Change::PutAccount(AccountRow {
+        let row = AccountRow {
             number: self.meta.accounts,
             key,
             contacts,
             opened: self.meta.clock,
             ended: None,
             status: AccountStatus::Valid,
-        }))?;
-        Ok(())
+        };
+        self.push(Change::PutAccount(row))
     }
 }

@@ -9,24 +9,12 @@ use Rattle.desk_model.specs.Authorization.{is_pending, is_valid}
 use Rattle.desk_model.specs.Order.{is_ready, is_processing}
 use Rattle.desk_model.specs.Legal.{is_pending_challenge, is_processing_challenge, has_length, all_different, is_wanted, wanted_name, is_problem}
 use Rattle.desk_model.specs.Tables.{Tables, AccountRow, AuthorizationRow, ChallengeRow, OrderRow}
-use Rattle.desk_model.specs.Effect.{has_row}
+use Rattle.desk_model.specs.Questions.{account_on, order_on, authorization_on, owner_on, challenge_of}
 use Rattle.desk_model.specs.declared.status.ChallengeStatus.{ChallengeStatus}
-
-abbrev pub account_on : Tables → ℕ → Option AccountRow
-account_on T n = find (λ a. a.number == n) T.accounts
-
-abbrev pub order_on : Tables → ℕ → Option OrderRow
-order_on T n = find (λ o. o.number == n) T.orders
-
-abbrev pub authorization_on : Tables → ℕ → Option AuthorizationRow
-authorization_on T n = find (λ a. a.number == n) T.authorizations
-
-abbrev pub owner_on : Tables → ℕ → Option AuthorizationRow
-owner_on T n = find (has_row n) T.authorizations
 
 -- the challenge stands, passes, and its authorization is pending
 abbrev pub challenge_passes : (ChallengeStatus → Bool) → Tables → ℕ → Bool
-challenge_passes test T n = holds (λ a. is_pending a.status && holds (λ c. test c.status) (find (λ c. n == c.number) a.challenges)) (owner_on T n)
+challenge_passes test T n = holds (λ a. is_pending a.status && holds (λ c. test c.status) (challenge_of n a)) (owner_on T n)
 
 abbrev pub may_on : Tables → Entry → Bool
 may_on T (made terms) = false

@@ -12,7 +12,7 @@ use crate::text::Text;
 use std::alloc::AllocError;
 
 /// The one row of a desk's own: its policy, its clock, and the last number given of each kind.
-#[derive(Drop, Debug, Clone)]
+#[derive(Drop, Debug)]
 pub struct Meta {
     pub policy: Policy,
     /// The latest recorded moment, in seconds since 1970.
@@ -24,7 +24,23 @@ pub struct Meta {
     pub challenges: u64,
 }
 
-#[derive(Drop, Debug, Clone)]
+impl Clone for Meta {
+    ghost is_clone = { λ row copy. copy ≡ row };
+
+    fn clone(&self) -> Result<Meta, AllocError> {
+        Ok(Meta {
+            policy: self.policy.clone()?,
+            clock: self.clock,
+            nonces: self.nonces,
+            accounts: self.accounts,
+            orders: self.orders,
+            authorizations: self.authorizations,
+            challenges: self.challenges,
+        })
+    }
+}
+
+#[derive(Drop, Debug)]
 pub struct AccountRow {
     pub number: u64,
     pub key: Jwk,
@@ -34,7 +50,22 @@ pub struct AccountRow {
     pub status: AccountStatus,
 }
 
-#[derive(Drop, Debug, Clone)]
+impl Clone for AccountRow {
+    ghost is_clone = { λ row copy. copy ≡ row };
+
+    fn clone(&self) -> Result<AccountRow, AllocError> {
+        Ok(AccountRow {
+            number: self.number,
+            key: self.key.clone()?,
+            contacts: self.contacts.clone()?,
+            opened: self.opened,
+            ended: self.ended,
+            status: self.status,
+        })
+    }
+}
+
+#[derive(Drop, Debug)]
 pub struct ChallengeRow {
     pub number: u64,
     pub kind: Kind,
@@ -44,8 +75,23 @@ pub struct ChallengeRow {
     pub status: ChallengeStatus,
 }
 
+impl Clone for ChallengeRow {
+    ghost is_clone = { λ row copy. copy ≡ row };
+
+    fn clone(&self) -> Result<ChallengeRow, AllocError> {
+        Ok(ChallengeRow {
+            number: self.number,
+            kind: self.kind,
+            token: self.token,
+            answered: self.answered,
+            reported: self.reported,
+            status: self.status,
+        })
+    }
+}
+
 /// An authorization with its challenges.
-#[derive(Drop, Debug, Clone)]
+#[derive(Drop, Debug)]
 pub struct AuthorizationRow {
     pub number: u64,
     pub account: u64,
@@ -55,6 +101,23 @@ pub struct AuthorizationRow {
     pub ended: Option<AuthorizationEnd>,
     pub challenges: Sequence<ChallengeRow>,
     pub status: AuthzStatus,
+}
+
+impl Clone for AuthorizationRow {
+    ghost is_clone = { λ row copy. copy ≡ row };
+
+    fn clone(&self) -> Result<AuthorizationRow, AllocError> {
+        Ok(AuthorizationRow {
+            number: self.number,
+            account: self.account,
+            name: self.name.clone()?,
+            made: self.made,
+            expires: self.expires,
+            ended: self.ended,
+            challenges: self.challenges.clone()?,
+            status: self.status,
+        })
+    }
 }
 
 /// The place of an authorization in its order, from 1, and its number.

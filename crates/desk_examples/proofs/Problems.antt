@@ -1,0 +1,89 @@
+-- The document of each refusal (RFC 7807; RFC 8555, 6.7, 6.7.1).
+use Rattle.std.specs.Prelude.{refl}
+use Rattle.desk_examples.proofs.Computing.{computing}
+use Rattle.desk_examples.specs.Problems.{Malformed, NothingHere, WrongMethod, BadNonce, BadPublicKey, NoAccount, Unauthorized, UnsupportedContact, InvalidContact, UnsupportedIdentifier, RejectedIdentifier, OrderNotReady, BadCsr, UnfitReport, CouldNotAct, TooLarge, OneSubproblem}
+
+-- the request is not well formed
+pub malformed : Malformed
+unfolding computing
+malformed = refl
+
+-- there is nothing here
+pub nothing_here : NothingHere
+unfolding computing
+nothing_here = refl
+
+-- this method is not served here
+pub wrong_method : WrongMethod
+unfolding computing
+wrong_method = refl
+
+-- the nonce is not open
+pub bad_nonce : BadNonce
+unfolding computing
+bad_nonce = refl
+
+-- the key is not accepted
+pub bad_public_key : BadPublicKey
+unfolding computing
+bad_public_key = refl
+
+-- no account has this key
+pub no_account : NoAccount
+unfolding computing
+no_account = refl
+
+-- the account is not valid
+pub unauthorized : Unauthorized
+unfolding computing
+unauthorized = refl
+
+-- the contact scheme is not supported
+pub unsupported_contact : UnsupportedContact
+unfolding computing
+unsupported_contact = refl
+
+-- the contact is not accepted
+pub invalid_contact : InvalidContact
+unfolding computing
+invalid_contact = refl
+
+-- the identifier type is not supported
+pub unsupported_identifier : UnsupportedIdentifier
+unfolding computing
+unsupported_identifier = refl
+
+-- the name is not accepted
+pub rejected_identifier : RejectedIdentifier
+unfolding computing
+rejected_identifier = refl
+
+-- the order is not ready
+pub order_not_ready : OrderNotReady
+unfolding computing
+order_not_ready = refl
+
+-- the CSR is not accepted
+pub bad_csr : BadCsr
+unfolding computing
+bad_csr = refl
+
+-- the report does not fit the records
+pub unfit_report : UnfitReport
+unfolding computing
+unfit_report = refl
+
+-- the desk could not act
+pub could_not_act : CouldNotAct
+unfolding computing
+could_not_act = refl
+
+-- the request is too large
+pub too_large : TooLarge
+unfolding computing
+too_large = refl
+
+-- a subproblem has its identifier as received, and no status
+pub one_subproblem : OneSubproblem
+unfolding computing
+one_subproblem = refl

@@ -1,0 +1,20 @@
+//! Worked examples of the desk, computed on its definitions.
+#![tactic(auto)]
+
+mod histories;
+mod lives;
+mod requests;
+mod texts;
+
+pub use histories::{entries_follow, rows_are_kept};
+pub use lives::{
+    accounts_end, certificates_have_limits, fifty_names_are_ordered, first_order_holds,
+    identifiers_are_counted, offices_are_served, statuses_are_derived,
+};
+pub use requests::{
+    contacts_are_tested, moments_are_kept, nonces_and_accounts_hold, payloads_are_refused,
+    requests_are_refused,
+};
+pub use texts::{
+    documents_are_written, findings_are_matched, keys_hold, names_are_read, problems_are_said,
+};
