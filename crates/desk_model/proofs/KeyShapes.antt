@@ -1,6 +1,6 @@
 -- A text of one of the shapes is the canonical text of a key, and the other way round.
-use Rattle.std.proofs.Common.{◌≡◌, ℕ, List, [], ◌∷◌, ◌++◌, refl, sym, ◌∙◌, ap, inl, inr}
-use Rattle.std.specs.Prelude.{IsTrue, codes, ◌⊎◌}
+use Rattle.std.proofs.Common.{◌≡◌, ℕ, List, ◌∷◌, ◌++◌, refl, ◌∙◌, ap, inl, inr}
+use Rattle.std.specs.Prelude.{IsTrue, codes}
 use Rattle.desk_model.specs.Keys.{Key, is_number_text, ec, rsa, okp, IsKey, IsCurve, IsKeyText, canonical_text}
 use Rattle.desk_model.specs.KeyTexts.{HasEcShape, HasKeyShape, HasOneNumber, HasTwoNumbers, ec_head}
 

@@ -1,5 +1,5 @@
 -- The limits of terms, one by one.
-use Rattle.std.proofs.Common.{◌≡◌, ℕ, ◌≤◌, Bool, true, false, arith}
+use Rattle.std.proofs.Common.{◌≡◌, ℕ, ◌≤◌, true, arith}
 use Rattle.std.proofs.lemmas.Bool.Decides.{nat_tests}
 use Rattle.std.specs.Prelude.{IsTrue, ◌&&◌}
 use Rattle.desk_model.specs.Terms.{Terms, are_terms, is_base, is_life}

@@ -154,3 +154,45 @@ fn has_outer_hyphen(label: &[u8]) -> bool
 {
     label.first() == Some(&b'-') || label.last() == Some(&b'-')
 }
+
+#[cfg(test)]
+mod tests {
+    use super::{DnsName, is_well_formed};
+    use crate::text::Text;
+    use std::collections::BTreeMap;
+    use std::test::Fail;
+
+    #[test]
+    fn base_names(rt: HostRuntime) {
+        for (shows, name, accepted) in [
+            ("two labels", "a.example", true),
+            ("a hyphen inside", "a-b.example", true),
+            ("digits in front", "1.example", true),
+            ("one label", "localhost", false),
+            ("a capital", "A.example", false),
+            ("a last label of digits", "a.1", false),
+            ("an empty label", "a..b", false),
+            ("a hyphen in front", "-a.example", false),
+            ("a hyphen behind", "a-.example", false),
+            ("an asterisk", "*.example.org", false),
+            ("nothing", "", false),
+        ] {
+            assert_eq!(rt; is_well_formed(name), accepted, "{shows}");
+        }
+    }
+
+    #[test]
+    fn keys_of_maps(rt: HostRuntime) -> Result<(), Fail> {
+        let alloc = rt.alloc();
+        let base = Text::new(String::from_str(alloc, "a.example")?);
+        let name = DnsName::new(base.clone()?, false).ok_or("refused")?;
+        let wildcard = DnsName::new(base, true).ok_or("refused")?;
+        let mut numbers = BTreeMap::new(alloc);
+        numbers.insert(name.clone()?, 1)?;
+        assert_eq!(rt; numbers.get(&name).copied(), Some(1));
+        assert_eq!(rt; numbers.get(&wildcard).copied(), None);
+        assert!(rt; name < wildcard);
+        assert_eq!(rt; wildcard.shown(alloc)?.as_str(), "*.a.example");
+        Ok(())
+    }
+}

@@ -183,3 +183,115 @@ fn has_number_bytes(text: &str) -> bool
     text.bytes()
         .all(|b| b.is_ascii_alphanumeric() || b == b'-' || b == b'_')
 }
+
+#[cfg(test)]
+mod tests {
+    use super::{Jwk, is_number};
+    use std::collections::BTreeMap;
+    use std::test::Fail;
+
+    const KEY: &str = "{\"crv\":\"P-256\",\"kty\":\"EC\",\"x\":\"AQ\",\"y\":\"Ag\"}";
+
+    const OTHER: &str = "{\"e\":\"AQAB\",\"kty\":\"RSA\",\"n\":\"Ag\"}";
+
+    #[test]
+    fn canonical_texts(rt: HostRuntime) -> Result<(), Fail> {
+        let alloc = rt.alloc();
+        for (shows, text, accepted) in [
+            ("a key on the first curve", KEY, true),
+            (
+                "the second curve",
+                "{\"crv\":\"P-384\",\"kty\":\"EC\",\"x\":\"AQ\",\"y\":\"Ag\"}",
+                true,
+            ),
+            (
+                "the third curve",
+                "{\"crv\":\"P-521\",\"kty\":\"EC\",\"x\":\"AQ\",\"y\":\"Ag\"}",
+                true,
+            ),
+            ("an RSA key", OTHER, true),
+            (
+                "an Ed25519 key",
+                "{\"crv\":\"Ed25519\",\"kty\":\"OKP\",\"x\":\"-_9\"}",
+                true,
+            ),
+            (
+                "another order",
+                "{\"kty\":\"EC\",\"crv\":\"P-256\",\"x\":\"AQ\",\"y\":\"Ag\"}",
+                false,
+            ),
+            (
+                "white space",
+                "{\"crv\": \"Ed25519\",\"kty\":\"OKP\",\"x\":\"AQ\"}",
+                false,
+            ),
+            (
+                "white space behind it",
+                "{\"crv\":\"Ed25519\",\"kty\":\"OKP\",\"x\":\"AQ\"} ",
+                false,
+            ),
+            (
+                "a member more",
+                "{\"crv\":\"Ed25519\",\"kid\":\"a\",\"kty\":\"OKP\",\"x\":\"AQ\"}",
+                false,
+            ),
+            (
+                "a member more at the end",
+                "{\"crv\":\"Ed25519\",\"kty\":\"OKP\",\"x\":\"AQ\",\"y\":\"AQ\"}",
+                false,
+            ),
+            (
+                "an empty number",
+                "{\"crv\":\"Ed25519\",\"kty\":\"OKP\",\"x\":\"\"}",
+                false,
+            ),
+            (
+                "padding",
+                "{\"crv\":\"Ed25519\",\"kty\":\"OKP\",\"x\":\"AQ=\"}",
+                false,
+            ),
+            (
+                "an escape",
+                "{\"crv\":\"Ed25519\",\"kty\":\"OKP\",\"x\":\"\\u0041\"}",
+                false,
+            ),
+            (
+                "another curve",
+                "{\"crv\":\"P-255\",\"kty\":\"EC\",\"x\":\"AQ\",\"y\":\"Ag\"}",
+                false,
+            ),
+            ("half a key", "{\"e\":\"AQAB\",\"kty\":\"RSA\"}", false),
+            ("nothing", "", false),
+        ] {
+            let key = Jwk::from_canonical(String::from_str(alloc, text)?);
+            assert_eq!(rt; key.is_some(), accepted, "{shows}");
+        }
+        Ok(())
+    }
+
+    #[test]
+    fn numbers(rt: HostRuntime) {
+        for (text, accepted) in [
+            ("A", true),
+            ("zZ09-_", true),
+            ("", false),
+            ("A+", false),
+            ("A/", false),
+            ("A=", false),
+        ] {
+            assert_eq!(rt; is_number(text), accepted, "{text}");
+        }
+    }
+
+    #[test]
+    fn keys_of_maps(rt: HostRuntime) -> Result<(), Fail> {
+        let alloc = rt.alloc();
+        let mut numbers = BTreeMap::new(alloc);
+        let key = Jwk::from_canonical(String::from_str(alloc, KEY)?).ok_or("refused")?;
+        let other = Jwk::from_canonical(String::from_str(alloc, OTHER)?).ok_or("refused")?;
+        numbers.insert(key.clone()?, 1)?;
+        assert_eq!(rt; numbers.get(&key).copied(), Some(1));
+        assert_eq!(rt; numbers.get(&other).copied(), None);
+        Ok(())
+    }
+}

@@ -159,3 +159,78 @@ fn is_allowed_life(seconds: u64) -> bool
 {
     (1..=315360000).contains(&seconds)
 }
+
+#[cfg(test)]
+mod tests {
+    use super::Policy;
+    use std::test::Fail;
+
+    const YEARS: u64 = 315360000;
+
+    const BYTES_256: &str =
+        "http://aaaaaaaaaaaaaaaaaaaaaaaaaaaaaaaaaaaaaaaaaaaaaaaaaaaaaaaaaaaaaaaaaaaaaaaaaaaaaaaaaaaaaaaaaaaaaaaaaaaaaaaaaaaaaaaaaaaaaaaaaaaaaaaaaaaaaaaaaaaaaaaaaaaaaaaaaaaaaaaaaaaaaaaaaaaaaaaaaaaaaaaaaaaaaaaaaaaaaaaaaaaaaaaaaaaaaaaaaaaaaaaaaaaaaaaaaaaaaaaaaaaaaaaaa";
+
+    const BYTES_257: &str =
+        "http://aaaaaaaaaaaaaaaaaaaaaaaaaaaaaaaaaaaaaaaaaaaaaaaaaaaaaaaaaaaaaaaaaaaaaaaaaaaaaaaaaaaaaaaaaaaaaaaaaaaaaaaaaaaaaaaaaaaaaaaaaaaaaaaaaaaaaaaaaaaaaaaaaaaaaaaaaaaaaaaaaaaaaaaaaaaaaaaaaaaaaaaaaaaaaaaaaaaaaaaaaaaaaaaaaaaaaaaaaaaaaaaaaaaaaaaaaaaaaaaaaaaaaaaaaa";
+
+    #[test]
+    fn bases(rt: HostRuntime) -> Result<(), Fail> {
+        let alloc = rt.alloc();
+        for (shows, base, allowed) in [
+            ("a host", "https://ca.example", true),
+            ("a path", "http://ca.example:8080/acme", true),
+            ("8 bytes", "http://a", true),
+            ("256 bytes", BYTES_256, true),
+            ("257 bytes", BYTES_257, false),
+            ("7 bytes", "http://", false),
+            ("nothing", "", false),
+            ("another scheme", "ftp://ca.example", false),
+            ("a scheme in capitals", "HTTP://ca.example", false),
+            ("no scheme", "ca.example", false),
+            ("a slash at the end", "https://ca.example/", false),
+            ("a space", "https://ca .example", false),
+            ("a quotation mark", "https://ca\".example", false),
+            ("an angle bracket", "https://ca<example", false),
+            ("the other one", "https://ca>example", false),
+            ("a backslash", "https://ca\\example", false),
+            ("a delete character", "https://ca\u{7F}example", false),
+            ("a letter beyond ASCII", "https://\u{FC}.example", false),
+        ] {
+            let policy = Policy::new(alloc, base, 1, 1, 1)?;
+            assert_eq!(rt; policy.is_some(), allowed, "{shows}");
+        }
+        Ok(())
+    }
+
+    #[test]
+    fn lives(rt: HostRuntime) -> Result<(), Fail> {
+        let alloc = rt.alloc();
+        for (nonce, order, authz, allowed) in [
+            (1, 1, 1, true),
+            (YEARS, YEARS, YEARS, true),
+            (0, 1, 1, false),
+            (1, 0, 1, false),
+            (1, 1, 0, false),
+            (YEARS + 1, 1, 1, false),
+            (1, YEARS + 1, 1, false),
+            (1, 1, YEARS + 1, false),
+        ] {
+            let policy = Policy::new(alloc, "http://a", nonce, order, authz)?;
+            assert_eq!(rt; policy.is_some(), allowed, "{nonce} {order} {authz}");
+        }
+        Ok(())
+    }
+
+    #[test]
+    fn parts(rt: HostRuntime) -> Result<(), Fail> {
+        let policy = Policy::new(rt.alloc(), "https://ca.example", 60, 3600, 86400)?.ok_or(
+            "refused",
+        )?;
+        let copy = policy.clone()?;
+        assert_eq!(rt; copy.base(), "https://ca.example");
+        assert_eq!(rt; copy.nonce_life(), 60);
+        assert_eq!(rt; copy.order_life(), 3600);
+        assert_eq!(rt; copy.authz_life(), 86400);
+        Ok(())
+    }
+}

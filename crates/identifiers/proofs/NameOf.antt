@@ -11,6 +11,7 @@ use Rattle.desk_model.specs.BaseName.{is_base_name}
 use Rattle.desk_model.specs.Name.{Name}
 use Rattle.desk_model.specs.Names.{IsNameOf, mark_of, ascii_form, name_of, name_with}
 
+-- a mark and what stands behind it are read in one way
 same_rest : (v w : Bool) (r s : List ℕ) → mark_of v ++ r ≡ mark_of w ++ s → All (λ c. c ≢ 42) r → All (λ c. c ≢ 42) s → (r ≡ s) × (v ≡ w)
 same_rest true true r s e a b = (cc e, refl)
 same_rest true false r s e a b = absurd (All-head (λ c. c ≢ 42) 42 (46 ∷ r) (rw (← e) at b) refl)
@@ -72,6 +73,7 @@ record IsRead (starred : Bool) (ascii : Option (List ℕ)) (w : Bool) (name : Na
   well_formed : is_base_name name.base ≡ true
   mark : w ≡ name.wildcard
 
+-- a base that is well formed gives the name with it
 read_base : (b : List ℕ) (well : Bool) → is_base_name b ≡ well → (w : Bool) (name : Name) → (if well then Some (record { base = b; wildcard = w }) else None) ≡ Some name → IsRead false (Some b) w name
 read_base b false e w name h = absurd (cc h)
 read_base b true e w name h =
@@ -79,6 +81,7 @@ read_base b true e w name h =
     let mark : w ≡ name.wildcard = ap (λ (o : Option Name). (unwrap_or o name).wildcard) h in
     record { none = refl; base = ap (λ l. Some l) same; well_formed = rw (← same) e; mark = mark }
 
+-- a name is found only without an asterisk and with a form in ASCII
 read_cases : (starred : Bool) (ascii : Option (List ℕ)) (w : Bool) (name : Name) → checked starred ascii w ≡ Some name → IsRead starred ascii w name
 read_cases true ascii w name h = absurd (cc h)
 read_cases false None w name h = absurd (cc h)
@@ -101,6 +104,7 @@ reads : (text : List ℕ) (name : Name) (marked : Bool) → starts_with nat_eq t
 reads text name true m h = reads_behind true text (drop 2 text) name ((starts_is Decides-eqb text (codes "*.") (starts_with nat_eq text (codes "*.")) refl).0 m) h
 reads text name false m h = reads_behind false text text name refl h
 
+-- the text stands for the name that the function finds
 pub name_of-IsNameOf : (text : List ℕ) (name : Name) → name_of text ≡ Some name → IsNameOf text name.base name.wildcard
 unfolding name_of
 name_of-IsNameOf text name h = reads text name (starts_with nat_eq text (codes "*.")) refl h

@@ -40,8 +40,7 @@ pub fn read_name(alloc: Global, text: &str) -> Result<DnsName, NameFault>
 pub fn names_are_unique()
     ensures unique { StandsForOneName }
     ensures found { FindsTheName }
-{
-}
+{}
 
 // The text without the mark of a wildcard, and whether it had one.
 fn without_mark(text: &str) -> (&str, bool)

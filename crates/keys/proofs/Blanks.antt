@@ -7,22 +7,28 @@ use Rattle.std.specs.Prelude.{IsTrue, All, nat_lt, ◌&&◌}
 use Rattle.std.proofs.lemmas.List.Elements.{All-head, All-tail}
 use Rattle.desk_model.specs.Tokens.{is_blank, IsBodyMatch}
 
+-- a blank
 abbrev IsBlank : ℕ → Type 0
 IsBlank c = IsTrue (is_blank c)
 
+-- a text that does not end in a blank
 abbrev IsTrimmed : List ℕ → Type 0
 IsTrimmed e = (front : List ℕ) (c : ℕ) → e ≡ front ++ c ∷ [] → IsBlank c → ⊥
 
+-- blanks alone
 abbrev pub AllBlank : List ℕ → Type 0
 AllBlank xs = All (λ c. IsTrue (is_blank c)) xs
 
+-- the end of a text tells whether it ends in a blank
 trimmed_tail : (y : ℕ) (ys : List ℕ) → IsTrimmed (y ∷ ys) → IsTrimmed ys
 trimmed_tail y ys t front c e b = t (y ∷ front) c (ap (λ z. y ∷ z) e) b
 
+-- a text of blanks ends in one
 not_trimmed : (y : ℕ) (ys t : List ℕ) → AllBlank (y ∷ ys ++ t) → IsTrimmed (y ∷ ys) → ⊥
 not_trimmed y [] t all trim = trim [] y refl (All-head (λ c. IsTrue (is_blank c)) y t all)
 not_trimmed y (z ∷ zs) t all trim = not_trimmed z zs t (All-tail (λ c. IsTrue (is_blank c)) y (z ∷ zs ++ t) all) (trimmed_tail y (z ∷ zs) trim)
 
+-- a body is a trimmed text and blanks in one way
 one_match : (a b s t : List ℕ) → a ++ s ≡ b ++ t → AllBlank s → AllBlank t → IsTrimmed a → IsTrimmed b → a ≡ b
 one_match [] [] s t e bs bt ta tb = refl
 one_match [] (y ∷ ys) s t e bs bt ta tb = absurd (not_trimmed y ys t (rw e at bs) tb)
@@ -33,6 +39,7 @@ one_match (x ∷ xs) (y ∷ ys) s t e bs bt ta tb =
     let same = one_match xs ys s t rest bs bt (trimmed_tail x xs ta) (trimmed_tail y ys tb) in
     cc (here, same)
 
+-- a body matches one text
 pub body_match_unique : (body a b : List ℕ) → IsBodyMatch body a → IsBodyMatch body b → a ≡ b
 body_match_unique body a b m n = one_match a b m.blanks n.blanks (sym m.whole ∙ n.whole) m.all_blank n.all_blank m.trimmed n.trimmed
 

@@ -30,6 +30,7 @@ stops : (e backwards : List ℕ) → e ≡ reverse backwards → ((front : List 
 stops e [] whole trimmed = refl
 stops e (c ∷ cs) whole trimmed = no_blank c cs (trimmed (reverse cs) c (whole ∙ reverse-append (c ∷ []) cs))
 
+-- a blank alone is blanks
 one_blank : (b : ℕ) → IsTrue (is_blank b) → AllBlank (b ∷ [])
 one_blank b h zero d lt = h
 one_blank b h (suc k) d lt = absurd (omega arith)

@@ -12,6 +12,7 @@ kept s x true e h =
     subst (λ (l : List ℕ). IsTrue (is_number_text l)) same e
 kept s x false e h = let none : None ≡ Some x = rw e at h in absurd (cc none)
 
+-- the same, of a string that may be absent
 number_by : (o : Option (List ℕ)) (x : List ℕ) → option_and_then (λ s. if is_number_text s then Some s else None) o ≡ Some x → IsTrue (is_number_text x)
 number_by None x h = absurd (cc h)
 number_by (Some s) x h = kept s x (is_number_text s) refl h

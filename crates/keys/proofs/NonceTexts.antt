@@ -30,9 +30,11 @@ number_from-from_be_bytes (a ∷ b ∷ c ∷ d ∷ e ∷ f ∷ g ∷ k ∷ l ∷
 abbrev nonce_by : Option (List ℕ) → Option NonceText
 nonce_by o = option_and_then (λ bytes. if length bytes == 24 then Some (record { serial = number_from 0 (take 8 bytes); random = drop 8 bytes }) else None) o
 
+-- the nonce of the outcome of decoding
 abbrev nonce_of_outcome : Result (List ℕ) DecodeError → Option NonceText
 nonce_of_outcome r = nonce_by (elim r [ Ok bytes ↦ Some bytes | Err e ↦ None ])
 
+-- 24 bytes have a nonce
 of_24 : (bytes : List ℕ) → length bytes ≡ 24 → nonce_by (Some bytes) ≡ Some (record { serial = number_from 0 (take 8 bytes); random = drop 8 bytes })
 of_24 bytes len = rw len refl
 
@@ -54,6 +56,7 @@ long_enough : (bytes : List ℕ) (long : Bool) → (length bytes == 24) ≡ long
 long_enough bytes true e n h = eqb-true (length bytes) 24 e
 long_enough bytes false e n h = let no : None ≡ Some n = rw e at h in absurd (cc no)
 
+-- where there is a nonce, the text decodes to 24 bytes
 decodes : (s : List ℕ) (r : Result (List ℕ) DecodeError) → decode_of url_safe_no_pad s ≡ r → (n : NonceText) → nonce_of_outcome r ≡ Some n → (bytes : List ℕ) × (decode_of url_safe_no_pad s ≡ Ok bytes) × (length bytes ≡ 24)
 decodes s (Ok bytes) e n h = (bytes, e, long_enough bytes (length bytes == 24) refl n h)
 decodes s (Err x) e n h = absurd (cc h)

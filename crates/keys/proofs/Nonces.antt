@@ -17,16 +17,19 @@ use Rattle.base64.proofs.EngineFacts.{decode_of-encode_of, decode_of_strict}
 use Rattle.base64.proofs.RoundTrip.{length-encode_symbols}
 use Rattle.desk_model.specs.Tokens.{base64url, nonce_text}
 
+-- a decoding that succeeds fits
 fit : (b : Bool) (k n : ℕ) → ◌≡◌ {A = Result ℕ DecodeSliceError} (if b then Err OutputSliceTooSmall else Ok k) (Ok n) → k ≡ n
 fit true k n h = cc h
 fit false k n h = cc h
 
+-- a decoding into a slice that succeeds meets no error
 settled : (l m : Option DecodeError) (b : Bool) (k out n : ℕ) → or_error l (if b then Err OutputSliceTooSmall else or_error m (bytes_fit k out)) ≡ Ok n → (or_else l m ≡ None) × (k ≡ n)
 settled (Some e) m b k out n h = cc h
 settled None m true k out n h = cc h
 settled None (Some e) false k out n h = cc h
 settled None None false k out n h = (refl, fit (nat_lt out k) k n h)
 
+-- a decoding that fits succeeds into a slice
 unsettled : (l m : Option DecodeError) (t : Bool) (d b : List ℕ) (out : ℕ) → decode_outcome (or_else l m) d ≡ Ok b → t ≡ false → nat_lt out (length b) ≡ false → or_error l (if t then Err OutputSliceTooSmall else or_error m (bytes_fit (length d) out)) ≡ Ok (length b)
 unsettled (Some e) m t d b out h u v = cc h
 unsettled None (Some e) t d b out h u v = cc h
@@ -38,6 +41,7 @@ unsettled None None t d b out h u v =
 abbrev lone : GeneralPurpose → List ℕ → Option DecodeError
 lone e s = lone_error e.decode_table e.padding.value s
 
+-- the errors of the groups and of what follows them
 abbrev later : GeneralPurpose → List ℕ → Option DecodeError
 later e s =
     or_else (groups_error e.decode_table s (groups_before_last (length s)))
@@ -79,15 +83,18 @@ IsBytes-append [] ys h k i = k i
 IsBytes-append (x ∷ xs) ys h k zero = h 0
 IsBytes-append (x ∷ xs) ys h k (suc i) = IsBytes-append xs ys (λ j. h (suc j)) k i
 
+-- the first of bytes below 256
 IsBytes-drop : (n : ℕ) (xs : List ℕ) → IsBytes xs → IsBytes (take n xs)
 IsBytes-drop zero xs h i = omega arith
 IsBytes-drop (suc n) [] h i = omega arith
 IsBytes-drop (suc n) (x ∷ xs) h zero = h 0
 IsBytes-drop (suc n) (x ∷ xs) h (suc i) = IsBytes-drop n xs (λ j. h (suc j)) i
 
+-- a byte is below 256
 mod_byte : (n : ℕ) → n % 256 < 256
 mod_byte n = omega arith
 
+-- eight bytes
 eight : (a b c d e f g h : ℕ) → IsBytes (a % 256 ∷ b % 256 ∷ c % 256 ∷ d % 256 ∷ e % 256 ∷ f % 256 ∷ g % 256 ∷ h % 256 ∷ [])
 eight a b c d e f g h zero = mod_byte a
 eight a b c d e f g h (suc zero) = mod_byte b
@@ -99,6 +106,7 @@ eight a b c d e f g h (suc (suc (suc (suc (suc (suc zero)))))) = mod_byte g
 eight a b c d e f g h (suc (suc (suc (suc (suc (suc (suc zero))))))) = mod_byte h
 eight a b c d e f g h (suc (suc (suc (suc (suc (suc (suc (suc i)))))))) = omega arith
 
+-- a number is written in bytes
 pub IsBytes-to_be_bytes : (n : ℕ) → IsBytes (to_be_bytes w64 n)
 IsBytes-to_be_bytes n = eight (n / 72057594037927936) (n / 281474976710656) (n / 1099511627776) (n / 4294967296) (n / 16777216) (n / 65536) (n / 256) n
 

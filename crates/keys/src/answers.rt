@@ -21,11 +21,7 @@ pub fn thumbprint(key: &Jwk) -> [u8; 32]
 /// # Errors
 ///
 /// Where there is no memory for it.
-pub fn key_authorization(
-    alloc: Global,
-    token: &str,
-    thumb: &[u8; 32],
-) -> Result<String, AllocError>
+pub fn key_authorization(alloc: Global, token: &str, thumb: &[u8; 32]) -> Result<String, AllocError>
     ensures { IfOk result (λ t. string_bytes t ≡ authorization_of token.now thumb.now) }
 {
     let mut text = String::from_str(alloc, token)?;

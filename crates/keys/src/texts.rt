@@ -13,10 +13,10 @@ use std::alloc::{AllocError, Global};
 /// # Errors
 ///
 /// Where there is no memory for it.
-pub fn token_text(alloc: Global, bytes: [u8; 16]) -> Result<String, AllocError>
-    ensures { IfOk result (λ t. string_bytes t ≡ text_of_token bytes) }
+pub fn token_text(alloc: Global, token: [u8; 16]) -> Result<String, AllocError>
+    ensures { IfOk result (λ t. string_bytes t ≡ text_of_token token) }
 {
-    url_safe(alloc, &bytes)
+    url_safe(alloc, &token)
 }
 
 /// The text of a nonce: its serial, high byte first, and its random bytes.

@@ -12,10 +12,12 @@ use Rattle.jiff_core.proofs.DateLemmas.{civil}
 use Rattle.jiff_core.proofs.DateTimeLemmas.{civil_nanos-parts, civil_nanos-civil_seconds, time_nanos_bound}
 use Rattle.desk_model.specs.Moment.{IsCivil}
 
+-- 1970-01-01 is day 0
 epoch : days_from_civil (pos 1970) 1 1 ≡ pos 0
 unfolding days_from_civil
 epoch = omega (arith, signed_arith)
 
+-- a moment lies on day 0 or later
 day_low : (d : DateTime) (t : ℕ) → civil_nanos d ≡ pos t *ℤ pos 1_000_000_000 → pos 0 ≤ℤ epoch_day d.date
 day_low d t e = omega (arith, signed_arith, civil_nanos-parts d, time_nanos_bound d.time)
 
@@ -26,15 +28,18 @@ year_low d t e =
     (λ lt. absurd (omega (arith, signed_arith, epoch, day_low d t e, days_from_civil-day_count d.date.year d.date.month d.date.day, days_from_civil-day_count (pos 1970) 1 1, day_count-lt_year d.date.year d.date.month d.date.day (pos 1970) 1 1 (civil d.date) (omega arith) lt)))
     (λ ge. ge)
 
+-- the seconds of a moment
 seconds_of : (d : DateTime) (t : ℕ) → civil_nanos d ≡ pos t *ℤ pos 1_000_000_000 → civil_seconds d ≡ pos t
 seconds_of d t e =
     let fraction = d.time.subsec_in in
     omega (arith, signed_arith, civil_nanos-civil_seconds d)
 
+-- the seconds of a datetime are its days and its time
 parts_of : (d : DateTime) → civil_seconds d ≡ epoch_day d.date *ℤ pos 86_400 +ℤ pos (time_seconds d.time)
 unfolding civil_seconds
 parts_of d = refl
 
+-- a datetime's fields are those of its moment
 pub civil_from : (d : DateTime) (t y : ℕ) → civil_nanos d ≡ pos t *ℤ pos 1_000_000_000 → pos y ≡ d.date.year → IsCivil t y d.date.month d.date.day d.time.hour d.time.minute d.time.second
 civil_from d t y e year = record {
   date = subst (λ (z : ℤ). IsCivilDate z d.date.month d.date.day) (sym year) (civil d.date);

@@ -21,6 +21,7 @@ pub record IsDateOf (count year month day : ℕ) : Type 0 where
 march_days-shift : (y : ℕ) → march_days (y + 10000) ≡ march_days y + 3652425
 march_days-shift y = omega arith
 
+-- a date from March on
 late_date : (y m d : ℕ) → 3 ≤ m → m ≤ 12 → 1 ≤ d → IsMarchDate (march_days y + (march_months m + d - 1)) y (m - 3) (march_months m + d - 1) → IsDateOf (march_days y + (march_months m + d - 1)) y m d
 late_date y m d low high first h =
     let year = h.year_is in
@@ -28,6 +29,7 @@ late_date y m d low high first h =
     let place = h.day_is in
     record { year_is = grind (arith, nat_tests); month_is = grind (arith, nat_tests); day_is = rw (month, place) (omega arith) }
 
+-- a date in January or February
 early_date : (y m d : ℕ) → 1 ≤ m → m ≤ 2 → 1 ≤ d → IsMarchDate (march_days y + (march_months (m + 12) + d - 1)) y (m + 12 - 3) (march_months (m + 12) + d - 1) → IsDateOf (march_days y + (march_months (m + 12) + d - 1)) (suc y) m d
 early_date y m d low high first h =
     let year = h.year_is in
@@ -41,6 +43,7 @@ late_count y m d civil low =
     let month = late_month (pos y) (pos (suc y)) m d low civil.1.1 civil.2.0 civil.2.1 in
     (omega (arith, day_count-late (pos y) (y + 10000) m d refl low civil.1.1 civil.2.0, march_days-shift y), late_date y m d low civil.1.1 civil.2.0 (march_date y (m - 3) (march_months m + d - 1) (omega (arith, month.bound, march_days-suc y)) month.month_is))
 
+-- January and February, by the same count
 early_count : (y m d : ℕ) → IsCivilDate (pos (suc y)) m d → m ≤ 2 → (day_count (pos (suc y)) m d ≡ march_days y + (march_months (m + 12) + d - 1) + 3652485) × IsDateOf (march_days y + (march_months (m + 12) + d - 1)) (suc y) m d
 early_count y m d civil high =
     let month = early_month (pos (suc y)) m d civil.1.0 high civil.2.0 civil.2.1 in
@@ -72,12 +75,14 @@ fields_by t y m d h mi s count date hh hm hs whole =
 whole_days : (t y m d h mi s : ℕ) → IsCivil t y m d h mi s → t + 4371953 * 86400 ≡ day_count (pos y) m d * 86400 + (h * 3600 + mi * 60 + s)
 whole_days t y m d h mi s c = omega (arith, signed_arith, c.total, days_from_civil-day_count (pos y) m d)
 
+-- the fields of a moment from March on
 fields_late : (t y m d h mi s : ℕ) → IsCivil t y m d h mi s → 3 ≤ m → AreFieldsOf t y m d h mi s
 fields_late t y m d h mi s c low =
     let whole = whole_days t y m d h mi s c in
     let count = late_count y m d c.date low in
     fields_by t y m d h mi s (march_days y + (march_months m + d - 1)) count.1 c.hour_in c.minute_in c.second_in (omega (arith, whole, count.0))
 
+-- the fields of a moment in January or February
 fields_early : (t y m d h mi s : ℕ) → IsCivil t y m d h mi s → m ≤ 2 → AreFieldsOf t y m d h mi s
 fields_early t zero m d h mi s c high =
     let bound : d ≤ 31 = omega (arith, c.date.2.1, (days_in_month_bounds (pos 0) m).0) in

@@ -21,6 +21,7 @@ year_in_era c p u n hc hp hu hn = omega arith
 leap_in_era : (c p : ℕ) → c < 4 → p < 24 → year_of_era (36524 * c + 1461 * p + 1460) ≡ 100 * c + 4 * p + 3
 leap_in_era c p hc hp = omega arith
 
+-- the last day of an era
 last_in_era : year_of_era 146096 ≡ 399
 last_in_era = refl
 
@@ -30,16 +31,19 @@ pub record IsDayOf (year n day : ℕ) : Type 0 where
   pub day_is : day_of_year day ≡ n
   pub in_era : day < 146097
 
+-- a day that is not the 366th of its year
 short_day : (c p u n : ℕ) → c < 4 → p < 25 → u < 4 → n < 365 → IsDayOf (100 * c + 4 * p + u) n (36524 * c + 1461 * p + 365 * u + n)
 short_day c p u n hc hp hu hn =
     let y = year_in_era c p u n hc hp hu hn in
     record { year_is = y; day_is = rw y (omega arith); in_era = omega arith }
 
+-- a leap day but the last one of an era
 leap_day_of : (c p : ℕ) → c < 4 → p < 24 → IsDayOf (100 * c + 4 * p + 3) 365 (36524 * c + 1461 * p + 1460)
 leap_day_of c p hc hp =
     let y = leap_in_era c p hc hp in
     record { year_is = y; day_is = rw y (omega arith); in_era = omega arith }
 
+-- the leap day that ends an era
 last_day : IsDayOf 399 365 146096
 last_day = record { year_is = refl; day_is = refl; in_era = omega arith }
 
@@ -51,6 +55,7 @@ day_as {y} {z} {m} {n} {d} {e} py pm pd h = subst (λ (a : ℕ). IsDayOf a n e) 
 last_place : (q c p u n : ℕ) → c < 4 → p < 25 → u < 4 → march_days (400 * q + 100 * c + 4 * p + u) + n < march_days (suc (400 * q + 100 * c + 4 * p + u)) → 365 ≤ n → (n ≡ 365) × (u ≡ 3) × (24 ≤ p → (p ≡ 24) × (c ≡ 3))
 last_place q c p u n hc hp hu room long = (omega arith, omega arith, λ late. (omega arith, omega arith))
 
+-- the 366th day of a year
 leap_place : (c p u n : ℕ) → c < 4 → n ≡ 365 → u ≡ 3 → (24 ≤ p → (p ≡ 24) × (c ≡ 3)) → IsDayOf (100 * c + 4 * p + u) n (36524 * c + 1461 * p + 365 * u + n)
 leap_place c p u n hc long third last =
     ⊎_elim
@@ -72,6 +77,7 @@ pub record IsMarchDate (day year month n : ℕ) : Type 0 where
   pub month_is : month_from_march (day % 146097) ≡ month
   pub day_is : day_of_year (day % 146097) ≡ n
 
+-- the same, by centuries, fours and years
 date_in_parts : (q c p u n month : ℕ) → c < 4 → p < 25 → u < 4 → march_days (400 * q + 100 * c + 4 * p + u) + n < march_days (suc (400 * q + 100 * c + 4 * p + u)) → (5 * n + 2) / 153 ≡ month → IsMarchDate (march_days (400 * q + 100 * c + 4 * p + u) + n) (400 * q + 100 * c + 4 * p + u) month n
 date_in_parts q c p u n month hc hp hu room is =
     let day = 36524 * c + 1461 * p + 365 * u + n in

@@ -19,6 +19,7 @@ moment_text-IsMomentText t text (y, m, d, h, mi, s, c, whole) = whole ∙ text_o
 two_digits_tell : (a b : ℕ) → a < 100 → b < 100 → 48 + a / 10 % 10 ≡ 48 + b / 10 % 10 → 48 + a % 10 ≡ 48 + b % 10 → a ≡ b
 two_digits_tell a b low lower tens ones = omega arith
 
+-- four digits too
 four_digits_tell : (a b : ℕ) → a < 10000 → b < 10000 → 48 + a / 1000 % 10 ≡ 48 + b / 1000 % 10 → 48 + a / 100 % 10 ≡ 48 + b / 100 % 10 → 48 + a / 10 % 10 ≡ 48 + b / 10 % 10 → 48 + a % 10 ≡ 48 + b % 10 → a ≡ b
 four_digits_tell a b low lower i j k l = omega arith
 

@@ -40,8 +40,7 @@ pub fn moment_text(alloc: Global, moment: u64) -> Result<String, AllocError>
 pub fn moments_have_texts()
     ensures gives { GivesTheText }
     ensures apart { TellsMomentsApart }
-{
-}
+{}
 
 // The civil fields of a moment.
 fn fields_of(moment: u64) -> Fields

@@ -10,9 +10,10 @@ pub returns-clause-matching : goal.returns-clause-matching
 returns-clause-matching c =
     let left = c.without_blanks.result.now in
     let same = rw c.as_bytes.ensures.value at c.is_same.ensures in
-    let decides = bytes_eq-Decides left c.args.expected.now in
-    (λ yes. subst (λ (e : List ℕ). IsBodyMatch c.args.body.now e) (decides.0 (sym same ∙ yes)) c.without_blanks.ensures,
-    λ m. same ∙ decides.1 (body_match_unique c.args.body.now _ _ c.without_blanks.ensures m))
+    let decides = bytes_eq-Decides left c.args.expected.now in (
+      λ yes. subst (λ (e : List ℕ). IsBodyMatch c.args.body.now e) (decides.0 (sym same ∙ yes)) c.without_blanks.ensures,
+      λ m. same ∙ decides.1 (body_match_unique c.args.body.now _ _ c.without_blanks.ensures m),
+    )
 
 pub returns-clause-value : goal.returns-clause-value
 unfolding body_matches
