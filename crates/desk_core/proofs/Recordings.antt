@@ -1,5 +1,5 @@
 -- What is recorded, entry by entry.
-use Rattle.std.proofs.Common.{◌≡◌, ℕ, ◌+◌, List, [], ◌∷◌, ◌++◌, take, Option, Some, None, refl, sym, ap, ◌∙◌, append-nil, append_assoc}
+use Rattle.std.proofs.Common.{◌≡◌, ℕ, ◌+◌, List, [], ◌∷◌, ◌++◌, take, Option, Some, None, refl, sym, ap, ◌∙◌, append-nil, append_assoc, Result, Ok, Err, OnOk}
 use Rattle.desk_model.specs.Tables.{Tables}
 use Rattle.desk_model.specs.Effect.{effect, effects, swept}
 use Rattle.desk_model.specs.Change.{changes, all_changes, sweep_changes}
@@ -91,3 +91,8 @@ and_opened m B es key contacts done meta h =
 -- the same recording, by equal changes and an equal row
 pub recorded_as : (m : ℕ) (B : Tables) (es : List Entry) (done other : List Change) (meta row : Meta) → other ≡ done → row ≡ meta → IsRecorded m B es done meta → IsRecorded m B es other row
 recorded_as m B es done other meta row c r h = record { changes = c ∙ h.changes; row = r ∙ h.row }
+
+-- what two clauses give on the way that went well
+pub both_ok : {T E : Type 0} {P Q S : Type 0} (r : Result T E) → OnOk r P → OnOk r Q → (P → Q → S) → OnOk r S
+both_ok (Ok x) p q k = k p q
+both_ok (Err e) p q k = tt
