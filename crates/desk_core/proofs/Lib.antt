@@ -1,3 +1,4 @@
+pub mod AfterChanges
 pub mod EachIn
 pub mod Looking
 pub mod NoFloats

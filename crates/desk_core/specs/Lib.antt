@@ -1,4 +1,6 @@
+pub mod After
 pub mod Lists
 pub mod Recorded
 pub mod Room
 pub mod RowDecision
+pub mod Served

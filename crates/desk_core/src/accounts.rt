@@ -1,6 +1,8 @@
 //! The rules on accounts (RFC 8555, 7.3).
 ghost use Rattle.std.specs.Prelude.{◌≡◌, IfOk, MatchResult};
 ghost use Rattle.desk_core.specs.Room.{HasRoom, IsVerdictFault};
+ghost use Rattle.desk_model.specs.declared.rows.Meta.{Meta as MetaRow};
+ghost use Rattle.desk_core.specs.Served.{IsServedVerdict};
 ghost use Rattle.desk_model.specs.Payload.{new_account};
 ghost use Rattle.desk_model.specs.Questions.{account_with_key};
 ghost use Rattle.desk_model.specs.Rules.{open_account, known_account_verdict, new_account_verdict};
@@ -32,7 +34,7 @@ pub(crate) fn new_account_verdict(
     payload: &str,
 ) -> Result<Verdict, CoreFault>
     ensures { let wanted = new_account_verdict book.now key.now (account_with_key book.now key.now) (new_account payload.now) in
-        MatchResult result (λ v. (v ≡ wanted) × HasRoom book.now v) (λ e. IsVerdictFault book.now wanted e) }
+        MatchResult result (λ v. (v ≡ wanted) × HasRoom book.now.meta v × IsServedVerdict v) (λ e. IsVerdictFault book.now.meta wanted e) }
 {
     match book.account_with_key(key.canonical()) {
         Some(row) => Ok(known_account_verdict(alloc, row, payload)?),
@@ -50,7 +52,7 @@ fn known_account_verdict(
     row: &AccountRow,
     payload: &str,
 ) -> Result<Verdict, AllocError>
-    ensures { IfOk result (λ v. v ≡ known_account_verdict row.now (new_account payload.now)) }
+    ensures { IfOk result (λ v. (v ≡ known_account_verdict row.now (new_account payload.now)) × IsServedVerdict v × ((meta : MetaRow) → HasRoom meta v)) }
 {
     if row.status != AccountStatus::Valid {
         return Ok(refused(alloc, UNAUTHORIZED));
@@ -73,8 +75,8 @@ fn open_account(
     asked: NewAccount,
 ) -> Result<Verdict, CoreFault>
     ensures { MatchResult result
-        (λ v. (v ≡ open_account book.now key.now asked) × HasRoom book.now v)
-        (λ e. IsVerdictFault book.now (open_account book.now key.now asked) e) }
+        (λ v. (v ≡ open_account book.now key.now asked) × HasRoom book.now.meta v × IsServedVerdict v)
+        (λ e. IsVerdictFault book.now.meta (open_account book.now key.now asked) e) }
 {
     if asked.only_existing {
         return Ok(refused(alloc, NO_ACCOUNT));

@@ -2,6 +2,8 @@
 #![tactic(auto)]
 
 mod accounts;
+mod acts;
+mod after;
 mod contacts;
 mod decide;
 mod documents;

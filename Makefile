@@ -1,0 +1,29 @@
+# The commands of the repository; README.md says what they need.
+SHELL := /bin/bash
+SOURCES := crates.txt $(shell find crates -name out -prune -o -type f -print)
+
+.PHONY: all first test
+
+all: bin/desk
+
+bin/desk: $(SOURCES)
+	@command -v rt >/dev/null || { echo 'desk: rt is not on PATH; the kit has it at /usr/local/bin/rt' >&2; exit 1; }
+	@echo 'Proving and building the program desk, with the crates below it (minutes at the first time).'
+	cd crates/desk_app && rt run -- batch </dev/null
+	@mkdir -p bin
+	@cp crates/desk_app/out/desk_app $@
+	@touch $@
+	@echo 'The program is bin/desk.'
+
+first: bin/desk
+	@echo 'Answering examples/first.jsonl over a new desk in memory:'
+	@bin/desk batch < examples/first.jsonl
+
+test:
+	@command -v rt >/dev/null || { echo 'desk: rt is not on PATH; the kit has it at /usr/local/bin/rt' >&2; exit 1; }
+	@echo 'Running the merge gate: every proof from nothing, the edits that must fail, every test.'
+	rt ci
+	@$(MAKE) --no-print-directory bin/desk
+	@echo 'Comparing the replies to examples/first.jsonl with examples/first.expected.'
+	@set -o pipefail; bin/desk batch < examples/first.jsonl | diff examples/first.expected -
+	@echo 'The replies are the expected ones.'
