@@ -2,5 +2,4 @@ pub mod After
 pub mod Lists
 pub mod Recorded
 pub mod Room
-pub mod RowDecision
 pub mod Served

@@ -7,7 +7,7 @@ ghost use Rattle.desk_laws.specs.Ordered.{IsOrdered};
 ghost use Rattle.desk_model.specs.Shown.{with_nonce, fresh_nonce};
 ghost use Rattle.desk_model.specs.declared.entry.Entry.TheVariants.{Issued as issued_entry};
 ghost use Rattle.desk_core.specs.Room.{IsIssueFault};
-ghost use Rattle.desk_core.specs.RowDecision.{nonce_on, unspent_on, passed_on, verdict_on, recorded_changes};
+ghost use Rattle.desk_core.specs.Recorded.{recorded_changes};
 
 use crate::fault::CoreFault;
 use crate::limits::{first_random, has_room};
@@ -33,7 +33,7 @@ fn issued(
     reply: Reply,
 ) -> Result<Outcome, CoreFault>
     ensures changes { IfOk result (λ o. o.changes.items ≡ recorded_changes moment book.now (issued_entry (take 16 random.now) ∷ [])) }
-    ensures reply { IfOk result (λ o. o.reply ≡ with_nonce (fresh_nonce (swept moment book.now) random.now) reply) }
+    ensures reply { IfOk result (λ o. o.reply ≡ with_nonce (fresh_nonce book.now random.now) reply) }
     ensures room { IfOk result (λ _. (book.now.meta.nonces < 2 ^ 62) × (16 ≤ length random.now)) }
     ensures fault { IfErr result (λ e. IsIssueFault book.now random.now e) }
 {
