@@ -1,6 +1,10 @@
 pub mod AfterChanges
+pub mod Deciding
+pub mod DecidingAsks
 pub mod EachIn
+pub mod Faults
 pub mod Looking
 pub mod NoFloats
 pub mod QuietEntries
 pub mod Recordings
+pub mod Served

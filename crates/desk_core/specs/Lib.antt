@@ -1,5 +1,7 @@
 pub mod After
+pub mod Decided
 pub mod Lists
+pub mod Outcomes
 pub mod Recorded
 pub mod Room
 pub mod Served

@@ -14,6 +14,7 @@ mod payload;
 mod recording;
 mod refusal;
 mod replies;
+mod signed;
 mod sweep;
 mod verdicts;
 
