@@ -38,10 +38,10 @@ use Rattle.desk_model.specs.Authorization.{authorizations, count_challenges}
 use Rattle.desk_model.specs.declared.verdict.Verdict.TheVariants.{Refused as refused, Accepted as accepted}
 use Rattle.std.proofs.lemmas.Bool.Decides.{nat_tests}
 
-not_less : (a b : ℕ) → b ≤ a → nat_lt a b ≡ false
+pub not_less : (a b : ℕ) → b ≤ a → nat_lt a b ≡ false
 not_less a b h = grind (arith, nat_tests)
 
-less : (a b : ℕ) → a < b → nat_lt a b ≡ true
+pub less : (a b : ℕ) → a < b → nat_lt a b ≡ true
 less a b h = grind (arith, nat_tests)
 
 -- no fault, from its three tests
@@ -85,13 +85,13 @@ fits_opened F m key contacts h lt =
     }
 
 -- the accounts after the entries of a nonce
-accounts_stay : (F : History) (m n : ℕ) (r : List ℕ) → length (accounts (record_all m (spent n ∷ issued r ∷ []) F)) ≡ length (accounts F)
+pub accounts_stay : (F : History) (m n : ℕ) (r : List ℕ) → length (accounts (record_all m (spent n ∷ issued r ∷ []) F)) ≡ length (accounts F)
 accounts_stay F m n r = omega (arith, length-append (accounts F ++ []) [], length-append (accounts F) [])
 
 nonces_stay : (F : History) (m n : ℕ) → length (nonces (record { date = m; entry = spent n } ∷ F)) ≡ length (nonces F)
 nonces_stay F m n = omega (arith, length-append (nonces F) [])
 
-fitting : (F : History) → CountersFit (picture F).meta → IsTrue (numbers_fit F)
+pub fitting : (F : History) → CountersFit (picture F).meta → IsTrue (numbers_fit F)
 fitting F h = numbers_fit_counters F (clock F) h
 
 -- the numbers after a request whose nonce was open

@@ -1,5 +1,5 @@
 -- What is promised of each ask that is served.
-use Rattle.std.proofs.Common.{◌≡◌, ℕ, ◌+◌, ◌*◌, ◌<◌, ◌≤◌, ◌^◌, max, Bool, true, false, not, List, [], ◌∷◌, ◌++◌, length, take, drop, Option, Some, None, refl, sym, ap, subst, ◌∙◌, arith, add-zero}
+use Rattle.std.proofs.Common.{◌≡◌, ℕ, ◌+◌, ◌*◌, ◌<◌, ◌≤◌, ◌^◌, max, Bool, true, false, not, List, [], ◌∷◌, ◌++◌, length, map, take, drop, unwrap_or, Option, Some, None, refl, sym, ap, subst, ◌∙◌, arith, Result, Ok, Err, IfOk, IfErr, MatchResult}
 use Rattle.std.specs.Prelude.{IsTrue}
 use Rattle.desk_model.specs.Entry.{History}
 use Rattle.desk_model.specs.History.{clock, moment_of, record_all, terms}
@@ -23,19 +23,24 @@ use Rattle.desk_model.specs.declared.rows.Meta.{Meta}
 use Rattle.desk_model.specs.declared.entry.Entry.{Entry}
 use Rattle.desk_model.specs.declared.entry.Entry.TheVariants.{Issued as issued, Spent as spent, Opened as opened}
 use Rattle.desk_model.specs.declared.verdict.Verdict.TheVariants.{Refused as refused, Accepted as accepted}
-use Rattle.desk_laws.proofs.Step.{sweep, steps, follows_before, clock_after}
-use Rattle.desk_laws.proofs.Plain.{spent_effect, issued_effect}
+use Rattle.desk_laws.proofs.Step.{sweep, clock_after}
+use Rattle.desk_laws.proofs.Basics.{none_earlier}
+use Rattle.desk_laws.proofs.Recorded.{tables_ordered}
+use Rattle.desk_laws.specs.Ordered.{IsOrdered}
+use Rattle.desk_model.specs.History.{earlier, latest}
+use Rattle.desk_model.specs.Account.{accounts, account_end, changing, ends as account_ends, status_of}
+use Rattle.desk_model.specs.Tables.{account_row}
+use Rattle.desk_model.specs.declared.objects.Account.{Account}
 use Rattle.desk_laws.proofs.Keeps.{counters_fit, numbers_fit_counters}
 use Rattle.desk_laws.specs.LegalLaws.{CountersFit}
 use Rattle.desk_lives.proofs.SoundCalls.{moment_later, call_follows}
 use Rattle.desk_core.specs.Outcomes.{Issues, Passes, MeetsSigned, MeetsAsk}
 use Rattle.desk_core.specs.Decided.{IsDecision}
 use Rattle.desk_core.specs.Served.{IsServed, IsServedTarget, IsServedVerdict}
-use Rattle.desk_core.proofs.QuietEntries.{spent_meta, issued_meta}
 use Rattle.desk_core.proofs.Served.{verdict_served, verdict_same, no_pieces}
-use Rattle.desk_core.proofs.Deciding.{decides, fits_issued, fits_passed}
+use Rattle.desk_core.proofs.Deciding.{decides, fits_issued, fits_passed, accounts_stay}
 
-counters : (F : History) → Legal F → CountersFit (picture F).meta
+pub counters : (F : History) → Legal F → CountersFit (picture F).meta
 counters F legal = counters_fit F legal.numbered (clock F)
 
 -- a nonce is issued and nothing else
@@ -50,19 +55,36 @@ issues F call answer changes reply legal formed at entries said h =
     h.recorded
     (λ follows makes. h.replies ∙ sym said)
 
+-- the row of an account after an entry that concerns none
+quiet_row : (F : History) (m : ℕ) (e : Entry) (a : Account) → changing a.number e ≡ None → account_ends a.number e m ≡ None →
+    account_row (record { date = m; entry = e } ∷ F) a ≡ account_row F a
+quiet_row F m e a unchanged lasting =
+    λ i. record (account_row F a) {
+      contacts = unwrap_or ((ap (λ o. earlier o (latest (λ d. changing a.number d.entry) F)) unchanged ∙ none_earlier (latest (λ d. changing a.number d.entry) F)) i) a.contacts;
+      ended = earlier (account_end a F) (lasting i);
+      status = status_of (earlier (account_end a F) (lasting i));
+    }
+
+quiet_rows : (F : History) (m : ℕ) (e : Entry) (xs : List Account) → ((a : Account) → account_row (record { date = m; entry = e } ∷ F) a ≡ account_row F a) →
+    map (account_row (record { date = m; entry = e } ∷ F)) (xs ++ []) ≡ map (account_row F) xs
+quiet_rows F m e [] same = refl
+quiet_rows F m e (a ∷ xs) same = λ i. same a i ∷ quiet_rows F m e xs same i
+
+-- the accounts after the entries of a nonce
+same_accounts : (F : History) (m serial : ℕ) (r : List ℕ) → (tables_after m (spent serial ∷ issued r ∷ []) F).accounts ≡ (picture F).accounts
+same_accounts F m serial r =
+    quiet_rows (record { date = m; entry = spent serial } ∷ F) m (issued r) (accounts F ++ []) (λ a. quiet_row (record { date = m; entry = spent serial } ∷ F) m (issued r) a refl refl)
+    ∙ quiet_rows F m (spent serial) (accounts F) (λ a. quiet_row F m (spent serial) a refl refl)
+
+same_last : (F : History) (m serial : ℕ) (r : List ℕ) → (tables_after m (spent serial ∷ issued r ∷ []) F).meta.accounts ≡ (picture F).meta.accounts
+same_last F m serial r = accounts_stay F m serial r
+
 -- the verdict on the tables after a nonce was spent and one issued is that on the picture
-same_verdict : (F : History) (m serial : ℕ) (random : List ℕ) (s : Signed) → IsServedTarget s.target → EachFollows (record_all m (nonce_entries serial random) F) →
+pub same_verdict : (F : History) (m serial : ℕ) (random : List ℕ) (s : Signed) → IsServedTarget s.target →
     signed_verdict (tables_after m (nonce_entries serial random) F) (drop 16 random) s ≡ signed_verdict (picture F) (drop 16 random) s
-same_verdict F m serial random s served follows =
-    let T : Tables = tables_at F m in
-    let U : Tables = effect m (tables_at F m) (spent serial) in
-    let grown : tables_after m (nonce_entries serial random) F ≡ effect m (effect m (tables_at F m) (spent serial)) (issued (take 16 random)) =
-        steps F (nonce_entries serial random) m follows in
+same_verdict F m serial random s served =
     verdict_same (tables_after m (nonce_entries serial random) F) (picture F) (drop 16 random) s served
-    (ap (λ (t : Tables). t.accounts) (grown ∙ issued_effect m U (take 16 random)) ∙ ap (λ (t : Tables). t.accounts) (spent_effect m T serial))
-    (ap (λ (t : Tables). t.meta.accounts) grown
-    ∙ ap (λ (r : Meta). r.accounts) (issued_meta m U (take 16 random))
-    ∙ ap (λ (r : Meta). r.accounts) (spent_meta m T serial))
+    (same_accounts F m serial (take 16 random)) (same_last F m serial (take 16 random))
 
 -- the terms stay what they were
 same_terms : (F : History) (m serial : ℕ) (r : List ℕ) (v : Verdict) → IsServedVerdict v → terms (record_all m (spent serial ∷ issued r ∷ entries_of v) F) ≡ terms F
@@ -100,13 +122,8 @@ passes F call s serial changes reply legal formed at served is h =
         (subst (λ n. 16 * (0 + (1 + n)) ≤ length call.random)
         (sym (no_pieces _ (verdict_served (tables_after (moment_of call.at F) (nonce_entries serial call.random) F) (drop 16 call.random) s served)))
         (let enough : 16 ≤ length call.random = h.bytes in omega arith))
-    before : EachFollows (record_all (moment_of call.at F) (nonce_entries serial call.random) F)
-    before =
-        follows_before (moment_of call.at F) (entries_of (judged F (moment_of call.at F) serial call.random s))
-        (record_all (moment_of call.at F) (nonce_entries serial call.random) F)
-        (subst (λ l. EachFollows (record_all (moment_of call.at F) l F)) entries (call_follows F call legal formed at bytes))
     same : judged F (moment_of call.at F) serial call.random s ≡ signed_verdict (picture F) (drop 16 call.random) s
-    same = same_verdict F (moment_of call.at F) serial call.random s served before
+    same = same_verdict F (moment_of call.at F) serial call.random s served
     replies : EachFollows (after F call) → applied changes (picture F) ≡ picture (after F call) → reply ≡ (decide F call).reply
     replies follows makes =
         h.replies (ap (λ (T : Tables). T.meta.policy) rows ∙ same_terms F (moment_of call.at F) serial (take 16 call.random) (judged F (moment_of call.at F) serial call.random s)
@@ -151,3 +168,22 @@ asks_decide F call changes reply legal formed at served h = by call.ask refl ser
         (ap (λ (d : Decision). d.reply) (ap (λ a. decide_at F (moment_of call.at F) call.random a) e)) m
     by (ask.Signed s) e served m = signed_decides F call s changes reply legal formed at served e m
     by _ e served m = absurd served
+
+-- the same, as the code has its parts
+pub code_decides : (F : History) (call : Call) (B : Tables) (m : ℕ) (random : List ℕ) (changes : List Change) (reply : Reply) → Legal F → B ≡ picture F → IsFormedCall call →
+    call.at ≤ last_moment → m ≡ max call.at B.meta.clock → random ≡ call.random → IsServed call.ask →
+    (IsOrdered B → IsServed call.ask → MeetsAsk m B random call.ask changes reply) → IsDecision F call changes reply
+code_decides F call B m random changes reply legal same formed at acts bytes served meets =
+    asks_decide F call changes reply legal formed at served
+    (subst (λ T. MeetsAsk (max call.at T.meta.clock) T call.random call.ask changes reply) same
+    (subst (λ n. MeetsAsk n B call.random call.ask changes reply) acts
+    (subst (λ r. MeetsAsk m B r call.ask changes reply) bytes (meets (subst IsOrdered (sym same) (tables_ordered F (clock F))) served))))
+
+-- what a clause on both outcomes gives on the way that went well, and on the other
+pub ok_part : {T E A B : Type 0} {R : T → Type 0} (P : T → Type 0) (Q : E → Type 0) (r : Result T E) → (A → B → MatchResult r P Q) → ((x : T) → (A → B → P x) → R x) → IfOk r R
+ok_part P Q (Ok x) h k = k x h
+ok_part P Q (Err e) h k = tt
+
+pub err_part : {T E A B : Type 0} {R : E → Type 0} (P : T → Type 0) (Q : E → Type 0) (r : Result T E) → (A → B → MatchResult r P Q) → ((e : E) → (A → B → Q e) → R e) → IfErr r R
+err_part P Q (Ok x) h k = tt
+err_part P Q (Err e) h k = k e h

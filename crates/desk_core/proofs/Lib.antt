@@ -1,6 +1,7 @@
 pub mod AfterChanges
 pub mod Deciding
 pub mod DecidingAsks
+pub mod DecidingFaults
 pub mod EachIn
 pub mod Faults
 pub mod Looking

@@ -11,7 +11,7 @@ ghost use Rattle.desk_core.specs.Room.{HasRoom, HasRoomFor, IsIssueFault};
 ghost use Rattle.desk_core.specs.Served.{IsServedEntry, IsServedShows, IsServedVerdict};
 
 use crate::after::account_after;
-use crate::decide::Outcome;
+use crate::decisions::Outcome;
 use crate::fault::CoreFault;
 use crate::limits::{first_random, has_room};
 use crate::recording::Recording;

@@ -5,7 +5,7 @@ mod accounts;
 mod acts;
 mod after;
 mod contacts;
-mod decide;
+mod decisions;
 mod documents;
 mod fault;
 mod limits;
@@ -18,6 +18,6 @@ mod signed;
 mod sweep;
 mod verdicts;
 
-pub use decide::Outcome;
+pub use decisions::{Outcome, decide};
 pub use fault::CoreFault;
 pub use refusal::{refusal_detail, refusal_name, refusal_status};

@@ -1,3 +1,10 @@
+pub mod Finds
 pub mod Names
 pub mod Sound
 pub mod SoundCalls
+pub mod Extends
+pub mod Nonces
+pub mod Owners
+pub mod EndedRows
+pub mod EndedOrders
+pub mod Ended

@@ -16,12 +16,12 @@ use Rattle.desk_model.specs.Touched.{EachOf}
 -- ---- names
 
 -- the name is well formed
-abbrev pub IsNamed : Name → Type 0
-IsNamed name = is_base_name name.base ≡ true
+abbrev pub IsFormedName : Name → Type 0
+IsFormedName name = is_base_name name.base ≡ true
 
 -- a name with an ASCII form is well formed
 form_named : (wildcard : Bool) (o : Option (List ℕ)) (name : Name) →
-    option_and_then (λ base. if is_base_name base then Some (record { base = base; wildcard = wildcard }) else None) o ≡ Some name → IsNamed name
+    option_and_then (λ base. if is_base_name base then Some (record { base = base; wildcard = wildcard }) else None) o ≡ Some name → IsFormedName name
 form_named wildcard None name h = cc
 form_named wildcard (Some base) name h = by (is_base_name base) refl h
   where
@@ -31,31 +31,31 @@ form_named wildcard (Some base) name h = by (is_base_name base) refl h
     by false e k = cc
 
 -- a name behind its mark is well formed
-with_named : (wildcard : Bool) (rest : List ℕ) (name : Name) → name_with wildcard rest ≡ Some name → IsNamed name
+with_named : (wildcard : Bool) (rest : List ℕ) (name : Name) → name_with wildcard rest ≡ Some name → IsFormedName name
 with_named wildcard rest name h = by (list_any (λ c. c == 42) rest) h
   where
     by : (b : Bool) →
         cond {A = Option Name} b None
         (option_and_then (λ base. if is_base_name base then Some (record { base = base; wildcard = wildcard }) else None) (ascii_form rest)) ≡ Some name →
-        IsNamed name
+        IsFormedName name
     by true k = cc
     by false k = form_named wildcard (ascii_form rest) name k
 
 -- the name that a text stands for is well formed
-pub text_named : (text : List ℕ) (name : Name) → name_of text ≡ Some name → IsNamed name
+pub text_named : (text : List ℕ) (name : Name) → name_of text ≡ Some name → IsFormedName name
 unfolding name_of
 text_named text name h = by (starts_with nat_eq text (codes "*.")) h
   where
-    by : (b : Bool) → cond {A = Option Name} b (name_with true (drop 2 text)) (name_with false text) ≡ Some name → IsNamed name
+    by : (b : Bool) → cond {A = Option Name} b (name_with true (drop 2 text)) (name_with false text) ≡ Some name → IsFormedName name
     by true k = with_named true (drop 2 text) name k
     by false k = with_named false text name k
 
 -- each name of an order is well formed
-pub each_named : (ids : List Identifier) → EachOf IsNamed (names_in ids)
+pub each_named : (ids : List Identifier) → EachOf IsFormedName (names_in ids)
 each_named [] = tt
 each_named (i ∷ ids) = by (name_of i.value) refl (each_named ids)
   where
-    by : (o : Option Name) → name_of i.value ≡ o → EachOf IsNamed (names_in ids) → EachOf IsNamed (and_name o (names_in ids))
+    by : (o : Option Name) → name_of i.value ≡ o → EachOf IsFormedName (names_in ids) → EachOf IsFormedName (and_name o (names_in ids))
     by None e ih = ih
     by (Some name) e ih = (text_named i.value name e, ih)
 
@@ -186,7 +186,7 @@ pieces_fit (suc k) r h =
     rw full (pieces_fit k (drop 16 r) rest)
 
 -- well-formed names with tokens may be asked for
-tokens_fit : (ns : List Name) (r : List ℕ) → EachOf IsNamed ns → 16 * count_tokens (wanted ns r) ≤ length r → list_all is_wanted (wanted ns r) ≡ true
+tokens_fit : (ns : List Name) (r : List ℕ) → EachOf IsFormedName ns → 16 * count_tokens (wanted ns r) ≤ length r → list_all is_wanted (wanted ns r) ≡ true
 tokens_fit [] r named h = refl
 tokens_fit (n ∷ ns) r named h =
     let k : ℕ = length (kinds_of n) in
@@ -217,4 +217,4 @@ wanted_fits ids r fits none enough =
     let more : 1 ≤ length (kept ns) = kept_some ns (omega arith) in
     and_from _ _ (length-fits 1 50 (wanted (kept ns) r) (omega arith) (omega arith))
     (and_from _ _ (ap all_different (names-wanted (kept ns) r) ∙ different-kept ns)
-    (tokens_fit (kept ns) r (each-kept IsNamed ns (each_named ids)) enough))
+    (tokens_fit (kept ns) r (each-kept IsFormedName ns (each_named ids)) enough))

@@ -1,6 +1,6 @@
 -- What a verdict records may be recorded by the tables that it was given by.
 use Rattle.std.proofs.Common.{◌≡◌, ◌≤◌, ◌*◌, ℕ, List, [], ◌∷◌, length, Option, Some, None, Ok, Err, refl, Bool, true, false, cond, not}
-use Rattle.std.specs.Prelude.{IsTrue, find, nat_le, ◌==◌, is_some, bytes_eq, option_and_then, Result}
+use Rattle.std.specs.Prelude.{IsTrue, nat_le, ◌==◌, is_some, bytes_eq, option_and_then, Result}
 use Rattle.std.proofs.lemmas.Bool.{and_from}
 use Rattle.desk_model.specs.Keys.{IsKeyText}
 use Rattle.desk_model.specs.declared.entry.Entry.{Entry}
@@ -28,7 +28,6 @@ use Rattle.desk_model.specs.declared.payload.AccountChange.TheVariants as change
 use Rattle.desk_model.specs.declared.payload.AuthorizationChange.TheVariants as authz_change
 use Rattle.desk_model.specs.declared.payload.ChallengeChange.TheVariants as chall_change
 use Rattle.desk_model.specs.Run.{pieces_of, IsFormedSigned}
-use Rattle.desk_model.specs.Touched.{EachOf}
 use Rattle.desk_model.specs.Verdict.{answers, records, check, given, unless_fault, choose}
 use Rattle.desk_model.specs.declared.verdict.Verdict.{Verdict}
 use Rattle.desk_model.specs.declared.verdict.Shows.{Shows}
@@ -45,6 +44,7 @@ use Rattle.desk_model.specs.declared.call.Target.TheVariants as to
 use Rattle.desk_laws.specs.Later.{IsLater}
 use Rattle.desk_laws.specs.Ordered.{IsOrdered}
 use Rattle.desk_laws.proofs.RowLists.{ascends_found}
+use Rattle.desk_lives.proofs.Finds.{each_found}
 use Rattle.desk_lives.proofs.Names.{wanted_fits}
 
 -- the entry may be recorded by these tables
@@ -208,15 +208,6 @@ target_sound r T n a p (to.Authz k) found valid =
     given_sound r T _ 2 _ (λ x is. given_sound r T _ 1 _ (λ q _. authorization_sound r T k x q (own_found _ n _ x is)))
 target_sound r T n a p (to.Chall k) found valid =
     given_sound r T _ 2 _ (λ x is. given_sound r T _ 1 _ (λ q _. challenge_sound r T k x q (own_found _ n _ x is)))
-
--- what holds of each item holds of the one that is found
-pub each_found : {X : Type 0} (P : X → Type 0) (test : X → Bool) (xs : List X) (x : X) → EachOf P xs → find test xs ≡ Some x → P x
-each_found P test [] x h is = cc
-each_found P test (y ∷ ys) x h is = by (test y) is (each_found P test ys x h.1)
-  where
-    by : (b : Bool) → cond b (Some y) (find test ys) ≡ Some x → (find test ys ≡ Some x → P x) → P x
-    by true e ih = let same : y ≡ x = cc in rw (← same) h.0
-    by false e ih = ih e
 
 -- an account that is found by its key is found by its number
 pub key_number : (T : Tables) (key : List ℕ) (a : AccountRow) → IsOrdered T → account_with_key T key ≡ Some a → account_on T a.number ≡ Some a

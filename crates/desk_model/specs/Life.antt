@@ -6,7 +6,6 @@ use Rattle.desk_model.specs.Terms.{Terms}
 use Rattle.desk_model.specs.Entry.{made, Dated, History}
 use Rattle.desk_model.specs.History.{moment_of}
 use Rattle.desk_model.specs.Legal.{Legal}
-use Rattle.desk_model.specs.Account.{is_valid as is_valid_account}
 use Rattle.desk_model.specs.Authorization.{is_over}
 use Rattle.desk_model.specs.Tables.{Tables, AccountRow, ChallengeRow, AuthorizationRow, OrderRow, tables_at, picture}
 use Rattle.desk_model.specs.Questions.{account_on, order_on, authorization_on, owner_on, challenge_of}
@@ -18,6 +17,7 @@ use Rattle.desk_model.specs.declared.call.Ask.TheVariants as ask
 use Rattle.desk_model.specs.declared.call.Signed.{Signed}
 use Rattle.desk_model.specs.declared.reply.Reply.{Reply}
 use Rattle.desk_model.specs.declared.status.AccountStatus.{AccountStatus}
+use Rattle.desk_model.specs.declared.status.AccountStatus.TheVariants as account
 use Rattle.desk_model.specs.declared.status.OrderStatus.{OrderStatus}
 use Rattle.desk_model.specs.declared.status.OrderStatus.TheVariants as order
 use Rattle.desk_model.specs.declared.status.ChallengeStatus.{ChallengeStatus}
@@ -94,7 +94,8 @@ pub record Passed (F : History) (call : Call) (text : List ℕ) : Type 0 where
 -- ---- rows that have ended
 
 abbrev pub is_final_account : AccountStatus → Bool
-is_final_account s = elim (is_valid_account s) [ true ↦ false | false ↦ true ]
+is_final_account account.Valid = false
+is_final_account _ = true
 
 abbrev pub is_final_order : OrderStatus → Bool
 is_final_order order.Valid = true

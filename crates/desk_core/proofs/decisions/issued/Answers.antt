@@ -1,7 +1,7 @@
 use Rattle.std.proofs.Common.{◌∷◌, [], take, ap, ◌∙◌}
 use Rattle.desk_model.specs.declared.entry.Entry.TheVariants.{Issued as issued}
 use Rattle.desk_core.specs.Recorded.{recorded_changes}
-use Rattle.desk_core.proofs.decide.issued.Goals as goal
+use Rattle.desk_core.proofs.decisions.issued.Goals as goal
 
 pub returns-clause-changes : goal.returns-clause-changes
 returns-clause-changes c =

@@ -6,6 +6,11 @@ ghost use Rattle.desk_model.specs.Decide.{nonce_entries};
 ghost use Rattle.desk_laws.specs.Ordered.{IsOrdered};
 ghost use Rattle.desk_model.specs.Shown.{with_nonce, fresh_nonce};
 ghost use Rattle.desk_model.specs.declared.entry.Entry.TheVariants.{Issued as issued_entry};
+ghost use Rattle.desk_model.specs.Entry.{History};
+ghost use Rattle.desk_model.specs.Legal.{Legal};
+ghost use Rattle.desk_model.specs.Tables.{picture};
+ghost use Rattle.desk_model.specs.Run.{IsFormedCall};
+ghost use Rattle.desk_core.specs.Decided.{IsDecision, IsFaultOf};
 ghost use Rattle.desk_core.specs.Outcomes.{Passes, IsPassedFault, MeetsSigned, IsSignedFault, MeetsAsk, IsAskFault};
 ghost use Rattle.desk_core.specs.Room.{IsIssueFault};
 ghost use Rattle.desk_core.specs.Served.{IsServedTarget, IsServed};
@@ -13,13 +18,13 @@ ghost use Rattle.desk_core.specs.Recorded.{recorded_changes};
 
 use crate::acts::passed;
 use crate::fault::CoreFault;
-use crate::limits::{first_random, has_room};
+use crate::limits::{LAST_MOMENT, first_random, has_room};
 use crate::nonces::open_nonce;
 use crate::recording::Recording;
 use crate::replies::{nonce_reply, refusal_reply, with_nonce};
 use crate::signed::signed_verdict;
 use desk_book::Book;
-use desk_model::{Ask, Change, Reply, Sequence, Signed};
+use desk_model::{Ask, Call, Change, Reply, Sequence, Signed};
 use std::alloc::Global;
 
 /// The nonce of the request is not open.
@@ -122,4 +127,37 @@ fn decide_at(
             reply: refusal_reply(NOT_FOUND, Sequence::new(Vec::new(alloc)), true),
         }),
     }
+}
+
+/// What the types of a call keep: an accepted key has its canonical text.
+fn keep_form(call: &Call)
+    ensures { IsFormedCall call.now }
+{
+    if let Ask::Signed(request) = &call.ask {
+        if let Ok(key) = &request.key {
+            let _text = key.canonical();
+        }
+    }
+}
+
+/// Decides on a call: the changes that it makes in the book, none where nothing is recorded, and the reply.
+///
+/// Asks that are served are newNonce (RFC 8555, 7.2) and newAccount (7.3); another is refused and records nothing.
+///
+/// # Errors
+///
+/// `Moment`, `Full` and `ShortRandom` are the faults 24, 26 and 25 of the call, tested in this order; `Memory` comes
+/// where a growth was refused. The book stays as it was.
+pub fn decide(alloc: Global, book: &Book, call: &Call) -> Result<Outcome, CoreFault>
+    ensures decided { IfOk result (λ o. (F : History) → Legal F → book.now ≡ picture F → IsServed call.now.ask
+        → IsDecision F call.now o.changes.items o.reply) }
+    ensures faulty { IfErr result (λ e. (F : History) → Legal F → book.now ≡ picture F → IsServed call.now.ask
+        → IsFaultOf F call.now e) }
+{
+    keep_form(call);
+    if call.at > LAST_MOMENT {
+        return Err(CoreFault::Moment);
+    }
+    let moment = call.at.max(book.meta().clock);
+    decide_at(alloc, book, moment, call.random.as_slice(), &call.ask)
 }

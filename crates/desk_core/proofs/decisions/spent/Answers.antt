@@ -1,7 +1,7 @@
 use Rattle.std.proofs.Common.{drop}
 use Rattle.desk_model.specs.Rules.{signed_verdict}
 use Rattle.desk_core.proofs.Faults.{passed_fault}
-use Rattle.desk_core.proofs.decide.spent.Goals as goal
+use Rattle.desk_core.proofs.decisions.spent.Goals as goal
 
 pub returns-in-Err : goal.returns-in-Err
 returns-in-Err c =
