@@ -1,7 +1,7 @@
 -- What a map's look-up, insertion and removal are on the rows that it holds.
 use Rattle.std.proofs.Common.{◌≡◌, ℕ, ◌<◌, Bool, true, false, cond, not, List, [], ◌∷◌, map, filter, Option, Some, None, refl, sym, ap, ◌∙◌, arith, nat_cmp, is_eq, Ordering, ltb, eqb}
 use Rattle.std.specs.Prelude.{◌==◌, nat_lt, find}
-use Rattle.std.specs.List.{AllByRecursion}
+use Rattle.std.specs.List.{AllByRecursion, AllZip}
 use Rattle.std.specs.Ordering.{match_ordering}
 use Rattle.std.specs.Map.{lookup, remove_entry, keys_of, values_of}
 use Rattle.std.specs.BTreeMap.{insert_entry, is_at}
@@ -118,3 +118,10 @@ remove-remove {X} number n (e ∷ es) h s = by (is_eq (nat_cmp n e.0)) refl (rem
     by false p ih =
         ap (λ l. e.1 ∷ l) ih
         ∙ sym (ap (λ c. cond (not c) (e.1 ∷ remove number n (values_of es)) (remove number n (values_of es))) (same false p))
+
+-- entries whose keys and rows are clones are the entries themselves
+pub clones_same : {X : Type 0} (C : X → X → Type 0) → ((x y : X) → C x y → y ≡ x) → (es fs : List (ℕ × X)) → AllZip (λ p q. (q.0 ≡ p.0) × C p.1 q.1) es fs → fs ≡ es
+clones_same C same [] [] h = refl
+clones_same C same [] (f ∷ fs) h = absurd h
+clones_same C same (e ∷ es) [] h = absurd h
+clones_same C same (e ∷ es) (f ∷ fs) h = λ i. (h.0.0 i, same e.1 f.1 h.0.1 i) ∷ clones_same C same es fs h.1 i

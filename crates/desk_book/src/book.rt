@@ -1,5 +1,5 @@
 //! The book of a desk: its rows in memory.
-ghost use Rattle.std.specs.Prelude.{◌≡◌, ◌==◌, ◌∷◌, [], List, find, bytes_eq, OnOk, option_copied};
+ghost use Rattle.std.specs.Prelude.{◌≡◌, ◌==◌, ◌∷◌, [], List, find, bytes_eq, OnOk, OnErr, option_copied};
 ghost use Rattle.desk_model.specs.declared.entry.Entry.TheVariants.{Made as made};
 ghost use Rattle.desk_model.specs.Tables.{Tables, picture};
 ghost use Rattle.desk_model.specs.Questions.{nonce_on, account_on, account_with_key, order_on, authorization_on, owner_on};
@@ -121,7 +121,21 @@ impl Book {
     }
 
     /// Does all the changes, in order.
+    ///
+    /// # Errors
+    ///
+    /// Where there is no memory for all of them; the book is then as it was.
     pub fn apply(&mut self, changes: Vec<Change>) -> Result<(), AllocError>
+        ensures done { OnOk result (self.new ≡ applied changes.items self.old) }
+        ensures unchanged { OnErr result (self.new ≡ self.old) }
+    {
+        let mut next = self.clone()?;
+        next.apply_all(changes)?;
+        *self = next;
+        Ok(())
+    }
+
+    fn apply_all(&mut self, changes: Vec<Change>) -> Result<(), AllocError>
         ensures { OnOk result (self.new ≡ applied changes.items self.old) }
     {
         for change in changes {
@@ -166,4 +180,18 @@ fn row_with_key<'a>(accounts: &'a Table<AccountRow>, key: &str) -> Option<&'a Ac
     ensures { option_copied result ≡ find (λ a. bytes_eq a.key key.now) accounts.now }
 {
     accounts.iter().find(|row| row.key.canonical() == key)
+}
+
+impl Clone for Book {
+    ghost is_clone = { λ book copy. copy ≡ book };
+
+    fn clone(&self) -> Result<Book, AllocError> {
+        Ok(Book {
+            meta: self.meta.clone()?,
+            nonces: self.nonces.clone()?,
+            accounts: self.accounts.clone()?,
+            authorizations: self.authorizations.clone()?,
+            orders: self.orders.clone()?,
+        })
+    }
 }

@@ -4,16 +4,20 @@ ghost use Rattle.std.specs.Prelude.{◌≡◌, ℕ};
 use desk_model::{AccountRow, AuthorizationRow, Nonce, OrderRow};
 
 /// A row of a table, which has a number of its own.
-pub trait Row {
+pub trait Row: Clone {
     ghost number: { Self → ℕ };
 
     /// The number of the row in its table.
     fn number(&self) -> u64
         ensures { result ≡ number self.now };
+
+    ghost clones: { (row copy : Self) → Self.is_clone row copy → copy ≡ row };
 }
 
 impl Row for Nonce {
     ghost number = { λ row. row.serial };
+
+    ghost clones = { λ row copy same. same };
 
     fn number(&self) -> u64 {
         self.serial
@@ -23,6 +27,8 @@ impl Row for Nonce {
 impl Row for AccountRow {
     ghost number = { λ row. row.number };
 
+    ghost clones = { λ row copy same. same };
+
     fn number(&self) -> u64 {
         self.number
     }
@@ -31,6 +37,8 @@ impl Row for AccountRow {
 impl Row for AuthorizationRow {
     ghost number = { λ row. row.number };
 
+    ghost clones = { λ row copy same. same };
+
     fn number(&self) -> u64 {
         self.number
     }
@@ -38,6 +46,8 @@ impl Row for AuthorizationRow {
 
 impl Row for OrderRow {
     ghost number = { λ row. row.number };
+
+    ghost clones = { λ row copy same. same };
 
     fn number(&self) -> u64 {
         self.number

@@ -71,3 +71,12 @@ impl<R: Row + Drop> Table<R> {
         self.rows.remove(&number);
     }
 }
+
+impl<R: Row + Drop> Clone for Table<R> {
+    ghost is_clone = { λ table copy. copy ≡ table };
+
+    fn clone(&self) -> Result<Table<R>, AllocError> {
+        let rows = self.rows.clone()?;
+        Ok(Table { rows })
+    }
+}

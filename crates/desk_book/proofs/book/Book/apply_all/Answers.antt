@@ -1,7 +1,7 @@
 use Rattle.std.proofs.Common.{◌∙◌, ap, sym}
 use Rattle.desk_model.specs.Change.{applied_one}
 use Rattle.desk_book.proofs.Applied.{applied-last}
-use Rattle.desk_book.proofs.book.Book.apply.Goals as goal
+use Rattle.desk_book.proofs.book.Book.apply_all.Goals as goal
 
 pub loop-change-preserved : goal.loop-change-preserved
 loop-change-preserved c =
