@@ -1,0 +1,58 @@
+//! The program `desk`.
+#![tactic(auto)]
+
+mod batch;
+mod desk;
+mod lines;
+mod problems;
+mod requests;
+
+#[cfg(test)]
+mod failing_streams;
+#[cfg(test)]
+mod tests;
+
+use crate::desk::Desk;
+use desk_model::Policy;
+use std::alloc::Global;
+use std::env::{self, Env};
+use std::io;
+use std::process::ExitCode;
+
+fn main(rt: HostRuntime) -> io::Result<ExitCode> {
+    if !asks_for_batch(&rt)? {
+        eprintln!(rt; "usage: desk batch")?;
+        return Ok(ExitCode::from(2));
+    }
+    let alloc = rt.alloc();
+    let Some(mut desk) = new_desk(alloc) else {
+        eprintln!(rt; "desk: fault 20 memory")?;
+        return Ok(ExitCode::from(1));
+    };
+    let status = batch::batch(
+        alloc,
+        rt.reader(),
+        &mut io::writer(&rt),
+        &mut rt.stderr(),
+        &mut desk,
+    );
+    Ok(ExitCode::from(status))
+}
+
+// Whether the words of the command line are those of a batch.
+fn asks_for_batch(rt: &(impl Env + AllocGlobal)) -> io::Result<bool> {
+    let mut words = env::args(rt)?;
+    let _program = words.next();
+    let command = words.next();
+    let is_batch = match command {
+        Some(word) => word.as_str() == "batch",
+        None => false,
+    };
+    Ok(is_batch && words.next().is_none())
+}
+
+// The desk of the profile, made at 0, or `None` where there is no memory for it.
+fn new_desk(alloc: Global) -> Option<Desk> {
+    let policy = Policy::new(alloc, "https://ca.example", 3600, 604800, 2592000).ok()??;
+    Some(Desk::make(alloc, policy, 0))
+}
