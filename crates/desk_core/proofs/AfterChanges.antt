@@ -1,10 +1,9 @@
 -- Rows by number after some changes.
 use Rattle.std.proofs.Common.{◌≡◌, ℕ, ◌++◌, List, [], ◌∷◌, Bool, true, false, cond, Option, Some, None, refl, ap, ◌∙◌}
-use Rattle.std.specs.Prelude.{◌==◌, find}
+use Rattle.std.specs.Prelude.{◌==◌}
 use Rattle.desk_model.specs.Tables.{Tables}
-use Rattle.desk_model.specs.Change.{applied, applied_one, put}
+use Rattle.desk_model.specs.Change.{applied, applied_one}
 use Rattle.desk_model.specs.Questions.{account_on}
-use Rattle.desk_model.specs.declared.rows.AccountRow.{AccountRow}
 use Rattle.desk_model.specs.declared.rows.Change.{Change}
 use Rattle.desk_model.specs.declared.rows.Change.TheVariants.{PutMeta, PutNonce, RemoveNonce, PutAccount, PutAuthorization, PutOrder}
 use Rattle.desk_book.proofs.Applied.{applied-last}

@@ -1,38 +1,29 @@
 -- From what the code answers by rows to what is promised against histories.
-use Rattle.std.proofs.Common.{◌≡◌, ℕ, ◌+◌, ◌*◌, ◌<◌, ◌≤◌, ◌^◌, max, Bool, true, false, not, List, [], ◌∷◌, ◌++◌, length, take, drop, Option, Some, None, Ok, Err, refl, sym, ap, subst, ◌∙◌, arith, length-append, append-nil, cond, inl, inr, ◌⊎◌}
+use Rattle.std.proofs.Common.{◌≡◌, ℕ, ◌+◌, ◌*◌, ◌<◌, ◌≤◌, ◌^◌, true, false, not, List, [], ◌∷◌, ◌++◌, length, Some, None, sym, ap, subst, ◌∙◌, arith, length-append, append-nil, cond}
 use Rattle.std.specs.Prelude.{nat_lt, IsTrue}
 use Rattle.desk_model.specs.Entry.{History}
 use Rattle.desk_model.specs.History.{clock, moment_of, record_all}
 use Rattle.desk_model.specs.Legal.{Legal, EachFollows, numbers_fit, last_moment}
 use Rattle.desk_model.specs.Nonce.{nonces}
 use Rattle.desk_model.specs.Account.{accounts}
-use Rattle.desk_model.specs.Tables.{Tables, tables_at, picture}
-use Rattle.desk_model.specs.Effect.{effect, effects, swept}
-use Rattle.desk_model.specs.Change.{applied, sweep_changes, all_changes}
-use Rattle.desk_model.specs.Rules.{signed_verdict, open_nonce}
-use Rattle.desk_model.specs.Decide.{decide, after, decide_at, entries_of, nonce_entries}
+use Rattle.desk_model.specs.Tables.{picture}
+use Rattle.desk_model.specs.Change.{applied}
+use Rattle.desk_model.specs.Decide.{decide, after, entries_of}
 use Rattle.desk_model.specs.Run.{fault, count_pieces, IsFormedCall}
 use Rattle.desk_model.specs.declared.call.Call.{Call}
-use Rattle.desk_model.specs.declared.call.Ask.{Ask}
-use Rattle.desk_model.specs.declared.call.Ask.TheVariants as ask
-use Rattle.desk_model.specs.declared.call.Signed.{Signed}
 use Rattle.desk_model.specs.declared.reply.Reply.{Reply}
 use Rattle.desk_model.specs.declared.verdict.Verdict.{Verdict}
 use Rattle.desk_model.specs.declared.rows.Change.{Change}
-use Rattle.desk_model.specs.declared.rows.Meta.{Meta}
 use Rattle.desk_model.specs.declared.entry.Entry.{Entry}
 use Rattle.desk_model.specs.declared.entry.Entry.TheVariants.{Issued as issued, Spent as spent, Opened as opened}
-use Rattle.desk_laws.proofs.Step.{sweep, step, steps, follows_before}
-use Rattle.desk_laws.proofs.Recorded.{recorded, tables_ordered}
-use Rattle.desk_laws.proofs.Plain.{spent_effect, issued_effect}
+use Rattle.desk_laws.proofs.Recorded.{recorded}
 use Rattle.desk_lives.proofs.SoundCalls.{moment_later, call_follows, legal_by_numbers}
 use Rattle.desk_core.specs.Recorded.{recorded_changes}
-use Rattle.desk_core.specs.Outcomes.{Issues, Passes}
 use Rattle.desk_core.specs.Decided.{IsDecision}
 use Rattle.desk_core.specs.Room.{HasRoom}
 use Rattle.desk_core.specs.Served.{IsServedVerdict}
 use Rattle.desk_laws.specs.LegalLaws.{CountersFit}
-use Rattle.desk_laws.proofs.Keeps.{counters_fit, numbers_fit_counters}
+use Rattle.desk_laws.proofs.Keeps.{numbers_fit_counters}
 use Rattle.desk_model.specs.Order.{orders}
 use Rattle.desk_model.specs.Authorization.{authorizations, count_challenges}
 use Rattle.desk_model.specs.declared.verdict.Verdict.TheVariants.{Refused as refused, Accepted as accepted}
@@ -49,8 +40,8 @@ pub faultless : (F : History) (call : Call) → call.at ≤ last_moment → IsTr
     fault F call ≡ None
 faultless F call at fits enough =
     λ i. cond (not_less last_moment call.at at i) (Some 24)
-        (cond (not (fits i)) (Some 26)
-        (cond (not_less (length call.random) (16 * count_pieces (decide F call).entries) enough i) (Some 25) None))
+    (cond (not (fits i)) (Some 26)
+    (cond (not_less (length call.random) (16 * count_pieces (decide F call).entries) enough i) (Some 25) None))
 
 -- the numbers after some entries
 pub fits_issued : (F : History) (m : ℕ) (r : List ℕ) → CountersFit (picture F).meta → length (nonces F) < 2 ^ 62 → CountersFit (picture (record { date = m; entry = issued r } ∷ F)).meta
@@ -101,6 +92,7 @@ fits_passed F m n r v h lt room served = by v room served
   where
     fits : CountersFit (picture (record { date = m; entry = issued r } ∷ record { date = m; entry = spent n } ∷ F)).meta
     fits = fits_issued (record { date = m; entry = spent n } ∷ F) m r (fits_spent F m n h) (omega (arith, nonces_stay F m n))
+
     by : (v : Verdict) → HasRoom (picture F).meta v → IsServedVerdict v → IsTrue (numbers_fit (record_all m (spent n ∷ issued r ∷ entries_of v) F))
     by (refused number ss) room served = fitting (record { date = m; entry = issued r } ∷ record { date = m; entry = spent n } ∷ F) fits
     by (accepted None what) room served = fitting (record { date = m; entry = issued r } ∷ record { date = m; entry = spent n } ∷ F) fits
@@ -121,9 +113,9 @@ decides F call e es changes reply legal formed at is fits enough made replies =
     let bytes : 16 * count_pieces (decide F call).entries ≤ length call.random = subst (λ l. 16 * count_pieces l ≤ length call.random) (sym is) enough in
     let follows : EachFollows (after F call) = call_follows F call legal formed at bytes in
     let makes : applied changes (picture F) ≡ picture (after F call) =
-        ap (λ cs. applied cs (picture F)) made
-        ∙ recorded F e es (moment_of call.at F) (moment_later F call) (subst EachFollows (sym grown) follows)
-        ∙ ap picture grown in
+    ap (λ cs. applied cs (picture F)) made
+    ∙ recorded F e es (moment_of call.at F) (moment_later F call) (subst EachFollows (sym grown) follows)
+    ∙ ap picture grown in
     record {
       faultless = faultless F call at numbers bytes;
       replies = replies follows makes;

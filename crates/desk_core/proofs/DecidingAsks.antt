@@ -1,12 +1,10 @@
 -- What is promised of each ask that is served.
-use Rattle.std.proofs.Common.{◌≡◌, ℕ, ◌+◌, ◌*◌, ◌<◌, ◌≤◌, ◌^◌, max, Bool, true, false, not, List, [], ◌∷◌, ◌++◌, length, map, take, drop, unwrap_or, Option, Some, None, refl, sym, ap, subst, ◌∙◌, arith, Result, Ok, Err, IfOk, IfErr, MatchResult}
-use Rattle.std.specs.Prelude.{IsTrue}
+use Rattle.std.proofs.Common.{◌≡◌, ℕ, ◌+◌, ◌*◌, ◌≤◌, max, true, List, [], ◌∷◌, ◌++◌, length, map, take, drop, unwrap_or, Option, Some, None, refl, sym, ap, subst, ◌∙◌, arith, Result, Ok, Err, IfOk, IfErr, MatchResult}
 use Rattle.desk_model.specs.Entry.{History}
 use Rattle.desk_model.specs.History.{clock, moment_of, record_all, terms}
 use Rattle.desk_model.specs.Legal.{Legal, EachFollows, last_moment}
-use Rattle.desk_model.specs.Nonce.{nonces}
 use Rattle.desk_model.specs.Tables.{Tables, tables_at, picture}
-use Rattle.desk_model.specs.Effect.{effect, effects, swept}
+use Rattle.desk_model.specs.Effect.{swept}
 use Rattle.desk_model.specs.Change.{applied}
 use Rattle.desk_model.specs.Rules.{signed_verdict, open_nonce}
 use Rattle.desk_model.specs.Shown.{with_nonce, fresh_nonce, refusal_reply, nonce_reply}
@@ -19,7 +17,6 @@ use Rattle.desk_model.specs.declared.call.Signed.{Signed}
 use Rattle.desk_model.specs.declared.reply.Reply.{Reply}
 use Rattle.desk_model.specs.declared.verdict.Verdict.{Verdict}
 use Rattle.desk_model.specs.declared.rows.Change.{Change}
-use Rattle.desk_model.specs.declared.rows.Meta.{Meta}
 use Rattle.desk_model.specs.declared.entry.Entry.{Entry}
 use Rattle.desk_model.specs.declared.entry.Entry.TheVariants.{Issued as issued, Spent as spent, Opened as opened}
 use Rattle.desk_model.specs.declared.verdict.Verdict.TheVariants.{Refused as refused, Accepted as accepted}
@@ -33,7 +30,7 @@ use Rattle.desk_model.specs.Tables.{account_row}
 use Rattle.desk_model.specs.declared.objects.Account.{Account}
 use Rattle.desk_laws.proofs.Keeps.{counters_fit, numbers_fit_counters}
 use Rattle.desk_laws.specs.LegalLaws.{CountersFit}
-use Rattle.desk_lives.proofs.SoundCalls.{moment_later, call_follows}
+use Rattle.desk_lives.proofs.SoundCalls.{moment_later}
 use Rattle.desk_core.specs.Outcomes.{Issues, Passes, MeetsSigned, MeetsAsk}
 use Rattle.desk_core.specs.Decided.{IsDecision}
 use Rattle.desk_core.specs.Served.{IsServed, IsServedTarget, IsServedVerdict}
@@ -116,14 +113,17 @@ passes F call s serial changes reply legal formed at served is h =
     entries : (decide F call).entries ≡ spent serial ∷ issued (take 16 call.random)
         ∷ entries_of (judged F (moment_of call.at F) serial call.random s)
     entries = ap (λ (d : Decision). d.entries) is
+
     bytes : 16 * count_pieces (decide F call).entries ≤ length call.random
     bytes =
         subst (λ l. 16 * count_pieces l ≤ length call.random) (sym entries)
         (subst (λ n. 16 * (0 + (1 + n)) ≤ length call.random)
         (sym (no_pieces _ (verdict_served (tables_after (moment_of call.at F) (nonce_entries serial call.random) F) (drop 16 call.random) s served)))
         (let enough : 16 ≤ length call.random = h.bytes in omega arith))
+
     same : judged F (moment_of call.at F) serial call.random s ≡ signed_verdict (picture F) (drop 16 call.random) s
     same = same_verdict F (moment_of call.at F) serial call.random s served
+
     replies : EachFollows (after F call) → applied changes (picture F) ≡ picture (after F call) → reply ≡ (decide F call).reply
     replies follows makes =
         h.replies (ap (λ (T : Tables). T.meta.policy) rows ∙ same_terms F (moment_of call.at F) serial (take 16 call.random) (judged F (moment_of call.at F) serial call.random s)
@@ -146,10 +146,12 @@ signed_decides F call s changes reply legal formed at served asks h = by (open_n
   where
     now : tables_at F (moment_of call.at F) ≡ swept (moment_of call.at F) (picture F)
     now = sweep F (clock F) (moment_of call.at F) (moment_later F call)
+
     is : (o : Option ℕ) → open_nonce (swept (moment_of call.at F) (picture F)) s.nonce ≡ o → decide F call ≡ signed_decision F (moment_of call.at F) call.random s o
     is o e =
         ap (λ a. decide_at F (moment_of call.at F) call.random a) asks
         ∙ ap (signed_decision F (moment_of call.at F) call.random s) (ap (λ T. open_nonce T s.nonce) now ∙ e)
+
     by : (o : Option ℕ) → open_nonce (swept (moment_of call.at F) (picture F)) s.nonce ≡ o →
         MeetsSigned (moment_of call.at F) (picture F) call.random s o changes reply → IsDecision F call changes reply
     by None e m =

@@ -9,10 +9,10 @@ use Rattle.desk_model.specs.Nonce.{nonces}
 use Rattle.desk_model.specs.Account.{accounts}
 use Rattle.desk_model.specs.Order.{orders}
 use Rattle.desk_model.specs.Authorization.{authorizations, count_challenges}
-use Rattle.desk_model.specs.Tables.{Tables, tables_at, picture}
+use Rattle.desk_model.specs.Tables.{Tables, picture}
 use Rattle.desk_model.specs.Effect.{swept}
 use Rattle.desk_model.specs.Rules.{signed_verdict, open_nonce}
-use Rattle.desk_model.specs.Decide.{Decision, decide, decide_at, after, entries_of, nonce_entries, signed_decision}
+use Rattle.desk_model.specs.Decide.{Decision, decide, decide_at, after, entries_of, signed_decision}
 use Rattle.desk_model.specs.Run.{fault, count_pieces}
 use Rattle.desk_model.specs.declared.call.Call.{Call}
 use Rattle.desk_model.specs.declared.call.Ask.{Ask}
@@ -28,7 +28,7 @@ use Rattle.desk_laws.specs.Ordered.{IsOrdered}
 use Rattle.desk_lives.proofs.SoundCalls.{moment_later}
 use Rattle.desk_core.specs.Decided.{IsFaultOf}
 use Rattle.desk_core.specs.Outcomes.{IsPassedFault, IsSignedFault, IsAskFault}
-use Rattle.desk_core.specs.Room.{HasRoom, IsFull, IsIssueFault}
+use Rattle.desk_core.specs.Room.{IsFull, IsIssueFault}
 use Rattle.desk_core.specs.Served.{IsServed, IsServedTarget, IsServedVerdict}
 use Rattle.desk_core.specs.declared.fault.CoreFault.{CoreFault}
 use Rattle.desk_core.specs.declared.fault.CoreFault.TheVariants as core
@@ -60,15 +60,15 @@ is_full : (F : History) (call : Call) (es : List Entry) → call.at ≤ last_mom
     fault F call ≡ Some 26
 is_full F call es at is over =
     λ i. cond (not_less last_moment call.at at i) (Some 24)
-        (cond (not ((ap (λ l. numbers_fit (record_all (moment_of call.at F) l F)) is ∙ over) i)) (Some 26)
-        (cond (nat_lt (length call.random) (16 * count_pieces (decide F call).entries)) (Some 25) None))
+    (cond (not ((ap (λ l. numbers_fit (record_all (moment_of call.at F) l F)) is ∙ over) i)) (Some 26)
+    (cond (nat_lt (length call.random) (16 * count_pieces (decide F call).entries)) (Some 25) None))
 
 is_short : (F : History) (call : Call) (es : List Entry) → call.at ≤ last_moment → (decide F call).entries ≡ es → IsTrue (numbers_fit (record_all (moment_of call.at F) es F)) →
     length call.random < 16 * count_pieces es → fault F call ≡ Some 25
 is_short F call es at is fits short =
     λ i. cond (not_less last_moment call.at at i) (Some 24)
-        (cond (not ((ap (λ l. numbers_fit (record_all (moment_of call.at F) l F)) is ∙ fits) i)) (Some 26)
-        (cond ((ap (λ l. nat_lt (length call.random) (16 * count_pieces l)) is ∙ less (length call.random) (16 * count_pieces es) short) i) (Some 25) None))
+    (cond (not ((ap (λ l. numbers_fit (record_all (moment_of call.at F) l F)) is ∙ fits) i)) (Some 26)
+    (cond ((ap (λ l. nat_lt (length call.random) (16 * count_pieces l)) is ∙ less (length call.random) (16 * count_pieces es) short) i) (Some 25) None))
 
 -- a moment above the last
 pub is_late : (F : History) (call : Call) → last_moment < call.at → fault F call ≡ Some 24
@@ -95,6 +95,7 @@ more_nonces F m n r v served = by v served
   where
     two : length ((nonces F ++ []) ++ record { serial = length (nonces F ++ []) + 1; random = r; issued = m } ∷ []) ≡ length (nonces F) + 1
     two = omega (arith, length-append (nonces F ++ []) (record { serial = length (nonces F ++ []) + 1; random = r; issued = m } ∷ []), length-append (nonces F) [])
+
     by : (v : Verdict) → IsServedVerdict v → length (nonces (record_all m (spent n ∷ issued r ∷ entries_of v) F)) ≡ length (nonces F) + 1
     by (refused number ss) served = two
     by (accepted None what) served = two
@@ -143,6 +144,7 @@ signed_faults F call s e legal at served asks h = by (open_nonce (swept (moment_
         ap (λ a. decide_at F (moment_of call.at F) call.random a) asks
         ∙ ap (signed_decision F (moment_of call.at F) call.random s)
         (ap (λ T. open_nonce T s.nonce) (sweep F (clock F) (moment_of call.at F) (moment_later F call)) ∙ found)
+
     by : (o : Option ℕ) → open_nonce (swept (moment_of call.at F) (picture F)) s.nonce ≡ o → IsSignedFault (picture F) call.random s o e → IsFaultOf F call e
     by None found h = issue_faults F call e legal at (ap (λ (d : Decision). d.entries) (is None found)) h
     by (Some serial) found h =

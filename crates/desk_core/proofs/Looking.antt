@@ -25,6 +25,7 @@ find-only {X} number p n k (x ∷ xs) h = by (number x == k) (p x) refl refl (fi
   where
     here : (number x == k) ≡ true → k < number x + 1
     here e = let same : number x ≡ k = eqb-true (number x) k e in omega arith
+
     by : (b c : Bool) → (number x == k) ≡ b → p x ≡ c → find (λ y. number y == k) (filter p xs) ≡ only p (find (λ y. number y == k) xs) →
         find (λ y. number y == k) (cond c (x ∷ filter p xs) (filter p xs)) ≡ only p (cond b (Some x) (find (λ y. number y == k) xs))
     by true true e q ih =
@@ -52,6 +53,7 @@ find-put {X} number k x (y ∷ ys) = by (number x == number y) refl (nat_lt (num
             flipped : (number y == number x) ≡ false
             flipped = grind (arith, nat_tests)
     swapped false apart e o = refl
+
     by : (b : Bool) → (number x == number y) ≡ b → (c d : Bool) → (number x == k) ≡ d →
         find (λ y. number y == k) (put number x ys) ≡ cond (number x == k) (Some x) (find (λ y. number y == k) ys) →
         find (λ z. number z == k) (cond b (x ∷ ys) (cond c (x ∷ y ∷ ys) (y ∷ put number x ys)))

@@ -1,9 +1,8 @@
 -- What entries that touch no standing row do to the tables, and what they record.
-use Rattle.std.proofs.Common.{◌≡◌, ℕ, ◌+◌, List, [], ◌∷◌, ◌++◌, length, map, filter, Bool, true, false, not, cond, Option, Some, None, refl, sym, ap, ◌∙◌, add-zero, append-nil}
-use Rattle.std.specs.Prelude.{◌&&◌, ◌||◌, ◌==◌}
+use Rattle.std.proofs.Common.{◌≡◌, ℕ, ◌+◌, List, [], ◌∷◌, ◌++◌, map, filter, Bool, false, cond, Option, Some, None, refl, ap, ◌∙◌, add-zero}
+use Rattle.std.specs.Prelude.{◌&&◌, ◌||◌}
 use Rattle.desk_model.specs.Tables.{Tables}
 use Rattle.desk_model.specs.declared.rows.Meta.{Meta}
-use Rattle.desk_model.specs.declared.rows.Change.{Change}
 use Rattle.desk_model.specs.declared.rows.Change.TheVariants.{PutMeta, PutNonce, RemoveNonce, PutAccount, PutAuthorization, PutOrder}
 use Rattle.desk_model.specs.declared.objects.Nonce.{Nonce}
 use Rattle.desk_model.specs.declared.entry.Entry.{Entry}
@@ -16,10 +15,8 @@ use Rattle.desk_model.specs.Lookup.{holds}
 use Rattle.desk_model.specs.Account.{opened_by}
 use Rattle.desk_model.specs.Order.{ordered_by}
 use Rattle.desk_model.specs.Derived.{numbers_of, authorization_numbered, restated_authorization, restated_order}
-use Rattle.desk_model.specs.Effect.{effect, effects, noted_account, noted_authorization, noted_order, touches_account, touches_authorization, touches_order, names_order, lists_one, fresh_account, fresh_authorization, fresh_order, new_authorizations, authorizations_after}
-use Rattle.desk_model.specs.Change.{changes, all_changes, moved_rows, account_differs, authorization_differs, order_differs, spent_by, nonces_put}
-use Rattle.desk_model.specs.Decide.{nonce_entries}
-use Rattle.desk_laws.proofs.Plain.{spent_effect, issued_effect}
+use Rattle.desk_model.specs.Effect.{effect, noted_account, noted_authorization, noted_order, touches_account, touches_authorization, touches_order, names_order, lists_one, fresh_account, fresh_authorization, fresh_order, new_authorizations, authorizations_after}
+use Rattle.desk_model.specs.Change.{changes, moved_rows, account_differs, authorization_differs, order_differs, spent_by, nonces_put}
 
 -- the same counters with nothing added
 abbrev with_nonces : ℕ → ℕ → Meta → Meta
@@ -58,6 +55,7 @@ order_untouched e T r none unnamed =
     found : (o : Option AuthorizationRow) → holds (touches_authorization e) o ≡ false
     found None = refl
     found (Some a) = none a
+
     lists_none : (ns : List ℕ) → lists_one (touches_authorization e) T.authorizations ns ≡ false
     lists_none [] = refl
     lists_none (n ∷ ns) = λ i. found (authorization_numbered n T.authorizations) i || lists_none ns i
@@ -69,20 +67,20 @@ unmoved_rows touched differs move xs none = ap (map move) (filter_none (λ r. to
 pub quiet_changes : (m : ℕ) (T : Tables) (e : Entry) → ((a : AccountRow) → touches_account e a ≡ false) → ((a : AuthorizationRow) → touches_authorization e a ≡ false) →
     ((n : ℕ) → names_order e n ≡ false) →
     changes m T e ≡ PutMeta (effect m T e).meta
-        ∷ (map RemoveNonce (spent_by e)
-        ++ (map PutNonce (nonces_put T e m)
-        ++ (map PutAccount (map fresh_account (opened_by e m (T.meta.accounts + 1)))
-        ++ (map PutAuthorization (map (λ a. restated_authorization m (fresh_authorization a)) (new_authorizations T e m))
-        ++ map PutOrder (map (λ o. restated_order m (authorizations_after T e m) (fresh_order o)) (ordered_by e m T.meta.policy (new_authorizations T e m) (T.meta.orders + 1)))))))
+    ∷ (map RemoveNonce (spent_by e)
+    ++ (map PutNonce (nonces_put T e m)
+    ++ (map PutAccount (map fresh_account (opened_by e m (T.meta.accounts + 1)))
+    ++ (map PutAuthorization (map (λ a. restated_authorization m (fresh_authorization a)) (new_authorizations T e m))
+    ++ map PutOrder (map (λ o. restated_order m (authorizations_after T e m) (fresh_order o)) (ordered_by e m T.meta.policy (new_authorizations T e m) (T.meta.orders + 1)))))))
 quiet_changes m T e no_account no_authorization no_order =
     λ i. PutMeta (effect m T e).meta
-        ∷ (map RemoveNonce (spent_by e)
-        ++ (map PutNonce (nonces_put T e m)
-        ++ (map PutAccount (unmoved_rows (touches_account e) account_differs (noted_account e m) T.accounts no_account i ++ map fresh_account (opened_by e m (T.meta.accounts + 1)))
-        ++ (map PutAuthorization (unmoved_rows (touches_authorization e) authorization_differs (λ r. restated_authorization m (noted_authorization e m r)) T.authorizations no_authorization i
-                ++ map (λ a. restated_authorization m (fresh_authorization a)) (new_authorizations T e m))
-        ++ map PutOrder (unmoved_rows (touches_order e T.authorizations) order_differs (λ r. restated_order m (authorizations_after T e m) (noted_order e m r)) T.orders (λ r. order_untouched e T r no_authorization (no_order r.number)) i
-                ++ map (λ o. restated_order m (authorizations_after T e m) (fresh_order o)) (ordered_by e m T.meta.policy (new_authorizations T e m) (T.meta.orders + 1)))))))
+    ∷ (map RemoveNonce (spent_by e)
+    ++ (map PutNonce (nonces_put T e m)
+    ++ (map PutAccount (unmoved_rows (touches_account e) account_differs (noted_account e m) T.accounts no_account i ++ map fresh_account (opened_by e m (T.meta.accounts + 1)))
+    ++ (map PutAuthorization (unmoved_rows (touches_authorization e) authorization_differs (λ r. restated_authorization m (noted_authorization e m r)) T.authorizations no_authorization i
+    ++ map (λ a. restated_authorization m (fresh_authorization a)) (new_authorizations T e m))
+    ++ map PutOrder (unmoved_rows (touches_order e T.authorizations) order_differs (λ r. restated_order m (authorizations_after T e m) (noted_order e m r)) T.orders (λ r. order_untouched e T r no_authorization (no_order r.number)) i
+    ++ map (λ o. restated_order m (authorizations_after T e m) (fresh_order o)) (ordered_by e m T.meta.policy (new_authorizations T e m) (T.meta.orders + 1)))))))
 
 -- what is recorded of a nonce that is spent
 pub spent_changes : (m : ℕ) (T : Tables) (n : ℕ) → changes m T (spent n) ≡ PutMeta (record T.meta { clock = m }) ∷ RemoveNonce n ∷ []

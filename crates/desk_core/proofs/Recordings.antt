@@ -1,5 +1,5 @@
 -- What is recorded, entry by entry.
-use Rattle.std.proofs.Common.{◌≡◌, ℕ, ◌+◌, List, [], ◌∷◌, ◌++◌, take, Option, Some, None, refl, sym, ap, ◌∙◌, append-nil, append_assoc, Result, Ok, Err, OnOk}
+use Rattle.std.proofs.Common.{◌≡◌, ℕ, ◌+◌, List, [], ◌∷◌, ◌++◌, None, refl, sym, ap, ◌∙◌, append-nil, append_assoc, Result, Ok, Err, OnOk}
 use Rattle.desk_model.specs.Tables.{Tables}
 use Rattle.desk_model.specs.Effect.{effect, effects, swept}
 use Rattle.desk_model.specs.Change.{changes, all_changes, sweep_changes}
@@ -69,7 +69,7 @@ and_issued m B es r done meta h =
     let T : Tables = effects m (swept m B) es in
     let at_m : meta.clock ≡ m = clock_is m B es done meta h in
     let row : record meta { nonces = meta.nonces + 1 } ≡ record T.meta { clock = m; nonces = T.meta.nonces + 1 } =
-        ap (λ (x : Meta). record x { nonces = x.nonces + 1 }) (sym (same_clock m meta at_m) ∙ ap (λ (x : Meta). record x { clock = m }) h.row) in
+    ap (λ (x : Meta). record x { nonces = x.nonces + 1 }) (sym (same_clock m meta at_m) ∙ ap (λ (x : Meta). record x { clock = m }) h.row) in
     one_more m B es (issued r) done _ meta _ h
     ((λ i. PutMeta (row i) ∷ PutNonce (record { serial = (h.row i).nonces + 1; random = r; issued = at_m i }) ∷ []) ∙ sym (issued_changes m T r))
     (row ∙ sym (issued_meta m T r))
@@ -82,7 +82,7 @@ and_opened m B es key contacts done meta h =
     let T : Tables = effects m (swept m B) es in
     let at_m : meta.clock ≡ m = clock_is m B es done meta h in
     let row : record meta { accounts = meta.accounts + 1 } ≡ record T.meta { clock = m; accounts = T.meta.accounts + 1 } =
-        ap (λ (x : Meta). record x { accounts = x.accounts + 1 }) (sym (same_clock m meta at_m) ∙ ap (λ (x : Meta). record x { clock = m }) h.row) in
+    ap (λ (x : Meta). record x { accounts = x.accounts + 1 }) (sym (same_clock m meta at_m) ∙ ap (λ (x : Meta). record x { clock = m }) h.row) in
     one_more m B es (opened key contacts) done _ meta _ h
     ((λ i. PutMeta (row i) ∷ PutAccount (record { number = (h.row i).accounts + 1; key = key; contacts = contacts; opened = at_m i; ended = None; status = account.Valid }) ∷ [])
     ∙ sym (opened_changes m T key contacts))

@@ -1,13 +1,13 @@
 -- The verdicts on newAccount requests: their forms, and the rows that they look at.
-use Rattle.std.proofs.Common.{◌≡◌, ℕ, ◌+◌, ◌*◌, ◌<◌, ◌≤◌, ◌^◌, Bool, true, false, not, List, [], ◌∷◌, ◌++◌, length, Option, Some, None, Result, Ok, Err, refl, sym, ap, ◌∙◌, arith, cond}
+use Rattle.std.proofs.Common.{◌≡◌, ℕ, ◌+◌, Bool, true, false, not, List, [], Option, Some, None, Result, Ok, Err, refl, ap, ◌∙◌}
 use Rattle.std.specs.Prelude.{find, bytes_eq}
 use Rattle.desk_model.specs.Tables.{Tables}
-use Rattle.desk_model.specs.Verdict.{check, given, unless_fault, choose}
+use Rattle.desk_model.specs.Verdict.{check, given, unless_fault}
 use Rattle.desk_model.specs.Account.{is_valid}
 use Rattle.desk_model.specs.Contact.{contacts_fault}
 use Rattle.desk_model.specs.Payload.{new_account}
 use Rattle.desk_model.specs.Questions.{account_with_key}
-use Rattle.desk_model.specs.Rules.{open_account, known_account_verdict, new_account_verdict, key_verdict, signed_verdict}
+use Rattle.desk_model.specs.Rules.{open_account, new_account_verdict, key_verdict, signed_verdict}
 use Rattle.desk_model.specs.Decide.{entries_of}
 use Rattle.desk_model.specs.Run.{count_pieces}
 use Rattle.desk_model.specs.declared.payload.NewAccount.{NewAccount}
@@ -52,6 +52,7 @@ verdict_served T r s h = by s.key s.target h
     by_target : (key : List ℕ) (t : Target) → IsServedTarget t → IsServedVerdict (key_verdict T r key s.payload t)
     by_target key to.NewAccount h = new_account_served T key (account_with_key T key) (new_account s.payload)
     by_target key _ h = absurd h
+
     by : (k : Result (List ℕ) BadKey) (t : Target) → IsServedTarget t → IsServedVerdict (elim k [ Err e ↦ refused 5 [] | Ok key ↦ key_verdict T r key s.payload t ])
     by (Err e) t h = tt
     by (Ok key) t h = by_target key t h
@@ -63,14 +64,17 @@ verdict_same T U r s h rows last = by s.key s.target h
   where
     opens : (key : List ℕ) (p : NewAccount) → open_account T key p ≡ open_account U key p
     opens key p = λ i. check (not p.only_existing) 6 (unless_fault (contacts_fault p.contacts) (accepted (Some (opened key p.contacts)) (show.OpenedAccount (last i + 1))))
+
     by_row : (key : List ℕ) (o : Option AccountRow) (payload : Option NewAccount) → new_account_verdict T key o payload ≡ new_account_verdict U key o payload
     by_row key (Some a) payload = refl
     by_row key None payload = λ i. given payload 1 (λ p. opens key p i)
+
     by_target : (key : List ℕ) (t : Target) → IsServedTarget t → key_verdict T r key s.payload t ≡ key_verdict U r key s.payload t
     by_target key to.NewAccount h =
         by_row key (account_with_key T key) (new_account s.payload)
         ∙ ap (λ l. new_account_verdict U key (find (λ a. bytes_eq a.key key) l) (new_account s.payload)) rows
     by_target key _ h = absurd h
+
     by : (k : Result (List ℕ) BadKey) (t : Target) → IsServedTarget t →
         elim k as (λ _. Verdict) [ Err e ↦ refused 5 [] | Ok key ↦ key_verdict T r key s.payload t ]
         ≡ elim k as (λ _. Verdict) [ Err e ↦ refused 5 [] | Ok key ↦ key_verdict U r key s.payload t ]

@@ -1,8 +1,8 @@
 -- What a decision promises, against the history of which the book is the picture.
-use Rattle.std.specs.Prelude.{◌≡◌, Option, Some, None, List}
+use Rattle.std.specs.Prelude.{◌≡◌, Some, None, List}
 use Rattle.desk_model.specs.Entry.{History}
 use Rattle.desk_model.specs.Legal.{Legal}
-use Rattle.desk_model.specs.Tables.{Tables, picture}
+use Rattle.desk_model.specs.Tables.{picture}
 use Rattle.desk_model.specs.Change.{applied}
 use Rattle.desk_model.specs.Decide.{decide, after}
 use Rattle.desk_model.specs.Run.{fault}

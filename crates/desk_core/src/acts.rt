@@ -1,6 +1,5 @@
 //! What a verdict records and shows.
 ghost use Rattle.std.specs.Prelude.{◌≡◌, ◌++◌, ◌<◌, ◌≤◌, ◌^◌, ℕ, List, length, true, IfOk, IfErr, OnOk};
-
 ghost use Rattle.desk_model.specs.Tables.{Tables};
 ghost use Rattle.desk_model.specs.Change.{applied};
 ghost use Rattle.desk_model.specs.Shown.{reply_of, with_nonce, fresh_nonce};
@@ -34,12 +33,7 @@ fn record_entry(recording: &mut Recording, entry: Option<Entry>) -> Result<(), A
 }
 
 /// What is shown, by the rows of the book after these changes.
-fn shown(
-    alloc: Global,
-    changes: &[Change],
-    book: &Book,
-    shows: Shows,
-) -> Result<Reply, AllocError>
+fn shown(alloc: Global, changes: &[Change], book: &Book, shows: Shows) -> Result<Reply, AllocError>
     ensures { IfOk result (λ r. IsServedShows shows → (applied changes.now book.now).meta.policy ≡ book.now.meta.policy
         → r ≡ reply_of (applied changes.now book.now) shows) }
 {

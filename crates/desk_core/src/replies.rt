@@ -11,11 +11,7 @@ use desk_model::{AccountRow, Allow, Body, Policy, Problem, Reply, Sequence, Subp
 use std::alloc::{AllocError, Global};
 
 /// The refusal of a number; `index` says whether the reply has the link to the directory.
-pub(crate) fn refusal_reply(
-    number: u8,
-    subproblems: Sequence<Subproblem>,
-    index: bool,
-) -> Reply
+pub(crate) fn refusal_reply(number: u8, subproblems: Sequence<Subproblem>, index: bool) -> Reply
     ensures { result ≡ refusal_reply index number subproblems }
 {
     Reply {

@@ -1,6 +1,6 @@
 -- Accounts (RFC 8555, 7.1.2, 7.1.6, 7.3).
 use Rattle.std.specs.Prelude.{ℕ, ◌+◌, List, [], ◌∷◌, ◌++◌, length, Bool, false, true, ◌==◌, Option, Some, None, find, bytes_eq, if◌then◌else◌, unwrap_or}
-use Rattle.desk_model.specs.Entry.{Entry, opened, contacts_changed, account_ended, Ending, deactivated, revoked, Dated, History}
+use Rattle.desk_model.specs.Entry.{Entry, opened, contacts_changed, account_ended, deactivated, revoked, History}
 use Rattle.desk_model.specs.History.{first, latest}
 pub use Rattle.desk_model.specs.declared.objects.Account.{Account}
 pub use Rattle.desk_model.specs.declared.objects.AccountEnd.{AccountEnd}

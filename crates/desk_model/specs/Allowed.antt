@@ -1,6 +1,6 @@
 -- Which entry may follow, by the tables at its moment.
-use Rattle.std.specs.Prelude.{ℕ, ◌+◌, List, [], ◌∷◌, length, Bool, true, false, ◌&&◌, ◌||◌, ◌==◌, Option, Some, None, is_some, is_none, find, bytes_eq, map}
-use Rattle.std.specs.List.{list_any, list_all}
+use Rattle.std.specs.Prelude.{ℕ, length, Bool, false, ◌&&◌, ◌||◌, ◌==◌, is_some, is_none, find, bytes_eq, map}
+use Rattle.std.specs.List.{list_all}
 use Rattle.desk_model.specs.Lookup.{holds}
 use Rattle.desk_model.specs.Entry.{Entry, made, issued, spent, opened, contacts_changed, account_ended, ordered, answered, reported, authorization_ended, finalized, certified, failed}
 use Rattle.desk_model.specs.Contact.{contacts_pass}
@@ -8,7 +8,7 @@ use Rattle.desk_model.specs.Account.{is_valid as is_valid_account}
 use Rattle.desk_model.specs.Authorization.{is_pending, is_valid}
 use Rattle.desk_model.specs.Order.{is_ready, is_processing}
 use Rattle.desk_model.specs.Legal.{is_pending_challenge, is_processing_challenge, has_length, all_different, is_wanted, wanted_name, is_problem}
-use Rattle.desk_model.specs.Tables.{Tables, AccountRow, AuthorizationRow, ChallengeRow, OrderRow}
+use Rattle.desk_model.specs.Tables.{Tables}
 use Rattle.desk_model.specs.Questions.{account_on, order_on, authorization_on, owner_on, challenge_of}
 use Rattle.desk_model.specs.declared.status.ChallengeStatus.{ChallengeStatus}
 

@@ -1,5 +1,5 @@
 -- The status that a row ought to have, from its dated columns and the statuses stored beside it.
-use Rattle.std.specs.Prelude.{ℕ, ◌==◌, ◌≤◌, nat_le, List, [], ◌∷◌, ◌++◌, map, Bool, true, false, cond, ◌||◌, nat_lt, Option, Some, None, is_some, find}
+use Rattle.std.specs.Prelude.{ℕ, ◌==◌, nat_le, List, [], ◌∷◌, ◌++◌, map, Bool, cond, ◌||◌, nat_lt, Option, Some, None, is_some, find}
 use Rattle.std.specs.List.{flat_map, list_any, list_all}
 use Rattle.desk_model.specs.Lookup.{holds}
 use Rattle.desk_model.specs.Account.{status_of}

@@ -1,15 +1,15 @@
 -- The JSON documents of replies (RFC 8555, 7.1), by the rows that they show.
-use Rattle.std.specs.Prelude.{ℕ, List, [], ◌∷◌, ◌++◌, map, Bool, false, true, ◌&&◌, ◌==◌, not, Option, Some, None, is_some, if◌then◌else◌, bytes_eq, codes, decimal}
+use Rattle.std.specs.Prelude.{ℕ, List, [], ◌∷◌, ◌++◌, map, Bool, false, true, ◌&&◌, ◌==◌, Option, Some, None, is_some, if◌then◌else◌, bytes_eq, codes, decimal}
 use Rattle.std.specs.List.{filter, flat_map, slice_split}
-use Rattle.serde_json.specs.Data.{unsigned, Data, boolean, number, string, object}
-use Rattle.desk_model.specs.Json.{members, document, list, when}
+use Rattle.serde_json.specs.Data.{unsigned, Data, boolean, number, string}
+use Rattle.desk_model.specs.Json.{document, list, when}
 use Rattle.desk_model.specs.Terms.{Terms}
 use Rattle.desk_model.specs.Names.{shown_name}
 use Rattle.desk_model.specs.Moment.{moment_text}
 use Rattle.desk_model.specs.Tokens.{base64url, token_text, authorization_of, dns_value_of}
 use Rattle.sha2.specs.Sha256.{sha256}
 use Rattle.desk_model.specs.Refusals.{error_type}
-use Rattle.desk_model.specs.Entry.{Outcome, good, incorrect_response, connection, dns, OrderProblem}
+use Rattle.desk_model.specs.Entry.{Outcome, good, incorrect_response, connection, dns}
 use Rattle.desk_model.specs.Authorization.{Kind, http_01, dns_01, Report, is_pending}
 use Rattle.desk_model.specs.Order.{DatedBytes, DatedProblem, is_processing}
 use Rattle.desk_model.specs.Legal.{is_processing_challenge}

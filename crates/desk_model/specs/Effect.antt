@@ -1,25 +1,22 @@
 -- What an entry, and what the passing of time, does to the rows.
-use Rattle.std.specs.Prelude.{ℕ, ◌+◌, List, [], ◌∷◌, ◌++◌, length, map, Bool, true, false, not, cond, ◌&&◌, ◌||◌, ◌==◌, nat_lt, nat_le, Option, Some, None, is_some, find, unwrap_or, if◌then◌else◌}
-use Rattle.std.specs.List.{filter, flat_map, list_any, list_all}
-use Rattle.desk_model.specs.Name.{Name}
+use Rattle.std.specs.Prelude.{ℕ, ◌+◌, List, [], ◌∷◌, ◌++◌, length, map, Bool, true, false, not, cond, ◌&&◌, ◌||◌, ◌==◌, nat_lt, nat_le, Option, Some, None, unwrap_or, if◌then◌else◌}
+use Rattle.std.specs.List.{filter, list_any}
 use Rattle.desk_model.specs.Terms.{Terms}
 use Rattle.desk_model.specs.Lookup.{holds}
-use Rattle.desk_model.specs.Entry.{Entry, made, issued, spent, opened, contacts_changed, account_ended, ordered, answered, reported, authorization_ended, finalized, certified, failed, Ending, Outcome, Dated, History}
-use Rattle.desk_model.specs.History.{clock, terms, terms_after, earlier}
+use Rattle.desk_model.specs.Entry.{Entry, spent, contacts_changed, account_ended, answered, reported, authorization_ended, finalized, certified, failed, Outcome}
+use Rattle.desk_model.specs.History.{terms_after, earlier}
 use Rattle.desk_model.specs.Nonce.{Nonce, issued_by}
 use Rattle.desk_model.specs.Account.{Account, opened_by, AccountEnd, changing, ends as account_ends, status_of as account_status_of}
-use Rattle.desk_model.specs.Authorization.{Authorization, Challenge, AuthorizationEnd, Report, made_by, count_challenges, in_time, is_good, answering, reporting, kind_of, challenge_status_by}
+use Rattle.desk_model.specs.Authorization.{Authorization, Challenge, AuthorizationEnd, Report, made_by, count_challenges, in_time, is_good, kind_of, challenge_status_by}
 use Rattle.desk_model.specs.Order.{Order, ordered_by, finalizing, certifying, failing}
-use Rattle.desk_model.specs.Tables.{Meta, AccountRow, ChallengeRow, AuthorizationRow, OrderRow, Listed, Tables, listed_from}
+use Rattle.desk_model.specs.Tables.{AccountRow, ChallengeRow, AuthorizationRow, OrderRow, Tables, listed_from}
 use Rattle.desk_model.specs.Derived.{authorization_numbered, numbers_of, restated_authorization, restated_order}
 use Rattle.desk_model.specs.declared.objects.EndKind.TheVariants as kind
-use Rattle.desk_model.specs.declared.status.AccountStatus.{AccountStatus}
 use Rattle.desk_model.specs.declared.status.AccountStatus.TheVariants as account
 use Rattle.desk_model.specs.declared.status.OrderStatus.{OrderStatus}
 use Rattle.desk_model.specs.declared.status.OrderStatus.TheVariants as order
 use Rattle.desk_model.specs.declared.status.AuthzStatus.{AuthzStatus}
 use Rattle.desk_model.specs.declared.status.AuthzStatus.TheVariants as authz
-use Rattle.desk_model.specs.declared.status.ChallengeStatus.{ChallengeStatus}
 use Rattle.desk_model.specs.declared.status.ChallengeStatus.TheVariants as chall
 
 -- ---- dated columns

@@ -1,5 +1,5 @@
 -- The dated facts of a desk, of thirteen kinds, and the histories that they make.
-use Rattle.std.specs.Prelude.{ℕ, List}
+use Rattle.std.specs.Prelude.{List}
 pub use Rattle.desk_model.specs.declared.entry.Ending.{Ending}
 pub use Rattle.desk_model.specs.declared.entry.Ending.TheVariants.{Deactivated as deactivated, Revoked as revoked}
 pub use Rattle.desk_model.specs.declared.entry.Outcome.{Outcome}

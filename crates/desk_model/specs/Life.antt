@@ -1,9 +1,7 @@
 -- The lives of a desk: what may happen to it, and what holds over every life.
-use Rattle.std.specs.Prelude.{ℕ, ◌≡◌, List, [], ◌∷◌, ◌++◌, Bool, true, false, Option, Some, None, IsTrue, is_some, option_map}
-use Rattle.std.specs.List.{find}
-use Rattle.desk_model.specs.Lookup.{holds}
+use Rattle.std.specs.Prelude.{ℕ, ◌≡◌, List, [], ◌∷◌, ◌++◌, Bool, true, false, Option, Some, None, IsTrue, is_some}
 use Rattle.desk_model.specs.Terms.{Terms}
-use Rattle.desk_model.specs.Entry.{made, Dated, History}
+use Rattle.desk_model.specs.Entry.{made, History}
 use Rattle.desk_model.specs.History.{moment_of}
 use Rattle.desk_model.specs.Legal.{Legal}
 use Rattle.desk_model.specs.Authorization.{is_over}
@@ -11,7 +9,7 @@ use Rattle.desk_model.specs.Tables.{Tables, AccountRow, ChallengeRow, Authorizat
 use Rattle.desk_model.specs.Questions.{account_on, order_on, authorization_on, owner_on, challenge_of}
 use Rattle.desk_model.specs.Rules.{open_nonce}
 use Rattle.desk_model.specs.Decide.{decide, after}
-use Rattle.desk_model.specs.Run.{fault, IsFormedCall, after_all, IsBeginning}
+use Rattle.desk_model.specs.Run.{fault, IsFormedCall, IsBeginning}
 use Rattle.desk_model.specs.declared.call.Call.{Call}
 use Rattle.desk_model.specs.declared.call.Ask.TheVariants as ask
 use Rattle.desk_model.specs.declared.call.Signed.{Signed}

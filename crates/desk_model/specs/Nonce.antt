@@ -1,9 +1,7 @@
 -- Nonces (RFC 8555, 6.5).
-use Rattle.std.specs.Prelude.{ℕ, ◌+◌, List, [], ◌∷◌, ◌++◌, length, Bool, false, true, ◌&&◌, ◌==◌, nat_le, Option, Some, None, IfSome, find, bytes_eq, is_none, if◌then◌else◌}
-use Rattle.desk_model.specs.Terms.{Terms}
-use Rattle.desk_model.specs.Entry.{Entry, issued, spent, Dated, History}
+use Rattle.std.specs.Prelude.{ℕ, ◌+◌, List, [], ◌∷◌, ◌++◌, length, Bool, ◌&&◌, ◌==◌, nat_le, Option, Some, None, find, is_none, if◌then◌else◌}
+use Rattle.desk_model.specs.Entry.{Entry, issued, spent, History}
 use Rattle.desk_model.specs.History.{first, terms}
-use Rattle.desk_model.specs.Lookup.{holds}
 pub use Rattle.desk_model.specs.declared.objects.Nonce.{Nonce}
 
 -- the nonce that the entry issues, if it does

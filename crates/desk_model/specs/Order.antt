@@ -1,8 +1,8 @@
 -- Orders (RFC 8555, 7.1.3, 7.1.6, 7.4).
-use Rattle.std.specs.Prelude.{ℕ, ◌+◌, List, [], ◌∷◌, ◌++◌, length, drop, Bool, false, true, ◌==◌, ◌&&◌, ◌||◌, nat_lt, Option, Some, None, find, if◌then◌else◌, is_some}
+use Rattle.std.specs.Prelude.{ℕ, ◌+◌, List, [], ◌∷◌, ◌++◌, length, Bool, false, true, ◌==◌, ◌||◌, nat_lt, Option, Some, None, find, if◌then◌else◌, is_some}
 use Rattle.std.specs.List.{list_any, list_all}
 use Rattle.desk_model.specs.Terms.{Terms}
-use Rattle.desk_model.specs.Entry.{Entry, ordered, finalized, certified, failed, Wanted, new, OrderProblem, Dated, History}
+use Rattle.desk_model.specs.Entry.{Entry, ordered, finalized, certified, failed, History}
 use Rattle.desk_model.specs.History.{first, terms}
 use Rattle.desk_model.specs.Authorization.{Authorization, authorizations, authorization_status, is_over, is_valid, made_by, count_challenges}
 pub use Rattle.desk_model.specs.declared.objects.Order.{Order}

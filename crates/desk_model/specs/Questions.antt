@@ -1,6 +1,5 @@
 -- What a decision asks of the tables.
-use Rattle.std.specs.Prelude.{ℕ, ◌==◌, List, Bool, Option, find, bytes_eq}
-use Rattle.std.specs.List.{list_any}
+use Rattle.std.specs.Prelude.{ℕ, ◌==◌, List, Option, find, bytes_eq}
 use Rattle.desk_model.specs.Nonce.{Nonce}
 use Rattle.desk_model.specs.Effect.{has_row}
 use Rattle.desk_model.specs.Tables.{Tables, AccountRow, ChallengeRow, AuthorizationRow, OrderRow}

@@ -1,5 +1,5 @@
 -- The refusals: their numbers, error types (RFC 8555, 6.7), HTTP statuses and texts.
-use Rattle.std.specs.Prelude.{ℕ, List, [], ◌∷◌, ◌++◌, map, Bool, false, true, ◌==◌, Option, Some, None, codes, find, unwrap_or}
+use Rattle.std.specs.Prelude.{ℕ, List, [], ◌∷◌, ◌++◌, map, ◌==◌, codes, find, unwrap_or}
 use Rattle.serde_json.specs.Data.{unsigned, Data, string}
 use Rattle.serde_json.specs.Data as json
 use Rattle.desk_model.specs.Json.{document, list}

@@ -1,12 +1,12 @@
 -- The rules on requests: which are refused, and what the others record and show, by the tables at their moment.
-use Rattle.std.specs.Prelude.{ℕ, suc, zero, ◌+◌, ◌*◌, List, [], ◌∷◌, ◌++◌, map, length, take, drop, filter, Bool, false, true, not, ◌&&◌, ◌||◌, ◌==◌, nat_le, Option, Some, None, Ok, Err, is_none, is_some, if◌then◌else◌, bytes_eq, codes, option_and_then}
+use Rattle.std.specs.Prelude.{ℕ, suc, zero, ◌+◌, ◌*◌, List, [], ◌∷◌, length, take, drop, filter, Bool, false, true, not, ◌&&◌, ◌||◌, ◌==◌, nat_le, Option, Some, None, Ok, Err, is_none, if◌then◌else◌, bytes_eq, codes, option_and_then}
 use Rattle.desk_model.specs.Lookup.{holds}
 use Rattle.desk_model.specs.Name.{Name, same_name}
 use Rattle.desk_model.specs.Names.{name_of}
 use Rattle.desk_model.specs.Tokens.{NonceText, nonce_in, body_matches, records_match, from_base64url}
-use Rattle.desk_model.specs.Entry.{Entry, opened, contacts_changed, account_ended, ordered, answered, reported, authorization_ended, finalized, certified, failed, Wanted, new, Ending, deactivated, revoked, Outcome, good, incorrect_response, connection, dns, OrderProblem}
+use Rattle.desk_model.specs.Entry.{opened, contacts_changed, account_ended, ordered, answered, reported, authorization_ended, finalized, certified, failed, Wanted, new, Ending, deactivated, revoked, Outcome, good, incorrect_response, connection, dns, OrderProblem}
 use Rattle.desk_model.specs.Nonce.{Nonce}
-use Rattle.desk_model.specs.Account.{AccountEnd, is_valid as is_valid_account}
+use Rattle.desk_model.specs.Account.{is_valid as is_valid_account}
 use Rattle.desk_model.specs.Authorization.{Kind, http_01, dns_01, is_pending, is_valid, kinds_of}
 use Rattle.desk_model.specs.Order.{is_ready, is_processing}
 use Rattle.desk_model.specs.Contact.{contacts_fault}
@@ -28,7 +28,6 @@ use Rattle.desk_model.specs.declared.call.Target.{Target}
 use Rattle.desk_model.specs.declared.call.Target.TheVariants as to
 use Rattle.desk_model.specs.declared.call.Finding.{Finding}
 use Rattle.desk_model.specs.declared.call.Finding.TheVariants as found
-use Rattle.desk_model.specs.declared.call.FetchError.{FetchError}
 use Rattle.desk_model.specs.declared.call.FetchError.TheVariants as fetch
 
 -- ---- accounts (RFC 8555, 7.3)

@@ -1,6 +1,6 @@
 -- Runs of calls, the faults of a call, and beginnings of a history.
-use Rattle.std.specs.Prelude.{ℕ, ◌+◌, ◌*◌, ◌≡◌, List, [], ◌∷◌, ◌++◌, length, Bool, true, false, not, nat_lt, Option, Some, None, Ok, Err, if◌then◌else◌}
-use Rattle.desk_model.specs.Entry.{Entry, made, issued, ordered, Wanted, new, History}
+use Rattle.std.specs.Prelude.{ℕ, ◌+◌, ◌*◌, ◌≡◌, List, [], ◌∷◌, length, not, nat_lt, Option, Some, None, Ok, Err, if◌then◌else◌}
+use Rattle.desk_model.specs.Entry.{Entry, issued, ordered, Wanted, new, History}
 use Rattle.desk_model.specs.Keys.{IsKeyText}
 use Rattle.desk_model.specs.Legal.{numbers_fit, last_moment}
 use Rattle.desk_model.specs.Decide.{decide, after}

@@ -1,7 +1,6 @@
 -- Replies: what each shows, by the tables after its entries.
-use Rattle.std.specs.Prelude.{ℕ, ◌+◌, List, [], ◌∷◌, take, Bool, false, true, Option, Some, None, if◌then◌else◌}
+use Rattle.std.specs.Prelude.{ℕ, ◌+◌, List, take, Bool, Option, Some, None, if◌then◌else◌}
 use Rattle.serde_json.specs.Data.{Data}
-use Rattle.desk_model.specs.Terms.{Terms}
 use Rattle.desk_model.specs.Tokens.{nonce_text}
 use Rattle.desk_model.specs.Order.{DatedBytes}
 use Rattle.desk_model.specs.Tables.{Tables, AccountRow, ChallengeRow, AuthorizationRow, OrderRow}

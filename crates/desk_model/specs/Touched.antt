@@ -1,11 +1,11 @@
 -- Some rows of the tables, chosen by their numbers, and what makes them enough for a call.
-use Rattle.std.specs.Prelude.{ℕ, ◌+◌, ◌<◌, ◌≡◌, List, [], ◌∷◌, ◌++◌, length, map, Bool, true, false, not, cond, ◌&&◌, ◌||◌, ◌==◌, nat_lt, nat_le}
+use Rattle.std.specs.Prelude.{ℕ, ◌<◌, ◌≡◌, List, [], ◌∷◌, Bool, true, not, ◌&&◌, ◌||◌, ◌==◌, nat_lt}
 use Rattle.std.specs.List.{filter, list_any}
 use Rattle.desk_model.specs.Entry.{Entry}
 use Rattle.desk_model.specs.Nonce.{Nonce}
-use Rattle.desk_model.specs.Tables.{Meta, AccountRow, AuthorizationRow, OrderRow, Tables}
+use Rattle.desk_model.specs.Tables.{AccountRow, AuthorizationRow, OrderRow, Tables}
 use Rattle.desk_model.specs.Derived.{numbers_of}
-use Rattle.desk_model.specs.Effect.{touches_account, touches_authorization, touches_order, not_spent, lasts, is_overdue, is_live_order, lists_one, falls, effect, swept}
+use Rattle.desk_model.specs.Effect.{touches_account, touches_authorization, touches_order, lasts, is_overdue, is_live_order, lists_one, falls}
 
 -- which rows are kept, by number
 pub record Kept : Type 0 where

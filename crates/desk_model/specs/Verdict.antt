@@ -1,7 +1,6 @@
 -- What becomes of a request: the first test that fails refuses it, else something is recorded and shown.
-use Rattle.std.specs.Prelude.{ℕ, List, [], Bool, false, true, Option, Some, None}
+use Rattle.std.specs.Prelude.{ℕ, [], Bool, false, true, Option, Some, None}
 use Rattle.desk_model.specs.Entry.{Entry}
-use Rattle.desk_model.specs.declared.reply.Subproblem.{Subproblem}
 pub use Rattle.desk_model.specs.declared.verdict.Verdict.{Verdict}
 pub use Rattle.desk_model.specs.declared.verdict.Verdict.TheVariants.{Refused as refused, Accepted as accepted}
 pub use Rattle.desk_model.specs.declared.verdict.Shows.{Shows}

@@ -1,4 +1,4 @@
-use Rattle.std.proofs.Common.{◌≡◌, ◌∙◌, ◌≤◌, ap, max, arith}
+use Rattle.std.proofs.Common.{◌∙◌, ap, max, arith}
 use Rattle.desk_model.specs.declared.rows.Meta.{Meta}
 use Rattle.desk_core.proofs.DecidingAsks.{code_decides, ok_part, err_part}
 use Rattle.desk_core.specs.Outcomes.{MeetsAsk, IsAskFault}

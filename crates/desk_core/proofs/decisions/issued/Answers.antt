@@ -1,4 +1,4 @@
-use Rattle.std.proofs.Common.{◌∷◌, [], take, ap, ◌∙◌}
+use Rattle.std.proofs.Common.{◌∷◌, [], ap, ◌∙◌}
 use Rattle.desk_model.specs.declared.entry.Entry.TheVariants.{Issued as issued}
 use Rattle.desk_core.specs.Recorded.{recorded_changes}
 use Rattle.desk_core.proofs.decisions.issued.Goals as goal

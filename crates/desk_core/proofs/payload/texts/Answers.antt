@@ -1,4 +1,4 @@
-use Rattle.std.proofs.Common.{◌≡◌, ◌<◌, Some, None, length, List, [], ◌∷◌, ◌++◌, ℕ, sym, ap, ◌∙◌, arith}
+use Rattle.std.proofs.Common.{Some, List, [], ◌∷◌, ◌++◌, ℕ, sym, ap, ◌∙◌, arith}
 use Rattle.std.specs.Prelude.{option_map}
 use Rattle.serde_json.specs.Find.{as_str}
 use Rattle.desk_core.proofs.EachIn.{each_in-none, each_in-last}

@@ -1,9 +1,8 @@
-use Rattle.std.proofs.Common.{◌∙◌, ap, sym}
+use Rattle.std.proofs.Common.{◌∙◌, ap}
 use Rattle.std.specs.Map.{values_of}
 use Rattle.std.specs.BTreeMap.{insert_entry}
 use Rattle.std.proofs.Common.{nat_cmp}
 use Rattle.desk_model.specs.Change.{put}
-use Rattle.desk_book.specs.Keyed.{IsKeyed}
 use Rattle.desk_book.proofs.KeyedRows.{insert-put, IsKeyed-insert}
 use Rattle.desk_book.proofs.table.Table.put.Goals as goal
 

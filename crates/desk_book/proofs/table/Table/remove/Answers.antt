@@ -1,4 +1,4 @@
-use Rattle.std.proofs.Common.{◌∙◌, ap, sym}
+use Rattle.std.proofs.Common.{◌∙◌, ap}
 use Rattle.std.specs.Map.{values_of}
 use Rattle.desk_model.specs.Change.{remove}
 use Rattle.desk_book.proofs.KeyedRows.{remove-remove, IsKeyed-remove}

@@ -1,4 +1,4 @@
-use Rattle.std.proofs.Common.{◌≡◌, ◌∙◌, ap, sym, subst}
+use Rattle.std.proofs.Common.{◌∙◌, ap, sym, subst}
 use Rattle.std.specs.Map.{values_of}
 use Rattle.desk_book.specs.Keyed.{IsKeyed}
 use Rattle.desk_book.proofs.KeyedRows.{clones_same}

@@ -1,5 +1,5 @@
 use Rattle.desk_core.proofs.Recordings.{and_issued, recorded_as, both_ok}
-use Rattle.desk_model.specs.declared.entry.Entry.TheVariants.{Issued as issued, Spent as spent}
+use Rattle.desk_model.specs.declared.entry.Entry.TheVariants.{Issued as issued}
 use Rattle.std.proofs.Common.{◌++◌, ◌∷◌, []}
 use Rattle.desk_core.proofs.recording.Recording.issue.Goals as goal
 
