@@ -4,8 +4,8 @@ use Rattle.std.specs.Prelude.{◌||◌}
 use Rattle.serde_json.specs.Data.{string, unsigned}
 use Rattle.serde_json.specs.Data as json
 use Rattle.serde_json.specs.View.{items_of}
-use Rattle.serde_json.specs.Written.{has_float, items_have_float, members_have_float}
-use Rattle.desk_model.specs.Json.{document, members}
+use Rattle.serde_json.specs.Written.{has_float, items_have_float}
+use Rattle.desk_model.specs.Json.{document}
 use Rattle.desk_model.specs.Refusals.{refusal_of, error_type, problem_document, subproblem_document, subproblem_members}
 use Rattle.desk_model.specs.declared.reply.Problem.{Problem}
 use Rattle.desk_model.specs.declared.reply.Subproblem.{Subproblem}

@@ -1,9 +1,9 @@
 -- From the value of a line to its bytes.
-use Rattle.std.proofs.Common.{◌≡◌, ℕ, List, Some, Ok, Err, Result, MatchResult, subst, sym, ◌∙◌, ap}
-use Rattle.std.specs.Prelude.{IsUtf8, Option, None}
-use Rattle.serde_json.specs.Data.{Data, null}
+use Rattle.std.proofs.Common.{◌≡◌, ℕ, List, Some, Ok, Err, Result, MatchResult, subst}
+use Rattle.std.specs.Prelude.{IsUtf8}
+use Rattle.serde_json.specs.Data.{Data}
 use Rattle.serde_json.specs.Read.{read}
-use Rattle.desk_app.specs.Lines.{Line, IsLine, Spells}
+use Rattle.desk_app.specs.Lines.{IsLine}
 use Rattle.desk_app.specs.Said.{Asks, IsRequestIn, IsNoLine, SpellsNone}
 use Rattle.desk_app.specs.declared.batch.LineFault.{LineFault}
 use Rattle.desk_app.specs.declared.batch.LineFault.TheVariants as linefault

@@ -1,17 +1,17 @@
 -- What the desk answers to calls, by every legal history that its tables are the picture of.
-use Rattle.std.specs.Prelude.{ℕ, ◌≡◌, ◌<◌, List, [], ◌∷◌, length, Option, Some, None, drop}
+use Rattle.std.specs.Prelude.{ℕ, ◌≡◌, List, [], ◌∷◌, length, Option, Some, None, drop, take}
 use Rattle.desk_model.specs.Entry.{History}
 use Rattle.desk_model.specs.Legal.{Legal}
 use Rattle.desk_model.specs.Tables.{Tables, picture}
 use Rattle.desk_model.specs.Decide.{decide, after}
-use Rattle.desk_model.specs.Run.{fault}
+use Rattle.desk_model.specs.Run.{fault, run}
 use Rattle.desk_model.specs.declared.call.Call.{Call}
 use Rattle.desk_model.specs.declared.reply.Reply.{Reply}
 use Rattle.desk_core.specs.Served.{IsServed}
 use Rattle.desk_app.specs.declared.desk.DeskFault.{DeskFault}
 use Rattle.desk_app.specs.declared.desk.DeskFault.TheVariants as deskfault
 
--- the call has no fault, the reply is the one that is decided, and the tables are those after the call, of a legal history
+-- the call has no fault, the reply is the one that is decided, and the tables are those after the call, which is legal
 pub record IsAnswered (F : History) (call : Call) (reply : Reply) (later : Tables) : Type 0 where
   pub faultless : fault F call ≡ None
   pub decided : reply ≡ (decide F call).reply
@@ -35,6 +35,11 @@ pub record Declines (before : Tables) (call : Call) (why : DeskFault) (later : T
   pub unchanged : later ≡ before
   pub cause : IsServed call.ask → (F : History) → Legal F → before ≡ picture F → IsFault why (fault F call)
 
+-- each call is served
+abbrev pub AllServed : List Call → Type 0
+AllServed [] = Unit {0}
+AllServed (call ∷ calls) = IsServed call.ask × AllServed calls
+
 -- these calls have these replies, one after the other
 abbrev pub AnswersAll : Tables → List Call → List Reply → Tables → Type 0
 AnswersAll before [] [] later = later ≡ before
@@ -51,3 +56,9 @@ DeclinesNext now (call ∷ calls) why = Declines now call why now
 abbrev pub EndsRun : Tables → List Call → ℕ → Option DeskFault → Type 0
 EndsRun now calls answered None = answered ≡ length calls
 EndsRun now calls answered (Some why) = DeclinesNext now (drop answered calls) why
+
+-- the calls ran as the model's do: those that were answered, and all of them up to the first fault, unless memory was refused
+pub record IsRun (F : History) (calls : List Call) (replies : List Reply) (why : Option DeskFault) (later : Tables) : Type 0 where
+  pub answered : replies ≡ (run F (take (length replies) calls)).replies
+  pub recorded : later ≡ picture (run F (take (length replies) calls)).history
+  pub whole : (why ≡ Some deskfault.Memory → ⊥) → run F (take (length replies) calls) ≡ run F calls

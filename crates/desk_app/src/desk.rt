@@ -1,8 +1,10 @@
 //! One desk, which answers calls one after the other.
-ghost use Rattle.std.specs.Prelude.{◌≡◌, ◌∷◌, [], MatchResult, MatchOption, length, take};
+ghost use Rattle.std.specs.Prelude.{◌≡◌, ◌∷◌, [], MatchResult, length, take};
 ghost use Rattle.desk_model.specs.declared.entry.Entry.TheVariants.{Made as made};
+ghost use Rattle.desk_model.specs.Entry.{History};
+ghost use Rattle.desk_model.specs.Legal.{Legal};
 ghost use Rattle.desk_model.specs.Tables.{picture};
-ghost use Rattle.desk_app.specs.Answers.{Answers, Declines, AnswersAll, EndsRun};
+ghost use Rattle.desk_app.specs.Answers.{Answers, Declines, AllServed, AnswersAll, EndsRun, IsRun};
 
 use desk_book::Book;
 use desk_core::{CoreFault, decide};
@@ -110,8 +112,15 @@ impl Desk {
         }
     }
 
-    /// The replies to calls made in turn, up to the first fault.
+    /// The replies to calls made in turn, up to the first fault; want of memory is found before a call is made.
     pub fn run(&mut self, calls: &[Call]) -> (Vec<Reply>, Option<DeskFault>)
+        ensures { AllServed calls.now → (F : History) → Legal F → self.old ≡ picture F → IsRun F calls.now result.0.items result.1 self.new }
+    {
+        self.answer_all(calls)
+    }
+
+    // The replies to the calls before the first fault, and the fault.
+    fn answer_all(&mut self, calls: &[Call]) -> (Vec<Reply>, Option<DeskFault>)
         ensures answered { AnswersAll self.old (take (length result.0.items) calls.now) result.0.items self.new }
         ensures ended { EndsRun self.new calls.now (length result.0.items) result.1 }
     {

@@ -3,12 +3,11 @@
 
 mod batch;
 mod desk;
+#[cfg(test)]
+mod failing_streams;
 mod lines;
 mod problems;
 mod requests;
-
-#[cfg(test)]
-mod failing_streams;
 #[cfg(test)]
 mod tests;
 

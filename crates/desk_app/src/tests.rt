@@ -15,11 +15,14 @@ const FIRST_NONCE: &str = "AAAAAAAAAAEAAAAAAAAAAAAAAAAAAAAA";
 
 const SECOND_NONCE: &str = "AAAAAAAAAAIAAAAAAAAAAAAAAAAAAAAA";
 
-const MISSING: &str = r#"404 - - {"detail":"there is nothing here","status":404,"type":"urn:ietf:params:acme:error:malformed"}"#;
+const MISSING: &str =
+    r#"404 - - {"detail":"there is nothing here","status":404,"type":"urn:ietf:params:acme:error:malformed"}"#;
 
-const ILL_FORMED: &str = r#"400 - - {"detail":"the request is not well formed","status":400,"type":"urn:ietf:params:acme:error:malformed"}"#;
+const ILL_FORMED: &str =
+    r#"400 - - {"detail":"the request is not well formed","status":400,"type":"urn:ietf:params:acme:error:malformed"}"#;
 
-const NOT_SERVED: &str = r#"405 - - {"detail":"this method is not served here","status":405,"type":"urn:ietf:params:acme:error:malformed"}"#;
+const NOT_SERVED: &str =
+    r#"405 - - {"detail":"this method is not served here","status":405,"type":"urn:ietf:params:acme:error:malformed"}"#;
 
 const LOST: &str = r#"{"at":0,"body":"","method":"GET","path":"/nothing","random":""}"#;
 
@@ -50,7 +53,8 @@ fn request_line(
     path: &str,
     body: &str,
 ) -> Result<String, Fail> {
-    let line = json!(in alloc; {"at": at, "body": body, "method": method, "path": path, "random": ZEROS})?;
+    let line =
+        json!(in alloc; {"at": at, "body": body, "method": method, "path": path, "random": ZEROS})?;
     let mut text = line.to_string(alloc)?;
     text.push('\n')?;
     Ok(text)
@@ -105,7 +109,11 @@ fn the_first_requests_are_answered_in_turn(rt: HostRuntime) -> Result<(), Fail> 
     for (key, nonce, payload) in [
         (FIRST_KEY, FIRST_NONCE, contact),
         (spelled, SECOND_NONCE, "{}"),
-        (other, "AAAAAAAAAAMAAAAAAAAAAAAAAAAAAAAA", r#"{"onlyReturnExisting":true}"#),
+        (
+            other,
+            "AAAAAAAAAAMAAAAAAAAAAAAAAAAAAAAA",
+            r#"{"onlyReturnExisting":true}"#,
+        ),
     ] {
         input.push_str(account_line(alloc, 0, key, nonce, payload)?.as_str())?;
     }
@@ -137,7 +145,10 @@ fn contacts_are_kept_or_refused(rt: HostRuntime) -> Result<(), Fail> {
         let payload = contact_payload(alloc, contact, letters)?;
         let input = account_lines(alloc, FIRST_KEY, payload.as_str())?;
         let ended = run(&rt, alloc, input.as_bytes())?;
-        assert!(rt; ended.output.as_str().contains(wanted), "{contact} and {letters} letters");
+        assert!(rt;
+            ended.output.as_str().contains(wanted),
+            "{contact} and {letters} letters"
+        );
     }
     Ok(())
 }
@@ -147,10 +158,22 @@ fn keys_of_each_kind_open_accounts(rt: HostRuntime) -> Result<(), Fail> {
     let alloc = rt.alloc();
     for (key, wanted) in [
         (FIRST_KEY, "201 https://ca.example/account/1 "),
-        (r#"{"crv":"P-384","kty":"EC","x":"AQ","y":"Ag"}"#, "201 https://ca.example/account/1 "),
-        (r#"{"crv":"P-521","kty":"EC","x":"AQ","y":"Ag"}"#, "201 https://ca.example/account/1 "),
-        (r#"{"e":"AQAB","kty":"RSA","n":"AQ"}"#, "201 https://ca.example/account/1 "),
-        (r#"{"x":"AQ","kty":"OKP","crv":"Ed25519"}"#, "201 https://ca.example/account/1 "),
+        (
+            r#"{"crv":"P-384","kty":"EC","x":"AQ","y":"Ag"}"#,
+            "201 https://ca.example/account/1 ",
+        ),
+        (
+            r#"{"crv":"P-521","kty":"EC","x":"AQ","y":"Ag"}"#,
+            "201 https://ca.example/account/1 ",
+        ),
+        (
+            r#"{"e":"AQAB","kty":"RSA","n":"AQ"}"#,
+            "201 https://ca.example/account/1 ",
+        ),
+        (
+            r#"{"x":"AQ","kty":"OKP","crv":"Ed25519"}"#,
+            "201 https://ca.example/account/1 ",
+        ),
         (r#"{"k":"AQ","kty":"oct"}"#, "error:badPublicKey"),
         (r#""no key""#, "error:badPublicKey"),
     ] {
@@ -225,8 +248,16 @@ fn a_line_that_is_no_call_ends_the_batch(rt: HostRuntime) -> Result<(), Fail> {
     ] {
         let input = format!(in alloc; "{LOST}\n{line}\n{LOST}\n")?;
         let ended = run(&rt, alloc, input.as_bytes())?;
-        assert_eq!(rt; ended.errors.as_str(), "desk: line 2: not a call\n", "{line}");
-        assert_eq!(rt; ended.output.as_str(), format!(in alloc; "{MISSING}\n")?.as_str(), "{line}");
+        assert_eq!(rt;
+            ended.errors.as_str(),
+            "desk: line 2: not a call\n",
+            "{line}"
+        );
+        assert_eq!(rt;
+            ended.output.as_str(),
+            format!(in alloc; "{MISSING}\n")?.as_str(),
+            "{line}"
+        );
         assert_eq!(rt; ended.status, 1, "{line}");
     }
     let ended = run(&rt, alloc, b"\xff\n")?;
@@ -239,9 +270,14 @@ fn input_may_be_empty_or_lack_its_last_line_end(rt: HostRuntime) -> Result<(), F
     let alloc = rt.alloc();
     let both = format!(in alloc; "{LOST}\n{LOST}")?;
     let said = format!(in alloc; "{MISSING}\n{MISSING}\n")?;
-    let more = r#"{"more":[1.5],"at":18446744073709551615,"body":"","method":"GET","path":"/nothing","random":"aBcD"}"#;
+    let more =
+        r#"{"more":[1.5],"at":18446744073709551615,"body":"","method":"GET","path":"/nothing","random":"aBcD"}"#;
     let once = format!(in alloc; "{MISSING}\n")?;
-    for (input, wanted) in [("", ""), (both.as_str(), said.as_str()), (more, once.as_str())] {
+    for (input, wanted) in [
+        ("", ""),
+        (both.as_str(), said.as_str()),
+        (more, once.as_str()),
+    ] {
         let ended = run(&rt, alloc, input.as_bytes())?;
         assert_eq!(rt; ended.output.as_str(), wanted);
         assert_eq!(rt; ended.errors.as_str(), "");
@@ -269,16 +305,50 @@ fn requests_that_are_no_calls_are_refused(rt: HostRuntime) -> Result<(), Fail> {
         ("POST", "/new-account", "[]", ILL_FORMED),
         ("POST", "/new-account", r#"{"payload":""}"#, ILL_FORMED),
         ("POST", "/new-account", r#"{"jwk":{}}"#, ILL_FORMED),
-        ("POST", "/new-account", r#"{"jwk":{},"payload":{}}"#, ILL_FORMED),
-        ("POST", "/new-account", r#"{"jwk":{},"nonce":null,"payload":""}"#, ILL_FORMED),
-        ("POST", "/new-account", r#"{"jwk":{},"nonce":"","payload":""}"#, ILL_FORMED),
-        ("POST", "/new-account", r#"{"jwk":{},"nonce":"A","payload":""}"#, ILL_FORMED),
-        ("POST", "/new-account", r#"{"jwk":{},"nonce":"AAAAA","payload":""}"#, ILL_FORMED),
-        ("POST", "/new-account", r#"{"jwk":{},"nonce":"AA==","payload":""}"#, ILL_FORMED),
+        (
+            "POST",
+            "/new-account",
+            r#"{"jwk":{},"payload":{}}"#,
+            ILL_FORMED,
+        ),
+        (
+            "POST",
+            "/new-account",
+            r#"{"jwk":{},"nonce":null,"payload":""}"#,
+            ILL_FORMED,
+        ),
+        (
+            "POST",
+            "/new-account",
+            r#"{"jwk":{},"nonce":"","payload":""}"#,
+            ILL_FORMED,
+        ),
+        (
+            "POST",
+            "/new-account",
+            r#"{"jwk":{},"nonce":"A","payload":""}"#,
+            ILL_FORMED,
+        ),
+        (
+            "POST",
+            "/new-account",
+            r#"{"jwk":{},"nonce":"AAAAA","payload":""}"#,
+            ILL_FORMED,
+        ),
+        (
+            "POST",
+            "/new-account",
+            r#"{"jwk":{},"nonce":"AA==","payload":""}"#,
+            ILL_FORMED,
+        ),
     ] {
         let line = request_line(alloc, 0, method, path, body)?;
         let ended = run(&rt, alloc, line.as_bytes())?;
-        assert_eq!(rt; ended.output.as_str(), format!(in alloc; "{wanted}\n")?.as_str(), "{line}");
+        assert_eq!(rt;
+            ended.output.as_str(),
+            format!(in alloc; "{wanted}\n")?.as_str(),
+            "{line}"
+        );
         assert_eq!(rt; ended.status, 0);
     }
     Ok(())
@@ -300,7 +370,11 @@ fn a_reader_that_fails_ends_the_batch(rt: HostRuntime) -> Result<(), Fail> {
     let alloc = rt.alloc();
     let input = format!(in alloc; "{LOST}\n{LOST}\n")?;
     let said = format!(in alloc; "{MISSING}\n")?;
-    for (at, wanted) in [(0, ""), (LOST.len() + 1, said.as_str()), (LOST.len() + 9, said.as_str())] {
+    for (at, wanted) in [
+        (0, ""),
+        (LOST.len() + 1, said.as_str()),
+        (LOST.len() + 9, said.as_str()),
+    ] {
         let mut desk = new_desk(alloc).expect(&rt, "a desk");
         let mut output = Vec::new(alloc);
         let mut errors = Vec::new(alloc);
@@ -317,7 +391,13 @@ fn a_reader_that_fails_ends_the_batch(rt: HostRuntime) -> Result<(), Fail> {
 fn a_writer_that_fails_ends_the_batch(rt: HostRuntime) -> Result<(), Fail> {
     let alloc = rt.alloc();
     let input = format!(in alloc; "{LOST}\n{LOST}\n")?;
-    for (at, flushes) in [(0, true), (5, true), (MISSING.len(), true), (MISSING.len() + 1, true), (1000, false)] {
+    for (at, flushes) in [
+        (0, true),
+        (5, true),
+        (MISSING.len(), true),
+        (MISSING.len() + 1, true),
+        (1000, false),
+    ] {
         let mut desk = new_desk(alloc).expect(&rt, "a desk");
         let mut writer = FailingWriter::new(alloc, at, flushes);
         let mut errors = Vec::new(alloc);

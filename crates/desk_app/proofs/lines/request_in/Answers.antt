@@ -1,4 +1,4 @@
-use Rattle.std.proofs.Common.{rules, refl}
+use Rattle.std.proofs.Common.{rules}
 use Rattle.desk_app.specs.Lines.{Line}
 use Rattle.desk_app.proofs.lines.request_in.Goals as goal
 

@@ -1,4 +1,4 @@
-use Rattle.std.proofs.Common.{◌≡◌, [], ◌∙◌, ap, sym, length, arith, rules}
+use Rattle.std.proofs.Common.{◌≡◌, [], ◌∙◌, ap, arith}
 use Rattle.std.proofs.lemmas.Grind.{common_steps}
 use Rattle.std.proofs.lemmas.Result.{IfOk-weaker}
 use Rattle.desk_app.proofs.Plain.{joint-problem, lone-problem}

@@ -1,4 +1,4 @@
-use Rattle.std.proofs.Common.{◌≡◌, true, List, ℕ, codes, bytes_eq, sym, ◌∙◌, rules}
+use Rattle.std.proofs.Common.{◌≡◌, true, List, ℕ, codes, bytes_eq, sym, ◌∙◌}
 use Rattle.desk_app.specs.Requests.{IsAccountRequest, IsRouted, account_route, asked, unread}
 use Rattle.desk_model.specs.declared.call.Ask.TheVariants as ask
 use Rattle.desk_app.specs.declared.requests.Request.{Request}

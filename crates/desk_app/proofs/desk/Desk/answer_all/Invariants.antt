@@ -1,6 +1,6 @@
 use Rattle.std.proofs.Common.{◌≡◌, length, take}
 use Rattle.desk_app.specs.Answers.{AnswersAll}
-use Rattle.desk_app.proofs.desk.Desk.run.Given as goal
+use Rattle.desk_app.proofs.desk.Desk.answer_all.Given as goal
 
 abbrev pub invariant-loop-call : goal.invariant-loop-call
 invariant-loop-call l = record {
