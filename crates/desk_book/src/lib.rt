@@ -4,6 +4,8 @@
 mod book;
 mod row;
 mod table;
+#[cfg(test)]
+mod tests;
 
 pub use book::Book;
 pub use row::Row;

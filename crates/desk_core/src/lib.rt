@@ -16,6 +16,8 @@ mod refusal;
 mod replies;
 mod signed;
 mod sweep;
+#[cfg(test)]
+mod tests;
 mod verdicts;
 
 pub use decisions::{Outcome, decide};
