@@ -1,2 +1,5 @@
 pub mod Applied
 pub mod KeyedRows
+pub mod Pushed
+pub mod SortedFaults
+pub mod StableSorts

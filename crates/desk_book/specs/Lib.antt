@@ -1,1 +1,2 @@
+pub mod FaultNumbers
 pub mod Keyed

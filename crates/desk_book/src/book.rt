@@ -4,6 +4,7 @@ ghost use Rattle.desk_model.specs.declared.entry.Entry.TheVariants.{Made as made
 ghost use Rattle.desk_model.specs.Tables.{Tables, picture};
 ghost use Rattle.desk_model.specs.Questions.{nonce_on, account_on, account_with_key, order_on, authorization_on, owner_on};
 ghost use Rattle.desk_model.specs.Change.{applied_one, applied};
+ghost use Rattle.desk_model.specs.Effect.{has_row};
 
 use crate::table::Table;
 use desk_model::{AccountRow, AuthorizationRow, Change, Meta, Nonce, OrderRow, Policy};
@@ -120,6 +121,13 @@ impl Book {
         self.authorizations.get(number)
     }
 
+    /// The authorization that a challenge is of, by the challenge's number.
+    pub fn owner(&self, challenge: u64) -> Option<&AuthorizationRow>
+        ensures { option_copied result ≡ owner_on self.now challenge }
+    {
+        row_with_challenge(&self.authorizations, challenge)
+    }
+
     /// Does all the changes, in order.
     ///
     /// # Errors
@@ -180,6 +188,26 @@ fn row_with_key<'a>(accounts: &'a Table<AccountRow>, key: &str) -> Option<&'a Ac
     ensures { option_copied result ≡ find (λ a. bytes_eq a.key key.now) accounts.now }
 {
     accounts.iter().find(|row| row.key.canonical() == key)
+}
+
+fn has_challenge(row: &AuthorizationRow, challenge: u64) -> bool
+    ensures { result ≡ has_row challenge row.now }
+{
+    row.challenges
+        .as_slice()
+        .iter()
+        .any(|row| challenge == row.number)
+}
+
+fn row_with_challenge(
+    authorizations: &Table<AuthorizationRow>,
+    challenge: u64,
+) -> Option<&AuthorizationRow>
+    ensures { option_copied result ≡ find (has_row challenge) authorizations.now }
+{
+    authorizations
+        .iter()
+        .find(|row| has_challenge(row, challenge))
 }
 
 impl Clone for Book {

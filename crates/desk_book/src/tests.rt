@@ -74,21 +74,41 @@ fn a_new_book_has_no_rows(rt: HostRuntime) -> Result<(), Fail> {
 }
 
 #[test]
-fn changes_are_made_in_order(rt: HostRuntime) -> Result<(), Fail> {
+fn a_nonce_is_put_and_removed(rt: HostRuntime) -> Result<(), Fail> {
     let alloc = rt.alloc();
     let mut book = new_book(&rt, alloc)?;
-    let mut meta = book.meta().clone()?;
-    meta.clock = 8;
     let mut changes = Vec::new(alloc);
     changes.push(Change::PutNonce(nonce_row(1, 7)))?;
-    changes.push(Change::PutMeta(meta))?;
     changes.push(Change::RemoveNonce(1))?;
     changes.push(Change::PutNonce(nonce_row(2, 8)))?;
-    changes.push(Change::PutAccount(account_row(&rt, alloc, 1)?))?;
     book.apply(changes)?;
-    assert_eq!(rt; book.meta().clock, 8);
     assert!(rt; book.nonce(1).is_none(), "nonce 1 was removed");
     assert_eq!(rt; book.nonce(2).expect(&rt, "nonce 2").issued, 8);
+    Ok(())
+}
+
+#[test]
+fn the_latest_row_is_kept(rt: HostRuntime) -> Result<(), Fail> {
+    let alloc = rt.alloc();
+    let mut book = new_book(&rt, alloc)?;
+    let mut changes = Vec::new(alloc);
+    for clock in [8, 9] {
+        let mut meta = book.meta().clone()?;
+        meta.clock = clock;
+        changes.push(Change::PutMeta(meta))?;
+    }
+    book.apply(changes)?;
+    assert_eq!(rt; book.meta().clock, 9);
+    Ok(())
+}
+
+#[test]
+fn an_account_is_found_by_its_key(rt: HostRuntime) -> Result<(), Fail> {
+    let alloc = rt.alloc();
+    let mut book = new_book(&rt, alloc)?;
+    let mut changes = Vec::new(alloc);
+    changes.push(Change::PutAccount(account_row(&rt, alloc, 1)?))?;
+    book.apply(changes)?;
     assert_eq!(rt; book.account(1).expect(&rt, "account 1").opened, 8);
     assert_eq!(rt; book.account_with_key(KEY).expect(&rt, "its key").number, 1);
     assert!(rt; book.account_with_key(OTHER).is_none(), "another key");

@@ -40,7 +40,7 @@ part_on number kept f g xs fresh fresh' same each_same e all =
     ∙ sym (filter-append (λ x. kept (number x)) (map g xs) fresh')
 
 -- a moved account keeps its number
-account_number : (e : Entry) (m : ℕ) (row : AccountRow) → (moved_account e m row).number ≡ row.number
+pub account_number : (e : Entry) (m : ℕ) (row : AccountRow) → (moved_account e m row).number ≡ row.number
 account_number e m row = by (touches_account e row)
   where
     by : (b : Bool) → (cond b (noted_account e m row) row).number ≡ row.number
@@ -48,7 +48,7 @@ account_number e m row = by (touches_account e row)
     by false = refl
 
 -- a moved order keeps its number
-order_number : (e : Entry) (m : ℕ) (before after : List AuthorizationRow) (row : OrderRow) → (moved_order e m before after row).number ≡ row.number
+pub order_number : (e : Entry) (m : ℕ) (before after : List AuthorizationRow) (row : OrderRow) → (moved_order e m before after row).number ≡ row.number
 order_number e m before after row = by (touches_order e before row)
   where
     by : (b : Bool) → (cond b (restated_order m after (noted_order e m row)) row).number ≡ row.number

@@ -59,13 +59,13 @@ stands T n row h = by (owner_on T n) refl h
 -- ---- an entry
 
 -- an entry leaves the number of a challenge
-challenge_number : (e : Entry) (m : ℕ) (c : ChallengeRow) → (noted_challenge e m c).number ≡ c.number
+pub challenge_number : (e : Entry) (m : ℕ) (c : ChallengeRow) → (noted_challenge e m c).number ≡ c.number
 challenge_number (answered n) m c = one_kept (λ (c : ChallengeRow). c.number) (n == c.number) _ c refl
 challenge_number (reported n o) m c = one_kept (λ (c : ChallengeRow). c.number) (n == c.number) _ c refl
 challenge_number _ m c = refl
 
 -- the challenges of an authorization keep their numbers
-has_row-moved : (n : ℕ) (e : Entry) (m : ℕ) (a : AuthorizationRow) → has_row n (moved_authorization e m a) ≡ has_row n a
+pub has_row-moved : (n : ℕ) (e : Entry) (m : ℕ) (a : AuthorizationRow) → has_row n (moved_authorization e m a) ≡ has_row n a
 has_row-moved n e m a =
     one_kept (has_row n) (touches_authorization e a) _ a
     (list_any-map (λ c. n == c.number) (noted_challenge e m) a.challenges
