@@ -1,18 +1,18 @@
 -- The faults that the code answers are those of the model.
-use Rattle.std.proofs.Common.{◌≡◌, ℕ, ◌+◌, ◌*◌, ◌<◌, ◌≤◌, ◌^◌, Bool, true, false, not, cond, List, [], ◌∷◌, ◌++◌, length, take, drop, max, Option, Some, None, refl, sym, ap, subst, ◌∙◌, arith, length-append, ◌⊎◌, inl, inr}
+use Rattle.std.proofs.Common.{◌≡◌, ℕ, ◌+◌, ◌*◌, ◌<◌, ◌≤◌, ◌^◌, false, not, cond, List, [], ◌∷◌, ◌++◌, length, take, drop, max, Option, Some, None, refl, sym, ap, subst, ◌∙◌, arith, length-append, ◌⊎◌, inl, inr}
 use Rattle.std.specs.Prelude.{nat_lt, nat_le, ◌&&◌, IsTrue}
 use Rattle.std.proofs.lemmas.Bool.Decides.{nat_tests}
 use Rattle.desk_model.specs.Entry.{History}
 use Rattle.desk_model.specs.History.{clock, moment_of, record_all}
 use Rattle.desk_model.specs.Legal.{Legal, numbers_fit, last_moment}
-use Rattle.desk_model.specs.Nonce.{nonces}
+use Rattle.desk_model.specs.Nonce.{nonces, issued_by}
 use Rattle.desk_model.specs.Account.{accounts}
 use Rattle.desk_model.specs.Order.{orders}
 use Rattle.desk_model.specs.Authorization.{authorizations, count_challenges}
 use Rattle.desk_model.specs.Tables.{Tables, picture}
 use Rattle.desk_model.specs.Effect.{swept}
-use Rattle.desk_model.specs.Rules.{signed_verdict, open_nonce}
-use Rattle.desk_model.specs.Decide.{Decision, decide, decide_at, after, entries_of, signed_decision}
+use Rattle.desk_model.specs.Rules.{open_nonce}
+use Rattle.desk_model.specs.Decide.{Decision, decide, decide_at, after, entries_of, nonce_entries, signed_decision}
 use Rattle.desk_model.specs.Run.{fault, count_pieces}
 use Rattle.desk_model.specs.declared.call.Call.{Call}
 use Rattle.desk_model.specs.declared.call.Ask.{Ask}
@@ -21,39 +21,30 @@ use Rattle.desk_model.specs.declared.call.Signed.{Signed}
 use Rattle.desk_model.specs.declared.verdict.Verdict.{Verdict}
 use Rattle.desk_model.specs.declared.verdict.Verdict.TheVariants.{Refused as refused, Accepted as accepted}
 use Rattle.desk_model.specs.declared.entry.Entry.{Entry}
-use Rattle.desk_model.specs.declared.entry.Entry.TheVariants.{Issued as issued, Spent as spent, Opened as opened}
-use Rattle.desk_laws.proofs.Step.{sweep}
+use Rattle.desk_model.specs.declared.entry.Entry.TheVariants.{Issued as issued}
 use Rattle.desk_laws.proofs.Recorded.{tables_ordered}
 use Rattle.desk_laws.specs.Ordered.{IsOrdered}
-use Rattle.desk_lives.proofs.SoundCalls.{moment_later}
+use Rattle.desk_lives.proofs.SoundCalls.{clock_in_time}
 use Rattle.desk_core.specs.Decided.{IsFaultOf}
+use Rattle.desk_core.specs.Needs.{NumbersSpent}
 use Rattle.desk_core.specs.Outcomes.{IsPassedFault, IsSignedFault, IsAskFault}
-use Rattle.desk_core.specs.Room.{IsFull, IsIssueFault}
-use Rattle.desk_core.specs.Served.{IsServed, IsServedTarget, IsServedVerdict}
+use Rattle.desk_core.specs.Room.{IsIssueFault}
 use Rattle.desk_core.specs.declared.fault.CoreFault.{CoreFault}
 use Rattle.desk_core.specs.declared.fault.CoreFault.TheVariants as core
-use Rattle.desk_core.proofs.Served.{verdict_served, no_pieces}
-use Rattle.desk_core.proofs.Deciding.{not_less, less, fits_issued, fits_passed, accounts_stay, fitting}
-use Rattle.desk_core.proofs.DecidingAsks.{counters, same_verdict}
+use Rattle.desk_core.proofs.Deciding.{counters, fits_issued, fits_nonces, fitting, less, not_less, now_is, spent_same}
+use Rattle.desk_core.proofs.DecidingAsks.{judged, judged_left, passed_is}
+use Rattle.desk_core.proofs.NumbersAfter.{numbers_left, numbers_spent}
+use Rattle.desk_core.proofs.QuietRows.{nonce_rows, nonces_more}
+use Rattle.desk_core.proofs.Spaced.{signed_spaced}
 
 not_le : (a b : ℕ) → b < a → nat_le a b ≡ false
 not_le a b h = grind (arith, nat_tests)
 
-and_false : (b : Bool) → (b && false) ≡ false
-and_false true = refl
-and_false false = refl
-
--- too many nonces, or too many accounts
+-- too many nonces
 nonces_over : (G : History) → 2 ^ 62 < length (nonces G) → numbers_fit G ≡ false
 nonces_over G h =
     ap (λ b. b && (nat_le (length (accounts G)) (2 ^ 62) && (nat_le (length (orders G)) (2 ^ 62) && (nat_le (length (authorizations G)) (2 ^ 62) && nat_le (count_challenges (authorizations G)) (2 ^ 62)))))
     (not_le (length (nonces G)) (2 ^ 62) h)
-
-accounts_over : (G : History) → 2 ^ 62 < length (accounts G) → numbers_fit G ≡ false
-accounts_over G h =
-    ap (λ b. nat_le (length (nonces G)) (2 ^ 62) && (b && (nat_le (length (orders G)) (2 ^ 62) && (nat_le (length (authorizations G)) (2 ^ 62) && nat_le (count_challenges (authorizations G)) (2 ^ 62)))))
-    (not_le (length (accounts G)) (2 ^ 62) h)
-    ∙ and_false (nat_le (length (nonces G)) (2 ^ 62))
 
 -- fault 26, and fault 25
 is_full : (F : History) (call : Call) (es : List Entry) → call.at ≤ last_moment → (decide F call).entries ≡ es → numbers_fit (record_all (moment_of call.at F) es F) ≡ false →
@@ -71,10 +62,17 @@ is_short F call es at is fits short =
     (cond ((ap (λ l. nat_lt (length call.random) (16 * count_pieces l)) is ∙ less (length call.random) (16 * count_pieces es) short) i) (Some 25) None))
 
 -- a moment above the last
-pub is_late : (F : History) (call : Call) → last_moment < call.at → fault F call ≡ Some 24
+is_late : (F : History) (call : Call) → last_moment < call.at → fault F call ≡ Some 24
 is_late F call late =
     ap (λ b. cond b (Some 24) (cond (not (numbers_fit (after F call))) (Some 26) (cond (nat_lt (length call.random) (16 * count_pieces (decide F call).entries)) (Some 25) None)))
     (less last_moment call.at late)
+
+-- a legal history's clock is not above it, so the call's own moment is
+pub acts_late : (F : History) (call : Call) (B : Tables) (m : ℕ) → Legal F → B ≡ picture F → m ≡ max call.at B.meta.clock → last_moment < m → fault F call ≡ Some 24
+acts_late F call B m legal same acts late =
+    let in_time : clock F ≤ last_moment = clock_in_time F legal.each in
+    let is : m ≡ max call.at (clock F) = acts ∙ ap (λ (T : Tables). max call.at T.meta.clock) same in
+    is_late F call (omega arith)
 
 -- a nonce that is issued and nothing else
 issue_faults : (F : History) (call : Call) (e : CoreFault) → Legal F → call.at ≤ last_moment → (decide F call).entries ≡ issued (take 16 call.random) ∷ [] →
@@ -89,85 +87,80 @@ issue_faults F call core.ShortRandom legal at is h =
     (fitting (record { date = moment_of call.at F; entry = issued (take 16 call.random) } ∷ F) (fits_issued F (moment_of call.at F) (take 16 call.random) (counters F legal) h.0))
     (let short : length call.random < 16 = h.1 in omega arith)
 
--- the nonces after the entries of a request whose nonce was open
-more_nonces : (F : History) (m n : ℕ) (r : List ℕ) (v : Verdict) → IsServedVerdict v → length (nonces (record_all m (spent n ∷ issued r ∷ entries_of v) F)) ≡ length (nonces F) + 1
-more_nonces F m n r v served = by v served
-  where
-    two : length ((nonces F ++ []) ++ record { serial = length (nonces F ++ []) + 1; random = r; issued = m } ∷ []) ≡ length (nonces F) + 1
-    two = omega (arith, length-append (nonces F ++ []) (record { serial = length (nonces F ++ []) + 1; random = r; issued = m } ∷ []), length-append (nonces F) [])
-
-    by : (v : Verdict) → IsServedVerdict v → length (nonces (record_all m (spent n ∷ issued r ∷ entries_of v) F)) ≡ length (nonces F) + 1
-    by (refused number ss) served = two
-    by (accepted None what) served = two
-    by (accepted (Some (opened key contacts)) what) served =
-        length-append ((nonces F ++ []) ++ record { serial = length (nonces F ++ []) + 1; random = r; issued = m } ∷ []) [] ∙ omega (arith, two)
-    by (accepted (Some _) what) served = absurd served.0
-
--- an account that is opened above the greatest number
-too_many : (F : History) (m n : ℕ) (r : List ℕ) (v : Verdict) → IsFull (picture F).meta v → numbers_fit (record_all m (spent n ∷ issued r ∷ entries_of v) F) ≡ false
-too_many F m n r (accepted (Some (opened key contacts)) what) full =
-    accounts_over (record_all m (spent n ∷ issued r ∷ opened key contacts ∷ []) F)
-    (let le : 2 ^ 62 ≤ length (accounts F) = full in
-    omega (arith, accounts_stay F m n r, length-append ((accounts F ++ []) ++ []) (record { number = length ((accounts F ++ []) ++ []) + 1; key = key; contacts = contacts; opened = m } ∷ [])))
-too_many F m n r (accepted (Some _) what) full = absurd full
-too_many F m n r (accepted None what) full = absurd full
-too_many F m n r (refused number ss) full = absurd full
+-- nonces are not lost
+nonces_grow : (G : History) (m : ℕ) (v : Verdict) → length (nonces G) ≤ length (nonces (record_all m (entries_of v) G))
+nonces_grow G m (refused n ss) = omega arith
+nonces_grow G m (accepted None what) = omega arith
+nonces_grow G m (accepted (Some e) what) = omega (arith, length-append (nonces G) (issued_by e m (length (nonces G) + 1)))
 
 -- a signed request whose nonce was open
-passed_faults : (F : History) (call : Call) (s : Signed) (serial : ℕ) (e : CoreFault) → Legal F → call.at ≤ last_moment → IsServedTarget s.target →
-    (decide F call).entries ≡ spent serial ∷ issued (take 16 call.random) ∷ entries_of (signed_verdict (picture F) (drop 16 call.random) s) →
-    IsPassedFault (picture F) call.random (signed_verdict (picture F) (drop 16 call.random) s) e → IsFaultOf F call e
-passed_faults F call s serial core.Memory legal at served is h = tt
-passed_faults F call s serial core.Moment legal at served is h = absurd h
-passed_faults F call s serial core.Full legal at served is h = is_full F call _ at is (over h)
+passed_faults : (F : History) (call : Call) (s : Signed) (serial : ℕ) (e : CoreFault) → Legal F → call.at ≤ last_moment →
+    (decide F call).entries ≡ nonce_entries serial call.random ++ entries_of (judged F call s) →
+    IsPassedFault (picture F) call.random (judged F call s) e → IsFaultOf F call e
+passed_faults F call s serial core.Memory legal at is h = tt
+passed_faults F call s serial core.Moment legal at is h = absurd h
+passed_faults F call s serial core.Full legal at is h = is_full F call _ at is (over h)
   where
-    over : IsFull (picture F).meta (signed_verdict (picture F) (drop 16 call.random) s) ⊎ (2 ^ 62 ≤ length (nonces F)) →
-        numbers_fit (record_all (moment_of call.at F) (spent serial ∷ issued (take 16 call.random) ∷ entries_of (signed_verdict (picture F) (drop 16 call.random) s)) F) ≡ false
-    over (inl full) = too_many F (moment_of call.at F) serial (take 16 call.random) (signed_verdict (picture F) (drop 16 call.random) s) full
+    over : NumbersSpent (picture F).meta (judged F call s) ⊎ (2 ^ 62 ≤ length (nonces F)) →
+        numbers_fit (record_all (moment_of call.at F) (nonce_entries serial call.random ++ entries_of (judged F call s)) F) ≡ false
+    over (inl full) =
+        numbers_spent (record_all (moment_of call.at F) (nonce_entries serial call.random) F) (moment_of call.at F) (judged F call s) (signed_spaced (swept (moment_of call.at F) (picture F)) (drop 16 call.random) s)
+        (spent_same (picture (record_all (moment_of call.at F) (nonce_entries serial call.random) F)).meta (picture F).meta (judged F call s)
+        (nonce_rows F (moment_of call.at F) serial (take 16 call.random)).last_accounts (nonce_rows F (moment_of call.at F) serial (take 16 call.random)).last_orders
+        (nonce_rows F (moment_of call.at F) serial (take 16 call.random)).last_authorizations (nonce_rows F (moment_of call.at F) serial (take 16 call.random)).last_challenges full)
     over (inr full) =
-        nonces_over (record_all (moment_of call.at F) (spent serial ∷ issued (take 16 call.random) ∷ entries_of (signed_verdict (picture F) (drop 16 call.random) s)) F)
-        (omega (arith, full, more_nonces F (moment_of call.at F) serial (take 16 call.random) (signed_verdict (picture F) (drop 16 call.random) s) (verdict_served (picture F) (drop 16 call.random) s served)))
-passed_faults F call s serial core.ShortRandom legal at served is h =
+        nonces_over (record_all (moment_of call.at F) (nonce_entries serial call.random ++ entries_of (judged F call s)) F)
+        (omega (
+          arith,
+          full,
+          nonces_more F (moment_of call.at F) serial (take 16 call.random),
+          nonces_grow (record_all (moment_of call.at F) (nonce_entries serial call.random) F) (moment_of call.at F) (judged F call s),
+        ))
+passed_faults F call s serial core.ShortRandom legal at is h =
     is_short F call _ at is
-    (fits_passed F (moment_of call.at F) serial (take 16 call.random) (signed_verdict (picture F) (drop 16 call.random) s) (counters F legal) h.0 h.1
-    (verdict_served (picture F) (drop 16 call.random) s served))
-    (subst (λ n. length call.random < 16 * (0 + (1 + n))) (sym (no_pieces (signed_verdict (picture F) (drop 16 call.random) s) (verdict_served (picture F) (drop 16 call.random) s served)))
-    (let short : length call.random < 16 = h.2 in omega arith))
+    (numbers_left (record_all (moment_of call.at F) (nonce_entries serial call.random) F) (moment_of call.at F) (judged F call s)
+    (fits_nonces F (moment_of call.at F) serial (take 16 call.random) (counters F legal) h.0)
+    (signed_spaced (swept (moment_of call.at F) (picture F)) (drop 16 call.random) s) (judged_left F call serial (judged F call s) h.1))
+    (let short : length call.random < 16 * (1 + count_pieces (entries_of (judged F call s))) = h.2 in omega arith)
 
 -- a signed request
-signed_faults : (F : History) (call : Call) (s : Signed) (e : CoreFault) → Legal F → call.at ≤ last_moment → IsServedTarget s.target → call.ask ≡ ask.Signed s →
-    IsSignedFault (picture F) call.random s (open_nonce (swept (moment_of call.at F) (picture F)) s.nonce) e → IsFaultOf F call e
-signed_faults F call s e legal at served asks h = by (open_nonce (swept (moment_of call.at F) (picture F)) s.nonce) refl h
+signed_faults : (F : History) (call : Call) (s : Signed) (e : CoreFault) → Legal F → call.at ≤ last_moment → call.ask ≡ ask.Signed s →
+    IsSignedFault (moment_of call.at F) (picture F) call.random s (open_nonce (swept (moment_of call.at F) (picture F)) s.nonce) e → IsFaultOf F call e
+signed_faults F call s e legal at asks h = by (open_nonce (swept (moment_of call.at F) (picture F)) s.nonce) refl h
   where
     is : (o : Option ℕ) → open_nonce (swept (moment_of call.at F) (picture F)) s.nonce ≡ o → decide F call ≡ signed_decision F (moment_of call.at F) call.random s o
     is o found =
         ap (λ a. decide_at F (moment_of call.at F) call.random a) asks
-        ∙ ap (signed_decision F (moment_of call.at F) call.random s)
-        (ap (λ T. open_nonce T s.nonce) (sweep F (clock F) (moment_of call.at F) (moment_later F call)) ∙ found)
+        ∙ ap (signed_decision F (moment_of call.at F) call.random s) (ap (λ T. open_nonce T s.nonce) (now_is F call) ∙ found)
 
-    by : (o : Option ℕ) → open_nonce (swept (moment_of call.at F) (picture F)) s.nonce ≡ o → IsSignedFault (picture F) call.random s o e → IsFaultOf F call e
+    by : (o : Option ℕ) → open_nonce (swept (moment_of call.at F) (picture F)) s.nonce ≡ o → IsSignedFault (moment_of call.at F) (picture F) call.random s o e → IsFaultOf F call e
     by None found h = issue_faults F call e legal at (ap (λ (d : Decision). d.entries) (is None found)) h
     by (Some serial) found h =
-        passed_faults F call s serial e legal at served
-        (ap (λ (d : Decision). d.entries) (is (Some serial) found)
-        ∙ ap (λ v. spent serial ∷ issued (take 16 call.random) ∷ entries_of v) (same_verdict F (moment_of call.at F) serial call.random s served)) h
+        passed_faults F call s serial e legal at (ap (λ (d : Decision). d.entries) (passed_is F call s serial (is (Some serial) found))) h
 
--- each ask that is served
-pub asks_fail : (F : History) (call : Call) (e : CoreFault) → Legal F → call.at ≤ last_moment → IsServed call.ask →
+-- want of memory is the code's own
+memory_faults : (F : History) (call : Call) (e : CoreFault) → e ≡ core.Memory → IsFaultOf F call e
+memory_faults F call core.Memory h = tt
+memory_faults F call core.Moment h = cc
+memory_faults F call core.Full h = cc
+memory_faults F call core.ShortRandom h = cc
+
+-- each ask
+asks_fail : (F : History) (call : Call) (e : CoreFault) → Legal F → call.at ≤ last_moment →
     IsAskFault (moment_of call.at F) (picture F) call.random call.ask e → IsFaultOf F call e
-asks_fail F call e legal at served h = by call.ask refl served h
+asks_fail F call e legal at h = by call.ask refl h
   where
-    by : (a : Ask) → call.ask ≡ a → IsServed a → IsAskFault (moment_of call.at F) (picture F) call.random a e → IsFaultOf F call e
-    by (ask.NewNonce head) is served h = issue_faults F call e legal at (ap (λ (d : Decision). d.entries) (ap (λ a. decide_at F (moment_of call.at F) call.random a) is)) h
-    by (ask.Signed s) is served h = signed_faults F call s e legal at served is h
-    by _ is served h = absurd served
+    by : (a : Ask) → call.ask ≡ a → IsAskFault (moment_of call.at F) (picture F) call.random a e → IsFaultOf F call e
+    by (ask.NewNonce head) is h = issue_faults F call e legal at (ap (λ (d : Decision). d.entries) (ap (λ a. decide_at F (moment_of call.at F) call.random a) is)) h
+    by (ask.Signed s) is h = signed_faults F call s e legal at is h
+    by _ is h = memory_faults F call e h
 
 -- the same, as the code has its parts
 pub code_fails : (F : History) (call : Call) (B : Tables) (m : ℕ) (random : List ℕ) (e : CoreFault) → Legal F → B ≡ picture F →
-    call.at ≤ last_moment → m ≡ max call.at B.meta.clock → random ≡ call.random → IsServed call.ask →
-    (IsOrdered B → IsServed call.ask → IsAskFault m B random call.ask e) → IsFaultOf F call e
-code_fails F call B m random e legal same at acts bytes served fails =
-    asks_fail F call e legal at served
+    call.at ≤ last_moment → m ≡ max call.at B.meta.clock → random ≡ call.random →
+    (IsOrdered B → IsAskFault m B random call.ask e) → IsFaultOf F call e
+code_fails F call B m random e legal same at acts bytes fails =
+    asks_fail F call e legal at
     (subst (λ T. IsAskFault (max call.at T.meta.clock) T call.random call.ask e) same
     (subst (λ n. IsAskFault n B call.random call.ask e) acts
-    (subst (λ r. IsAskFault m B r call.ask e) bytes (fails (subst IsOrdered (sym same) (tables_ordered F (clock F))) served))))
+    (subst (λ r. IsAskFault m B r call.ask e) bytes (fails (subst IsOrdered (sym same) (tables_ordered F (clock F)))))))

@@ -32,7 +32,7 @@ clocked m T (e ∷ es) h = clocked m (effect m T e) es refl
 pub begun : (m : ℕ) (B : Tables) (done : List Change) (meta : Meta) → done ≡ sweep_changes m B → meta ≡ record B.meta { clock = m } → IsRecorded m B [] done meta
 begun m B done meta c r = record { changes = c ∙ sym (append-nil (sweep_changes m B)); row = r }
 
-one_more : (m : ℕ) (B : Tables) (es : List Entry) (e : Entry) (done more : List Change) (meta after : Meta) → IsRecorded m B es done meta →
+pub one_more : (m : ℕ) (B : Tables) (es : List Entry) (e : Entry) (done more : List Change) (meta after : Meta) → IsRecorded m B es done meta →
     more ≡ changes m (effects m (swept m B) es) e → after ≡ (effect m (effects m (swept m B) es) e).meta → IsRecorded m B (es ++ e ∷ []) (done ++ more) after
 one_more m B es e done more meta after h c r =
     record {
@@ -45,10 +45,10 @@ one_more m B es e done more meta after h c r =
     }
 
 -- the clock of what is recorded
-clock_is : (m : ℕ) (B : Tables) (es : List Entry) (done : List Change) (meta : Meta) → IsRecorded m B es done meta → meta.clock ≡ m
+pub clock_is : (m : ℕ) (B : Tables) (es : List Entry) (done : List Change) (meta : Meta) → IsRecorded m B es done meta → meta.clock ≡ m
 clock_is m B es done meta h = ap (λ (x : Meta). x.clock) h.row ∙ clocked m (swept m B) es refl
 
-same_clock : (m : ℕ) (x : Meta) → x.clock ≡ m → record x { clock = m } ≡ x
+pub same_clock : (m : ℕ) (x : Meta) → x.clock ≡ m → record x { clock = m } ≡ x
 same_clock m x e = λ i. record x { clock = sym e i }
 
 -- a nonce is spent

@@ -1,7 +1,11 @@
-pub mod After
+pub mod Acting
 pub mod Decided
 pub mod Lists
+pub mod Made
+pub mod Moved
+pub mod Needs
 pub mod Outcomes
 pub mod Recorded
 pub mod Room
-pub mod Served
+pub mod SameRows
+pub mod Shown

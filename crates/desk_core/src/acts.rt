@@ -1,109 +1,170 @@
 //! What a verdict records and shows.
-ghost use Rattle.std.specs.Prelude.{◌≡◌, ◌++◌, ◌<◌, ◌≤◌, ◌^◌, ℕ, List, length, true, IfOk, IfErr, OnOk};
-ghost use Rattle.desk_model.specs.Tables.{Tables};
-ghost use Rattle.desk_model.specs.Change.{applied};
-ghost use Rattle.desk_model.specs.Shown.{reply_of, with_nonce, fresh_nonce};
-ghost use Rattle.desk_model.specs.Decide.{listed_entry, entries_of, verdict_reply, nonce_entries};
+ghost use Rattle.std.specs.Prelude.{◌≡◌, ◌++◌, ◌∷◌, [], ◌<◌, ◌≤◌, ◌+◌, ◌^◌, ℕ, List, length, map, IfOk, OnOk};
+ghost use Rattle.desk_laws.specs.Ordered.{IsOrdered};
+ghost use Rattle.desk_model.specs.Decide.{entries_of, listed_entry, verdict_reply};
+ghost use Rattle.desk_model.specs.Effect.{effects, swept};
+ghost use Rattle.desk_model.specs.Legal.{wanted_name};
+ghost use Rattle.desk_model.specs.Run.{count_tokens};
+ghost use Rattle.desk_model.specs.Shown.{reply_of};
 ghost use Rattle.desk_model.specs.declared.entry.Entry.{Entry as EntryOf};
-ghost use Rattle.desk_core.specs.Recorded.{IsRecorded, recorded_changes};
-ghost use Rattle.desk_core.specs.Room.{HasRoom, HasRoomFor, IsIssueFault};
-ghost use Rattle.desk_core.specs.Served.{IsServedEntry, IsServedShows, IsServedVerdict};
+ghost use Rattle.desk_model.specs.declared.entry.Entry.TheVariants.{Opened as opened, Ordered as ordered};
+ghost use Rattle.desk_model.specs.declared.verdict.Shows.TheVariants as show;
+ghost use Rattle.desk_core.specs.Acting.{HasTexts, IsActable, IsAt, IsShownWith, MakesNone, tables_with};
+ghost use Rattle.desk_model.specs.declared.verdict.Verdict.TheVariants.{Accepted as accepted};
+ghost use Rattle.desk_core.specs.Needs.{NumbersLeft, NumbersLeftFor};
+ghost use Rattle.desk_core.specs.Recorded.{IsRecorded, IsUntouched};
 
-use crate::after::account_after;
-use crate::decisions::Outcome;
-use crate::fault::CoreFault;
-use crate::limits::{first_random, has_room};
 use crate::recording::Recording;
-use crate::replies::{account_shown, plain, refusal_reply, with_nonce};
+use crate::replies::{located_account, refusal_reply};
+use crate::showing::{located_order, show};
 use desk_book::Book;
-use desk_model::{Change, Entry, Reply, Shows, Verdict};
+use desk_model::{DnsName, Entry, Jwk, Reply, Sequence, Shows, Text, Verdict, Wanted};
 use std::alloc::{AllocError, Global};
 
-/// Records the entry of a verdict, if it has one.
-fn record_entry(recording: &mut Recording, entry: Option<Entry>) -> Result<(), AllocError>
-    requires { HasRoomFor recording.old.meta entry }
-    ensures { OnOk result (IsServedEntry entry → (m : ℕ) (B : Tables) (es : List EntryOf)
-        → IsRecorded m B es recording.old.changes.items recording.old.meta
-        → IsRecorded m B (es ++ listed_entry entry) recording.new.changes.items recording.new.meta) }
+/// Records an entry that moves rows, if there is one, and shows what the verdict names.
+fn act_on_rows(
+    alloc: Global,
+    book: &Book,
+    recording: &mut Recording,
+    entry: Option<Entry>,
+    shows: Shows,
+) -> Result<Reply, AllocError>
+    ensures recorded { OnOk result (MakesNone entry → (m : ℕ) (es : List EntryOf) → IsUntouched m book.now es
+        → IsRecorded m book.now es recording.old.changes.items recording.old.meta
+        → IsRecorded m book.now (es ++ listed_entry entry) recording.new.changes.items recording.new.meta) }
+    ensures reply { IfOk result (λ r. IsShownWith entry shows → HasTexts (tables_with recording.old.meta.clock book.now entry)
+        → r ≡ reply_of (tables_with recording.old.meta.clock book.now entry) shows) }
+{
+    let moment = recording.meta.clock;
+    record_moves(alloc, book, recording, &entry)?;
+    let reply = show(alloc, book, &entry, moment, shows)?;
+    Ok(reply)
+}
+
+fn record_moves(
+    alloc: Global,
+    book: &Book,
+    recording: &mut Recording,
+    entry: &Option<Entry>,
+) -> Result<(), AllocError>
+    ensures recorded { OnOk result (MakesNone entry.now → (m : ℕ) (es : List EntryOf) → IsUntouched m book.now es
+        → IsRecorded m book.now es recording.old.changes.items recording.old.meta
+        → IsRecorded m book.now (es ++ listed_entry entry.now) recording.new.changes.items recording.new.meta) }
 {
     match entry {
-        Some(Entry::Opened(key, contacts)) => recording.open(key, contacts),
-        _ => Ok(()),
+        Some(entry) => recording.shift(alloc, book, entry),
+        None => Ok(()),
     }
 }
 
-/// What is shown, by the rows of the book after these changes.
-fn shown(alloc: Global, changes: &[Change], book: &Book, shows: Shows) -> Result<Reply, AllocError>
-    ensures { IfOk result (λ r. IsServedShows shows → (applied changes.now book.now).meta.policy ≡ book.now.meta.policy
-        → r ≡ reply_of (applied changes.now book.now) shows) }
+/// Opens an account, and shows it.
+fn act_on_account(
+    alloc: Global,
+    book: &Book,
+    recording: &mut Recording,
+    key: Jwk,
+    contacts: Sequence<Text>,
+) -> Result<Reply, AllocError>
+    requires { recording.old.meta.accounts < 2 ^ 62 }
+    ensures recorded { OnOk result ((m : ℕ) (es : List EntryOf)
+        → IsRecorded m book.now es recording.old.changes.items recording.old.meta
+        → IsRecorded m book.now (es ++ opened key contacts ∷ []) recording.new.changes.items recording.new.meta) }
+    ensures reply { IfOk result (λ r. (m : ℕ) → IsAt m book.now recording.old.meta → IsOrdered book.now
+        → r ≡ reply_of (effects m (swept m book.now) (opened key contacts ∷ [])) (show.OpenedAccount (recording.old.meta.accounts + 1))) }
 {
-    let policy = &book.meta().policy;
-    match shows {
-        Shows::KnownAccount(number) => {
-            account_shown(alloc, policy, 200, account_after(changes, book, number))
+    let row = recording.open(key, contacts)?;
+    let reply = located_account(alloc, &book.meta().policy, 201, &row)?;
+    Ok(reply)
+}
+
+/// The names of a new order.
+fn names_of(alloc: Global, wanted: &[Wanted]) -> Result<Vec<DnsName>, AllocError>
+    ensures { IfOk result (λ v. v.items ≡ map wanted_name wanted.now) }
+{
+    let mut names = Vec::new(alloc);
+    for one in wanted {
+        let Wanted::New { name, tokens: _ } = one;
+        names.push(name.clone()?)?;
+    }
+    Ok(names)
+}
+
+/// Makes an order, and shows it.
+fn act_on_order(
+    alloc: Global,
+    book: &Book,
+    recording: &mut Recording,
+    account: u64,
+    wanted: &[Wanted],
+) -> Result<Reply, AllocError>
+    requires moment { recording.old.meta.clock ≤ 250000000000 }
+    requires orders { recording.old.meta.orders < 2 ^ 62 }
+    requires authorizations { recording.old.meta.authorizations + length wanted.now ≤ 2 ^ 62 }
+    requires challenges { recording.old.meta.challenges + count_tokens wanted.now ≤ 2 ^ 62 }
+    ensures recorded { OnOk result ((m : ℕ) (es : List EntryOf) → IsOrdered book.now → IsUntouched m book.now es
+        → IsRecorded m book.now es recording.old.changes.items recording.old.meta
+        → IsRecorded m book.now (es ++ ordered account wanted.now ∷ []) recording.new.changes.items recording.new.meta) }
+    ensures reply { IfOk result (λ r. (m : ℕ) → IsAt m book.now recording.old.meta → IsOrdered book.now
+        → HasTexts (effects m (swept m book.now) (ordered account wanted.now ∷ []))
+        → r ≡ reply_of (effects m (swept m book.now) (ordered account wanted.now ∷ [])) (show.MadeOrder (recording.old.meta.orders + 1))) }
+{
+    let row = recording.order(alloc, account, wanted)?;
+    let names = names_of(alloc, wanted)?;
+    let reply = located_order(alloc, &book.meta().policy, 201, &row, &names)?;
+    Ok(reply)
+}
+
+/// What an accepted request records, and its reply without a nonce.
+fn act_on_accepted(
+    alloc: Global,
+    book: &Book,
+    recording: &mut Recording,
+    entry: Option<Entry>,
+    shows: Shows,
+) -> Result<Reply, AllocError>
+    requires moment { recording.old.meta.clock ≤ 250000000000 }
+    requires numbers { NumbersLeftFor recording.old.meta entry }
+    ensures recorded { OnOk result (IsActable recording.old.meta (accepted entry shows) → (m : ℕ) (es : List EntryOf) → IsOrdered book.now → IsUntouched m book.now es
+        → IsRecorded m book.now es recording.old.changes.items recording.old.meta
+        → IsRecorded m book.now (es ++ listed_entry entry) recording.new.changes.items recording.new.meta) }
+    ensures reply { IfOk result (λ r. IsActable recording.old.meta (accepted entry shows) → (m : ℕ) → IsAt m book.now recording.old.meta → IsOrdered book.now
+        → HasTexts (effects m (swept m book.now) (listed_entry entry))
+        → r ≡ reply_of (effects m (swept m book.now) (listed_entry entry)) shows) }
+{
+    match entry {
+        Some(Entry::Opened(key, contacts)) => act_on_account(alloc, book, recording, key, contacts),
+        Some(Entry::Ordered(account, wanted)) => {
+            let reply = act_on_order(alloc, book, recording, account, wanted.as_slice())?;
+            Ok(reply)
         }
-        Shows::OpenedAccount(number) => {
-            account_shown(alloc, policy, 201, account_after(changes, book, number))
-        }
-        _ => Ok(plain(200)),
+        entry => act_on_rows(alloc, book, recording, entry, shows),
     }
 }
 
-/// What a verdict on a signed request records, and the reply without its nonce.
-fn act(
+/// What a verdict records, and its reply without a nonce; `index` says whether a refusal has the link to the directory.
+pub(crate) fn act(
     alloc: Global,
     book: &Book,
     recording: &mut Recording,
     verdict: Verdict,
+    index: bool,
 ) -> Result<Reply, AllocError>
-    requires { HasRoom recording.old.meta verdict }
-    ensures recorded { OnOk result (IsServedVerdict verdict → (m : ℕ) (B : Tables) (es : List EntryOf)
-        → IsRecorded m B es recording.old.changes.items recording.old.meta
-        → IsRecorded m B (es ++ entries_of verdict) recording.new.changes.items recording.new.meta) }
-    ensures reply { IfOk result (λ r. IsServedVerdict verdict
-        → (applied recording.new.changes.items book.now).meta.policy ≡ book.now.meta.policy
-        → r ≡ verdict_reply true (applied recording.new.changes.items book.now) verdict) }
+    requires moment { recording.old.meta.clock ≤ 250000000000 }
+    requires numbers { NumbersLeft recording.old.meta verdict }
+    ensures recorded { OnOk result (IsActable recording.old.meta verdict → (m : ℕ) (es : List EntryOf) → IsOrdered book.now → IsUntouched m book.now es
+        → IsRecorded m book.now es recording.old.changes.items recording.old.meta
+        → IsRecorded m book.now (es ++ entries_of verdict) recording.new.changes.items recording.new.meta) }
+    ensures reply { IfOk result (λ r. IsActable recording.old.meta verdict → (m : ℕ) → IsAt m book.now recording.old.meta → IsOrdered book.now
+        → HasTexts (effects m (swept m book.now) (entries_of verdict))
+        → r ≡ verdict_reply index (effects m (swept m book.now) (entries_of verdict)) verdict) }
 {
     match verdict {
         Verdict::Refused {
             number,
             subproblems,
-        } => Ok(refusal_reply(number, subproblems, true)),
+        } => Ok(refusal_reply(number, subproblems, index)),
         Verdict::Accepted { entry, shows } => {
-            record_entry(recording, entry)?;
-            shown(alloc, recording.changes.as_slice(), book, shows)
+            act_on_accepted(alloc, book, recording, entry, shows)
         }
     }
-}
-
-/// A signed request whose nonce was open: the nonce is spent and a fresh one issued, and the verdict is carried out.
-pub(crate) fn passed(
-    alloc: Global,
-    book: &Book,
-    moment: u64,
-    random: &[u8],
-    serial: u64,
-    verdict: Verdict,
-) -> Result<Outcome, CoreFault>
-    requires { HasRoom book.now.meta verdict }
-    ensures changes { IfOk result (λ o. IsServedVerdict verdict
-        → o.changes.items ≡ recorded_changes moment book.now (nonce_entries serial random.now ++ entries_of verdict)) }
-    ensures reply { IfOk result (λ o. IsServedVerdict verdict
-        → (applied o.changes.items book.now).meta.policy ≡ book.now.meta.policy
-        → o.reply ≡ with_nonce (fresh_nonce book.now random.now) (verdict_reply true (applied o.changes.items book.now) verdict)) }
-    ensures room { IfOk result (λ _. (book.now.meta.nonces < 2 ^ 62) × (16 ≤ length random.now)) }
-    ensures fault { IfErr result (λ e. IsIssueFault book.now random.now e) }
-{
-    let last = book.meta().nonces;
-    has_room(last)?;
-    let bytes = first_random(random)?;
-    let mut recording = Recording::begin(alloc, book, moment)?;
-    recording.spend(serial)?;
-    recording.issue(bytes)?;
-    let reply = act(alloc, book, &mut recording, verdict)?;
-    let reply = with_nonce(alloc, last + 1, bytes, reply)?;
-    Ok(Outcome {
-        changes: recording.changes,
-        reply,
-    })
 }

@@ -1,13 +1,31 @@
-//! The JSON documents of replies (RFC 8555, 7.1).
-ghost use Rattle.std.specs.Prelude.{◌≡◌, ◌++◌, map, codes, decimal, string_bytes, IfOk};
-ghost use Rattle.serde_json.specs.Data.{string};
+//! The documents of the directory and of accounts (RFC 8555, 7.1.1, 7.1.2).
+ghost use Rattle.std.specs.Prelude.{◌≡◌, codes, IfOk};
 ghost use Rattle.serde_json.specs.View.{view};
-ghost use Rattle.desk_model.specs.Json.{list};
-ghost use Rattle.desk_model.specs.Document.{account_status_text, account_url, orders_url, account_document};
+ghost use Rattle.desk_model.specs.Document.{directory, account_status_text, account_document};
 
-use desk_model::{AccountRow, AccountStatus, Document, Policy, Text};
+use crate::document_values::text_list;
+pub(crate) use crate::urls::account_url;
+use crate::urls::{orders_url, url};
+use desk_model::{AccountRow, AccountStatus, Document, Policy};
 use serde_json::{Value, json};
 use std::alloc::{AllocError, Global};
+
+fn directory_value(alloc: Global, policy: &Policy) -> Result<Value, AllocError>
+    ensures { IfOk result (λ v. view v ≡ directory policy.now) }
+{
+    let account = url(alloc, policy, "/new-account")?;
+    let nonce = url(alloc, policy, "/new-nonce")?;
+    let order = url(alloc, policy, "/new-order")?;
+    json!(in alloc; {"newAccount": account, "newNonce": nonce, "newOrder": order})
+}
+
+/// The directory (RFC 8555, 7.1.1).
+pub(crate) fn directory_document(alloc: Global, policy: &Policy) -> Result<Document, AllocError>
+    ensures { IfOk result (λ d. d ≡ directory policy.now) }
+{
+    let value = directory_value(alloc, policy)?;
+    Ok(Document::new(value))
+}
 
 /// The status of an account as RFC 8555 spells it.
 fn account_status_text(status: AccountStatus) -> &'static str
@@ -18,33 +36,6 @@ fn account_status_text(status: AccountStatus) -> &'static str
         AccountStatus::Deactivated => "deactivated",
         AccountStatus::Revoked => "revoked",
     }
-}
-
-/// The URL of an account.
-pub(crate) fn account_url(alloc: Global, policy: &Policy, number: u64) -> Result<String, AllocError>
-    ensures { IfOk result (λ s. string_bytes s ≡ account_url policy.now number) }
-{
-    let base = policy.base();
-    format!(in alloc; "{base}/account/{number}")
-}
-
-fn orders_url(alloc: Global, policy: &Policy, number: u64) -> Result<String, AllocError>
-    ensures { IfOk result (λ s. string_bytes s ≡ orders_url policy.now number) }
-{
-    let mut url = account_url(alloc, policy, number)?;
-    url.push_str("/orders")?;
-    Ok(url)
-}
-
-/// A JSON list of texts.
-fn text_list(alloc: Global, texts: &[Text]) -> Result<Value, AllocError>
-    ensures { IfOk result (λ v. view v ≡ list (map string texts.now)) }
-{
-    let mut items = Vec::new(alloc);
-    for text in texts {
-        items.push(Value::String(String::from_str(alloc, text.as_str())?))?;
-    }
-    Ok(Value::Array(items))
 }
 
 fn account_value(alloc: Global, policy: &Policy, row: &AccountRow) -> Result<Value, AllocError>

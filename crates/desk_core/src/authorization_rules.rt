@@ -1,0 +1,44 @@
+//! The rules on authorizations (RFC 8555, 7.5).
+ghost use Rattle.std.specs.Prelude.{◌≡◌, ◌||◌};
+ghost use Rattle.desk_model.specs.Authorization.{is_pending, is_valid};
+ghost use Rattle.desk_model.specs.Rules.{authorization_verdict};
+
+use crate::verdicts::{answers, records};
+use desk_model::{
+    AuthorizationChange, AuthorizationRow, AuthzStatus, Ending, Entry, Shows, Verdict,
+};
+
+pub(crate) fn is_pending(status: AuthzStatus) -> bool
+    ensures { result ≡ is_pending status }
+{
+    matches!(status, AuthzStatus::Pending)
+}
+
+/// Whether an authorization of this status can still be ended by its client or by the operator.
+pub(crate) fn is_endable(status: AuthzStatus) -> bool
+    ensures { result ≡ (is_pending status || is_valid status) }
+{
+    matches!(status, AuthzStatus::Pending | AuthzStatus::Valid)
+}
+
+/// A request to an authorization: one that is over already stays as it is (RFC 8555, 7.5.2).
+#[tactic(auto, unfolding(desk_model::specs::Verdict::choose))]
+pub(crate) fn authorization_verdict(
+    number: u64,
+    row: &AuthorizationRow,
+    status: AuthzStatus,
+    change: AuthorizationChange,
+) -> Verdict
+    ensures { result ≡ authorization_verdict number (record row.now { status = status }) change }
+{
+    let shows = Shows::Authorization(number);
+    match change {
+        AuthorizationChange::Deactivate if is_endable(status) => {
+            records(
+                Entry::AuthorizationEnded(number, Ending::Deactivated),
+                shows,
+            )
+        }
+        AuthorizationChange::Deactivate | AuthorizationChange::Read => answers(shows),
+    }
+}
