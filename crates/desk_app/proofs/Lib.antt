@@ -1,3 +1,6 @@
+pub mod Numbers
+pub mod OneResource
+pub mod Places
 pub mod Plain
 pub mod Runs
 pub mod Spelled

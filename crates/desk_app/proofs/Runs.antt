@@ -7,7 +7,7 @@ use Rattle.desk_model.specs.Run.{fault, run, and_reply}
 use Rattle.desk_model.specs.Tables.{Tables, picture}
 use Rattle.desk_model.specs.declared.call.Call.{Call}
 use Rattle.desk_model.specs.declared.reply.Reply.{Reply}
-use Rattle.desk_app.specs.Answers.{Answers, AllServed, AnswersAll, Declines, DeclinesNext, EndsRun, IsFault, IsRun}
+use Rattle.desk_app.specs.Answers.{Answers, AnswersAll, Declines, DeclinesNext, EndsRun, IsFault, IsRun}
 use Rattle.desk_app.specs.declared.desk.DeskFault.TheVariants as deskfault
 use Rattle.desk_model.specs.Legal.{Legal}
 use Rattle.desk_app.specs.declared.desk.DeskFault.{DeskFault}
@@ -49,9 +49,9 @@ stops F call calls deskfault.NotADesk is other = absurd is
 stops F call calls deskfault.NewerFormat is other = absurd is
 
 -- a run that ends before a call
-ends_here : (F : History) (call : Call) (calls : List Call) (why : Option DeskFault) (later : Tables) → AllServed (call ∷ calls) → Legal F → later ≡ picture F → EndsRun later (call ∷ calls) 0 why → (why ≡ Some deskfault.Memory → ⊥) → run F [] ≡ run F (call ∷ calls)
-ends_here F call calls None later served legal is ends other = absurd (omega arith)
-ends_here F call calls (Some why) later served legal is ends other = stops F call calls why (ends.cause served.0 F legal is) other
+ends_here : (F : History) (call : Call) (calls : List Call) (why : Option DeskFault) (later : Tables) → Legal F → later ≡ picture F → EndsRun later (call ∷ calls) 0 why → (why ≡ Some deskfault.Memory → ⊥) → run F [] ≡ run F (call ∷ calls)
+ends_here F call calls None later legal is ends other = absurd (omega arith)
+ends_here F call calls (Some why) later legal is ends other = stops F call calls why (ends.cause F legal is) other
 
 -- a run that ends later
 ends_later : (call : Call) (calls : List Call) (n : ℕ) (why : Option DeskFault) (later : Tables) → EndsRun later (call ∷ calls) (suc n) why → EndsRun later calls n why
@@ -59,15 +59,15 @@ ends_later call calls n None later ends = omega arith
 ends_later call calls n (Some why) later ends = ends
 
 -- what the desk answers in turn is what the model does
-pub runs : (F : History) → Legal F → (calls : List Call) (replies : List Reply) (why : Option DeskFault) (later : Tables) → AllServed calls → AnswersAll (picture F) (take (length replies) calls) replies later → EndsRun later calls (length replies) why → IsRun F calls replies why later
-runs F legal [] [] why later served all ends = record { answered = refl; recorded = all; whole = λ other. refl }
-runs F legal (call ∷ calls) [] why later served all ends =
-    record { answered = refl; recorded = all; whole = ends_here F call calls why later served legal all ends }
-runs F legal [] (r ∷ replies) why later served all ends = absurd all
-runs F legal (call ∷ calls) (r ∷ replies) why later served all ends =
-    let a = all.1 served.0 F legal refl in
+pub runs : (F : History) → Legal F → (calls : List Call) (replies : List Reply) (why : Option DeskFault) (later : Tables) → AnswersAll (picture F) (take (length replies) calls) replies later → EndsRun later calls (length replies) why → IsRun F calls replies why later
+runs F legal [] [] why later all ends = record { answered = refl; recorded = all; whole = λ other. refl }
+runs F legal (call ∷ calls) [] why later all ends =
+    record { answered = refl; recorded = all; whole = ends_here F call calls why later legal all ends }
+runs F legal [] (r ∷ replies) why later all ends = absurd all
+runs F legal (call ∷ calls) (r ∷ replies) why later all ends =
+    let a = all.1 F legal refl in
     let rest = subst (λ T. AnswersAll T (take (length replies) calls) replies later) a.recorded all.2 in
-    let next = runs (after F call) a.stays_legal calls replies why later served.1 rest (ends_later call calls (length replies) why later ends) in
+    let next = runs (after F call) a.stays_legal calls replies why later rest (ends_later call calls (length replies) why later ends) in
     let on = ran_on F call (take (length replies) calls) a.faultless in
     record {
       answered = ap (λ x. x ∷ replies) a.decided ∙ ap (λ l. (decide F call).reply ∷ l) next.answered ∙ sym (ap (λ q. q.replies) on);
@@ -76,6 +76,6 @@ runs F legal (call ∷ calls) (r ∷ replies) why later served all ends =
     }
 
 -- and so it is for whatever history the tables are the picture of
-pub runs_all : (before : Tables) (calls : List Call) (replies : List Reply) (why : Option DeskFault) (later : Tables) → AnswersAll before (take (length replies) calls) replies later → EndsRun later calls (length replies) why → AllServed calls → (F : History) → Legal F → before ≡ picture F → IsRun F calls replies why later
-runs_all before calls replies why later all ends served F legal is =
-    runs F legal calls replies why later served (subst (λ T. AnswersAll T (take (length replies) calls) replies later) is all) ends
+pub runs_all : (before : Tables) (calls : List Call) (replies : List Reply) (why : Option DeskFault) (later : Tables) → AnswersAll before (take (length replies) calls) replies later → EndsRun later calls (length replies) why → (F : History) → Legal F → before ≡ picture F → IsRun F calls replies why later
+runs_all before calls replies why later all ends F legal is =
+    runs F legal calls replies why later (subst (λ T. AnswersAll T (take (length replies) calls) replies later) is all) ends

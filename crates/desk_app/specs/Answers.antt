@@ -7,7 +7,6 @@ use Rattle.desk_model.specs.Decide.{decide, after}
 use Rattle.desk_model.specs.Run.{fault, run}
 use Rattle.desk_model.specs.declared.call.Call.{Call}
 use Rattle.desk_model.specs.declared.reply.Reply.{Reply}
-use Rattle.desk_core.specs.Served.{IsServed}
 use Rattle.desk_app.specs.declared.desk.DeskFault.{DeskFault}
 use Rattle.desk_app.specs.declared.desk.DeskFault.TheVariants as deskfault
 
@@ -18,9 +17,9 @@ pub record IsAnswered (F : History) (call : Call) (reply : Reply) (later : Table
   pub recorded : later ≡ picture (after F call)
   pub stays_legal : Legal (after F call)
 
--- a call that is served is answered so, whatever led to the tables
+-- a call is answered so, whatever led to the tables
 abbrev pub Answers : Tables → Call → Reply → Tables → Type 0
-Answers before call reply later = IsServed call.ask → (F : History) → Legal F → before ≡ picture F → IsAnswered F call reply later
+Answers before call reply later = (F : History) → Legal F → before ≡ picture F → IsAnswered F call reply later
 
 -- what the model knows the fault by; want of memory, and what a store may meet, are none of the model's
 abbrev pub IsFault : DeskFault → Option ℕ → Type 0
@@ -33,12 +32,7 @@ IsFault _ found = ⊥
 -- the call is not made: the tables are unchanged, and the fault is the call's own or want of memory
 pub record Declines (before : Tables) (call : Call) (why : DeskFault) (later : Tables) : Type 0 where
   pub unchanged : later ≡ before
-  pub cause : IsServed call.ask → (F : History) → Legal F → before ≡ picture F → IsFault why (fault F call)
-
--- each call is served
-abbrev pub AllServed : List Call → Type 0
-AllServed [] = Unit {0}
-AllServed (call ∷ calls) = IsServed call.ask × AllServed calls
+  pub cause : (F : History) → Legal F → before ≡ picture F → IsFault why (fault F call)
 
 -- these calls have these replies, one after the other
 abbrev pub AnswersAll : Tables → List Call → List Reply → Tables → Type 0

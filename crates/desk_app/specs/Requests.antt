@@ -1,72 +1,59 @@
 -- What a request asks, by its method, its path and its body.
-use Rattle.std.specs.Prelude.{◌≡◌, ℕ, ◌%◌, Bool, true, false, not, ◌&&◌, ◌==◌, nat_lt, nat_le, nat_eq, List, [], length, codes, bytes_eq, Option, Some, None, Result, Ok, Err, option_and_then, if◌then◌else◌}
-use Rattle.std.specs.List.{list_all, starts_with}
-use Rattle.serde_json.specs.Data.{Data}
-use Rattle.serde_json.specs.Read.{read}
-use Rattle.serde_json.specs.Find.{get, as_str}
-use Rattle.desk_model.specs.Keys.{Key, IsKeyOf, canonical_text, is_base64url_byte, text_member}
+use Rattle.std.specs.Prelude.{◌≡◌, ℕ, Bool, true, false, ◌&&◌, List, [], codes, bytes_eq, Option, Some, None, option_map}
 use Rattle.desk_model.specs.Refusals.{refusal_of}
+use Rattle.desk_model.specs.declared.call.Ask.{Ask}
 use Rattle.desk_model.specs.declared.call.Ask.TheVariants as ask
-use Rattle.desk_model.specs.declared.call.BadKey.{BadKey}
 use Rattle.desk_model.specs.declared.call.Signed.{Signed}
-use Rattle.desk_model.specs.declared.call.Target.TheVariants as target
+use Rattle.desk_model.specs.declared.call.Target.{Target}
 use Rattle.desk_model.specs.declared.reply.Allow.{Allow}
 use Rattle.desk_model.specs.declared.reply.Allow.TheVariants as allow
 use Rattle.desk_model.specs.declared.reply.Body.TheVariants as body
 use Rattle.desk_model.specs.declared.reply.Reply.{Reply}
+use Rattle.desk_app.specs.Envelopes.{Envelope, IsEnvelopeText, IsSigned}
+use Rattle.desk_app.specs.Offices.{finding, order_problem}
+use Rattle.desk_app.specs.Routes.{IsResourceAt, has_index, is_visible, methods_of, serves}
 use Rattle.desk_app.specs.declared.requests.Request.{Request}
 use Rattle.desk_app.specs.declared.requests.Request.TheVariants as request
+use Rattle.desk_app.specs.declared.routes.OfficeResource.{OfficeResource}
+use Rattle.desk_app.specs.declared.routes.OfficeResource.TheVariants as office
+use Rattle.desk_app.specs.declared.routes.Resource.{Resource}
+use Rattle.desk_app.specs.declared.routes.Resource.TheVariants as resource
 
--- ---- the envelope of a signed request
+-- ---- what is asked of a resource
 
--- the members of the object that stands for a signed request
-pub record Envelope : Type 0 where
-  pub jwk : Data
-  pub nonce : Option (List ℕ)
-  pub payload : List ℕ
+-- what a signed request asks of its target: the body is its envelope, or it asks nothing (RFC 8555, 6.2)
+abbrev pub IsSignedAsk : Target → List ℕ → Option Ask → Type 0
+IsSignedAsk target text None = (e : Envelope) → IsEnvelopeText text e → ⊥
+IsSignedAsk target text (Some what) = (e : Envelope) × (s : Signed) × IsEnvelopeText text e × IsSigned target e s × (what ≡ ask.Signed s)
 
--- base64url characters, as many as some bytes are written with (RFC 8555, 6.5.2)
-abbrev pub has_nonce_form : List ℕ → Bool
-has_nonce_form text = nat_lt 0 (length text) && not (length text % 4 == 1) && list_all is_base64url_byte text
+-- what the validator reports of a challenge
+abbrev pub report_ask : ℕ → List ℕ → Option Ask
+report_ask challenge text = option_map (λ found. ask.Report challenge found) (finding text)
 
--- the text, if it has the form of a nonce
-abbrev pub formed_nonce : List ℕ → Option (Option (List ℕ))
-formed_nonce text = if has_nonce_form text then Some (Some text) else None
+-- the certificate of an order: the bytes of the body, as they are
+abbrev pub certify_ask : ℕ → List ℕ → Option Ask
+certify_ask order text = Some (ask.Certify order text)
 
--- no nonce, or the one that this member is
-abbrev pub nonce_from : Option Data → Option (Option (List ℕ))
-nonce_from None = Some None
-nonce_from (Some value) = option_and_then formed_nonce (as_str value)
+-- why the signing office gives an order up
+abbrev pub fail_ask : ℕ → List ℕ → Option Ask
+fail_ask order text = option_map (λ problem. ask.FailOrder order problem) (order_problem text)
 
--- the nonce of an envelope, which may lack it; None where the member is no nonce
-abbrev pub nonce_in : Data → Option (Option (List ℕ))
-nonce_in d = nonce_from (get (codes "nonce") d)
+abbrev pub office_ask : OfficeResource → List ℕ → Option Ask
+office_ask (office.Key account) text = Some (ask.KeyOf account)
+office_ask office.ChallengeWork text = Some ask.ChallengeWork
+office_ask office.OrderWork text = Some ask.OrderWork
+office_ask (office.Report challenge) text = report_ask challenge text
+office_ask (office.Certify order) text = certify_ask order text
+office_ask (office.FailOrder order) text = fail_ask order text
 
--- the value is an object with these members
-pub record IsEnvelope (d : Data) (e : Envelope) : Type 0 where
-  pub jwk : get (codes "jwk") d ≡ Some e.jwk
-  pub payload : text_member (codes "payload") d ≡ Some e.payload
-  pub nonce : nonce_in d ≡ Some e.nonce
+-- what a request of this method and body asks of a resource; None: the body is none for it
+abbrev pub IsAskOf : Resource → List ℕ → List ℕ → Option Ask → Type 0
+IsAskOf resource.Directory method text asked = asked ≡ Some ask.Directory
+IsAskOf resource.NewNonce method text asked = asked ≡ Some (ask.NewNonce (bytes_eq method (codes "HEAD")))
+IsAskOf (resource.Signed target) method text asked = IsSignedAsk target text asked
+IsAskOf (resource.Office o) method text asked = asked ≡ office_ask o text
 
--- the body is the text of such an object
-pub record IsEnvelopeText (text : List ℕ) (e : Envelope) : Type 0 where
-  pub value : Data
-  pub read : read text ≡ Some value
-  pub envelope : IsEnvelope value e
-
--- the key that a value spells, or that it spells none
-abbrev pub IsKeyRead : Data → Result (List ℕ) BadKey → Type 0
-IsKeyRead d (Ok text) = (k : Key) × IsKeyOf d k × (text ≡ canonical_text k)
-IsKeyRead d (Err bad) = (k : Key) → IsKeyOf d k → ⊥
-
--- the signed request of an envelope
-pub record IsSigned (e : Envelope) (s : Signed) : Type 0 where
-  pub target : s.target ≡ target.NewAccount
-  pub key : IsKeyRead e.jwk s.key
-  pub nonce : s.nonce ≡ e.nonce
-  pub payload : s.payload ≡ e.payload
-
--- ---- routes
+-- ---- requests
 
 -- the reply to a request that is no call: nothing is recorded, and there is no nonce
 abbrev pub refused_request : ℕ → Allow → Bool → Reply
@@ -79,59 +66,18 @@ refused_request number methods index =
       body = body.Problem (record { number = number; subproblems = []; allow = methods; index = index });
     }
 
--- a printable character of ASCII, and no space
-abbrev pub is_visible_byte : ℕ → Bool
-is_visible_byte c = nat_le 33 c && nat_le c 126
+-- a method and a path of visible characters
+abbrev pub are_visible : List ℕ → List ℕ → Bool
+are_visible method path = is_visible method && is_visible path
 
-abbrev pub is_visible : List ℕ → Bool
-is_visible text = list_all is_visible_byte text
-
--- a path for the validator and the signing office
-abbrev pub is_inside : List ℕ → Bool
-is_inside path = starts_with nat_eq path (codes "/office/")
-
--- the reply has the link to the directory, but on the directory itself and inside the house (RFC 8555, 7.1)
-abbrev pub has_index : List ℕ → Bool
-has_index path = not (bytes_eq path (codes "/directory")) && not (is_inside path)
-
--- what a path and a method lead to
-pub data Route : Type 0 where
-  to_nonce : (head : Bool) → Route
-  to_account : Route
-  nowhere : (number : ℕ) (methods : Allow) (index : Bool) → Route
-
--- a fresh nonce, by GET or HEAD (RFC 8555, 7.2)
-abbrev pub nonce_route : List ℕ → Route
-nonce_route method =
-    if bytes_eq method (codes "GET") then to_nonce false
-    else (if bytes_eq method (codes "HEAD") then to_nonce true
-    else nowhere 3 allow.GetHead true)
-
--- a new account (RFC 8555, 7.3)
-abbrev pub account_route : List ℕ → Route
-account_route method = if bytes_eq method (codes "POST") then to_account else nowhere 3 allow.Post true
-
-abbrev pub path_route : List ℕ → List ℕ → Route
-path_route method path =
-    if bytes_eq path (codes "/new-nonce") then nonce_route method
-    else (if bytes_eq path (codes "/new-account") then account_route method
-    else nowhere 2 allow.No (has_index path))
-
-abbrev pub route_of : List ℕ → List ℕ → Route
-route_of method path = if is_visible method && is_visible path then path_route method path else nowhere 1 allow.No true
-
--- ---- requests
-
--- a new account is asked by the envelope in the body; a body that is none is refused
-pub data IsAccountRequest (text : List ℕ) : Request → Type 0 where
-  asked : (e : Envelope) (s : Signed) → IsEnvelopeText text e → IsSigned e s → IsAccountRequest text (request.Asks (ask.Signed s))
-  unread : ((e : Envelope) → IsEnvelopeText text e → ⊥) → IsAccountRequest text (request.Refused (refused_request 1 allow.No true))
-
-abbrev pub IsRouted : Route → List ℕ → Request → Type 0
-IsRouted (to_nonce head) text r = r ≡ request.Asks (ask.NewNonce head)
-IsRouted to_account text r = IsAccountRequest text r
-IsRouted (nowhere number methods index) text r = r ≡ request.Refused (refused_request number methods index)
-
--- what the request asks, or how it is refused
-abbrev pub IsRequest : List ℕ → List ℕ → List ℕ → Request → Type 0
-IsRequest method path text r = IsRouted (route_of method path) text r
+-- what the request asks, or how it is refused: the characters are looked at first, then the path, the method and the body
+pub data IsRequest (method path text : List ℕ) : Request → Type 0 where
+  asked : (r : Resource) (what : Ask) → are_visible method path ≡ true → IsResourceAt path r → serves (methods_of r) method ≡ true
+      → IsAskOf r method text (Some what) → IsRequest method path text (request.Asks what)
+  ill_formed : are_visible method path ≡ false → IsRequest method path text (request.Refused (refused_request 1 allow.No true))
+  not_here : are_visible method path ≡ true → ((r : Resource) → IsResourceAt path r → ⊥)
+      → IsRequest method path text (request.Refused (refused_request 2 allow.No (has_index path)))
+  not_served : (r : Resource) → are_visible method path ≡ true → IsResourceAt path r → serves (methods_of r) method ≡ false
+      → IsRequest method path text (request.Refused (refused_request 3 (methods_of r) (has_index path)))
+  unread : (r : Resource) → are_visible method path ≡ true → IsResourceAt path r → serves (methods_of r) method ≡ true
+      → IsAskOf r method text None → IsRequest method path text (request.Refused (refused_request 1 allow.No (has_index path)))

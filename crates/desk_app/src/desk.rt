@@ -4,7 +4,7 @@ ghost use Rattle.desk_model.specs.declared.entry.Entry.TheVariants.{Made as made
 ghost use Rattle.desk_model.specs.Entry.{History};
 ghost use Rattle.desk_model.specs.Legal.{Legal};
 ghost use Rattle.desk_model.specs.Tables.{picture};
-ghost use Rattle.desk_app.specs.Answers.{Answers, Declines, AllServed, AnswersAll, EndsRun, IsRun};
+ghost use Rattle.desk_app.specs.Answers.{Answers, Declines, AnswersAll, EndsRun, IsRun};
 
 use desk_book::Book;
 use desk_core::{CoreFault, decide};
@@ -114,7 +114,7 @@ impl Desk {
 
     /// The replies to calls made in turn, up to the first fault; want of memory is found before a call is made.
     pub fn run(&mut self, calls: &[Call]) -> (Vec<Reply>, Option<DeskFault>)
-        ensures { AllServed calls.now → (F : History) → Legal F → self.old ≡ picture F → IsRun F calls.now result.0.items result.1 self.new }
+        ensures { (F : History) → Legal F → self.old ≡ picture F → IsRun F calls.now result.0.items result.1 self.new }
     {
         self.answer_all(calls)
     }

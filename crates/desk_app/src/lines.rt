@@ -10,7 +10,8 @@ ghost use Rattle.desk_app.specs.Said.{Asks, IsRequestIn, IsRequestOf, IsNoLine, 
 
 use crate::batch::LineFault;
 use crate::problems::problem_document;
-use crate::requests::{Request, read_request, text_of};
+use crate::requests::{Request, read_request};
+use crate::values::text_of;
 use desk_model::{Body, Call, Problem, Reply, Sequence, Text};
 use hex::FromHexError;
 use serde_json::Value;

@@ -1,15 +1,14 @@
 //! From a request's method, path and body to what is asked.
-ghost use Rattle.std.specs.Prelude.{◌≡◌, Some, None, IfOk, MatchOption, option_map, bytes_eq, []};
-ghost use Rattle.std.specs.List.{list_all};
-ghost use Rattle.serde_json.specs.Read.{read};
-ghost use Rattle.serde_json.specs.View.{view};
-ghost use Rattle.desk_model.specs.Keys.{is_base64url_byte, text_member};
-ghost use Rattle.desk_app.specs.Requests.{Envelope, IsEnvelope, IsEnvelopeText, IsSigned, IsKeyRead, IsAccountRequest, IsRequest, IsRouted, formed_nonce, has_nonce_form, nonce_in, nonce_route, account_route, path_route, route_of, has_index, is_inside, is_visible, is_visible_byte, refused_request};
+ghost use Rattle.std.specs.Prelude.{◌≡◌, [], None, IfOk};
+ghost use Rattle.desk_app.specs.Requests.{IsAskOf, IsRequest, IsSignedAsk, are_visible, certify_ask, fail_ask, office_ask, refused_request, report_ask};
 
+use crate::envelopes::signed_in;
+use crate::offices::{finding, order_problem};
+use crate::routes::{
+    OfficeResource, Resource, has_index, is_visible, methods_of, resource_at, serves,
+};
 use desk_core::refusal_status;
-use desk_model::{Allow, Ask, BadKey, Body, Jwk, Problem, Reply, Sequence, Signed, Target, Text};
-use keys::{KeyFault, read_jwk};
-use serde_json::Value;
+use desk_model::{Allow, Ask, Body, Problem, Reply, Sequence, Target};
 use std::alloc::{AllocError, Global};
 
 /// What a request asks, or the refusal of one that is no call.
@@ -19,7 +18,7 @@ pub enum Request {
     Refused(Reply),
 }
 
-/// What the request of this method, path and body asks (RFC 8555, 6.2, 7.2, 7.3).
+/// What the request of this method, path and body asks (RFC 8555, 6.2, 7.1).
 ///
 /// # Errors
 ///
@@ -32,41 +31,106 @@ pub fn read_request(
 ) -> Result<Request, AllocError>
     ensures { IfOk result (λ r. IsRequest method.now path.now body.now r) }
 {
-    if !(is_visible(method) && is_visible(path)) {
+    if !are_visible(method, path) {
         return Ok(refused(alloc, 1, Allow::No, true));
     }
-    if is_text(path, "/new-nonce") {
-        return Ok(nonce_request(alloc, method));
+    let index = has_index(path);
+    let Some(resource) = resource_at(path) else {
+        return Ok(refused(alloc, 2, Allow::No, index));
+    };
+    let methods = methods_of(resource);
+    if !serves(methods, method) {
+        return Ok(refused(alloc, 3, methods, index));
     }
-    if is_text(path, "/new-account") {
-        return account_request(alloc, method, body);
+    match ask_of(alloc, resource, method, body)? {
+        Some(ask) => Ok(Request::Asks(ask)),
+        None => Ok(refused(alloc, 1, Allow::No, index)),
     }
-    Ok(refused(alloc, 2, Allow::No, has_index(path)))
 }
 
-// A fresh nonce is asked by GET or HEAD (RFC 8555, 7.2).
-fn nonce_request(alloc: Global, method: &str) -> Request
-    ensures { IsRouted (nonce_route method.now) [] result }
+// Whether a method and a path are of visible characters.
+fn are_visible(method: &str, path: &str) -> bool
+    ensures { result ≡ are_visible method.now path.now }
 {
-    if is_text(method, "GET") {
-        return Request::Asks(Ask::NewNonce { head: false });
-    }
-    if is_text(method, "HEAD") {
-        return Request::Asks(Ask::NewNonce { head: true });
-    }
-    refused(alloc, 3, Allow::GetHead, true)
+    is_visible(method) && is_visible(path)
 }
 
-// A new account is asked by POST (RFC 8555, 7.3).
-fn account_request(alloc: Global, method: &str, body: &str) -> Result<Request, AllocError>
-    ensures { IfOk result (λ r. IsRouted (account_route method.now) body.now r) }
+// What a request asks of a resource that serves its method, or `None` where its body is none for it.
+fn ask_of(
+    alloc: Global,
+    resource: Resource,
+    method: &str,
+    body: &str,
+) -> Result<Option<Ask>, AllocError>
+    ensures { IfOk result (λ o. IsAskOf resource method.now body.now o) }
 {
-    if !is_text(method, "POST") {
-        return Ok(refused(alloc, 3, Allow::Post, true));
+    match resource {
+        Resource::Directory => Ok(Some(Ask::Directory)),
+        Resource::NewNonce => Ok(Some(Ask::NewNonce {
+            head: method == "HEAD",
+        })),
+        Resource::Signed(target) => signed_ask(alloc, target, body),
+        Resource::Office(resource) => office_ask(alloc, resource, body),
     }
-    match signed_in(alloc, body)? {
-        Some(signed) => Ok(Request::Asks(Ask::Signed(signed))),
-        None => Ok(refused(alloc, 1, Allow::No, true)),
+}
+
+// What a signed request asks of its target, or `None` where its body is no envelope (RFC 8555, 6.2).
+fn signed_ask(alloc: Global, target: Target, body: &str) -> Result<Option<Ask>, AllocError>
+    ensures { IfOk result (λ o. IsSignedAsk target body.now o) }
+{
+    match signed_in(alloc, target, body)? {
+        Some(signed) => Ok(Some(Ask::Signed(signed))),
+        None => Ok(None),
+    }
+}
+
+// What the validator or the signing office asks, or `None` where the body is none for it.
+fn office_ask(
+    alloc: Global,
+    resource: OfficeResource,
+    body: &str,
+) -> Result<Option<Ask>, AllocError>
+    ensures { IfOk result (λ o. o ≡ office_ask resource body.now) }
+{
+    match resource {
+        OfficeResource::Key(account) => Ok(Some(Ask::KeyOf(account))),
+        OfficeResource::ChallengeWork => Ok(Some(Ask::ChallengeWork)),
+        OfficeResource::OrderWork => Ok(Some(Ask::OrderWork)),
+        OfficeResource::Report(challenge) => report_ask(alloc, challenge, body),
+        OfficeResource::Certify(order) => certify_ask(alloc, order, body),
+        OfficeResource::FailOrder(order) => fail_ask(alloc, order, body),
+    }
+}
+
+// What the validator reports of this challenge.
+fn report_ask(alloc: Global, challenge: u64, body: &str) -> Result<Option<Ask>, AllocError>
+    ensures { IfOk result (λ o. o ≡ report_ask challenge body.now) }
+{
+    match finding(alloc, body)? {
+        Some(finding) => Ok(Some(Ask::Report { challenge, finding })),
+        None => Ok(None),
+    }
+}
+
+// The certificate of this order: the bytes of the body.
+fn certify_ask(alloc: Global, order: u64, body: &str) -> Result<Option<Ask>, AllocError>
+    ensures { IfOk result (λ o. o ≡ certify_ask order body.now) }
+{
+    let mut bytes = Vec::new(alloc);
+    bytes.extend_from_slice(body.as_bytes())?;
+    Ok(Some(Ask::Certify {
+        order,
+        bytes: Sequence::new(bytes),
+    }))
+}
+
+// Why this order is given up.
+fn fail_ask(alloc: Global, order: u64, body: &str) -> Result<Option<Ask>, AllocError>
+    ensures { IfOk result (λ o. o ≡ fail_ask order body.now) }
+{
+    match order_problem(alloc, body)? {
+        Some(problem) => Ok(Some(Ask::FailOrder { order, problem })),
+        None => Ok(None),
     }
 }
 
@@ -86,147 +150,4 @@ fn refused(alloc: Global, number: u8, allow: Allow, index: bool) -> Request
             index,
         }),
     })
-}
-
-// The signed request whose envelope this text is.
-fn signed_in(alloc: Global, body: &str) -> Result<Option<Signed>, AllocError>
-    ensures { IfOk result (λ o. MatchOption o ((e : Envelope) → ¬ (IsEnvelopeText body.now e))
-        (λ s. (e : Envelope) × IsEnvelopeText body.now e × IsSigned e s)) }
-{
-    match value_of(alloc, body)? {
-        Some(envelope) => signed_of(alloc, &envelope),
-        None => Ok(None),
-    }
-}
-
-// The value that this text is, if it is JSON.
-fn value_of(alloc: Global, text: &str) -> Result<Option<Value>, AllocError>
-    ensures { IfOk result (λ o. option_map view o ≡ read text.now) }
-{
-    match Value::from_str(alloc, text) {
-        Ok(value) => Ok(Some(value)),
-        Err(error) => {
-            if error.is_memory() {
-                Err(AllocError)
-            } else {
-                Ok(None)
-            }
-        }
-    }
-}
-
-// The signed request whose envelope this value is.
-fn signed_of(alloc: Global, envelope: &Value) -> Result<Option<Signed>, AllocError>
-    ensures { IfOk result (λ o. MatchOption o ((e : Envelope) → ¬ (IsEnvelope (view envelope.now) e))
-        (λ s. (e : Envelope) × IsEnvelope (view envelope.now) e × IsSigned e s)) }
-{
-    let Some(jwk) = envelope.get("jwk") else {
-        return Ok(None);
-    };
-    let Some(payload) = text_of(envelope, "payload") else {
-        return Ok(None);
-    };
-    let Some(nonce) = nonce_of(alloc, envelope)? else {
-        return Ok(None);
-    };
-    let key = key_of(alloc, jwk)?;
-    let payload = Text::new(String::from_str(alloc, payload)?);
-    Ok(Some(Signed {
-        target: Target::NewAccount,
-        key,
-        nonce,
-        payload,
-    }))
-}
-
-// The string of this member.
-pub(crate) fn text_of<'v>(value: &'v Value, name: &str) -> Option<&'v str>
-    ensures { option_map (λ s. s.now) result ≡ text_member name.now (view value.now) }
-{
-    value.get(name)?.as_str()
-}
-
-// The key that a value spells, or that it spells none.
-fn key_of(alloc: Global, jwk: &Value) -> Result<Result<Jwk, BadKey>, AllocError>
-    ensures { IfOk result (λ r. IsKeyRead (view jwk.now) r) }
-{
-    match read_jwk(alloc, jwk) {
-        Ok(key) => Ok(Ok(key)),
-        Err(KeyFault::Bad) => Ok(Err(BadKey)),
-        Err(KeyFault::Memory) => Err(AllocError),
-    }
-}
-
-// The nonce of an envelope, which may lack it.
-fn nonce_of(alloc: Global, envelope: &Value) -> Result<Option<Option<Text>>, AllocError>
-    ensures { IfOk result (λ o. o ≡ nonce_in (view envelope.now)) }
-{
-    let Some(value) = envelope.get("nonce") else {
-        return Ok(Some(None));
-    };
-    match value.as_str() {
-        Some(text) => formed_nonce(alloc, text),
-        None => Ok(None),
-    }
-}
-
-// The text, if it has the form of a nonce.
-fn formed_nonce(alloc: Global, text: &str) -> Result<Option<Option<Text>>, AllocError>
-    ensures { IfOk result (λ o. o ≡ formed_nonce text.now) }
-{
-    if !has_nonce_form(text.as_bytes()) {
-        return Ok(None);
-    }
-    let nonce = Text::new(String::from_str(alloc, text)?);
-    Ok(Some(Some(nonce)))
-}
-
-// Whether the text has the form of a nonce (RFC 8555, 6.5.2).
-fn has_nonce_form(text: &[u8]) -> bool
-    ensures { result ≡ has_nonce_form text.now }
-{
-    text.len() > 0 && !(text.len() % 4 == 1) && has_base64url_bytes(text)
-}
-
-// Whether each byte is a base64url character.
-fn has_base64url_bytes(text: &[u8]) -> bool
-    ensures { result ≡ list_all is_base64url_byte text.now }
-{
-    text.iter()
-        .all(|b| b.is_ascii_alphanumeric() || *b == b'-' || *b == b'_')
-}
-
-// Whether each byte is a visible character of ASCII.
-fn is_visible(text: &str) -> bool
-    ensures { result ≡ is_visible text.now }
-{
-    text.bytes().all(|b| is_visible_byte(b))
-}
-
-// Whether the byte is a visible character of ASCII.
-fn is_visible_byte(b: u8) -> bool
-    ensures { result ≡ is_visible_byte b }
-{
-    b >= 33 && b <= 126
-}
-
-// Whether a reply has the link to the directory.
-fn has_index(path: &str) -> bool
-    ensures { result ≡ has_index path.now }
-{
-    !is_text(path, "/directory") && !is_inside(path)
-}
-
-// Whether the path is for the validator and the signing office.
-fn is_inside(path: &str) -> bool
-    ensures { result ≡ is_inside path.now }
-{
-    path.starts_with("/office/")
-}
-
-// Whether two texts are the same.
-fn is_text(text: &str, other: &str) -> bool
-    ensures { result ≡ bytes_eq text.now other.now }
-{
-    text == other
 }

@@ -293,8 +293,6 @@ fn requests_that_are_no_calls_are_refused(rt: HostRuntime) -> Result<(), Fail> {
         ("GET", "/nothing", "", MISSING),
         ("GET", "", "", MISSING),
         ("GET", "/new-nonce?x", "", MISSING),
-        ("GET", "/directory", "", MISSING),
-        ("POST", "/new-order", "", MISSING),
         ("POST", "/new-nonce", "", NOT_SERVED),
         ("get", "/new-nonce", "", NOT_SERVED),
         ("GET", "/new-account", "", NOT_SERVED),

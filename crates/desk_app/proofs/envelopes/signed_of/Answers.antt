@@ -1,7 +1,7 @@
 use Rattle.std.proofs.Common.{rules, refl}
 use Rattle.serde_json.specs.View.{view}
-use Rattle.desk_app.specs.Requests.{Envelope}
-use Rattle.desk_app.proofs.requests.signed_of.Goals as goal
+use Rattle.desk_app.specs.Envelopes.{Envelope}
+use Rattle.desk_app.proofs.envelopes.signed_of.Goals as goal
 
 pub returns : goal.returns
 returns c =
