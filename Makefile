@@ -24,8 +24,8 @@ test:
 	@echo 'Running the merge gate: every proof from nothing, the edits that must fail, every test.'
 	rt ci
 	@$(MAKE) --no-print-directory bin/desk
-	@for run in first order; do \
-		echo "Comparing the replies to examples/$$run.jsonl with examples/$$run.expected."; \
-		set -o pipefail; bin/desk batch < examples/$$run.jsonl | diff examples/$$run.expected - || exit 1; \
+	@set -o pipefail; for calls in examples/*.jsonl; do \
+		echo "Comparing the replies to $$calls."; \
+		bin/desk batch < $$calls | diff $${calls%.jsonl}.expected - || exit 1; \
 	done
 	@echo 'The replies are the expected ones.'
