@@ -2,7 +2,7 @@
 SHELL := /bin/bash
 SOURCES := crates.txt $(shell find crates -name out -prune -o -type f -print)
 
-.PHONY: all first test
+.PHONY: all bench first test
 
 all: bin/desk
 
@@ -29,3 +29,9 @@ test:
 		bin/desk batch < $$calls | diff $${calls%.jsonl}.expected - || exit 1; \
 	done
 	@echo 'The replies are the expected ones.'
+
+bench: bin/desk
+	@echo 'Timing calls on desks of 100, 1,000 and 10,000 orders (minutes); the figures go to docs/PERFORMANCE.md.'
+	@python3 bench/bench.py > docs/PERFORMANCE.md.new
+	@mv docs/PERFORMANCE.md.new docs/PERFORMANCE.md
+	@cat docs/PERFORMANCE.md
