@@ -110,9 +110,11 @@ def main():
         growth = runs[SIZES[2]][name] / runs[SIZES[1]][name]
         print(f"| {name} | {rates} | {growth:.1f} times |")
     print(
-        "\nEvery call costs time linear in the rows of the desk: the book is copied before the changes of a call are made, "
-        "also where there are none. A call that records something also walks over the tables for what the passing of "
-        "time ends, and lists of the whole desk walk over what they list."
+        "\nEvery signed request records its nonces at least. A call that records something costs time linear in the rows of "
+        "the desk: the book is copied before the changes are made, so that a want of memory in between leaves it as it "
+        "was, and the tables are walked over for what the passing of time ends. A call that records nothing copies "
+        "nothing: what it looks up by number takes the time of a map, and the lists of the whole desk take time linear "
+        "in what they go through."
     )
 
 

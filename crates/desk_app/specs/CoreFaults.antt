@@ -1,6 +1,6 @@
 -- The faults of decisions, as the desk answers them.
-use Rattle.desk_core.specs.declared.fault.CoreFault.{CoreFault}
-use Rattle.desk_core.specs.declared.fault.CoreFault.TheVariants as core
+use Rattle.desk_rules.specs.declared.fault.CoreFault.{CoreFault}
+use Rattle.desk_rules.specs.declared.fault.CoreFault.TheVariants as core
 use Rattle.desk_app.specs.declared.desk.DeskFault.{DeskFault}
 use Rattle.desk_app.specs.declared.desk.DeskFault.TheVariants as deskfault
 

@@ -7,7 +7,7 @@ use crate::offices::{finding, order_problem};
 use crate::routes::{
     OfficeResource, Resource, has_index, is_visible, methods_of, resource_at, serves,
 };
-use desk_core::refusal_status;
+use desk_replies::refusal_status;
 use desk_model::{Allow, Ask, Body, Problem, Reply, Sequence, Target};
 use std::alloc::{AllocError, Global};
 

@@ -137,6 +137,9 @@ impl Book {
         ensures done { OnOk result (self.new ≡ applied changes.items self.old) }
         ensures unchanged { OnErr result (self.new ≡ self.old) }
     {
+        if changes.is_empty() {
+            return Ok(());
+        }
         let mut next = self.clone()?;
         next.apply_all(changes)?;
         *self = next;

@@ -34,7 +34,7 @@ use Rattle.desk_model.specs.declared.rows.Meta.{Meta}
 use Rattle.desk_model.specs.declared.rows.OrderRow.{OrderRow}
 use Rattle.desk_model.specs.declared.verdict.Verdict.{Verdict}
 use Rattle.desk_model.specs.declared.verdict.Verdict.TheVariants.{Refused as refused}
-use Rattle.desk_core.specs.Acting.{IsActable}
+use Rattle.desk_changes.specs.Acting.{IsActable}
 
 -- ---- steps of verdicts
 

@@ -22,17 +22,19 @@ use Rattle.desk_model.specs.declared.entry.Entry.{Entry}
 use Rattle.desk_model.specs.declared.entry.Entry.TheVariants.{Issued as issued, Spent as spent, Opened as opened, Ordered as ordered}
 use Rattle.desk_model.specs.declared.verdict.Verdict.{Verdict}
 use Rattle.desk_model.specs.declared.verdict.Verdict.TheVariants.{Refused as refused, Accepted as accepted}
+use Rattle.desk_laws.specs.News.{AreNews}
+use Rattle.desk_laws.proofs.NewsInOrder.{records_put_news}
 use Rattle.desk_laws.proofs.Recorded.{recorded}
 use Rattle.desk_laws.proofs.Step.{steps, sweep}
 use Rattle.desk_laws.proofs.Keeps.{counters_fit, numbers_fit_counters}
 use Rattle.desk_laws.specs.LegalLaws.{CountersFit, last_end}
 use Rattle.desk_lives.proofs.SoundCalls.{moment_later, call_follows, legal_by_numbers}
-use Rattle.desk_core.specs.Acting.{HasTexts, IsActable}
-use Rattle.desk_core.specs.Recorded.{recorded_changes}
+use Rattle.desk_changes.specs.Acting.{HasTexts, IsActable}
+use Rattle.desk_changes.specs.Recorded.{recorded_changes}
 use Rattle.desk_core.specs.Decided.{IsDecision}
-use Rattle.desk_core.specs.Needs.{NumbersLeft, NumbersSpent}
+use Rattle.desk_rules.specs.Needs.{NumbersLeft, NumbersSpent}
 use Rattle.desk_core.specs.SameRows.{SameRows}
-use Rattle.desk_core.specs.Shown.{HasMoments}
+use Rattle.desk_changes.specs.Shown.{HasMoments}
 use Rattle.std.proofs.lemmas.Bool.Decides.{nat_tests}
 
 pub not_less : (a b : ℕ) → b ≤ a → nat_lt a b ≡ false
@@ -157,6 +159,9 @@ decides F call e es changes reply legal formed at is fits enough made replies =
     record {
       faultless = faultless F call at numbers bytes;
       replies = replies (subst EachFollows (sym grown) follows);
+      news =
+          subst (AreNews (picture F)) (sym made)
+          (records_put_news F e es (moment_of call.at F) (moment_later F call) (subst EachFollows (sym grown) follows));
       makes = makes;
       stays_legal = legal_by_numbers F call legal follows numbers;
     }
@@ -171,6 +176,7 @@ decides_none F call changes reply legal at is none said =
           faultless F call at (subst (λ G. IsTrue (numbers_fit G)) same legal.numbered)
           (subst (λ l. 16 * count_pieces l ≤ length call.random) (sym is) (omega arith));
       replies = said;
+      news = subst (AreNews (picture F)) (sym none) tt;
       makes = ap (λ cs. applied cs (picture F)) none ∙ ap picture same;
       stays_legal = subst Legal same legal;
     }

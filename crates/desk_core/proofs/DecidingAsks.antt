@@ -23,11 +23,11 @@ use Rattle.desk_model.specs.declared.verdict.Verdict.TheVariants.{Refused as ref
 use Rattle.desk_laws.proofs.Recorded.{tables_ordered}
 use Rattle.desk_laws.proofs.Keeps.{numbers_fit_counters}
 use Rattle.desk_laws.specs.Ordered.{IsOrdered}
-use Rattle.desk_core.specs.Acting.{HasTexts}
+use Rattle.desk_changes.specs.Acting.{HasTexts}
 use Rattle.desk_core.specs.Outcomes.{Issues, Passes, Settles, MeetsSigned, MeetsAsk}
 use Rattle.desk_core.specs.Decided.{IsDecision}
-use Rattle.desk_core.specs.Needs.{NumbersLeft}
-use Rattle.desk_core.specs.Recorded.{recorded_changes}
+use Rattle.desk_rules.specs.Needs.{NumbersLeft}
+use Rattle.desk_changes.specs.Recorded.{recorded_changes}
 use Rattle.desk_core.specs.SameRows.{SameRows}
 use Rattle.desk_core.proofs.Actable.{office_actable, signed_actable}
 use Rattle.desk_core.proofs.Deciding.{actable_from, after_is, counters, decides, decides_none, fits_issued, fits_nonces, left_same, now_is, texts_same}

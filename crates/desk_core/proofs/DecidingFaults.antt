@@ -26,11 +26,11 @@ use Rattle.desk_laws.proofs.Recorded.{tables_ordered}
 use Rattle.desk_laws.specs.Ordered.{IsOrdered}
 use Rattle.desk_lives.proofs.SoundCalls.{clock_in_time}
 use Rattle.desk_core.specs.Decided.{IsFaultOf}
-use Rattle.desk_core.specs.Needs.{NumbersSpent}
+use Rattle.desk_rules.specs.Needs.{NumbersSpent}
 use Rattle.desk_core.specs.Outcomes.{IsPassedFault, IsSignedFault, IsAskFault}
 use Rattle.desk_core.specs.Room.{IsIssueFault}
-use Rattle.desk_core.specs.declared.fault.CoreFault.{CoreFault}
-use Rattle.desk_core.specs.declared.fault.CoreFault.TheVariants as core
+use Rattle.desk_rules.specs.declared.fault.CoreFault.{CoreFault}
+use Rattle.desk_rules.specs.declared.fault.CoreFault.TheVariants as core
 use Rattle.desk_core.proofs.Deciding.{counters, fits_issued, fits_nonces, fitting, less, not_less, now_is, spent_same}
 use Rattle.desk_core.proofs.DecidingAsks.{judged, judged_left, passed_is}
 use Rattle.desk_core.proofs.NumbersAfter.{numbers_left, numbers_spent}

@@ -4,10 +4,10 @@ use Rattle.desk_model.specs.Tables.{Tables}
 use Rattle.desk_model.specs.Decide.{entries_of}
 use Rattle.desk_model.specs.Run.{count_pieces}
 use Rattle.desk_model.specs.declared.verdict.Verdict.{Verdict}
-use Rattle.desk_core.specs.Needs.{IsNeedFault, NumbersLeft}
+use Rattle.desk_rules.specs.Needs.{IsNeedFault, NumbersLeft}
 use Rattle.desk_core.specs.Outcomes.{IsPassedFault, IsShort}
-use Rattle.desk_core.specs.declared.fault.CoreFault.{CoreFault}
-use Rattle.desk_core.specs.declared.fault.CoreFault.TheVariants as fault
+use Rattle.desk_rules.specs.declared.fault.CoreFault.{CoreFault}
+use Rattle.desk_rules.specs.declared.fault.CoreFault.TheVariants as fault
 
 -- a fault of the verdict is one of the request
 pub need_fault : (B : Tables) (random : List ℕ) (v : Verdict) (e : CoreFault) → B.meta.nonces < 2 ^ 62 → IsNeedFault B.meta random v e → IsPassedFault B random v e

@@ -23,7 +23,7 @@ use Rattle.desk_model.specs.declared.verdict.Verdict.TheVariants.{Refused as ref
 use Rattle.desk_laws.specs.LegalLaws.{CountersFit}
 use Rattle.desk_laws.proofs.Keeps.{numbers_fit_counters}
 use Rattle.desk_laws.proofs.Numbers.{count-append}
-use Rattle.desk_core.specs.Needs.{HasTokens, IsSpaced, NumbersLeft, NumbersSpent}
+use Rattle.desk_rules.specs.Needs.{HasTokens, IsSpaced, NumbersLeft, NumbersSpent}
 
 -- ---- what an order makes
 

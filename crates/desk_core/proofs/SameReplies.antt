@@ -12,7 +12,7 @@ use Rattle.desk_model.specs.declared.verdict.Verdict.{Verdict}
 use Rattle.desk_model.specs.declared.verdict.Verdict.TheVariants.{Refused as refused, Accepted as accepted}
 use Rattle.desk_laws.proofs.Plain.{issued_effect, spent_effect}
 use Rattle.desk_core.specs.SameRows.{SameRows}
-use Rattle.desk_core.proofs.QuietEntries.{issued_meta, spent_meta}
+use Rattle.desk_changes.proofs.QuietEntries.{issued_meta, spent_meta}
 use Rattle.desk_core.proofs.SameVerdicts.{same_beside}
 
 -- ---- what is shown

@@ -40,9 +40,9 @@ use Rattle.desk_model.specs.declared.rows.Meta.{Meta}
 use Rattle.desk_model.specs.declared.rows.OrderRow.{OrderRow}
 use Rattle.desk_model.specs.declared.verdict.Verdict.{Verdict}
 use Rattle.desk_model.specs.declared.verdict.Verdict.TheVariants.{Refused as refused, Accepted as accepted}
-use Rattle.desk_core.specs.Acting.{MakesNone}
-use Rattle.desk_core.specs.Needs.{HasTokens, IsSpaced, NumbersLeft, BytesLeft}
-use Rattle.desk_core.proofs.NamesWanted.{length-pieces}
+use Rattle.desk_changes.specs.Acting.{MakesNone}
+use Rattle.desk_rules.specs.Needs.{HasTokens, IsSpaced, NumbersLeft, BytesLeft}
+use Rattle.desk_rules.proofs.NamesWanted.{length-pieces}
 
 -- ---- steps of verdicts
 

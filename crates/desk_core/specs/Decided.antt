@@ -9,13 +9,16 @@ use Rattle.desk_model.specs.Run.{fault}
 use Rattle.desk_model.specs.declared.call.Call.{Call}
 use Rattle.desk_model.specs.declared.reply.Reply.{Reply}
 use Rattle.desk_model.specs.declared.rows.Change.{Change}
-use Rattle.desk_core.specs.declared.fault.CoreFault.{CoreFault}
-use Rattle.desk_core.specs.declared.fault.CoreFault.TheVariants as core
+use Rattle.desk_laws.specs.News.{AreNews}
+use Rattle.desk_rules.specs.declared.fault.CoreFault.{CoreFault}
+use Rattle.desk_rules.specs.declared.fault.CoreFault.TheVariants as core
 
--- the call has no fault, the reply is the model's, and the changes make the picture of the longer history, which is legal
+-- the call has no fault, the reply is the model's, and the changes put news alone and make the picture of the longer history,
+-- which is legal
 pub record IsDecision (F : History) (call : Call) (changes : List Change) (reply : Reply) : Type 0 where
   pub faultless : fault F call ≡ None
   pub replies : reply ≡ (decide F call).reply
+  pub news : AreNews (picture F) changes
   pub makes : applied changes (picture F) ≡ picture (after F call)
   pub stays_legal : Legal (after F call)
 

@@ -1,11 +1,4 @@
-pub mod Acting
 pub mod Decided
-pub mod Lists
-pub mod Made
-pub mod Moved
-pub mod Needs
 pub mod Outcomes
-pub mod Recorded
 pub mod Room
 pub mod SameRows
-pub mod Shown

@@ -14,12 +14,12 @@ use Rattle.desk_model.specs.declared.call.Ask.{Ask}
 use Rattle.desk_model.specs.declared.call.Ask.TheVariants as ask
 use Rattle.desk_model.specs.declared.call.Signed.{Signed}
 use Rattle.desk_laws.specs.Ordered.{IsOrdered}
-use Rattle.desk_core.specs.Acting.{HasTexts, IsActable}
-use Rattle.desk_core.specs.Needs.{BytesLeft, NumbersLeft, NumbersSpent}
-use Rattle.desk_core.specs.Recorded.{recorded_changes}
+use Rattle.desk_changes.specs.Acting.{HasTexts, IsActable}
+use Rattle.desk_rules.specs.Needs.{BytesLeft, NumbersLeft, NumbersSpent}
+use Rattle.desk_changes.specs.Recorded.{recorded_changes}
 use Rattle.desk_core.specs.Room.{IsIssueFault}
-use Rattle.desk_core.specs.declared.fault.CoreFault.{CoreFault}
-use Rattle.desk_core.specs.declared.fault.CoreFault.TheVariants as fault
+use Rattle.desk_rules.specs.declared.fault.CoreFault.{CoreFault}
+use Rattle.desk_rules.specs.declared.fault.CoreFault.TheVariants as fault
 
 -- a nonce is issued and nothing else, with this reply
 pub record Issues (m : ℕ) (B : Tables) (random : List ℕ) (answer : Reply) (changes : List Change) (reply : Reply) : Type 0 where

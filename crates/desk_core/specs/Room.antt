@@ -1,8 +1,8 @@
 -- Whether a nonce can be issued.
 use Rattle.std.specs.Prelude.{ℕ, ◌<◌, ◌≤◌, ◌^◌, List, length}
 use Rattle.desk_model.specs.Tables.{Tables}
-use Rattle.desk_core.specs.declared.fault.CoreFault.{CoreFault}
-use Rattle.desk_core.specs.declared.fault.CoreFault.TheVariants as fault
+use Rattle.desk_rules.specs.declared.fault.CoreFault.{CoreFault}
+use Rattle.desk_rules.specs.declared.fault.CoreFault.TheVariants as fault
 
 -- why no nonce is issued: want of memory, of numbers, or of random bytes where there are numbers
 abbrev pub IsIssueFault : Tables → List ℕ → CoreFault → Type 0

@@ -5,31 +5,28 @@ ghost use Rattle.desk_model.specs.Effect.{effects, swept};
 ghost use Rattle.desk_model.specs.Rules.{office_verdict, open_nonce, signed_verdict as verdict_of};
 ghost use Rattle.desk_laws.specs.Ordered.{IsOrdered};
 ghost use Rattle.desk_model.specs.Change.{all_changes, sweep_changes};
-ghost use Rattle.desk_core.specs.declared.fault.CoreFault.TheVariants.{Memory};
+ghost use Rattle.desk_rules.specs.declared.fault.CoreFault.TheVariants.{Memory};
 ghost use Rattle.desk_model.specs.Shown.{fresh_nonce, with_nonce};
 ghost use Rattle.desk_model.specs.declared.entry.Entry.TheVariants.{Issued as issued_entry};
 ghost use Rattle.desk_model.specs.Entry.{History};
 ghost use Rattle.desk_model.specs.Legal.{Legal};
 ghost use Rattle.desk_model.specs.Tables.{picture};
 ghost use Rattle.desk_model.specs.Run.{IsFormedCall};
-ghost use Rattle.desk_core.specs.Acting.{HasTexts, IsActable, is_recording};
+ghost use Rattle.desk_changes.specs.Acting.{HasTexts, IsActable, is_recording};
 ghost use Rattle.desk_core.specs.Decided.{IsDecision, IsFaultOf};
-ghost use Rattle.desk_core.specs.Needs.{NumbersLeft};
+ghost use Rattle.desk_rules.specs.Needs.{NumbersLeft};
 ghost use Rattle.desk_core.specs.Outcomes.{IsAskFault, IsPassedFault, IsShort, IsSignedFault, MeetsAsk, MeetsSigned, Passes, Settles};
-ghost use Rattle.desk_core.specs.Recorded.{recorded_changes};
+ghost use Rattle.desk_changes.specs.Recorded.{recorded_changes};
 ghost use Rattle.desk_core.specs.Room.{IsIssueFault};
 
 use crate::acts::act;
-use crate::fault::CoreFault;
-use crate::judging::judge_signed;
-use crate::limits::{LAST_MOMENT, first_random, has_room};
-use crate::nonces::open_nonce;
-use crate::offices::judge_office;
-use crate::recording::Recording;
-use crate::replies::{nonce_reply, refusal_reply, with_nonce};
-use crate::showing::show;
 use desk_book::Book;
+use desk_changes::Recording;
 use desk_model::{Ask, Call, Change, Reply, Sequence, Signed, Verdict};
+use desk_replies::{nonce_reply, refusal_reply, show, with_nonce};
+use desk_rules::{
+    CoreFault, LAST_MOMENT, first_random, has_room, judge_office, judge_signed, open_nonce,
+};
 use std::alloc::{AllocError, Global};
 
 /// The nonce of the request is not open.

@@ -10,6 +10,7 @@ pub mod Differing
 pub mod Recorded
 pub mod Faults
 pub mod PutsDiffer
+pub mod NewsInOrder
 pub mod Maps
 pub mod Keeps
 pub mod Local

@@ -9,6 +9,7 @@ use Rattle.desk_model.specs.Change.{moved_rows, account_differs, authorization_d
 use Rattle.desk_model.specs.Touched.{EachOf}
 use Rattle.desk_model.specs.declared.entry.Entry.{Entry}
 use Rattle.desk_model.specs.declared.entry.Entry.TheVariants.{Answered as answered, Reported as reported}
+use Rattle.desk_model.specs.declared.objects.Nonce.{Nonce}
 use Rattle.desk_model.specs.declared.rows.AuthorizationRow.{AuthorizationRow}
 use Rattle.desk_model.specs.declared.rows.Change.TheVariants.{PutMeta, PutNonce, RemoveNonce, PutAccount, PutAuthorization, PutOrder}
 use Rattle.desk_model.specs.declared.rows.OrderRow.{OrderRow}
@@ -128,29 +129,50 @@ each_change P T m e meta removed nonces accounts authorizations orders = (
       (each-map P PutOrder (orders_put T e m) orders)))),
 )
 
--- what an entry puts differs from what stands there
-pub puts_differ : (T : Tables) (m : ℕ) (e : Entry) → IsOrdered T → EachOf (IsNews T) (changes m T e)
-puts_differ T m e h =
-    each_change (IsNews T) T m e tt (λ n. tt)
-    (each_fresh (λ n. n.serial) T.meta.nonces (T.meta.nonces + 1) T.nonces _ (nowhere (λ n. n.serial) T.nonces) (omega arith) h.nonces.1
-    (nonces_put T e m) (issued_up e m (T.meta.nonces + 1)))
-    (each_put (λ a. a.number) (touches_account e) account_differs (noted_account e m) T.meta.accounts T.accounts _ _
+-- the nonces that an entry puts stand in no row yet
+pub nonces_differ : (T : Tables) (m : ℕ) (e : Entry) (rows : List Nonce) → Below (λ n. n.serial) (T.meta.nonces + 1) rows →
+    EachOf (λ x. find (λ n. n.serial == x.serial) rows ≢ Some x) (nonces_put T e m)
+nonces_differ T m e rows below =
+    each_fresh (λ n. n.serial) T.meta.nonces (T.meta.nonces + 1) rows _ (nowhere (λ n. n.serial) rows) (omega arith) below
+    (nonces_put T e m) (issued_up e m (T.meta.nonces + 1))
+
+-- the accounts that it puts are others than those that stand there
+pub accounts_differ : (T : Tables) (m : ℕ) (e : Entry) → IsOrdered T →
+    EachOf (λ x. find (λ a. a.number == x.number) T.accounts ≢ Some x) (accounts_put T e m)
+accounts_differ T m e h =
+    each_put (λ a. a.number) (touches_account e) account_differs (noted_account e m) T.meta.accounts T.accounts _ _
     (λ x d. another (λ a. a.number) T.accounts x (noted_account e m x) refl (others account_differs account_differs_not x (noted_account e m x) d))
-    (nowhere (λ a. a.number) T.accounts) h.accounts (opened_up e m (T.meta.accounts + 1)))
-    (each_put (λ a. a.number) (touches_authorization e) authorization_differs
+    (nowhere (λ a. a.number) T.accounts) h.accounts (opened_up e m (T.meta.accounts + 1))
+
+-- and so the authorizations
+pub authorizations_differ : (T : Tables) (m : ℕ) (e : Entry) → IsOrdered T →
+    EachOf (λ x. find (λ a. a.number == x.number) T.authorizations ≢ Some x) (authorizations_put T e m)
+authorizations_differ T m e h =
+    each_put (λ a. a.number) (touches_authorization e) authorization_differs
     (λ r. restated_authorization m (noted_authorization e m r)) T.meta.authorizations T.authorizations _ _
     (λ x d.
     let y : AuthorizationRow = restated_authorization m (noted_authorization e m x) in
     another (λ a. a.number) T.authorizations x y refl (others authorization_differs authorization_differs_not x y d))
     (nowhere (λ a. a.number) T.authorizations) h.authorizations
-    (made_up e m T.meta.policy.authz_life (T.meta.authorizations + 1) (T.meta.challenges + 1)))
-    (each_put (λ o. o.number) (touches_order e T.authorizations) order_differs
+    (made_up e m T.meta.policy.authz_life (T.meta.authorizations + 1) (T.meta.challenges + 1))
+
+-- and the orders
+pub orders_differ : (T : Tables) (m : ℕ) (e : Entry) → IsOrdered T →
+    EachOf (λ x. find (λ o. o.number == x.number) T.orders ≢ Some x) (orders_put T e m)
+orders_differ T m e h =
+    each_put (λ o. o.number) (touches_order e T.authorizations) order_differs
     (λ r. restated_order m (authorizations_after T e m) (noted_order e m r)) T.meta.orders T.orders _ _
     (λ x d.
     let y : OrderRow = restated_order m (authorizations_after T e m) (noted_order e m x) in
     another (λ o. o.number) T.orders x y refl (others order_differs order_differs_not x y d))
     (nowhere (λ o. o.number) T.orders) h.orders
-    (ordered_up e m T.meta.policy (new_authorizations T e m) (T.meta.orders + 1) (authorizations_after T e m)))
+    (ordered_up e m T.meta.policy (new_authorizations T e m) (T.meta.orders + 1) (authorizations_after T e m))
+
+-- what an entry puts differs from what stands there
+pub puts_differ : (T : Tables) (m : ℕ) (e : Entry) → IsOrdered T → EachOf (IsNews T) (changes m T e)
+puts_differ T m e h =
+    each_change (IsNews T) T m e tt (λ n. tt) (nonces_differ T m e T.nonces h.nonces.1) (accounts_differ T m e h) (authorizations_differ T m e h)
+    (orders_differ T m e h)
 
 -- what an entry puts keeps the children of what stands there
 pub puts_keep_children : (T : Tables) (m : ℕ) (e : Entry) → IsOrdered T → EachOf (KeepsChildren T) (changes m T e)
@@ -196,16 +218,24 @@ fails m rows row h e =
     let over : is_live_order row.status ≡ false = ap (λ (r : OrderRow). is_live_order r.status) e in
     cc
 
+-- the authorizations that a sweep puts are others than those that stand there
+pub expired_differ : (T : Tables) (m : ℕ) → IsOrdered T →
+    EachOf (λ x. find (λ a. a.number == x.number) T.authorizations ≢ Some x) (authorizations_expired m T)
+expired_differ T m h =
+    each_moved (λ a. a.number) (is_overdue m) (λ (r : AuthorizationRow). record r { status = authz.Expired }) T.authorizations _
+    (λ x picked. another (λ a. a.number) T.authorizations x (record x { status = authz.Expired }) refl (expires m x picked))
+    T.authorizations (ascends_found (λ a. a.number) 1 T.authorizations h.authorizations.0)
+
+-- and so the orders
+pub fallen_differ : (T : Tables) (m : ℕ) → IsOrdered T → EachOf (λ x. find (λ o. o.number == x.number) T.orders ≢ Some x) (orders_fallen m T)
+fallen_differ T m h =
+    each_moved (λ o. o.number) (falls m T.authorizations) (λ (r : OrderRow). record r { status = order.Invalid }) T.orders _
+    (λ x picked. another (λ o. o.number) T.orders x (record x { status = order.Invalid }) refl (fails m T.authorizations x picked))
+    T.orders (ascends_found (λ o. o.number) 1 T.orders h.orders.0)
+
 -- what a sweep puts differs from what stands there
 pub swept_puts_differ : (T : Tables) (m : ℕ) → IsOrdered T → EachOf (IsNews T) (sweep_changes m T)
-swept_puts_differ T m h =
-    each_sweep (IsNews T) T m tt (λ n. tt)
-    (each_moved (λ a. a.number) (is_overdue m) (λ (r : AuthorizationRow). record r { status = authz.Expired }) T.authorizations _
-    (λ x picked. another (λ a. a.number) T.authorizations x (record x { status = authz.Expired }) refl (expires m x picked))
-    T.authorizations (ascends_found (λ a. a.number) 1 T.authorizations h.authorizations.0))
-    (each_moved (λ o. o.number) (falls m T.authorizations) (λ (r : OrderRow). record r { status = order.Invalid }) T.orders _
-    (λ x picked. another (λ o. o.number) T.orders x (record x { status = order.Invalid }) refl (fails m T.authorizations x picked))
-    T.orders (ascends_found (λ o. o.number) 1 T.orders h.orders.0))
+swept_puts_differ T m h = each_sweep (IsNews T) T m tt (λ n. tt) (expired_differ T m h) (fallen_differ T m h)
 
 -- what a sweep puts keeps the children of what stands there
 pub swept_puts_keep_children : (T : Tables) (m : ℕ) → IsOrdered T → EachOf (KeepsChildren T) (sweep_changes m T)

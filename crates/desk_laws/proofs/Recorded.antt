@@ -77,14 +77,14 @@ numbered_below number n k [] e h = tt
 numbered_below number n k (x ∷ xs) e h = ((let same : number x ≡ n = h.0 in omega arith), numbered_below number (n + 1) k xs (omega arith) h.1)
 
 -- maps that keep numbers keep them below
-below_map : {X Y : Type 0} (number : X → ℕ) (other : Y → ℕ) (f : X → Y) (same : (x : X) → other (f x) ≡ number x) (k : ℕ) (xs : List X) →
+pub below_map : {X Y : Type 0} (number : X → ℕ) (other : Y → ℕ) (f : X → Y) (same : (x : X) → other (f x) ≡ number x) (k : ℕ) (xs : List X) →
     Below number k xs → Below other k (map f xs)
 below_map number other f same k [] h = tt
 below_map number other f same k (x ∷ xs) h =
     ((let e : other (f x) ≡ number x = same x in let lt : number x < k = h.0 in omega arith), below_map number other f same k xs h.1)
 
 -- what is left is below
-below_filter : {X : Type 0} (number : X → ℕ) (p : X → Bool) (k : ℕ) (xs : List X) → Below number k xs → Below number k (filter p xs)
+pub below_filter : {X : Type 0} (number : X → ℕ) (p : X → Bool) (k : ℕ) (xs : List X) → Below number k xs → Below number k (filter p xs)
 below_filter number p k [] h = tt
 below_filter number p k (x ∷ xs) h = by (p x) (below_filter number p k xs h.1)
   where

@@ -10,7 +10,7 @@ use Rattle.desk_model.specs.Tables.{Tables, tables_at, picture}
 use Rattle.desk_model.specs.Touched.{EachOf}
 use Rattle.desk_model.specs.declared.entry.Entry.{Entry}
 use Rattle.desk_model.specs.declared.rows.AuthorizationRow.{AuthorizationRow}
-use Rattle.desk_laws.specs.News.{IsNews, KeepsChildren}
+use Rattle.desk_laws.specs.News.{AreNews, IsNews, KeepsChildren}
 use Rattle.desk_laws.specs.Ordered.{Ascends, IsOrdered}
 
 -- the tables of a history stand by number
@@ -43,6 +43,12 @@ SweepPutsDiffer = (T : Tables) (m : ℕ) → IsOrdered T → EachOf (IsNews T) (
 -- nor by an entry
 abbrev pub EntryPutsDiffer : Type 0
 EntryPutsDiffer = (T : Tables) (m : ℕ) (e : Entry) → IsOrdered T → EachOf (IsNews T) (changes m T e)
+
+-- and so in a whole record: each row that is put differs from the one that stands there by then
+abbrev pub RecordsPutNews : Type 0
+RecordsPutNews =
+    (F : History) (e : Entry) (es : List Entry) (m : ℕ) → clock F ≤ m → EachFollows (record_all m (e ∷ es) F) →
+    AreNews (picture F) (sweep_changes m (picture F) ++ all_changes m (swept m (picture F)) (e ∷ es))
 
 -- a row that a sweep puts in the place of another has its challenges, or lists what it lists
 abbrev pub SweepKeepsChildren : Type 0

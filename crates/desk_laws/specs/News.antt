@@ -1,6 +1,7 @@
 -- What a change puts, beside the row that stands in its place.
-use Rattle.std.specs.Prelude.{◌==◌, ◌≡◌, ◌≢◌, Some, IfSome, find, map}
+use Rattle.std.specs.Prelude.{◌==◌, ◌≡◌, ◌≢◌, List, [], ◌∷◌, Some, IfSome, find, map}
 use Rattle.desk_model.specs.Tables.{Tables}
+use Rattle.desk_model.specs.Change.{applied_one}
 use Rattle.desk_model.specs.declared.rows.Change.{Change}
 use Rattle.desk_model.specs.declared.rows.Change.TheVariants.{PutNonce, PutAccount, PutAuthorization, PutOrder}
 
@@ -18,3 +19,8 @@ KeepsChildren T (PutAuthorization x) =
     IfSome (find (λ a. a.number == x.number) T.authorizations) (λ a. map (λ c. c.number) a.challenges ≡ map (λ c. c.number) x.challenges)
 KeepsChildren T (PutOrder x) = IfSome (find (λ o. o.number == x.number) T.orders) (λ o. o.listed ≡ x.listed)
 KeepsChildren T _ = Unit {0}
+
+-- one after the other: each row that is put differs from the one that the changes before it left in its place
+abbrev pub AreNews : Tables → List Change → Type 0
+AreNews T [] = Unit {0}
+AreNews T (c ∷ cs) = IsNews T c × AreNews (applied_one c T) cs

@@ -1,4 +1,5 @@
 use Rattle.desk_laws.proofs.PutsDiffer.{swept_puts_differ, puts_differ, swept_puts_keep_children, puts_keep_children}
+use Rattle.desk_laws.proofs.NewsInOrder.{records_put_news}
 use Rattle.desk_laws.proofs.Recorded.{tables_ordered, challenges_ordered, sweep_makes, changes_make, recorded}
 use Rattle.desk_laws.proofs.changes_make_pictures.Goals as goal
 
@@ -22,6 +23,9 @@ returns-clause-sweep_differs c = swept_puts_differ
 
 pub returns-clause-entry_differs : goal.returns-clause-entry_differs
 returns-clause-entry_differs c = puts_differ
+
+pub returns-clause-news : goal.returns-clause-news
+returns-clause-news c = records_put_news
 
 pub returns-clause-sweep_children : goal.returns-clause-sweep_children
 returns-clause-sweep_children c = swept_puts_keep_children

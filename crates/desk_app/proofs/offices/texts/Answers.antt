@@ -1,7 +1,7 @@
 use Rattle.std.proofs.Common.{Some, List, [], ◌∷◌, ◌++◌, ℕ, sym, ap, ◌∙◌, arith}
 use Rattle.std.specs.Prelude.{option_map}
 use Rattle.serde_json.specs.Find.{as_str}
-use Rattle.desk_core.proofs.EachIn.{each_in-none, each_in-last}
+use Rattle.desk_rules.proofs.EachIn.{each_in-none, each_in-last}
 use Rattle.desk_app.proofs.offices.texts.Goals as goal
 
 pub returns-in_default : goal.returns-in_default

@@ -1,6 +1,6 @@
 use Rattle.std.proofs.Common.{subst, sym}
 use Rattle.desk_model.specs.Effect.{swept}
-use Rattle.desk_core.specs.Needs.{NumbersLeft}
+use Rattle.desk_rules.specs.Needs.{NumbersLeft}
 use Rattle.desk_core.proofs.Spaced.{no_numbers}
 use Rattle.desk_core.proofs.decisions.office.Goals as goal
 

@@ -3,10 +3,10 @@ use Rattle.desk_model.specs.Decide.{entries_of}
 use Rattle.desk_model.specs.Shown.{with_nonce}
 use Rattle.desk_model.specs.Tokens.{nonce_text}
 use Rattle.desk_model.specs.declared.entry.Entry.TheVariants.{Issued as issued, Spent as spent}
-use Rattle.desk_core.specs.Acting.{IsAt}
-use Rattle.desk_core.specs.Recorded.{recorded_changes}
+use Rattle.desk_changes.specs.Acting.{IsAt}
+use Rattle.desk_changes.specs.Recorded.{recorded_changes}
 use Rattle.desk_core.proofs.ActingRows.{actable_at, at_issued}
-use Rattle.desk_core.proofs.Moving.{untouched_nonces}
+use Rattle.desk_changes.proofs.Moving.{untouched_nonces}
 use Rattle.desk_core.proofs.decisions.passed.Goals as goal
 use Rattle.desk_core.proofs.decisions.passed.Goals.{After-drop-recording-2}
 

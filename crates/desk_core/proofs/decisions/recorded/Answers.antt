@@ -1,7 +1,7 @@
 use Rattle.std.proofs.Common.{[]}
-use Rattle.desk_core.specs.Acting.{IsAt}
+use Rattle.desk_changes.specs.Acting.{IsAt}
 use Rattle.desk_core.proofs.ActingRows.{actable_at, at_begun}
-use Rattle.desk_core.proofs.Moving.{untouched_none}
+use Rattle.desk_changes.proofs.Moving.{untouched_none}
 use Rattle.desk_core.proofs.decisions.recorded.Goals as goal
 use Rattle.desk_core.proofs.decisions.recorded.Goals.{After-drop-recording-2}
 

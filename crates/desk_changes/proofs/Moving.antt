@@ -1,0 +1,204 @@
+-- What is recorded of entries that move rows, and of a new order.
+use Rattle.std.proofs.Common.{◌≡◌, ℕ, ◌+◌, List, [], ◌∷◌, ◌++◌, map, length, refl, sym, ap, subst, ◌∙◌, append-nil, add-zero, ◌<◌}
+use Rattle.desk_model.specs.Tables.{Tables}
+use Rattle.desk_model.specs.History.{terms_after}
+use Rattle.desk_model.specs.Nonce.{issued_by}
+use Rattle.desk_model.specs.Account.{opened_by}
+use Rattle.desk_model.specs.Order.{ordered_by}
+use Rattle.desk_model.specs.Authorization.{count_challenges}
+use Rattle.desk_model.specs.Derived.{restated_authorization, restated_order}
+use Rattle.desk_model.specs.Effect.{effect, effects, swept, swept_authorization, fresh_account, fresh_authorization, fresh_order, moved_authorization, new_authorizations, authorizations_after, noted_account, noted_order, touches_account, touches_authorization, touches_order}
+use Rattle.desk_model.specs.Change.{changes, moved_rows, account_differs, authorization_differs, order_differs, spent_by}
+use Rattle.desk_model.specs.declared.entry.Entry.{Entry}
+use Rattle.desk_model.specs.declared.entry.Entry.TheVariants.{Made as made, Issued as issued, Spent as spent, Opened as opened, ContactsChanged as contacts_changed, AccountEnded as account_ended, Ordered as ordered, Answered as answered, Reported as reported, AuthorizationEnded as authorization_ended, Finalized as finalized, Certified as certified, Failed as failed}
+use Rattle.desk_model.specs.declared.objects.Account.{Account}
+use Rattle.desk_model.specs.declared.objects.Authorization.{Authorization}
+use Rattle.desk_model.specs.declared.objects.Nonce.{Nonce}
+use Rattle.desk_model.specs.declared.objects.Order.{Order}
+use Rattle.desk_model.specs.declared.rows.Meta.{Meta}
+use Rattle.desk_model.specs.declared.rows.AuthorizationRow.{AuthorizationRow}
+use Rattle.desk_model.specs.declared.rows.OrderRow.{OrderRow}
+use Rattle.desk_model.specs.declared.rows.Change.{Change}
+use Rattle.desk_model.specs.declared.rows.Change.TheVariants.{PutMeta, PutNonce, RemoveNonce, PutAccount, PutAuthorization, PutOrder}
+use Rattle.desk_model.specs.declared.entry.Wanted.{Wanted}
+use Rattle.desk_laws.specs.Ordered.{Below, IsOrdered}
+use Rattle.desk_laws.proofs.Basics.{each, each-map}
+use Rattle.desk_laws.proofs.Plain.{issued_effect, spent_effect}
+use Rattle.desk_changes.specs.Made.{made_rows, next_order, next_rows, ordered_meta}
+use Rattle.desk_changes.proofs.MadeRows.{made_beside, places_made}
+use Rattle.desk_changes.proofs.QuietEntries.{issued_meta, quiet_changes, spent_meta}
+use Rattle.desk_changes.proofs.SweptRows.{swept_authorization-status}
+use Rattle.desk_changes.specs.Moved.{standing_rows, stated_authorization}
+use Rattle.desk_changes.specs.Recorded.{IsMoving, IsRecorded, IsUntouched, book_moves}
+use Rattle.desk_changes.proofs.Recordings.{one_more, clock_is, same_clock}
+
+-- what an entry that moves rows makes: nothing
+pub record MakesNothing (m : ℕ) (T : Tables) (e : Entry) : Type 0 where
+  pub policy : terms_after e T.meta.policy ≡ T.meta.policy
+  pub unspent : spent_by e ≡ []
+  pub nonces : issued_by e m (T.meta.nonces + 1) ≡ []
+  pub accounts : opened_by e m (T.meta.accounts + 1) ≡ []
+  pub authorizations : new_authorizations T e m ≡ []
+  pub orders : (made : List Authorization) → ordered_by e m T.meta.policy made (T.meta.orders + 1) ≡ []
+
+pub makes_nothing : (m : ℕ) (T : Tables) (e : Entry) → IsMoving e → MakesNothing m T e
+makes_nothing m T (contacts_changed n contacts) h = record { policy = refl; unspent = refl; nonces = refl; accounts = refl; authorizations = refl; orders = λ made. refl }
+makes_nothing m T (account_ended n ending) h = record { policy = refl; unspent = refl; nonces = refl; accounts = refl; authorizations = refl; orders = λ made. refl }
+makes_nothing m T (answered n) h = record { policy = refl; unspent = refl; nonces = refl; accounts = refl; authorizations = refl; orders = λ made. refl }
+makes_nothing m T (reported n outcome) h = record { policy = refl; unspent = refl; nonces = refl; accounts = refl; authorizations = refl; orders = λ made. refl }
+makes_nothing m T (authorization_ended n ending) h = record { policy = refl; unspent = refl; nonces = refl; accounts = refl; authorizations = refl; orders = λ made. refl }
+makes_nothing m T (finalized n csr) h = record { policy = refl; unspent = refl; nonces = refl; accounts = refl; authorizations = refl; orders = λ made. refl }
+makes_nothing m T (certified n certificate) h = record { policy = refl; unspent = refl; nonces = refl; accounts = refl; authorizations = refl; orders = λ made. refl }
+makes_nothing m T (failed n problem) h = record { policy = refl; unspent = refl; nonces = refl; accounts = refl; authorizations = refl; orders = λ made. refl }
+makes_nothing m T (made t) h = absurd h
+makes_nothing m T (issued r) h = absurd h
+makes_nothing m T (spent n) h = absurd h
+makes_nothing m T (opened key contacts) h = absurd h
+makes_nothing m T (ordered n wanted) h = absurd h
+
+-- the meta row stays, but for the clock
+pub moving_meta : (m : ℕ) (T : Tables) (e : Entry) → IsMoving e → (effect m T e).meta ≡ record T.meta { clock = m }
+moving_meta m T e moving =
+    let none : MakesNothing m T e = makes_nothing m T e moving in
+    λ i. record T.meta {
+      policy = none.policy i;
+      clock = m;
+      nonces = (ap (λ (l : List Nonce). T.meta.nonces + length l) none.nonces ∙ add-zero T.meta.nonces) i;
+      accounts = (ap (λ (l : List Account). T.meta.accounts + length l) none.accounts ∙ add-zero T.meta.accounts) i;
+      orders = (ap (λ (l : List Order). T.meta.orders + length l) (none.orders (new_authorizations T e m)) ∙ add-zero T.meta.orders) i;
+      authorizations = (ap (λ (l : List Authorization). T.meta.authorizations + length l) none.authorizations ∙ add-zero T.meta.authorizations) i;
+      challenges = (ap (λ (l : List Authorization). T.meta.challenges + count_challenges l) none.authorizations ∙ add-zero T.meta.challenges) i;
+    }
+
+-- the authorizations after it are those that stood, moved
+pub moving_after : (m : ℕ) (T : Tables) (e : Entry) → IsMoving e → authorizations_after T e m ≡ map (moved_authorization e m) T.authorizations
+moving_after m T e moving =
+    ap (λ l. map (moved_authorization e m) T.authorizations ++ map (λ a. restated_authorization m (fresh_authorization a)) l) (makes_nothing m T e moving).authorizations
+    ∙ append-nil (map (moved_authorization e m) T.authorizations)
+
+-- the rows that it moves, one table after the other
+abbrev pub moves : ℕ → Tables → Entry → List Change
+moves m T e =
+    map PutAccount (moved_rows (touches_account e) account_differs (noted_account e m) T.accounts)
+    ++ (map PutAuthorization (moved_rows (touches_authorization e) authorization_differs (stated_authorization e m) T.authorizations)
+    ++ map PutOrder (moved_rows (touches_order e T.authorizations) order_differs (λ r. restated_order m (map (moved_authorization e m) T.authorizations) (noted_order e m r)) T.orders))
+
+-- and nothing else is recorded of it
+pub moving_changes : (m : ℕ) (T : Tables) (e : Entry) → IsMoving e → changes m T e ≡ PutMeta (record T.meta { clock = m }) ∷ moves m T e
+moving_changes m T e moving =
+    λ i. PutMeta (moving_meta m T e moving i)
+    ∷ (map RemoveNonce (none.unspent i)
+    ++ (map PutNonce (none.nonces i)
+    ++ (map PutAccount (accounts i) ++ (map PutAuthorization (authorizations i) ++ map PutOrder (orders i)))))
+  where
+    none : MakesNothing m T e
+    none = makes_nothing m T e moving
+
+    accounts : moved_rows (touches_account e) account_differs (noted_account e m) T.accounts ++ map fresh_account (opened_by e m (T.meta.accounts + 1))
+        ≡ moved_rows (touches_account e) account_differs (noted_account e m) T.accounts
+    accounts = ap (λ l. moved_rows (touches_account e) account_differs (noted_account e m) T.accounts ++ map fresh_account l) none.accounts ∙ append-nil _
+
+    authorizations : moved_rows (touches_authorization e) authorization_differs (stated_authorization e m) T.authorizations ++ map (λ a. restated_authorization m (fresh_authorization a)) (new_authorizations T e m)
+        ≡ moved_rows (touches_authorization e) authorization_differs (stated_authorization e m) T.authorizations
+    authorizations = ap (λ l. moved_rows (touches_authorization e) authorization_differs (stated_authorization e m) T.authorizations ++ map (λ a. restated_authorization m (fresh_authorization a)) l) none.authorizations ∙ append-nil _
+
+    orders : moved_rows (touches_order e T.authorizations) order_differs (λ r. restated_order m (authorizations_after T e m) (noted_order e m r)) T.orders
+        ++ map (λ o. restated_order m (authorizations_after T e m) (fresh_order o)) (ordered_by e m T.meta.policy (new_authorizations T e m) (T.meta.orders + 1))
+        ≡ moved_rows (touches_order e T.authorizations) order_differs (λ r. restated_order m (map (moved_authorization e m) T.authorizations) (noted_order e m r)) T.orders
+    orders =
+        ap (λ l. moved_rows (touches_order e T.authorizations) order_differs (λ r. restated_order m (authorizations_after T e m) (noted_order e m r)) T.orders
+        ++ map (λ o. restated_order m (authorizations_after T e m) (fresh_order o)) l) (none.orders (new_authorizations T e m))
+        ∙ append-nil _
+        ∙ ap (λ rows. moved_rows (touches_order e T.authorizations) order_differs (λ r. restated_order m rows (noted_order e m r)) T.orders) (moving_after m T e moving)
+
+same_moves : (m : ℕ) (B : Tables) (es : List Entry) (e : Entry) → IsUntouched m B es → moves m (effects m (swept m B) es) e ≡ book_moves m B e
+same_moves m B es e h =
+    λ i. map PutAccount (moved_rows (touches_account e) account_differs (noted_account e m) (h.accounts i))
+    ++ (map PutAuthorization (moved_rows (touches_authorization e) authorization_differs (stated_authorization e m) (h.authorizations i))
+    ++ map PutOrder (moved_rows (touches_order e (h.authorizations i)) order_differs (λ r. restated_order m (map (moved_authorization e m) (h.authorizations i)) (noted_order e m r)) (h.orders i)))
+
+-- an entry that moves rows is recorded
+pub and_moved : (m : ℕ) (B : Tables) (es : List Entry) (e : Entry) (done : List Change) (meta : Meta) → IsMoving e → IsUntouched m B es → IsRecorded m B es done meta →
+    IsRecorded m B (es ++ e ∷ []) (done ++ PutMeta meta ∷ book_moves m B e) meta
+and_moved m B es e done meta moving untouched h =
+    let T : Tables = effects m (swept m B) es in
+    let row : meta ≡ record T.meta { clock = m } = sym (same_clock m meta (clock_is m B es done meta h)) ∙ ap (λ (x : Meta). record x { clock = m }) h.row in
+    one_more m B es e done (PutMeta meta ∷ book_moves m B e) meta meta h
+    ((λ i. PutMeta (row i) ∷ sym (same_moves m B es e untouched) i) ∙ sym (moving_changes m T e moving))
+    (row ∙ sym (moving_meta m T e moving))
+
+-- ---- a new order
+
+-- the meta row after it
+ordered_row : (m : ℕ) (T : Tables) (account : ℕ) (wanted : List Wanted) → (effect m T (ordered account wanted)).meta ≡ ordered_meta (record T.meta { clock = m }) account wanted
+ordered_row m T account wanted =
+    λ i. record (ordered_meta (record T.meta { clock = m }) account wanted) { nonces = add-zero T.meta.nonces i; accounts = add-zero T.meta.accounts i }
+
+-- its row
+pub ordered_one : (m : ℕ) (T : Tables) (account : ℕ) (wanted : List Wanted) → Below (λ a. a.number) (T.meta.authorizations + 1) T.authorizations →
+    (let e : Entry = ordered account wanted in
+    let made : List Authorization = new_authorizations T e m in
+    map (λ o. restated_order m (authorizations_after T e m) (fresh_order o)) (ordered_by e m T.meta.policy made (T.meta.orders + 1))
+    ≡ next_order (record T.meta { clock = m }) account wanted ∷ [])
+ordered_one m T account wanted below =
+    ap (λ (o : OrderRow). o ∷ [])
+    (made_beside T m account wanted fresh below (sym (places_made m 1 made))
+    ∙ (λ i. restated_order m (made_rows m made) (record fresh { listed = sym (places_made m 1 made) i })))
+  where
+    made : List Authorization
+    made = new_authorizations T (ordered account wanted) m
+
+    fresh : OrderRow
+    fresh = fresh_order (record { number = T.meta.orders + 1; account = account; made = m; expires = m + T.meta.policy.order_life; authorizations = made })
+
+-- what is recorded of it
+ordered_changes : (m : ℕ) (T : Tables) (account : ℕ) (wanted : List Wanted) → Below (λ a. a.number) (T.meta.authorizations + 1) T.authorizations →
+    changes m T (ordered account wanted)
+    ≡ PutMeta (ordered_meta (record T.meta { clock = m }) account wanted)
+    ∷ (map PutAuthorization (next_rows (record T.meta { clock = m }) account wanted) ++ PutOrder (next_order (record T.meta { clock = m }) account wanted) ∷ [])
+ordered_changes m T account wanted below =
+    quiet_changes m T (ordered account wanted) (λ a. refl) (λ a. refl) (λ k. refl)
+    ∙ (λ i. PutMeta (ordered_row m T account wanted i)
+    ∷ (map PutAuthorization (next_rows (record T.meta { clock = m }) account wanted) ++ map PutOrder (ordered_one m T account wanted below i)))
+
+-- the authorizations that stand at the moment have no later number
+pub below_standing : (m n : ℕ) (rows : List AuthorizationRow) → Below (λ a. a.number) n rows → Below (λ a. a.number) n (standing_rows m rows)
+below_standing m n rows h =
+    each-map (λ a. a.number < n) (swept_authorization m) rows
+    (each _ _ rows (λ a lt. subst (λ k. k < n) (ap (λ (r : AuthorizationRow). r.number) (swept_authorization-status m a)) lt) h)
+
+-- a new order is recorded
+pub and_ordered : (m : ℕ) (B : Tables) (es : List Entry) (account : ℕ) (wanted : List Wanted) (done : List Change) (meta : Meta) → IsOrdered B → IsUntouched m B es → IsRecorded m B es done meta →
+    IsRecorded m B (es ++ ordered account wanted ∷ [])
+    (done ++ PutMeta (ordered_meta meta account wanted) ∷ (map PutAuthorization (next_rows meta account wanted) ++ PutOrder (next_order meta account wanted) ∷ []))
+    (ordered_meta meta account wanted)
+and_ordered m B es account wanted done meta is untouched h =
+    let T : Tables = effects m (swept m B) es in
+    let row : meta ≡ record T.meta { clock = m } = sym (same_clock m meta (clock_is m B es done meta h)) ∙ ap (λ (x : Meta). record x { clock = m }) h.row in
+    let last : T.meta.authorizations ≡ B.meta.authorizations = ap (λ (x : Meta). x.authorizations) untouched.meta in
+    let below : Below (λ a. a.number) (T.meta.authorizations + 1) T.authorizations =
+    subst (λ n. Below (λ a. a.number) (n + 1) T.authorizations) (sym last)
+    (subst (Below (λ a. a.number) (B.meta.authorizations + 1)) (sym untouched.authorizations) (below_standing m (B.meta.authorizations + 1) B.authorizations is.authorizations.1)) in
+    one_more m B es (ordered account wanted) done _ meta _ h
+    (ap (λ x. PutMeta (ordered_meta x account wanted) ∷ (map PutAuthorization (next_rows x account wanted) ++ PutOrder (next_order x account wanted) ∷ [])) row
+    ∙ sym (ordered_changes m T account wanted below))
+    (ap (λ x. ordered_meta x account wanted) row ∙ sym (ordered_row m T account wanted))
+
+-- ---- entries that touch no row but the nonces'
+
+-- none
+pub untouched_none : (m : ℕ) (B : Tables) → IsUntouched m B []
+untouched_none m B = record { meta = refl; accounts = refl; authorizations = refl; orders = refl }
+
+-- a nonce spent, and one issued
+pub untouched_nonces : (m : ℕ) (B : Tables) (n : ℕ) (r : List ℕ) → IsUntouched m B (spent n ∷ issued r ∷ [])
+untouched_nonces m B n r =
+    record {
+      meta =
+          issued_meta m (effect m (swept m B) (spent n)) r
+          ∙ (λ i. record (spent_meta m (swept m B) n i) { clock = m; nonces = (effect m (swept m B) (spent n)).meta.nonces + 1 })
+          ∙ (λ i. record B.meta { clock = m; nonces = sym (ap (λ (x : Meta). x.nonces) (issued_meta m (effect m (swept m B) (spent n)) r)) i });
+      accounts = ap (λ (T : Tables). T.accounts) (issued_effect m (effect m (swept m B) (spent n)) r) ∙ ap (λ (T : Tables). T.accounts) (spent_effect m (swept m B) n);
+      authorizations = ap (λ (T : Tables). T.authorizations) (issued_effect m (effect m (swept m B) (spent n)) r) ∙ ap (λ (T : Tables). T.authorizations) (spent_effect m (swept m B) n);
+      orders = ap (λ (T : Tables). T.orders) (issued_effect m (effect m (swept m B) (spent n)) r) ∙ ap (λ (T : Tables). T.orders) (spent_effect m (swept m B) n);
+    }

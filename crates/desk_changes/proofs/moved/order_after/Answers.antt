@@ -1,0 +1,15 @@
+use Rattle.std.proofs.Common.{◌∙◌, ap, sym}
+use Rattle.desk_changes.specs.Moved.{stated_order}
+use Rattle.desk_changes.proofs.MovedRows.{order-touched, order-untouched}
+use Rattle.desk_changes.proofs.moved.order_after.Goals as goal
+
+pub returns-then-not-touches_order : goal.returns-then-not-touches_order
+returns-then-not-touches_order c =
+    c.in_ok-standing.ensures
+    ∙ sym (order-untouched c.args.entry.now c.args.moment c.args.book.now.authorizations c.args.row.now (sym c.touches_order.ensures ∙ c.if-not-touches_order.true))
+
+pub returns : goal.returns
+returns c =
+    c.in_ok-stated.ensures
+    ∙ ap (stated_order c.args.entry.now c.args.moment c.args.book.now.authorizations) c.in_ok-standing.ensures
+    ∙ sym (order-touched c.args.entry.now c.args.moment c.args.book.now.authorizations c.args.row.now (sym c.touches_order.ensures ∙ c.if-not-touches_order.false))

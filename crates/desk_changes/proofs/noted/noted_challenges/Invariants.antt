@@ -1,0 +1,6 @@
+use Rattle.std.proofs.Common.{◌≡◌, ◌++◌, map, drop}
+use Rattle.desk_model.specs.Effect.{noted_challenge}
+use Rattle.desk_changes.proofs.noted.noted_challenges.Given as goal
+
+abbrev pub invariant-loop-row : goal.invariant-loop-row
+invariant-loop-row l = l.noted.items ++ map (noted_challenge l.entry l.moment) (drop l.row-index l.rows) ≡ map (noted_challenge l.entry l.moment) l.rows

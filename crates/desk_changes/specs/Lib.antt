@@ -1,0 +1,5 @@
+pub mod Acting
+pub mod Made
+pub mod Moved
+pub mod Recorded
+pub mod Shown

@@ -1,0 +1,44 @@
+-- What is recorded of some entries: the passing of time first, then entry by entry.
+use Rattle.std.specs.Prelude.{ℕ, ◌≡◌, List, [], ◌∷◌, ◌++◌, map}
+use Rattle.desk_model.specs.Tables.{Tables}
+use Rattle.desk_model.specs.Effect.{effects, swept, swept_order, noted_account, touches_account, touches_authorization, touches_order}
+use Rattle.desk_model.specs.Change.{all_changes, sweep_changes, moved_rows, account_differs, authorization_differs, order_differs}
+use Rattle.desk_model.specs.declared.rows.Meta.{Meta}
+use Rattle.desk_model.specs.declared.rows.Change.{Change}
+use Rattle.desk_model.specs.declared.rows.Change.TheVariants.{PutAccount, PutAuthorization, PutOrder}
+use Rattle.desk_model.specs.declared.entry.Entry.{Entry}
+use Rattle.desk_model.specs.declared.entry.Entry.TheVariants.{Made as made, Issued as issued, Spent as spent, Opened as opened, Ordered as ordered}
+use Rattle.desk_changes.specs.Moved.{standing_rows, stated_authorization, stated_order}
+
+-- these entries are recorded at m: the changes so far, and the meta row after them
+pub record IsRecorded (m : ℕ) (B : Tables) (es : List Entry) (done : List Change) (meta : Meta) : Type 0 where
+  pub changes : done ≡ sweep_changes m B ++ all_changes m (swept m B) es
+  pub row : meta ≡ (effects m (swept m B) es).meta
+
+-- the changes of these entries: none where nothing is recorded
+abbrev pub recorded_changes : ℕ → Tables → List Entry → List Change
+recorded_changes m B [] = []
+recorded_changes m B (e ∷ es) = sweep_changes m B ++ all_changes m (swept m B) (e ∷ es)
+
+-- these entries left the meta row, but for the count of nonces, and each row but the nonces' as the passing of time left them
+pub record IsUntouched (m : ℕ) (B : Tables) (es : List Entry) : Type 0 where
+  pub meta : (effects m (swept m B) es).meta ≡ record B.meta { clock = m; nonces = (effects m (swept m B) es).meta.nonces }
+  pub accounts : (effects m (swept m B) es).accounts ≡ B.accounts
+  pub authorizations : (effects m (swept m B) es).authorizations ≡ standing_rows m B.authorizations
+  pub orders : (effects m (swept m B) es).orders ≡ map (swept_order m B.authorizations) B.orders
+
+-- the entry moves rows and makes none
+abbrev pub IsMoving : Entry → Type 0
+IsMoving (made terms) = ⊥
+IsMoving (issued random) = ⊥
+IsMoving (spent serial) = ⊥
+IsMoving (opened key contacts) = ⊥
+IsMoving (ordered account wanted) = ⊥
+IsMoving _ = Unit {0}
+
+-- the rows of a book that the entry moves, as they stand at the moment
+abbrev pub book_moves : ℕ → Tables → Entry → List Change
+book_moves m B e =
+    map PutAccount (moved_rows (touches_account e) account_differs (noted_account e m) B.accounts)
+    ++ (map PutAuthorization (moved_rows (touches_authorization e) authorization_differs (stated_authorization e m) (standing_rows m B.authorizations))
+    ++ map PutOrder (moved_rows (touches_order e (standing_rows m B.authorizations)) order_differs (stated_order e m B.authorizations) (map (swept_order m B.authorizations) B.orders)))

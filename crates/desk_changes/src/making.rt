@@ -1,0 +1,150 @@
+//! The rows that a new order brings: an authorization for each name, with its challenges (RFC 8555, 7.1.3 to 7.1.5).
+ghost use Rattle.std.specs.Prelude.{◌≡◌, ◌≤◌, ◌<◌, ◌+◌, ◌^◌, ◌++◌, map, length, None, IfOk, OnOk};
+ghost use Rattle.desk_model.specs.Authorization.{challenges_from, count_challenges, kinds_of, made_for};
+ghost use Rattle.desk_model.specs.Run.{count_tokens};
+ghost use Rattle.desk_model.specs.Effect.{fresh_challenge};
+ghost use Rattle.desk_changes.specs.Made.{made_row, made_rows, places_from};
+
+use desk_book::derived_authorization;
+use desk_model::{
+    AuthorizationRow, AuthzStatus, ChallengeRow, ChallengeStatus, DnsName, Kind, Listed, Sequence,
+    Wanted,
+};
+use std::alloc::{AllocError, Global};
+
+/// What the authorizations of one order have in common.
+#[derive(Clone, Copy)]
+pub(crate) struct Making {
+    pub(crate) account: u64,
+    pub(crate) date: u64,
+    pub(crate) expires: u64,
+}
+
+fn new_challenge(number: u64, kind: Kind, token: [u8; 16]) -> ChallengeRow
+    ensures { result ≡ fresh_challenge (record { number = number; kind = kind; token = token }) }
+{
+    ChallengeRow {
+        number,
+        kind,
+        token,
+        answered: None,
+        reported: None,
+        status: ChallengeStatus::Pending,
+    }
+}
+
+/// The challenges of a name with these tokens, numbered from here.
+fn new_challenges(
+    alloc: Global,
+    name: &DnsName,
+    tokens: &[[u8; 16]],
+    number: u64,
+) -> Result<Sequence<ChallengeRow>, AllocError>
+    requires { number ≤ 2 ^ 62 + 1 }
+    ensures { IfOk result (λ rows. rows ≡ map fresh_challenge (challenges_from number (kinds_of name.now) tokens.now)) }
+{
+    let mut rows = Vec::new(alloc);
+    if name.is_wildcard() {
+        if let Some(token) = tokens.first() {
+            rows.push(new_challenge(number, Kind::Dns01, *token))?;
+        }
+        return Ok(Sequence::new(rows));
+    }
+    if let Some((token, rest)) = tokens.split_first() {
+        rows.push(new_challenge(number, Kind::Http01, *token))?;
+        if let Some(token) = rest.first() {
+            rows.push(new_challenge(number + 1, Kind::Dns01, *token))?;
+        }
+    }
+    Ok(Sequence::new(rows))
+}
+
+/// The authorization for a name, with its challenges numbered from here.
+fn new_authorization(
+    alloc: Global,
+    making: Making,
+    name: &DnsName,
+    tokens: &[[u8; 16]],
+    number: u64,
+    challenge: u64,
+) -> Result<AuthorizationRow, AllocError>
+    requires { challenge ≤ 2 ^ 62 + 1 }
+    ensures { IfOk result (λ r. r ≡ made_row making.date (record {
+      number = number;
+      account = making.account;
+      name = name.now;
+      made = making.date;
+      expires = making.expires;
+      challenges = challenges_from challenge (kinds_of name.now) tokens.now;
+    })) }
+{
+    let mut row = AuthorizationRow {
+        number,
+        account: making.account,
+        name: name.clone()?,
+        made: making.date,
+        expires: making.expires,
+        ended: None,
+        challenges: new_challenges(alloc, name, tokens, challenge)?,
+        status: AuthzStatus::Pending,
+    };
+    row.status = derived_authorization(making.date, &row);
+    Ok(row)
+}
+
+/// Puts the authorizations for some names, numbered from here, at the end of a list, and gives the number of the
+/// challenge that comes next.
+pub(crate) fn push_authorizations(
+    alloc: Global,
+    rows: &mut Vec<AuthorizationRow>,
+    making: Making,
+    wanted: &[Wanted],
+    number: u64,
+    challenge: u64,
+) -> Result<u64, AllocError>
+    requires numbers { number + length wanted.now ≤ 2 ^ 62 + 1 }
+    requires challenges { challenge + count_tokens wanted.now ≤ 2 ^ 62 + 1 }
+    ensures rows { OnOk result (rows.new.items ≡ rows.old.items ++ made_rows making.date (made_for making.account making.date making.expires wanted.now number challenge)) }
+    ensures next { IfOk result (λ n. n ≡ challenge + count_challenges (made_for making.account making.date making.expires wanted.now number challenge)) }
+{
+    let Some((Wanted::New { name, tokens }, rest)) = wanted.split_first() else {
+        return Ok(challenge);
+    };
+    let row = new_authorization(alloc, making, name, tokens.as_slice(), number, challenge)?;
+    let next = challenge + row.challenges.as_slice().len() as u64;
+    rows.push(row)?;
+    push_authorizations(alloc, rows, making, rest, number + 1, next)
+}
+
+/// Puts the places of some authorizations, from this one on, at the end of a list.
+pub(crate) fn push_places(
+    listed: &mut Vec<Listed>,
+    rows: &[AuthorizationRow],
+    place: u64,
+) -> Result<(), AllocError>
+    requires { place + length rows.now < 2 ^ 64 }
+    ensures { OnOk result (listed.new.items ≡ listed.old.items ++ places_from place rows.now) }
+{
+    let Some((row, rest)) = rows.split_first() else {
+        return Ok(());
+    };
+    listed.push(Listed {
+        place,
+        authorization: row.number,
+    })?;
+    push_places(listed, rest, place + 1)
+}
+
+/// The statuses of some authorizations.
+pub(crate) fn statuses_of(
+    alloc: Global,
+    rows: &[AuthorizationRow],
+) -> Result<Vec<AuthzStatus>, AllocError>
+    ensures { IfOk result (λ v. v.items ≡ map (λ r. r.status) rows.now) }
+{
+    let mut statuses = Vec::new(alloc);
+    for row in rows {
+        statuses.push(row.status)?;
+    }
+    Ok(statuses)
+}

@@ -1,9 +1,0 @@
-use Rattle.desk_core.proofs.Recordings.{and_issued, recorded_as, both_ok}
-use Rattle.desk_model.specs.declared.entry.Entry.TheVariants.{Issued as issued}
-use Rattle.std.proofs.Common.{◌++◌, ◌∷◌, []}
-use Rattle.desk_core.proofs.recording.Recording.issue.Goals as goal
-
-pub returns-clause-recorded : goal.returns-clause-recorded
-returns-clause-recorded c =
-    both_ok c.push.result c.push.ensures.changes c.push.ensures.meta
-    (λ made same m B es h. recorded_as m B (es ++ issued c.args.random ∷ []) _ _ _ _ made same (and_issued m B es c.args.random c.args.self.now.changes.items c.args.self.now.meta h))

@@ -1,7 +1,0 @@
-use Rattle.std.proofs.Common.{◌∙◌, ap, sym}
-use Rattle.desk_model.specs.Json.{list}
-use Rattle.desk_core.proofs.ShownWork.{orders-waiting}
-use Rattle.desk_core.proofs.work_documents.order_list.Goals as goal
-
-pub returns : goal.returns
-returns c = c.list_value.ensures ∙ ap list (c.in_ok-waiting_orders.ensures ∙ sym (orders-waiting c.args.moment c.args.book.now))

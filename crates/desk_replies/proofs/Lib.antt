@@ -1,0 +1,5 @@
+pub mod KeyMembers
+pub mod NoFloats
+pub mod ShownAuthorizations
+pub mod ShownOrders
+pub mod ShownWork

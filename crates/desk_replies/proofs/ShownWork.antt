@@ -1,0 +1,102 @@
+-- What the lists of orders and of work show at a moment, by the rows that stand.
+use Rattle.std.proofs.Common.{◌≡◌, ℕ, List, [], ◌∷◌, ◌++◌, map, filter, Bool, true, false, cond, Option, Some, None, refl, sym, ap, ◌∙◌}
+use Rattle.std.specs.List.{flat_map}
+use Rattle.std.specs.Option.{option_map}
+use Rattle.std.specs.Prelude.{codes}
+use Rattle.serde_json.specs.Data.{string, number, unsigned}
+use Rattle.desk_model.specs.Json.{document, list}
+use Rattle.desk_model.specs.Tokens.{base64url, token_text}
+use Rattle.desk_model.specs.Name.{Name}
+use Rattle.desk_model.specs.Names.{shown_name}
+use Rattle.desk_model.specs.Tables.{Tables}
+use Rattle.desk_model.specs.Order.{is_processing}
+use Rattle.desk_model.specs.Effect.{swept, swept_authorization, swept_order}
+use Rattle.desk_model.specs.Questions.{authorization_on}
+use Rattle.desk_model.specs.declared.rows.AuthorizationRow.{AuthorizationRow}
+use Rattle.desk_model.specs.declared.rows.ChallengeRow.{ChallengeRow}
+use Rattle.desk_model.specs.declared.rows.OrderRow.{OrderRow}
+use Rattle.desk_model.specs.Document.{and_row, rows_of, listed_rows, order_url, is_listed, bytes_of, work_of, expected, kind_text, work_document, order_work_document}
+use Rattle.desk_changes.specs.Shown.{work_at}
+use Rattle.desk_replies.proofs.ShownOrders.{map-map}
+use Rattle.desk_changes.proofs.SweptRows.{swept_authorization-status, swept_order-status, swept_authorization_on}
+
+-- ---- names
+
+swept-name : (m : ℕ) (a : AuthorizationRow) → (swept_authorization m a).name ≡ a.name
+swept-name m a = sym (ap (λ (r : AuthorizationRow). r.name) (swept_authorization-status m a))
+
+swept_row-name : (m : ℕ) (o : Option AuthorizationRow) (moved stays : List AuthorizationRow) → map (λ a. a.name) moved ≡ map (λ a. a.name) stays →
+    map (λ a. a.name) (and_row (option_map (swept_authorization m) o) moved) ≡ map (λ a. a.name) (and_row o stays)
+swept_row-name m None moved stays ih = ih
+swept_row-name m (Some a) moved stays ih =
+    ap (λ n. n ∷ map (λ (r : AuthorizationRow). r.name) moved) (swept-name m a) ∙ ap (λ l. a.name ∷ l) ih
+
+-- the passing of time moves no name
+pub swept-names : (m : ℕ) (T : Tables) (numbers : List ℕ) →
+    map (λ a. a.name) (rows_of (swept m T).authorizations numbers) ≡ map (λ a. a.name) (rows_of T.authorizations numbers)
+swept-names m T [] = refl
+swept-names m T (n ∷ ns) =
+    ap (λ o. map (λ (a : AuthorizationRow). a.name) (and_row o (rows_of (swept m T).authorizations ns))) (swept_authorization_on m T n)
+    ∙ swept_row-name m (authorization_on T n) (rows_of (swept m T).authorizations ns) (rows_of T.authorizations ns) (swept-names m T ns)
+
+-- ---- lists of rows that were moved
+
+-- what is given of the moved rows that pass
+pub map-filter-map : {X Y Z : Type 0} (f : Y → Z) (p : Y → Bool) (move : X → Y) (g : X → Z) → ((x : X) → f (move x) ≡ g x) → (xs : List X) →
+    map f (filter p (map move xs)) ≡ map g (filter (λ x. p (move x)) xs)
+map-filter-map f p move g same [] = refl
+map-filter-map {X} f p move g same (x ∷ xs) = by (p (move x)) (map-filter-map f p move g same xs)
+  where
+    by : (b : Bool) → map f (filter p (map move xs)) ≡ map g (filter (λ y. p (move y)) xs) →
+        map f (cond b (move x ∷ filter p (map move xs)) (filter p (map move xs))) ≡ map g (cond b (x ∷ filter (λ y. p (move y)) xs) (filter (λ y. p (move y)) xs))
+    by true ih = ap (λ z. z ∷ map f (filter p (map move xs))) (same x) ∙ ap (λ l. g x ∷ l) ih
+    by false ih = ih
+
+flat_map-map : {X Y Z : Type 0} (f : Y → List Z) (move : X → Y) (g : X → List Z) → ((x : X) → f (move x) ≡ g x) → (xs : List X) →
+    flat_map f (map move xs) ≡ flat_map g xs
+flat_map-map f move g same [] = refl
+flat_map-map f move g same (x ∷ xs) = ap (λ l. l ++ flat_map f (map move xs)) (same x) ∙ ap (λ l. g x ++ l) (flat_map-map f move g same xs)
+
+-- the orders of an account
+pub orders-listed : (m account : ℕ) (T : Tables) →
+    map (λ o. string (order_url T.meta.policy o.number)) (filter (is_listed account) (swept m T).orders)
+    ≡ map (λ o. string (order_url T.meta.policy o.number)) (filter (λ o. is_listed account (swept_order m T.authorizations o)) T.orders)
+orders-listed m account T =
+    map-filter-map (λ (o : OrderRow). string (order_url T.meta.policy o.number)) (is_listed account) (swept_order m T.authorizations) (λ o. string (order_url T.meta.policy o.number))
+    (λ o. sym (ap (λ (r : OrderRow). string (order_url T.meta.policy r.number)) (swept_order-status m T.authorizations o)))
+    T.orders
+
+-- a challenge that waits for the validator, by the texts that it shows
+pub work_document-is : (T : Tables) (a : AuthorizationRow) (c : ChallengeRow) (wanted name token kind : List ℕ) →
+    wanted ≡ expected T a c → name ≡ a.name.base → token ≡ token_text c.token → kind ≡ kind_text c.kind →
+    document ((codes "challenge", number (unsigned c.number)) ∷ (codes "expected", string wanted) ∷ (codes "name", string name) ∷ (codes "token", string token) ∷ (codes "type", string kind) ∷ [])
+    ≡ work_document T a c
+work_document-is T a c wanted name token kind p q r s =
+    λ i. document ((codes "challenge", number (unsigned c.number)) ∷ (codes "expected", string (p i)) ∷ (codes "name", string (q i)) ∷ (codes "token", string (r i)) ∷ (codes "type", string (s i)) ∷ [])
+
+-- the challenges that wait for the validator
+pub challenges-waiting : (m : ℕ) (T : Tables) → flat_map (work_of (swept m T)) (swept m T).authorizations ≡ flat_map (work_at m T) T.authorizations
+challenges-waiting m T =
+    flat_map-map (work_of (swept m T)) (swept_authorization m) (work_at m T) (λ a. sym (ap (work_of (swept m T)) (swept_authorization-status m a))) T.authorizations
+
+-- the names of an order that waits for the signing office
+names-waiting : (m : ℕ) (T : Tables) (o : OrderRow) →
+    map (λ a. string (shown_name a.name)) (listed_rows (swept m T) o) ≡ map (λ a. string (shown_name a.name)) (listed_rows T o)
+names-waiting m T o =
+    sym (map-map (λ (n : Name). string (shown_name n)) (λ (a : AuthorizationRow). a.name) (listed_rows (swept m T) o))
+    ∙ ap (map (λ (n : Name). string (shown_name n))) (swept-names m T (map (λ l. l.authorization) o.listed))
+    ∙ map-map (λ (n : Name). string (shown_name n)) (λ (a : AuthorizationRow). a.name) (listed_rows T o)
+
+order-waiting : (m : ℕ) (T : Tables) (o : OrderRow) → order_work_document (swept m T) (swept_order m T.authorizations o) ≡ order_work_document T o
+order-waiting m T o =
+    sym (ap (order_work_document (swept m T)) (swept_order-status m T.authorizations o))
+    ∙ ap
+    (λ names. document ((codes "csr", string (base64url (bytes_of o.finalized))) ∷ (codes "names", list names) ∷ (codes "order", number (unsigned o.number)) ∷ []))
+    (names-waiting m T o)
+
+-- the orders that wait for the signing office
+pub orders-waiting : (m : ℕ) (T : Tables) →
+    map (order_work_document (swept m T)) (filter (λ o. is_processing o.status) (swept m T).orders)
+    ≡ map (order_work_document T) (filter (λ o. is_processing (swept_order m T.authorizations o).status) T.orders)
+orders-waiting m T =
+    map-filter-map (order_work_document (swept m T)) (λ o. is_processing o.status) (swept_order m T.authorizations) (order_work_document T) (order-waiting m T) T.orders

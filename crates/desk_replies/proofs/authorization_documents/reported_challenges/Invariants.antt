@@ -1,0 +1,11 @@
+use Rattle.std.proofs.Common.{◌≡◌, map, filter, take}
+use Rattle.std.specs.Prelude.{is_some}
+use Rattle.serde_json.specs.View.{view}
+use Rattle.desk_model.specs.Document.{challenge_document}
+use Rattle.desk_changes.specs.Shown.{capped_challenge}
+use Rattle.desk_replies.proofs.authorization_documents.reported_challenges.Given as goal
+
+abbrev pub invariant-loop-challenge : goal.invariant-loop-challenge
+invariant-loop-challenge l =
+    map view l.values.items
+    ≡ map (λ c. challenge_document l.policy (capped_challenge c)) (filter (λ c. is_some c.reported) (take l.challenge-index l.challenges))

@@ -1,0 +1,285 @@
+//! The documents of authorizations and their challenges (RFC 8555, 7.1.4, 7.1.5, 8).
+ghost use Rattle.std.specs.Prelude.{◌≡◌, ◌∷◌, [], map, codes, is_some, true, string_bytes, IfOk, OnOk};
+ghost use Rattle.std.specs.List.{filter};
+ghost use Rattle.serde_json.specs.Data.{string, boolean};
+ghost use Rattle.serde_json.specs.View.{view, members_view};
+ghost use Rattle.desk_model.specs.Json.{members, list, when};
+ghost use Rattle.desk_model.specs.Moment.{moment_text};
+ghost use Rattle.desk_model.specs.Tokens.{token_text};
+ghost use Rattle.desk_model.specs.Document.{authorization_status_text, challenge_status_text, kind_text, challenge_url, identifier, error_of, report_error, validated, validated_by, challenge_document, shown_challenges, authorization_document};
+ghost use Rattle.desk_changes.specs.Shown.{capped, capped_report, capped_challenge, capped_authorization, with_members, HasDatedReport, HasMoments};
+
+use crate::document_values::{
+    error_value, identifier_value, kind_text, list_value, moment_value, text_value,
+};
+use crate::urls::challenge_url;
+use desk_model::{
+    AuthorizationRow, AuthzStatus, ChallengeRow, ChallengeStatus, Document, Outcome, Policy, Report,
+};
+use serde_json::{Map, Value, put};
+use std::alloc::{AllocError, Global};
+
+/// The status of an authorization as RFC 8555 spells it.
+fn authorization_status_text(status: AuthzStatus) -> &'static str
+    ensures { result.now ≡ authorization_status_text status }
+{
+    match status {
+        AuthzStatus::Pending => "pending",
+        AuthzStatus::Valid => "valid",
+        AuthzStatus::Invalid => "invalid",
+        AuthzStatus::Deactivated => "deactivated",
+        AuthzStatus::Expired => "expired",
+        AuthzStatus::Revoked => "revoked",
+    }
+}
+
+/// The status of a challenge as RFC 8555 spells it.
+fn challenge_status_text(status: ChallengeStatus) -> &'static str
+    ensures { result.now ≡ challenge_status_text status }
+{
+    match status {
+        ChallengeStatus::Pending => "pending",
+        ChallengeStatus::Processing => "processing",
+        ChallengeStatus::Valid => "valid",
+        ChallengeStatus::Invalid => "invalid",
+    }
+}
+
+/// Adds an error of the validator.
+fn put_fault(
+    members: &mut Map<String, Value>,
+    alloc: Global,
+    outcome: Outcome,
+) -> Result<(), AllocError>
+    ensures { OnOk result (members_view members.new.entries ≡ with_members (report_error outcome) (members_view members.old.entries)) }
+{
+    let (kind, detail, status) = match outcome {
+        Outcome::Good => return Ok(()),
+        Outcome::IncorrectResponse => { ("incorrectResponse", "the response did not match", 403) }
+        Outcome::Connection => ("connection", "the validator could not connect", 400),
+        Outcome::Dns => ("dns", "the validator found no records", 400),
+    };
+    let error = error_value(alloc, kind, detail, status)?;
+    put(members, alloc, "error", error)
+}
+
+/// Adds when a good report was made.
+fn put_date(
+    members: &mut Map<String, Value>,
+    alloc: Global,
+    report: Report,
+) -> Result<(), AllocError>
+    ensures { OnOk result (members_view members.new.entries ≡ with_members (validated_by report.outcome (capped report.date)) (members_view members.old.entries)) }
+{
+    if report.outcome != Outcome::Good {
+        return Ok(());
+    }
+    let date = moment_value(alloc, report.date)?;
+    put(members, alloc, "validated", date)
+}
+
+/// Adds what the report on a challenge showed, if there is one.
+fn put_report(
+    members: &mut Map<String, Value>,
+    alloc: Global,
+    reported: Option<Report>,
+) -> Result<(), AllocError>
+    ensures { OnOk result (members_view members.new.entries
+        ≡ with_members (validated (capped_report reported)) (with_members (error_of reported) (members_view members.old.entries))) }
+{
+    let Some(report) = reported else {
+        return Ok(());
+    };
+    put_fault(members, alloc, report.outcome)?;
+    put_date(members, alloc, report)
+}
+
+/// The members that the document of every challenge has.
+fn challenge_members_of(
+    alloc: Global,
+    status: Value,
+    token: Value,
+    kind: Value,
+    url: Value,
+) -> Result<Map<String, Value>, AllocError>
+    ensures { IfOk result (λ m. members_view m.entries ≡ members (
+        (codes "status", view status)
+        ∷ (codes "token", view token)
+        ∷ (codes "type", view kind)
+        ∷ (codes "url", view url)
+        ∷ [])) }
+{
+    let mut members = Map::new(alloc);
+    put(&mut members, alloc, "status", status)?;
+    put(&mut members, alloc, "token", token)?;
+    put(&mut members, alloc, "type", kind)?;
+    put(&mut members, alloc, "url", url)?;
+    Ok(members)
+}
+
+fn challenge_members(
+    alloc: Global,
+    policy: &Policy,
+    row: &ChallengeRow,
+) -> Result<Map<String, Value>, AllocError>
+    ensures { IfOk result (λ m. members_view m.entries ≡ members (
+        (codes "status", string (challenge_status_text row.now.status))
+        ∷ (codes "token", string (token_text row.now.token))
+        ∷ (codes "type", string (kind_text row.now.kind))
+        ∷ (codes "url", string (challenge_url policy.now row.now.number))
+        ∷ [])) }
+{
+    let status = Value::try_from_str(alloc, challenge_status_text(row.status))?;
+    let token = text_value(keys::token_text(alloc, row.token)?);
+    let kind = Value::try_from_str(alloc, kind_text(row.kind))?;
+    let url = text_value(challenge_url(alloc, policy, row.number)?);
+    challenge_members_of(alloc, status, token, kind, url)
+}
+
+fn challenge_value(alloc: Global, policy: &Policy, row: &ChallengeRow) -> Result<Value, AllocError>
+    ensures { IfOk result (λ v. view v ≡ challenge_document policy.now (capped_challenge row.now)) }
+{
+    let mut members = challenge_members(alloc, policy, row)?;
+    put_report(&mut members, alloc, row.reported)?;
+    Ok(Value::Object(members))
+}
+
+/// The document of a challenge (RFC 8555, 8).
+pub(crate) fn challenge_document(
+    alloc: Global,
+    policy: &Policy,
+    row: &ChallengeRow,
+) -> Result<Document, AllocError>
+    ensures { IfOk result (λ d. HasDatedReport row.now.reported → d ≡ challenge_document policy.now row.now) }
+{
+    let value = challenge_value(alloc, policy, row)?;
+    Ok(Document::new(value))
+}
+
+/// The values of all challenges.
+fn all_challenges(
+    alloc: Global,
+    policy: &Policy,
+    challenges: &[ChallengeRow],
+) -> Result<Vec<Value>, AllocError>
+    ensures { IfOk result (λ v. map (λ d. view d) v.items ≡ map (λ c. challenge_document policy.now (capped_challenge c)) challenges.now) }
+{
+    let mut values = Vec::new(alloc);
+    for challenge in challenges {
+        values.push(challenge_value(alloc, policy, challenge)?)?;
+    }
+    Ok(values)
+}
+
+/// The values of the challenges that were reported.
+fn reported_challenges(
+    alloc: Global,
+    policy: &Policy,
+    challenges: &[ChallengeRow],
+) -> Result<Vec<Value>, AllocError>
+    ensures { IfOk result (λ v. map (λ d. view d) v.items
+        ≡ map (λ c. challenge_document policy.now (capped_challenge c)) (filter (λ c. is_some c.reported) challenges.now)) }
+{
+    let mut values = Vec::new(alloc);
+    for challenge in challenges {
+        if challenge.reported.is_some() {
+            values.push(challenge_value(alloc, policy, challenge)?)?;
+        }
+    }
+    Ok(values)
+}
+
+/// The values of the challenges that an authorization shows: the one that was reported, if one was, else all.
+fn shown_challenges(
+    alloc: Global,
+    policy: &Policy,
+    challenges: &[ChallengeRow],
+) -> Result<Vec<Value>, AllocError>
+    ensures { IfOk result (λ v. map (λ d. view d) v.items ≡ map (λ c. challenge_document policy.now (capped_challenge c)) (shown_challenges challenges.now)) }
+{
+    let reported = reported_challenges(alloc, policy, challenges)?;
+    if reported.is_empty() {
+        return all_challenges(alloc, policy, challenges);
+    }
+    Ok(reported)
+}
+
+/// The members that the document of every authorization has.
+fn authorization_members_of(
+    alloc: Global,
+    challenges: Value,
+    expires: Value,
+    identifier: Value,
+    status: Value,
+) -> Result<Map<String, Value>, AllocError>
+    ensures { IfOk result (λ m. members_view m.entries ≡ members (
+        (codes "challenges", view challenges)
+        ∷ (codes "expires", view expires)
+        ∷ (codes "identifier", view identifier)
+        ∷ (codes "status", view status)
+        ∷ [])) }
+{
+    let mut members = Map::new(alloc);
+    put(&mut members, alloc, "challenges", challenges)?;
+    put(&mut members, alloc, "expires", expires)?;
+    put(&mut members, alloc, "identifier", identifier)?;
+    put(&mut members, alloc, "status", status)?;
+    Ok(members)
+}
+
+fn authorization_members(
+    alloc: Global,
+    policy: &Policy,
+    row: &AuthorizationRow,
+) -> Result<Map<String, Value>, AllocError>
+    ensures { IfOk result (λ m. members_view m.entries ≡ members (
+        (codes "challenges", list (map (λ c. challenge_document policy.now (capped_challenge c)) (shown_challenges row.now.challenges)))
+        ∷ (codes "expires", string (moment_text (capped row.now.expires)))
+        ∷ (codes "identifier", identifier row.now.name.base)
+        ∷ (codes "status", string (authorization_status_text row.now.status))
+        ∷ [])) }
+{
+    let challenges = list_value(shown_challenges(alloc, policy, row.challenges.as_slice())?);
+    let expires = moment_value(alloc, row.expires)?;
+    let identifier = identifier_value(alloc, row.name.base())?;
+    let status = Value::try_from_str(alloc, authorization_status_text(row.status))?;
+    authorization_members_of(alloc, challenges, expires, identifier, status)
+}
+
+/// Adds that the authorization is for a wildcard name, where it is.
+fn put_wildcard(
+    members: &mut Map<String, Value>,
+    alloc: Global,
+    wildcard: bool,
+) -> Result<(), AllocError>
+    ensures { OnOk result (members_view members.new.entries ≡ with_members (when wildcard (codes "wildcard", boolean true)) (members_view members.old.entries)) }
+{
+    if !wildcard {
+        return Ok(());
+    }
+    put(members, alloc, "wildcard", Value::Bool(true))
+}
+
+fn authorization_value(
+    alloc: Global,
+    policy: &Policy,
+    row: &AuthorizationRow,
+) -> Result<Value, AllocError>
+    ensures { IfOk result (λ v. view v ≡ authorization_document policy.now (capped_authorization row.now)) }
+{
+    let mut members = authorization_members(alloc, policy, row)?;
+    put_wildcard(&mut members, alloc, row.name.is_wildcard())?;
+    Ok(Value::Object(members))
+}
+
+/// The document of an authorization (RFC 8555, 7.1.4).
+pub(crate) fn authorization_document(
+    alloc: Global,
+    policy: &Policy,
+    row: &AuthorizationRow,
+) -> Result<Document, AllocError>
+    ensures { IfOk result (λ d. HasMoments row.now → d ≡ authorization_document policy.now row.now) }
+{
+    let value = authorization_value(alloc, policy, row)?;
+    Ok(Document::new(value))
+}

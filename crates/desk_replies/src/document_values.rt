@@ -1,0 +1,77 @@
+//! The values that several documents hold: lists, moments, identifiers and errors (RFC 8555, 6.7, 7.1).
+ghost use Rattle.std.specs.Prelude.{◌≡◌, map, codes, string_bytes, IfOk};
+ghost use Rattle.serde_json.specs.Data.{string};
+ghost use Rattle.serde_json.specs.View.{view};
+ghost use Rattle.desk_model.specs.Json.{list};
+ghost use Rattle.desk_model.specs.Document.{identifier, error, kind_text};
+ghost use Rattle.desk_model.specs.Moment.{moment_text as text_of_moment};
+ghost use Rattle.desk_changes.specs.Shown.{capped};
+
+use desk_model::{Kind, Text};
+use serde_json::{Value, json};
+use std::alloc::{AllocError, Global};
+
+/// The last moment that has a text: the last recorded one of all and the longest life after it.
+const LAST_END: u64 = 250315360000;
+
+/// A JSON text.
+pub(crate) fn text_value(text: String) -> Value
+    ensures { view result ≡ string (string_bytes text) }
+{
+    Value::String(text)
+}
+
+/// A JSON list of values.
+pub(crate) fn list_value(items: Vec<Value>) -> Value
+    ensures { view result ≡ list (map (λ v. view v) items.items) }
+{
+    Value::Array(items)
+}
+
+/// A JSON list of texts.
+pub(crate) fn text_list(alloc: Global, texts: &[Text]) -> Result<Value, AllocError>
+    ensures { IfOk result (λ v. view v ≡ list (map string texts.now)) }
+{
+    let mut items = Vec::new(alloc);
+    for text in texts {
+        items.push(Value::String(String::from_str(alloc, text.as_str())?))?;
+    }
+    Ok(list_value(items))
+}
+
+/// The text of a moment, in seconds since 1970; one past the last that has a text is shown as the last.
+pub(crate) fn moment_value(alloc: Global, moment: u64) -> Result<Value, AllocError>
+    ensures { IfOk result (λ v. view v ≡ string (text_of_moment (capped moment))) }
+{
+    Ok(text_value(moments::moment_text(alloc, moment.min(LAST_END))?))
+}
+
+/// An identifier with its text (RFC 8555, 7.1.3).
+pub(crate) fn identifier_value(alloc: Global, value: &str) -> Result<Value, AllocError>
+    ensures { IfOk result (λ v. view v ≡ identifier value.now) }
+{
+    json!(in alloc; {"type": "dns", "value": value})
+}
+
+/// An error that is kept with an object: its type without the prefix, a text for people, and a status (RFC 8555, 6.7).
+pub(crate) fn error_value(
+    alloc: Global,
+    kind: &str,
+    detail: &str,
+    status: u16,
+) -> Result<Value, AllocError>
+    ensures { IfOk result (λ v. view v ≡ error kind.now detail.now status) }
+{
+    let kind = format!(in alloc; "urn:ietf:params:acme:error:{kind}")?;
+    json!(in alloc; {"detail": detail, "status": status, "type": kind})
+}
+
+/// The type of a challenge as RFC 8555 spells it (8.3, 8.4).
+pub(crate) fn kind_text(kind: Kind) -> &'static str
+    ensures { result.now ≡ kind_text kind }
+{
+    match kind {
+        Kind::Http01 => "http-01",
+        Kind::Dns01 => "dns-01",
+    }
+}

@@ -1,0 +1,281 @@
+//! The documents of orders (RFC 8555, 7.1.3).
+ghost use Rattle.std.specs.Prelude.{ℕ, ◌≡◌, ◌≤◌, ◌∷◌, [], map, codes, is_some, string_bytes, bytes_eq, IfOk, OnOk};
+ghost use Rattle.std.specs.List.{filter};
+ghost use Rattle.serde_json.specs.Data.{string};
+ghost use Rattle.serde_json.specs.View.{view, members_view};
+ghost use Rattle.desk_laws.specs.LegalLaws.{last_end};
+ghost use Rattle.desk_model.specs.Json.{members, list, when};
+ghost use Rattle.desk_model.specs.Derived.{numbers_of};
+ghost use Rattle.desk_model.specs.Names.{shown_name};
+ghost use Rattle.desk_model.specs.Moment.{moment_text};
+ghost use Rattle.desk_model.specs.Tables.{Tables};
+ghost use Rattle.desk_model.specs.Effect.{swept, swept_order};
+ghost use Rattle.desk_model.specs.Document.{order_status_text, problem_status, order_error, identifier, finalize_url, certificate_url, authorization_url, order_url, rows_of, listed_rows, order_document, is_listed, orders_document};
+ghost use Rattle.desk_changes.specs.Shown.{capped, capped_order, order_with_names, with_members};
+
+use crate::document_values::{error_value, identifier_value, list_value, moment_value, text_value};
+use crate::urls::{authorization_url, certificate_url, finalize_url, order_url};
+use desk_book::{Book, Table};
+use desk_changes::order_status;
+use desk_model::{
+    AuthorizationRow, DatedProblem, DnsName, Document, Listed, OrderRow, OrderStatus, Policy,
+};
+use serde_json::{Map, Value, json, put};
+use std::alloc::{AllocError, Global};
+
+/// The status of an order as RFC 8555 spells it.
+fn order_status_text(status: OrderStatus) -> &'static str
+    ensures { result.now ≡ order_status_text status }
+{
+    match status {
+        OrderStatus::Pending => "pending",
+        OrderStatus::Ready => "ready",
+        OrderStatus::Processing => "processing",
+        OrderStatus::Valid => "valid",
+        OrderStatus::Invalid => "invalid",
+    }
+}
+
+/// The URLs of the authorizations that are listed.
+fn authorization_urls(
+    alloc: Global,
+    policy: &Policy,
+    listed: &[Listed],
+) -> Result<Vec<Value>, AllocError>
+    ensures { IfOk result (λ v. map (λ d. view d) v.items ≡ map (λ l. string (authorization_url policy.now l.authorization)) listed.now) }
+{
+    let mut urls = Vec::new(alloc);
+    for place in listed {
+        let url = authorization_url(alloc, policy, place.authorization)?;
+        urls.push(text_value(url))?;
+    }
+    Ok(urls)
+}
+
+/// The identifiers of names.
+fn identifiers(alloc: Global, names: &[DnsName]) -> Result<Vec<Value>, AllocError>
+    ensures { IfOk result (λ v. map (λ d. view d) v.items ≡ map (λ n. identifier (shown_name n)) names.now) }
+{
+    let mut identifiers = Vec::new(alloc);
+    for name in names {
+        let text = name.shown(alloc)?;
+        identifiers.push(identifier_value(alloc, text.as_str())?)?;
+    }
+    Ok(identifiers)
+}
+
+/// The members that the document of every order has.
+fn members_of(
+    alloc: Global,
+    authorizations: Value,
+    expires: Value,
+    finalize: Value,
+    identifiers: Value,
+    status: Value,
+) -> Result<Map<String, Value>, AllocError>
+    ensures { IfOk result (λ m. members_view m.entries ≡ members (
+        (codes "authorizations", view authorizations)
+        ∷ (codes "expires", view expires)
+        ∷ (codes "finalize", view finalize)
+        ∷ (codes "identifiers", view identifiers)
+        ∷ (codes "status", view status)
+        ∷ [])) }
+{
+    let mut members = Map::new(alloc);
+    put(&mut members, alloc, "authorizations", authorizations)?;
+    put(&mut members, alloc, "expires", expires)?;
+    put(&mut members, alloc, "finalize", finalize)?;
+    put(&mut members, alloc, "identifiers", identifiers)?;
+    put(&mut members, alloc, "status", status)?;
+    Ok(members)
+}
+
+fn order_members(
+    alloc: Global,
+    policy: &Policy,
+    row: &OrderRow,
+    names: &[DnsName],
+) -> Result<Map<String, Value>, AllocError>
+    ensures { IfOk result (λ m. members_view m.entries ≡ members (
+        (codes "authorizations", list (map (λ l. string (authorization_url policy.now l.authorization)) row.now.listed))
+        ∷ (codes "expires", string (moment_text (capped row.now.expires)))
+        ∷ (codes "finalize", string (finalize_url policy.now row.now.number))
+        ∷ (codes "identifiers", list (map (λ n. identifier (shown_name n)) names.now))
+        ∷ (codes "status", string (order_status_text row.now.status))
+        ∷ [])) }
+{
+    let authorizations = list_value(authorization_urls(alloc, policy, row.listed.as_slice())?);
+    let expires = moment_value(alloc, row.expires)?;
+    let finalize = text_value(finalize_url(alloc, policy, row.number)?);
+    let identifiers = list_value(identifiers(alloc, names)?);
+    let status = Value::try_from_str(alloc, order_status_text(row.status))?;
+    members_of(
+        alloc,
+        authorizations,
+        expires,
+        finalize,
+        identifiers,
+        status,
+    )
+}
+
+/// Adds the URL of the certificate, where there is one.
+fn put_certificate(
+    members: &mut Map<String, Value>,
+    alloc: Global,
+    policy: &Policy,
+    row: &OrderRow,
+) -> Result<(), AllocError>
+    ensures { OnOk result (members_view members.new.entries
+        ≡ with_members (when (is_some row.now.certified) (codes "certificate", string (certificate_url policy.now row.now.number))) (members_view members.old.entries)) }
+{
+    let Some(_certified) = &row.certified else {
+        return Ok(());
+    };
+    let url = text_value(certificate_url(alloc, policy, row.number)?);
+    put(members, alloc, "certificate", url)
+}
+
+/// The status of an error that the signing office handed in.
+fn problem_status(kind: &str) -> u16
+    ensures { result ≡ problem_status kind.now }
+{
+    if kind == "serverInternal" { 500 } else { 400 }
+}
+
+/// Adds why the order failed, where the signing office failed it.
+fn put_error(
+    members: &mut Map<String, Value>,
+    alloc: Global,
+    failed: &Option<DatedProblem>,
+) -> Result<(), AllocError>
+    ensures { OnOk result (members_view members.new.entries ≡ with_members (order_error failed.now) (members_view members.old.entries)) }
+{
+    let Some(failed) = failed else {
+        return Ok(());
+    };
+    let kind = failed.problem.kind.as_str();
+    let detail = failed.problem.detail.as_str();
+    let error = error_value(alloc, kind, detail, problem_status(kind))?;
+    put(members, alloc, "error", error)
+}
+
+fn order_value(
+    alloc: Global,
+    policy: &Policy,
+    row: &OrderRow,
+    names: &[DnsName],
+) -> Result<Value, AllocError>
+    ensures { IfOk result (λ v. view v ≡ order_with_names policy.now names.now (capped_order row.now)) }
+{
+    let mut members = order_members(alloc, policy, row, names)?;
+    put_certificate(&mut members, alloc, policy, row)?;
+    put_error(&mut members, alloc, &row.failed)?;
+    Ok(Value::Object(members))
+}
+
+/// The document of an order (RFC 8555, 7.1.3); the names are those of the authorizations that it lists, in their
+/// places.
+pub(crate) fn order_document(
+    alloc: Global,
+    policy: &Policy,
+    row: &OrderRow,
+    names: &[DnsName],
+) -> Result<Document, AllocError>
+    ensures { IfOk result (λ d. (T : Tables) → T.meta.policy ≡ policy.now → map (λ a. a.name) (listed_rows T row.now) ≡ names.now
+        → row.now.expires ≤ last_end → d ≡ order_document T row.now) }
+{
+    let value = order_value(alloc, policy, row, names)?;
+    Ok(Document::new(value))
+}
+
+/// The names of the authorizations that these places list.
+fn listed_names(
+    alloc: Global,
+    rows: &Table<AuthorizationRow>,
+    listed: &[Listed],
+) -> Result<Vec<DnsName>, AllocError>
+    ensures { IfOk result (λ v. v.items ≡ map (λ a. a.name) (rows_of rows.now (numbers_of listed.now))) }
+{
+    let mut names = Vec::new(alloc);
+    for place in listed {
+        if let Some(row) = rows.get(place.authorization) {
+            names.push(row.name.clone()?)?;
+        }
+    }
+    Ok(names)
+}
+
+/// The names of the authorizations that an order lists, in their places; the passing of time moves none of them.
+pub(crate) fn order_names(
+    alloc: Global,
+    book: &Book,
+    row: &OrderRow,
+) -> Result<Vec<DnsName>, AllocError>
+    ensures stored { IfOk result (λ v. v.items ≡ map (λ a. a.name) (listed_rows book.now row.now)) }
+    ensures swept { IfOk result (λ v. (moment : ℕ) → v.items ≡ map (λ a. a.name) (listed_rows (swept moment book.now) row.now)) }
+{
+    let names = listed_names(alloc, book.authorizations(), row.listed.as_slice())?;
+    Ok(names)
+}
+
+/// Whether an order with this status is an account's and not invalid.
+fn is_listed(account: u64, row: &OrderRow, status: OrderStatus) -> bool
+    ensures { result ≡ is_listed account (record row.now { status = status }) }
+{
+    row.account == account && !matches!(status, OrderStatus::Invalid)
+}
+
+/// Whether an order of a book is an account's and not invalid at a moment.
+fn is_listed_at(book: &Book, moment: u64, account: u64, row: &OrderRow) -> bool
+    ensures { result ≡ is_listed account (swept_order moment book.now.authorizations row.now) }
+{
+    is_listed(account, row, order_status(book, moment, row))
+}
+
+/// The URLs of the orders of an account that are not invalid at a moment.
+fn order_urls(
+    alloc: Global,
+    book: &Book,
+    moment: u64,
+    account: u64,
+) -> Result<Vec<Value>, AllocError>
+    ensures { IfOk result (λ v. map (λ d. view d) v.items
+        ≡ map (λ o. string (order_url book.now.meta.policy o.number)) (filter (λ o. is_listed account (swept_order moment book.now.authorizations o)) book.now.orders)) }
+{
+    let mut urls = Vec::new(alloc);
+    for row in book.orders().iter() {
+        if is_listed_at(book, moment, account, row) {
+            let url = order_url(alloc, &book.meta().policy, row.number)?;
+            urls.push(text_value(url))?;
+        }
+    }
+    Ok(urls)
+}
+
+fn orders_list(alloc: Global, book: &Book, moment: u64, account: u64) -> Result<Value, AllocError>
+    ensures { IfOk result (λ v. view v
+        ≡ list (map (λ o. string (order_url book.now.meta.policy o.number)) (filter (is_listed account) (swept moment book.now).orders))) }
+{
+    Ok(list_value(order_urls(alloc, book, moment, account)?))
+}
+
+fn orders_value(alloc: Global, book: &Book, moment: u64, account: u64) -> Result<Value, AllocError>
+    ensures { IfOk result (λ v. view v ≡ orders_document (swept moment book.now) account) }
+{
+    let orders = orders_list(alloc, book, moment, account)?;
+    json!(in alloc; {"orders": orders})
+}
+
+/// The document of an account's orders at a moment (RFC 8555, 7.1.2.1).
+pub(crate) fn orders_document(
+    alloc: Global,
+    book: &Book,
+    moment: u64,
+    account: u64,
+) -> Result<Document, AllocError>
+    ensures { IfOk result (λ d. d ≡ orders_document (swept moment book.now) account) }
+{
+    let value = orders_value(alloc, book, moment, account)?;
+    Ok(Document::new(value))
+}

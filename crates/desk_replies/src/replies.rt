@@ -1,0 +1,106 @@
+//! Replies (RFC 8555, 6.5, 6.7, 7).
+ghost use Rattle.std.specs.Prelude.{◌≡◌, ◌+◌, ◌<◌, ◌^◌, [], true, IfOk, string_bytes, option_copied};
+ghost use Rattle.desk_model.specs.Tokens.{nonce_text};
+ghost use Rattle.desk_model.specs.Shown.{refusal_reply, nonce_reply, with_nonce, located_account, shown, plain};
+ghost use Rattle.desk_model.specs.declared.reply.Body.TheVariants.{Empty};
+ghost use Rattle.desk_model.specs.Tables.{Tables};
+
+use crate::documents::{account_document, account_url};
+use crate::refusal::refusal_status;
+use desk_model::{AccountRow, Allow, Body, Policy, Problem, Reply, Sequence, Subproblem, Text};
+use std::alloc::{AllocError, Global};
+
+/// The refusal of a number; `index` says whether the reply has the link to the directory.
+pub fn refusal_reply(number: u8, subproblems: Sequence<Subproblem>, index: bool) -> Reply
+    ensures { result ≡ refusal_reply index number subproblems }
+{
+    Reply {
+        status: refusal_status(number),
+        location: None,
+        up: None,
+        nonce: None,
+        body: Body::Problem(Problem {
+            number,
+            subproblems,
+            allow: Allow::No,
+            index,
+        }),
+    }
+}
+
+/// The reply to newNonce (RFC 8555, 7.2).
+pub fn nonce_reply(head: bool) -> Reply
+    ensures { result ≡ nonce_reply head }
+{
+    Reply {
+        status: if head { 200 } else { 204 },
+        location: None,
+        up: None,
+        nonce: None,
+        body: Body::Empty,
+    }
+}
+
+/// The reply with the fresh nonce of a serial and its random bytes.
+pub fn with_nonce(
+    alloc: Global,
+    serial: u64,
+    random: [u8; 16],
+    reply: Reply,
+) -> Result<Reply, AllocError>
+    ensures { IfOk result (λ r. r ≡ with_nonce (nonce_text serial random) reply) }
+{
+    let text = keys::nonce_text(alloc, serial, random)?;
+    Ok(Reply {
+        nonce: Some(Text::new(text)),
+        ..reply
+    })
+}
+
+/// An account with its Location.
+pub fn located_account(
+    alloc: Global,
+    policy: &Policy,
+    status: u16,
+    row: &AccountRow,
+) -> Result<Reply, AllocError>
+    ensures { IfOk result (λ r. (T : Tables) → T.meta.policy ≡ policy.now → r ≡ located_account status T row.now) }
+{
+    let location = account_url(alloc, policy, row.number)?;
+    let document = account_document(alloc, policy, row)?;
+    Ok(Reply {
+        status,
+        location: Some(Text::new(location)),
+        up: None,
+        nonce: None,
+        body: Body::Json(document),
+    })
+}
+
+/// What is shown of an account, with its Location; nothing where there is none.
+pub(crate) fn account_shown(
+    alloc: Global,
+    policy: &Policy,
+    status: u16,
+    row: Option<&AccountRow>,
+) -> Result<Reply, AllocError>
+    ensures { IfOk result (λ r. (T : Tables) → T.meta.policy ≡ policy.now → r ≡ shown (located_account status T) (option_copied row.entry)) }
+{
+    match row {
+        Some(row) => located_account(alloc, policy, status, row),
+        None => Ok(plain(200)),
+    }
+}
+
+/// A reply without a body.
+pub(crate) fn plain(status: u16) -> Reply
+    ensures { result ≡ plain status Empty }
+{
+    Reply {
+        status,
+        location: None,
+        up: None,
+        nonce: None,
+        body: Body::Empty,
+    }
+}

@@ -1,0 +1,229 @@
+//! The documents of what waits for the validator and for the signing office.
+ghost use Rattle.std.specs.Prelude.{◌≡◌, ◌++◌, ◌∷◌, [], map, codes, string_bytes, IfOk, OnOk};
+ghost use Rattle.std.specs.List.{filter, flat_map};
+ghost use Rattle.serde_json.specs.Data.{string, number, unsigned};
+ghost use Rattle.serde_json.specs.View.{view};
+ghost use Rattle.desk_model.specs.Json.{list, document};
+ghost use Rattle.desk_model.specs.Names.{shown_name};
+ghost use Rattle.desk_model.specs.Tokens.{base64url};
+ghost use Rattle.desk_model.specs.Legal.{is_processing_challenge};
+ghost use Rattle.desk_model.specs.Order.{is_processing};
+ghost use Rattle.desk_model.specs.Effect.{swept, swept_order};
+ghost use Rattle.desk_model.specs.declared.rows.ChallengeRow.{ChallengeRow};
+ghost use Rattle.desk_model.specs.Document.{answer_key, bytes_of, listed_rows, work_document, work_of, challenge_work, order_work_document, order_work};
+ghost use Rattle.desk_changes.specs.Shown.{work_at};
+
+use crate::document_values::{kind_text, list_value, text_value};
+use crate::order_documents::order_names;
+use base64::engine::general_purpose::URL_SAFE_NO_PAD;
+use desk_book::Book;
+use desk_changes::{authorization_status, order_status};
+use desk_model::{
+    AuthorizationRow, AuthzStatus, ChallengeRow, ChallengeStatus, DatedBytes, DnsName, Document,
+    OrderRow, OrderStatus,
+};
+use keys::expected_text;
+use serde_json::{Value, json};
+use std::alloc::{AllocError, Global};
+
+/// The key under which the challenges of an authorization are answered, empty where its account is not there.
+fn answer_key<'b>(book: &'b Book, row: &AuthorizationRow) -> &'b str
+    ensures { (c : ChallengeRow) → result.now ≡ answer_key book.now row.now c }
+{
+    match book.account(row.account) {
+        Some(account) => account.key.canonical(),
+        None => "",
+    }
+}
+
+/// A challenge that waits for the validator, by what it shows.
+fn work_shown(
+    alloc: Global,
+    challenge: u64,
+    expected: String,
+    name: &str,
+    token: String,
+    kind: &str,
+) -> Result<Value, AllocError>
+    ensures { IfOk result (λ v. view v ≡ document (
+        (codes "challenge", number (unsigned challenge))
+        ∷ (codes "expected", string (string_bytes expected))
+        ∷ (codes "name", string name.now)
+        ∷ (codes "token", string (string_bytes token))
+        ∷ (codes "type", string kind.now)
+        ∷ [])) }
+{
+    json!(in alloc; {"challenge": challenge, "expected": expected, "name": name, "token": token, "type": kind})
+}
+
+fn work_value(
+    alloc: Global,
+    book: &Book,
+    row: &AuthorizationRow,
+    challenge: &ChallengeRow,
+) -> Result<Value, AllocError>
+    ensures { IfOk result (λ v. view v ≡ work_document book.now row.now challenge.now) }
+{
+    let key = answer_key(book, row);
+    let expected = expected_text(alloc, challenge.kind, challenge.token, key)?;
+    let token = keys::token_text(alloc, challenge.token)?;
+    let name = row.name.base();
+    let kind = kind_text(challenge.kind);
+    let value = work_shown(alloc, challenge.number, expected, name, token, kind)?;
+    Ok(value)
+}
+
+fn is_processing_challenge(status: ChallengeStatus) -> bool
+    ensures { result ≡ is_processing_challenge status }
+{
+    matches!(status, ChallengeStatus::Processing)
+}
+
+/// Adds the challenges of an authorization that were answered and not yet reported.
+fn push_answered(
+    work: &mut Vec<Value>,
+    alloc: Global,
+    book: &Book,
+    row: &AuthorizationRow,
+) -> Result<(), AllocError>
+    ensures { OnOk result (map (λ d. view d) work.new.items
+        ≡ map (λ d. view d) work.old.items ++ map (work_document book.now row.now) (filter (λ c. is_processing_challenge c.status) row.now.challenges)) }
+{
+    let challenges = row.challenges.as_slice();
+    for challenge in challenges {
+        if is_processing_challenge(challenge.status) {
+            work.push(work_value(alloc, book, row, challenge)?)?;
+        }
+    }
+    Ok(())
+}
+
+/// Adds what waits for the validator of an authorization, where it is pending at a moment.
+fn push_pending(
+    work: &mut Vec<Value>,
+    alloc: Global,
+    book: &Book,
+    moment: u64,
+    row: &AuthorizationRow,
+) -> Result<(), AllocError>
+    ensures { OnOk result (map (λ d. view d) work.new.items ≡ map (λ d. view d) work.old.items ++ work_at moment book.now row.now) }
+{
+    match authorization_status(moment, row) {
+        AuthzStatus::Pending => push_answered(work, alloc, book, row),
+        _ => Ok(()),
+    }
+}
+
+fn waiting_challenges(alloc: Global, book: &Book, moment: u64) -> Result<Vec<Value>, AllocError>
+    ensures { IfOk result (λ v. map (λ d. view d) v.items ≡ flat_map (work_at moment book.now) book.now.authorizations) }
+{
+    let mut work = Vec::new(alloc);
+    for row in book.authorizations().iter() {
+        push_pending(&mut work, alloc, book, moment, row)?;
+    }
+    Ok(work)
+}
+
+fn challenge_list(alloc: Global, book: &Book, moment: u64) -> Result<Value, AllocError>
+    ensures { IfOk result (λ v. view v ≡ list (flat_map (work_of (swept moment book.now)) (swept moment book.now).authorizations)) }
+{
+    Ok(list_value(waiting_challenges(alloc, book, moment)?))
+}
+
+fn challenge_work_value(alloc: Global, book: &Book, moment: u64) -> Result<Value, AllocError>
+    ensures { IfOk result (λ v. view v ≡ challenge_work (swept moment book.now)) }
+{
+    let challenges = challenge_list(alloc, book, moment)?;
+    json!(in alloc; {"challenges": challenges})
+}
+
+/// The challenges that wait for the validator at a moment.
+pub(crate) fn challenge_work(
+    alloc: Global,
+    book: &Book,
+    moment: u64,
+) -> Result<Document, AllocError>
+    ensures { IfOk result (λ d. d ≡ challenge_work (swept moment book.now)) }
+{
+    let value = challenge_work_value(alloc, book, moment)?;
+    Ok(Document::new(value))
+}
+
+/// The texts of names.
+fn name_values(alloc: Global, names: &[DnsName]) -> Result<Vec<Value>, AllocError>
+    ensures { IfOk result (λ v. map (λ d. view d) v.items ≡ map (λ n. string (shown_name n)) names.now) }
+{
+    let mut values = Vec::new(alloc);
+    for name in names {
+        values.push(text_value(name.shown(alloc)?))?;
+    }
+    Ok(values)
+}
+
+/// The bytes of the CSR in base64url, none where there is none.
+#[tactic(auto, unfolding(desk_model::specs::Tokens::base64url))]
+fn csr_text(alloc: Global, finalized: &Option<DatedBytes>) -> Result<String, AllocError>
+    ensures { IfOk result (λ t. string_bytes t ≡ base64url (bytes_of finalized.now)) }
+{
+    match finalized {
+        Some(finalized) => URL_SAFE_NO_PAD.encode(alloc, finalized.bytes.as_slice()),
+        None => URL_SAFE_NO_PAD.encode(alloc, &[]),
+    }
+}
+
+fn name_list(alloc: Global, book: &Book, row: &OrderRow) -> Result<Value, AllocError>
+    ensures { IfOk result (λ v. view v ≡ list (map (λ a. string (shown_name a.name)) (listed_rows book.now row.now))) }
+{
+    let names = order_names(alloc, book, row)?;
+    Ok(list_value(name_values(alloc, names.as_slice())?))
+}
+
+fn order_value(alloc: Global, book: &Book, row: &OrderRow) -> Result<Value, AllocError>
+    ensures { IfOk result (λ v. view v ≡ order_work_document book.now row.now) }
+{
+    let csr = csr_text(alloc, &row.finalized)?;
+    let names = name_list(alloc, book, row)?;
+    let number = row.number;
+    json!(in alloc; {"csr": csr, "names": names, "order": number})
+}
+
+fn is_processing(status: OrderStatus) -> bool
+    ensures { result ≡ is_processing status }
+{
+    matches!(status, OrderStatus::Processing)
+}
+
+fn waiting_orders(alloc: Global, book: &Book, moment: u64) -> Result<Vec<Value>, AllocError>
+    ensures { IfOk result (λ v. map (λ d. view d) v.items
+        ≡ map (order_work_document book.now) (filter (λ o. is_processing (swept_order moment book.now.authorizations o).status) book.now.orders)) }
+{
+    let mut work = Vec::new(alloc);
+    for row in book.orders().iter() {
+        if is_processing(order_status(book, moment, row)) {
+            work.push(order_value(alloc, book, row)?)?;
+        }
+    }
+    Ok(work)
+}
+
+fn order_list(alloc: Global, book: &Book, moment: u64) -> Result<Value, AllocError>
+    ensures { IfOk result (λ v. view v
+        ≡ list (map (order_work_document (swept moment book.now)) (filter (λ o. is_processing o.status) (swept moment book.now).orders))) }
+{
+    Ok(list_value(waiting_orders(alloc, book, moment)?))
+}
+
+fn order_work_value(alloc: Global, book: &Book, moment: u64) -> Result<Value, AllocError>
+    ensures { IfOk result (λ v. view v ≡ order_work (swept moment book.now)) }
+{
+    let orders = order_list(alloc, book, moment)?;
+    json!(in alloc; {"orders": orders})
+}
+
+/// The orders that wait for the signing office at a moment.
+pub(crate) fn order_work(alloc: Global, book: &Book, moment: u64) -> Result<Document, AllocError>
+    ensures { IfOk result (λ d. d ≡ order_work (swept moment book.now)) }
+{
+    let value = order_work_value(alloc, book, moment)?;
+    Ok(Document::new(value))
+}

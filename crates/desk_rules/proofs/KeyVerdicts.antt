@@ -1,0 +1,48 @@
+-- Verdicts on signed requests, by the key of the request.
+use Rattle.std.proofs.Common.{◌≡◌, ℕ, List, true, Option, Some, None, Result, Ok, MatchResult, sym, ap, ◌∙◌}
+use Rattle.desk_model.specs.Account.{is_valid}
+use Rattle.desk_model.specs.Payload.{new_account}
+use Rattle.desk_model.specs.Questions.{account_with_key}
+use Rattle.desk_model.specs.Rules.{holder_verdict, key_verdict, new_account_verdict, open_account, signed_verdict, target_verdict}
+use Rattle.desk_model.specs.Tables.{Tables}
+use Rattle.desk_model.specs.Verdict.{check, given}
+use Rattle.desk_model.specs.declared.call.Signed.{Signed}
+use Rattle.desk_model.specs.declared.call.Target.{Target}
+use Rattle.desk_model.specs.declared.call.Target.TheVariants as to
+use Rattle.desk_model.specs.declared.payload.NewAccount.{NewAccount}
+use Rattle.desk_model.specs.declared.rows.AccountRow.{AccountRow}
+use Rattle.desk_model.specs.declared.rows.Meta.{Meta}
+use Rattle.desk_model.specs.declared.verdict.Verdict.{Verdict}
+use Rattle.desk_rules.specs.Needs.{NumbersLeft, BytesLeft, IsNeedFault}
+use Rattle.desk_rules.specs.declared.fault.CoreFault.{CoreFault}
+
+-- a key that has a valid account
+pub holder-found : (T : Tables) (r p : List ℕ) (target : Target) (a : AccountRow) (o : Option AccountRow) → o ≡ Some a → is_valid a.status ≡ true →
+    holder_verdict T r p target o ≡ target_verdict T r a.number p target
+unfolding check given
+holder-found T r p target a o is valid =
+    ap (λ q. given q 6 (λ (x : AccountRow). check (is_valid x.status) 7 (target_verdict T r x.number p target))) is
+    ∙ ap (λ b. check b 7 (target_verdict T r a.number p target)) valid
+
+-- a request with an accepted key
+signed-key : (T : Tables) (r : List ℕ) (s : Signed) (key p : List ℕ) (t : Target) → s.key ≡ Ok key → p ≡ s.payload → s.target ≡ t →
+    signed_verdict T r s ≡ key_verdict T r key p t
+signed-key T r s key p t is payload target =
+    ap (λ k. signed_verdict T r (record s { key = k })) is
+    ∙ ap (λ l. key_verdict T r key l s.target) (sym payload)
+    ∙ ap (key_verdict T r key p) target
+
+-- for a new account
+pub signed-new : (T : Tables) (r : List ℕ) (s : Signed) (key p : List ℕ) → s.key ≡ Ok key → p ≡ s.payload → s.target ≡ to.NewAccount →
+    signed_verdict T r s ≡ new_account_verdict T key (account_with_key T key) (new_account p)
+signed-new T r s key p is payload target = signed-key T r s key p to.NewAccount is payload target
+
+-- what is said of the judgement of a request
+abbrev pub IsJudged : Meta → List ℕ → Result Verdict CoreFault → Verdict → Type 0
+IsJudged M random r asked = MatchResult r (λ v. (v ≡ asked) × NumbersLeft M v × BytesLeft random v) (λ e. IsNeedFault M random asked e)
+
+-- a newAccount request whose key has no account opens one
+pub new-opens : (T : Tables) (key : List ℕ) (o : Option AccountRow) (p : Option NewAccount) (asked : NewAccount) → o ≡ None → p ≡ Some asked →
+    new_account_verdict T key o p ≡ open_account T key asked
+unfolding given
+new-opens T key o p asked none some = λ i. new_account_verdict T key (none i) (some i)

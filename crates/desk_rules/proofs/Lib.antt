@@ -1,0 +1,7 @@
+pub mod EachIn
+pub mod KeyVerdicts
+pub mod Looking
+pub mod NamesKept
+pub mod NamesWanted
+pub mod OrderNeeds
+pub mod Sparing

@@ -1,0 +1,132 @@
+//! The rules on accounts (RFC 8555, 7.3).
+ghost use Rattle.std.specs.Prelude.{◌≡◌, ℕ, List, IfOk, MatchResult};
+ghost use Rattle.desk_rules.specs.Needs.{NumbersLeft, BytesLeft, IsNeedFault};
+ghost use Rattle.desk_model.specs.declared.rows.Meta.{Meta as MetaRow};
+ghost use Rattle.desk_model.specs.Account.{is_valid};
+ghost use Rattle.desk_model.specs.Payload.{new_account};
+ghost use Rattle.desk_model.specs.Questions.{account_with_key};
+ghost use Rattle.desk_model.specs.declared.payload.AccountChange.TheVariants.{Update};
+ghost use Rattle.desk_model.specs.Rules.{account_verdict, open_account, known_account_verdict, new_account_verdict};
+
+use crate::contacts::contacts_fault;
+use crate::fault::CoreFault;
+use crate::limits::has_room;
+use crate::payload::new_account;
+use crate::verdicts::{answers, records, refused};
+use desk_book::Book;
+use desk_model::{
+    AccountChange, AccountRow, AccountStatus, Ending, Entry, Jwk, NewAccount, Sequence, Shows,
+    Text, Verdict,
+};
+use std::alloc::{AllocError, Global};
+
+/// The key has an account that is not valid.
+const UNAUTHORIZED: u8 = 7;
+
+/// The payload has not the form that the route reads.
+const MALFORMED: u8 = 1;
+
+/// No account has the key.
+const NO_ACCOUNT: u8 = 6;
+
+/// A newAccount request whose key is accepted (RFC 8555, 7.3, 7.3.1).
+#[tactic(auto, unfolding(desk_model::specs::Verdict::check, desk_model::specs::Verdict::given))]
+pub(crate) fn new_account_verdict(
+    alloc: Global,
+    book: &Book,
+    key: &Jwk,
+    payload: &str,
+) -> Result<Verdict, CoreFault>
+    ensures { (random : List ℕ) → (let wanted = new_account_verdict book.now key.now (account_with_key book.now key.now) (new_account payload.now) in
+        MatchResult result (λ v. (v ≡ wanted) × NumbersLeft book.now.meta v × BytesLeft random v) (λ e. IsNeedFault book.now.meta random wanted e)) }
+{
+    match book.account_with_key(key.canonical()) {
+        Some(row) => Ok(known_account_verdict(alloc, row, payload)?),
+        None => match new_account(alloc, payload)? {
+            Some(asked) => open_account(alloc, book, key, asked),
+            None => Ok(refused(alloc, MALFORMED)),
+        },
+    }
+}
+
+/// A newAccount request whose key has an account: of its payload only the form is looked at.
+#[tactic(auto, unfolding(desk_model::specs::Verdict::check, desk_model::specs::Verdict::given))]
+fn known_account_verdict(
+    alloc: Global,
+    row: &AccountRow,
+    payload: &str,
+) -> Result<Verdict, AllocError>
+    ensures { IfOk result (λ v. (v ≡ known_account_verdict row.now (new_account payload.now)) × ((meta : MetaRow) (random : List ℕ) → NumbersLeft meta v × BytesLeft random v)) }
+{
+    if row.status != AccountStatus::Valid {
+        return Ok(refused(alloc, UNAUTHORIZED));
+    }
+    if new_account(alloc, payload)?.is_none() {
+        return Ok(refused(alloc, MALFORMED));
+    }
+    Ok(Verdict::Accepted {
+        entry: None,
+        shows: Shows::KnownAccount(row.number),
+    })
+}
+
+/// A newAccount request whose key has none.
+#[tactic(auto, unfolding(desk_model::specs::Verdict::check, desk_model::specs::Verdict::unless_fault))]
+fn open_account(
+    alloc: Global,
+    book: &Book,
+    key: &Jwk,
+    asked: NewAccount,
+) -> Result<Verdict, CoreFault>
+    ensures { (random : List ℕ) → MatchResult result
+        (λ v. (v ≡ open_account book.now key.now asked) × NumbersLeft book.now.meta v × BytesLeft random v)
+        (λ e. IsNeedFault book.now.meta random (open_account book.now key.now asked) e) }
+{
+    if asked.only_existing {
+        return Ok(refused(alloc, NO_ACCOUNT));
+    }
+    if let Some(fault) = contacts_fault(asked.contacts.as_slice()) {
+        return Ok(refused(alloc, fault));
+    }
+    let last = book.meta().accounts;
+    has_room(last)?;
+    Ok(Verdict::Accepted {
+        entry: Some(Entry::Opened(key.clone()?, asked.contacts)),
+        shows: Shows::OpenedAccount(last + 1),
+    })
+}
+
+/// Whether an account may act.
+pub(crate) fn is_valid(row: &AccountRow) -> bool
+    ensures { result ≡ is_valid row.now.status }
+{
+    matches!(row.status, AccountStatus::Valid)
+}
+
+/// A request to an account by its own holder (RFC 8555, 7.3.2, 7.3.6).
+pub(crate) fn account_verdict(alloc: Global, number: u64, change: AccountChange) -> Verdict
+    ensures { result ≡ account_verdict number change }
+{
+    match change {
+        AccountChange::Read | AccountChange::Update(None) => answers(Shows::Account(number)),
+        AccountChange::Deactivate => records(
+            Entry::AccountEnded(number, Ending::Deactivated),
+            Shows::Account(number),
+        ),
+        AccountChange::Update(Some(contacts)) => contacts_verdict(alloc, number, contacts),
+    }
+}
+
+/// The contacts of an account are replaced, unless one of the new ones is at fault.
+#[tactic(auto, unfolding(desk_model::specs::Verdict::unless_fault))]
+fn contacts_verdict(alloc: Global, number: u64, contacts: Sequence<Text>) -> Verdict
+    ensures { result ≡ account_verdict number (Update (Some contacts)) }
+{
+    match contacts_fault(contacts.as_slice()) {
+        Some(fault) => refused(alloc, fault),
+        None => records(
+            Entry::ContactsChanged(number, contacts),
+            Shows::Account(number),
+        ),
+    }
+}

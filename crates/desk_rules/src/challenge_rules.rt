@@ -1,0 +1,142 @@
+//! The rules on challenges (RFC 8555, 7.5.1, 8).
+ghost use Rattle.std.specs.Prelude.{◌≡◌, IfOk, string_bytes};
+ghost use Rattle.desk_model.specs.Document.{expected};
+ghost use Rattle.desk_model.specs.Legal.{is_pending_challenge, is_processing_challenge};
+ghost use Rattle.desk_model.specs.Lookup.{holds};
+ghost use Rattle.desk_model.specs.Questions.{challenge_of};
+ghost use Rattle.desk_model.specs.Rules.{challenge_verdict, outcome_of, outcome_verdict, same_outcome, stands_open, judged};
+
+use crate::authorization_rules::is_pending;
+use crate::verdicts::{answers, records, refused};
+use desk_book::Book;
+use desk_changes::challenge_of;
+use desk_model::{
+    AuthorizationRow, AuthzStatus, ChallengeChange, ChallengeRow, ChallengeStatus, Entry,
+    FetchError, Finding, Kind, Outcome, Shows, Verdict,
+};
+use keys::{dns_matches, expected_text, http_matches};
+use std::alloc::{AllocError, Global};
+
+/// The challenge does not wait for a report.
+const NOT_WAITING: u8 = 14;
+
+/// Whether a challenge of the authorization waits for its client's answer.
+fn has_pending(row: &AuthorizationRow, number: u64) -> bool
+    ensures { result ≡ holds (λ c. is_pending_challenge c.status) (challenge_of number row.now) }
+{
+    match challenge_of(row, number) {
+        Some(challenge) => matches!(challenge.status, ChallengeStatus::Pending),
+        None => false,
+    }
+}
+
+/// Whether a challenge of the authorization waits for a report.
+fn has_processing(row: &AuthorizationRow, number: u64) -> bool
+    ensures { result ≡ holds (λ c. is_processing_challenge c.status) (challenge_of number row.now) }
+{
+    match challenge_of(row, number) {
+        Some(challenge) => matches!(challenge.status, ChallengeStatus::Processing),
+        None => false,
+    }
+}
+
+/// A request to a challenge: an answer that comes when nothing is pending changes nothing (RFC 8555, 7.5.1).
+#[tactic(auto, unfolding(desk_model::specs::Verdict::choose))]
+pub(crate) fn challenge_verdict(
+    number: u64,
+    row: &AuthorizationRow,
+    status: AuthzStatus,
+    change: ChallengeChange,
+) -> Verdict
+    ensures { result ≡ challenge_verdict number (record row.now { status = status }) change }
+{
+    match change {
+        ChallengeChange::Read => answers(Shows::ClientChallenge(number)),
+        ChallengeChange::Answer => {
+            if is_pending(status) && has_pending(row, number) {
+                return records(Entry::Answered(number), Shows::ClientChallenge(number));
+            }
+            answers(Shows::ClientChallenge(number))
+        }
+    }
+}
+
+/// What the validator has to find for a challenge of a book, under the key of the account.
+pub(crate) fn expected(
+    alloc: Global,
+    book: &Book,
+    row: &AuthorizationRow,
+    challenge: &ChallengeRow,
+) -> Result<String, AllocError>
+    ensures { IfOk result (λ t. string_bytes t ≡ expected book.now row.now challenge.now) }
+{
+    let key = match book.account(row.account) {
+        Some(account) => account.key.canonical(),
+        None => "",
+    };
+    expected_text(alloc, challenge.kind, challenge.token, key)
+}
+
+fn judged(matching: bool) -> Outcome
+    ensures { result ≡ judged matching }
+{
+    if matching {
+        Outcome::Good
+    } else {
+        Outcome::IncorrectResponse
+    }
+}
+
+/// What a finding shows for a challenge, `None` where it is of another kind (RFC 8555, 8.3, 8.4).
+pub(crate) fn outcome_of(kind: Kind, expected: &str, finding: &Finding) -> Option<Outcome>
+    ensures { result ≡ outcome_of kind expected.now finding.now }
+{
+    match (kind, finding) {
+        (Kind::Http01, Finding::Body(body)) => {
+            Some(judged(http_matches(body.as_slice(), expected)))
+        }
+        (Kind::Dns01, Finding::Records(records)) => {
+            Some(judged(dns_matches(records.as_slice(), expected)))
+        }
+        (Kind::Dns01, Finding::Body(_)) | (Kind::Http01, Finding::Records(_)) => None,
+        (_, Finding::Error(FetchError::Connection)) => Some(Outcome::Connection),
+        (_, Finding::Error(FetchError::Dns)) => Some(Outcome::Dns),
+    }
+}
+
+fn is_same_outcome(outcome: Outcome, other: Outcome) -> bool
+    ensures { result ≡ same_outcome outcome other }
+{
+    outcome == other
+}
+
+/// Whether a report with this outcome stands on a challenge.
+fn has_outcome(challenge: &ChallengeRow, outcome: Outcome) -> bool
+    ensures { result ≡ holds (λ r. same_outcome r.outcome outcome) challenge.now.reported }
+{
+    match challenge.reported {
+        Some(report) => is_same_outcome(report.outcome, outcome),
+        None => false,
+    }
+}
+
+/// A report: the same again records nothing, another is refused where the challenge does not wait for one.
+#[tactic(auto, unfolding(desk_model::specs::Verdict::check, desk_model::specs::Verdict::choose))]
+pub(crate) fn outcome_verdict(
+    alloc: Global,
+    number: u64,
+    row: &AuthorizationRow,
+    status: AuthzStatus,
+    challenge: &ChallengeRow,
+    outcome: Outcome,
+) -> Verdict
+    ensures { result ≡ outcome_verdict number (record row.now { status = status }) challenge.now outcome }
+{
+    if has_outcome(challenge, outcome) {
+        return answers(Shows::Challenge(number));
+    }
+    if is_pending(status) && has_processing(row, number) {
+        return records(Entry::Reported(number, outcome), Shows::Challenge(number));
+    }
+    refused(alloc, NOT_WAITING)
+}

@@ -1,0 +1,37 @@
+//! The faults of a call.
+use std::alloc::{AllocError, AllocFailed};
+
+/// Why a call is not made; the book stays as it was.
+#[derive(Clone, Copy, Debug, PartialEq, Eq)]
+pub enum CoreFault {
+    /// A growth was refused (fault 20).
+    Memory,
+    /// The call's moment is above the last one, 250000000000 (fault 24).
+    Moment,
+    /// The call needs more random bytes than it has (fault 25).
+    ShortRandom,
+    /// A number above 2^62 would be needed (fault 26).
+    Full,
+}
+
+impl From<AllocError> for CoreFault {
+    ghost use Rattle.desk_rules.specs.declared.fault.CoreFault.TheVariants.{Memory};
+    ghost use Rattle.std.specs.Prelude.{◌≡◌};
+
+    ghost from_gives = { λ _ e. e ≡ Memory };
+
+    fn from(_refused: AllocError) -> CoreFault {
+        CoreFault::Memory
+    }
+}
+
+impl<T: Drop> From<AllocFailed<T>> for CoreFault {
+    ghost use Rattle.desk_rules.specs.declared.fault.CoreFault.TheVariants.{Memory};
+    ghost use Rattle.std.specs.Prelude.{◌≡◌};
+
+    ghost from_gives = { λ _ e. e ≡ Memory };
+
+    fn from(_refused: AllocFailed<T>) -> CoreFault {
+        CoreFault::Memory
+    }
+}

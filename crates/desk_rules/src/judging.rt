@@ -1,0 +1,137 @@
+//! Verdicts on signed requests (RFC 8555, 6).
+ghost use Rattle.std.specs.Prelude.{◌≡◌, drop, MatchResult};
+ghost use Rattle.desk_rules.specs.Needs.{NumbersLeft, BytesLeft, IsNeedFault};
+ghost use Rattle.desk_model.specs.Effect.{swept};
+ghost use Rattle.desk_model.specs.Payload.{new_order};
+ghost use Rattle.desk_model.specs.Questions.{account_with_key};
+ghost use Rattle.desk_model.specs.Rules.{holder_verdict, new_order_verdict, signed_verdict, target_verdict};
+ghost use Rattle.desk_model.specs.Verdict.{given};
+
+use crate::accounts::{is_valid, new_account_verdict};
+use crate::fault::CoreFault;
+use crate::new_orders::new_order_verdict;
+use crate::payload::new_order;
+use crate::targets::{
+    account_target, authorization_target, certificate_target, challenge_target, finalize_target,
+    order_target, orders_target,
+};
+use crate::verdicts::{answers, refused};
+use desk_book::Book;
+use desk_model::{Jwk, Shows, Signed, Target, Verdict};
+use std::alloc::Global;
+
+/// The payload has not the form that the route reads.
+const MALFORMED: u8 = 1;
+
+/// The key of the request is of no kind that the desk accepts.
+const BAD_KEY: u8 = 5;
+
+/// No account has the key.
+const NO_ACCOUNT: u8 = 6;
+
+/// The key has an account that is not valid.
+const UNAUTHORIZED: u8 = 7;
+
+/// A request for a new order (RFC 8555, 7.4).
+#[tactic(auto, unfolding(desk_model::specs::Verdict::given))]
+fn new_order_target(
+    alloc: Global,
+    book: &Book,
+    random: &[u8],
+    sender: u64,
+    payload: &str,
+) -> Result<Verdict, CoreFault>
+    ensures { let asked = given (new_order payload.now) 1 (new_order_verdict book.now (drop 16 random.now) sender) in
+        MatchResult result (λ v. (v ≡ asked) × NumbersLeft book.now.meta v × BytesLeft random.now v) (λ e. IsNeedFault book.now.meta random.now asked e) }
+{
+    match new_order(alloc, payload)? {
+        Some(identifiers) => {
+            new_order_verdict(alloc, book, random, sender, identifiers.as_slice())
+        }
+        None => Ok(refused(alloc, MALFORMED)),
+    }
+}
+
+/// A request of the holder of a valid account, by its target.
+fn target_verdict(
+    alloc: Global,
+    book: &Book,
+    moment: u64,
+    random: &[u8],
+    sender: u64,
+    payload: &str,
+    target: Target,
+) -> Result<Verdict, CoreFault>
+    ensures { let asked = target_verdict (swept moment book.now) (drop 16 random.now) sender payload.now target in
+        MatchResult result (λ v. (v ≡ asked) × NumbersLeft book.now.meta v × BytesLeft random.now v) (λ e. IsNeedFault book.now.meta random.now asked e) }
+{
+    match target {
+        Target::NewAccount => Ok(answers(Shows::KnownAccount(sender))),
+        Target::NewOrder => new_order_target(alloc, book, random, sender, payload),
+        Target::Account(number) => Ok(account_target(alloc, sender, number, payload)?),
+        Target::Orders(number) => Ok(orders_target(alloc, sender, number, payload)),
+        Target::Order(number) => Ok(order_target(alloc, book, moment, sender, number, payload)),
+        Target::Finalize(number) => {
+            Ok(finalize_target(alloc, book, moment, sender, number, payload)?)
+        }
+        Target::Cert(number) => {
+            Ok(certificate_target(alloc, book, moment, sender, number, payload))
+        }
+        Target::Authz(number) => {
+            Ok(authorization_target(alloc, book, moment, sender, number, payload)?)
+        }
+        Target::Chall(number) => {
+            Ok(challenge_target(alloc, book, moment, sender, number, payload)?)
+        }
+    }
+}
+
+/// A request whose key has to have a valid account (RFC 8555, 6.2).
+#[tactic(auto, unfolding(desk_model::specs::Verdict::check, desk_model::specs::Verdict::given))]
+fn holder_verdict(
+    alloc: Global,
+    book: &Book,
+    moment: u64,
+    random: &[u8],
+    key: &Jwk,
+    payload: &str,
+    target: Target,
+) -> Result<Verdict, CoreFault>
+    ensures { let asked = holder_verdict (swept moment book.now) (drop 16 random.now) payload.now target (account_with_key book.now key.now) in
+        MatchResult result (λ v. (v ≡ asked) × NumbersLeft book.now.meta v × BytesLeft random.now v) (λ e. IsNeedFault book.now.meta random.now asked e) }
+{
+    let Some(row) = book.account_with_key(key.canonical()) else {
+        return Ok(refused(alloc, NO_ACCOUNT));
+    };
+    if !is_valid(row) {
+        return Ok(refused(alloc, UNAUTHORIZED));
+    }
+    target_verdict(alloc, book, moment, random, row.number, payload, target)
+}
+
+/// The verdict on a signed request that has passed the test of its nonce, by the tables of a book at a moment. The
+/// first 16 random bytes are the fresh nonce's.
+///
+/// # Errors
+///
+/// `Full` where a number above 2^62 would be needed, `ShortRandom` where the random bytes are too few for the tokens of
+/// a new order, `Memory` where a growth was refused.
+pub fn judge_signed(
+    alloc: Global,
+    book: &Book,
+    moment: u64,
+    random: &[u8],
+    signed: &Signed,
+) -> Result<Verdict, CoreFault>
+    ensures { let asked = signed_verdict (swept moment book.now) (drop 16 random.now) signed.now in
+        MatchResult result (λ v. (v ≡ asked) × NumbersLeft book.now.meta v × BytesLeft random.now v) (λ e. IsNeedFault book.now.meta random.now asked e) }
+{
+    let Ok(key) = &signed.key else {
+        return Ok(refused(alloc, BAD_KEY));
+    };
+    let payload = signed.payload.as_str();
+    match signed.target {
+        Target::NewAccount => new_account_verdict(alloc, book, key, payload),
+        target => holder_verdict(alloc, book, moment, random, key, payload, target),
+    }
+}

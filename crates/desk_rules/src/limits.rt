@@ -1,0 +1,74 @@
+//! The limits of moments, numbers and random bytes.
+ghost use Rattle.std.specs.Prelude.{◌≡◌, ◌+◌, ◌*◌, ◌<◌, ◌≤◌, ◌^◌, length, drop, take, MatchResult};
+
+use crate::fault::CoreFault;
+
+/// The last moment at which a call may be made, in seconds since 1970.
+pub const LAST_MOMENT: u64 = 250_000_000_000;
+
+/// The greatest number that an object may have.
+pub(crate) const LAST_NUMBER: u64 = 1 << 62;
+
+/// Whether a number may be given after the last one.
+pub fn has_room(last: u64) -> Result<(), CoreFault>
+    ensures { MatchResult result (λ _. last < 2 ^ 62) (λ e. (e ≡ CoreFault.Full) × (2 ^ 62 ≤ last)) }
+{
+    if last < LAST_NUMBER {
+        Ok(())
+    } else {
+        Err(CoreFault::Full)
+    }
+}
+
+/// Whether this many numbers may be given after the last one.
+pub(crate) fn has_room_for(last: u64, count: usize) -> Result<(), CoreFault>
+    ensures { MatchResult result (λ _. last + count ≤ 2 ^ 62) (λ e. (e ≡ CoreFault.Full) × (2 ^ 62 < last + count)) }
+{
+    let count = count as u64;
+    if last <= LAST_NUMBER && count <= LAST_NUMBER - last {
+        Ok(())
+    } else {
+        Err(CoreFault::Full)
+    }
+}
+
+/// Whether the random bytes of a call are enough for a nonce and this many tokens.
+pub(crate) fn has_tokens(random: &[u8], count: usize) -> Result<(), CoreFault>
+    ensures { MatchResult result (λ _. 16 * (1 + count) ≤ length random.now) (λ e. (e ≡ CoreFault.ShortRandom) × (length random.now < 16 * (1 + count))) }
+{
+    if random.len() / 16 > count {
+        Ok(())
+    } else {
+        Err(CoreFault::ShortRandom)
+    }
+}
+
+/// The first 16 random bytes of a call.
+pub fn first_random(random: &[u8]) -> Result<[u8; 16], CoreFault>
+    ensures { MatchResult result (λ r. (r ≡ take 16 random.now) × (16 ≤ length random.now)) (λ e. (e ≡ CoreFault.ShortRandom) × (length random.now < 16)) }
+{
+    let mut bytes = [0u8; 16];
+    if random.len() < 16 {
+        return Err(CoreFault::ShortRandom);
+    }
+    bytes.copy_from_slice(&random[..16]);
+    Ok(bytes)
+}
+
+/// The first 16 bytes of some that are as many at least.
+pub(crate) fn first_piece(random: &[u8]) -> [u8; 16]
+    requires { 16 ≤ length random.now }
+    ensures { result ≡ take 16 random.now }
+{
+    let mut bytes = [0u8; 16];
+    bytes.copy_from_slice(&random[..16]);
+    bytes
+}
+
+/// The random bytes behind the first 16.
+pub(crate) fn later_random(random: &[u8]) -> &[u8]
+    requires { 16 ≤ length random.now }
+    ensures { result.now ≡ drop 16 random.now }
+{
+    &random[16..]
+}

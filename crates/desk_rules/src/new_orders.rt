@@ -1,0 +1,230 @@
+//! The rules on new orders (RFC 8555, 7.4).
+ghost use Rattle.std.specs.Prelude.{◌≡◌, ◌+◌, ◌*◌, ◌<◌, ◌≤◌, ◌^◌, ◌⊎◌, bytes_eq, length, drop, not, count_by, IfOk, MatchResult};
+ghost use Rattle.std.specs.List.{list_any};
+ghost use Rattle.desk_rules.specs.Needs.{NumbersLeft, BytesLeft, IsNeedFault};
+ghost use Rattle.desk_model.specs.Authorization.{kinds_of};
+ghost use Rattle.desk_model.specs.Name.{same_bool, same_name};
+ghost use Rattle.desk_model.specs.Names.{name_of};
+ghost use Rattle.desk_model.specs.Rules.{fault_of, is_dns, kept, names_in, new_order_verdict, pieces, subproblems, wanted};
+ghost use Rattle.desk_model.specs.Run.{count_tokens};
+ghost use Rattle.desk_model.specs.Verdict.{records as recording};
+ghost use Rattle.desk_model.specs.declared.entry.Entry.TheVariants.{Ordered as ordered};
+ghost use Rattle.desk_model.specs.declared.verdict.Shows.TheVariants.{MadeOrder};
+
+use crate::fault::CoreFault;
+use crate::limits::{first_piece, has_room, has_room_for, has_tokens, later_random};
+use crate::verdicts::{records, refused};
+use desk_book::Book;
+use desk_model::{DnsName, Entry, Identifier, Meta, Sequence, Shows, Subproblem, Verdict, Wanted};
+use identifiers::{NameFault, read_name};
+use std::alloc::{AllocError, Global};
+
+/// The payload has no identifier, or too many.
+const MALFORMED: u8 = 1;
+
+/// The type of an identifier is not dns.
+const UNSUPPORTED_IDENTIFIER: u8 = 10;
+
+/// The value of an identifier is no name that the desk accepts.
+const REJECTED_IDENTIFIER: u8 = 11;
+
+/// The name that a text stands for, `None` where it stands for none.
+fn name_of(alloc: Global, text: &str) -> Result<Option<DnsName>, AllocError>
+    ensures { IfOk result (λ o. o ≡ name_of text.now) }
+{
+    match read_name(alloc, text) {
+        Ok(name) => Ok(Some(name)),
+        Err(NameFault::Refused) => Ok(None),
+        Err(NameFault::Memory) => Err(AllocError),
+    }
+}
+
+fn is_dns(identifier: &Identifier) -> bool
+    ensures { result ≡ is_dns identifier.now }
+{
+    identifier.kind.as_str() == "dns"
+}
+
+/// Why an identifier is refused, if it is.
+fn fault_of(alloc: Global, identifier: &Identifier) -> Result<Option<u8>, AllocError>
+    ensures { IfOk result (λ o. o ≡ fault_of identifier.now) }
+{
+    if !is_dns(identifier) {
+        return Ok(Some(UNSUPPORTED_IDENTIFIER));
+    }
+    match name_of(alloc, identifier.value.as_str())? {
+        Some(_) => Ok(None),
+        None => Ok(Some(REJECTED_IDENTIFIER)),
+    }
+}
+
+/// Each faulty identifier, in order.
+fn subproblems(alloc: Global, identifiers: &[Identifier]) -> Result<Vec<Subproblem>, AllocError>
+    ensures { IfOk result (λ v. v.items ≡ subproblems identifiers.now) }
+{
+    let mut found = Vec::new(alloc);
+    for identifier in identifiers {
+        if let Some(number) = fault_of(alloc, identifier)? {
+            found.push(Subproblem {
+                number,
+                kind: identifier.kind.clone()?,
+                value: identifier.value.clone()?,
+            })?;
+        }
+    }
+    Ok(found)
+}
+
+/// The names that identifiers stand for, in order.
+fn names_in(alloc: Global, identifiers: &[Identifier]) -> Result<Vec<DnsName>, AllocError>
+    ensures { IfOk result (λ v. v.items ≡ names_in identifiers.now) }
+{
+    let mut names = Vec::new(alloc);
+    for identifier in identifiers {
+        if let Some(name) = name_of(alloc, identifier.value.as_str())? {
+            names.push(name)?;
+        }
+    }
+    Ok(names)
+}
+
+fn is_same_mark(wildcard: bool, other: bool) -> bool
+    ensures { result ≡ same_bool wildcard other }
+{
+    wildcard == other
+}
+
+fn is_same_base(name: &DnsName, other: &DnsName) -> bool
+    ensures { result ≡ bytes_eq name.now.base other.now.base }
+{
+    name.base() == other.base()
+}
+
+/// Whether two names are the same.
+fn is_same_name(name: &DnsName, other: &DnsName) -> bool
+    ensures { result ≡ same_name name.now other.now }
+{
+    is_same_base(name, other) && is_same_mark(name.is_wildcard(), other.is_wildcard())
+}
+
+/// Whether a name is among those that were kept.
+fn has_name(names: &[DnsName], name: &DnsName) -> bool
+    ensures { result ≡ list_any (λ other. same_name other name.now) names.now }
+{
+    names.iter().any(|other| is_same_name(other, name))
+}
+
+/// The names, those that are equal in their first place.
+fn kept(alloc: Global, names: Vec<DnsName>) -> Result<Vec<DnsName>, AllocError>
+    ensures { IfOk result (λ v. v.items ≡ kept names.items) }
+{
+    let mut found = Vec::new(alloc);
+    for name in names {
+        if !has_name(found.as_slice(), &name) {
+            found.push(name)?;
+        }
+    }
+    Ok(found)
+}
+
+/// How many challenges, and so tokens, a name gets.
+fn count_kinds(name: &DnsName) -> usize
+    ensures { result ≡ length (kinds_of name.now) }
+{
+    if name.is_wildcard() { 1 } else { 2 }
+}
+
+/// How many tokens some names get: a wildcard one gets one, another two.
+fn count_tokens(names: &[DnsName]) -> usize
+    ensures { result ≡ length names.now + count_by (λ n. not n.wildcard) names.now }
+{
+    names.len() + names.iter().filter(|name| !name.is_wildcard()).count()
+}
+
+/// The tokens of a name, taken from the front of the random bytes.
+fn tokens_of(alloc: Global, name: &DnsName, random: &[u8]) -> Result<Vec<[u8; 16]>, AllocError>
+    requires { 16 * length (kinds_of name.now) ≤ length random.now }
+    ensures { IfOk result (λ v. v.items ≡ pieces (length (kinds_of name.now)) random.now) }
+{
+    let mut tokens = Vec::new(alloc);
+    tokens.push(first_piece(random))?;
+    if !name.is_wildcard() {
+        tokens.push(first_piece(&random[16..]))?;
+    }
+    Ok(tokens)
+}
+
+/// Each name with its tokens, taken in turn.
+fn wanted(alloc: Global, names: Vec<DnsName>, random: &[u8]) -> Result<Vec<Wanted>, AllocError>
+    requires { 16 * count_tokens (wanted names.items random.now) ≤ length random.now }
+    ensures { IfOk result (λ v. v.items ≡ wanted names.items random.now) }
+{
+    let mut found = Vec::new(alloc);
+    let mut rest = random;
+    for name in names {
+        let count = count_kinds(&name);
+        let tokens = Sequence::new(tokens_of(alloc, &name, rest)?);
+        rest = &rest[16 * count..];
+        found.push(Wanted::New { name, tokens })?;
+    }
+    Ok(found)
+}
+
+/// Whether an order may be made with this many authorizations and challenges.
+fn has_numbers(meta: &Meta, authorizations: usize, challenges: usize) -> Result<(), CoreFault>
+    ensures { MatchResult result
+        (λ _. (meta.now.orders < 2 ^ 62) × (meta.now.authorizations + authorizations ≤ 2 ^ 62) × (meta.now.challenges + challenges ≤ 2 ^ 62))
+        (λ e. (e ≡ CoreFault.Full) × ((2 ^ 62 ≤ meta.now.orders) ⊎ ((2 ^ 62 < meta.now.authorizations + authorizations) ⊎ (2 ^ 62 < meta.now.challenges + challenges)))) }
+{
+    has_room(meta.orders)?;
+    has_room_for(meta.authorizations, authorizations)?;
+    has_room_for(meta.challenges, challenges)
+}
+
+/// An order for these names, with a new authorization for each.
+fn order_for(
+    alloc: Global,
+    book: &Book,
+    random: &[u8],
+    account: u64,
+    names: Vec<DnsName>,
+) -> Result<Verdict, CoreFault>
+    ensures { let asked = recording (ordered account (wanted names.items (drop 16 random.now))) (MadeOrder (book.now.meta.orders + 1)) in
+        MatchResult result (λ v. (v ≡ asked) × NumbersLeft book.now.meta v × BytesLeft random.now v) (λ e. IsNeedFault book.now.meta random.now asked e) }
+{
+    let meta = book.meta();
+    let count = count_tokens(names.as_slice());
+    has_numbers(meta, names.len(), count)?;
+    has_tokens(random, count)?;
+    let wanted = wanted(alloc, names, later_random(random))?;
+    Ok(records(
+        Entry::Ordered(account, Sequence::new(wanted)),
+        Shows::MadeOrder(meta.orders + 1),
+    ))
+}
+
+/// A newOrder request of a valid account: refused by the first faulty identifier, with all of them listed.
+#[tactic(auto, unfolding(desk_model::specs::Verdict::check))]
+pub(crate) fn new_order_verdict(
+    alloc: Global,
+    book: &Book,
+    random: &[u8],
+    account: u64,
+    identifiers: &[Identifier],
+) -> Result<Verdict, CoreFault>
+    ensures { let asked = new_order_verdict book.now (drop 16 random.now) account identifiers.now in
+        MatchResult result (λ v. (v ≡ asked) × NumbersLeft book.now.meta v × BytesLeft random.now v) (λ e. IsNeedFault book.now.meta random.now asked e) }
+{
+    if identifiers.is_empty() || identifiers.len() > 50 {
+        return Ok(refused(alloc, MALFORMED));
+    }
+    let faulty = subproblems(alloc, identifiers)?;
+    if let Some(first) = faulty.first() {
+        return Ok(Verdict::Refused {
+            number: first.number,
+            subproblems: Sequence::new(faulty),
+        });
+    }
+    let names = kept(alloc, names_in(alloc, identifiers)?)?;
+    order_for(alloc, book, random, account, names)
+}

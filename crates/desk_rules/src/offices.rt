@@ -1,0 +1,322 @@
+//! The rules on what the validator, the signing office and the operator ask (RFC 8555, 7.1.6, 7.4, 8).
+ghost use Rattle.std.specs.Prelude.{◌≡◌, ◌&&◌, ◌||◌, IfOk, bytes_eq, codes};
+ghost use Rattle.desk_model.specs.Effect.{swept};
+ghost use Rattle.desk_model.specs.Legal.{is_problem, has_length};
+ghost use Rattle.desk_model.specs.Lookup.{holds};
+ghost use Rattle.desk_model.specs.Order.{is_processing};
+ghost use Rattle.desk_model.specs.Questions.{account_on, authorization_on, order_on};
+ghost use Rattle.desk_model.specs.Rules.{certify_verdict, fail_verdict, is_revoked, is_revoked_status, office_verdict, report_verdict, revoke_account, revoke_authorization, same_problem};
+ghost use Rattle.desk_model.specs.Verdict.{given};
+ghost use Rattle.desk_model.specs.declared.call.Ask.TheVariants.{KeyOf};
+
+use crate::authorization_rules::is_endable;
+use crate::challenge_rules::{expected, outcome_of, outcome_verdict};
+use crate::verdicts::{answers, records, refused};
+use desk_book::Book;
+use desk_changes::{authorization_at, challenge_of, order_at, owner_at};
+use desk_model::{
+    AccountRow, AccountStatus, Ask, AuthorizationRow, AuthzStatus, Ending, Entry, Finding,
+    OrderProblem, OrderRow, OrderStatus, Sequence, Shows, Verdict,
+};
+use std::alloc::{AllocError, Global};
+
+/// What is handed in has not the form that the desk takes.
+const MALFORMED: u8 = 1;
+
+/// There is no such object.
+const NOT_FOUND: u8 = 2;
+
+/// The object does not wait for this.
+const NOT_WAITING: u8 = 14;
+
+/// The certificate is too large.
+const TOO_LARGE: u8 = 16;
+
+/// What the validator found for a challenge (RFC 8555, 8).
+#[tactic(auto, unfolding(desk_model::specs::Verdict::given))]
+fn report_verdict(
+    alloc: Global,
+    book: &Book,
+    moment: u64,
+    number: u64,
+    finding: &Finding,
+) -> Result<Verdict, AllocError>
+    ensures { IfOk result (λ v. v ≡ report_verdict (swept moment book.now) number finding.now) }
+{
+    let Some((row, status)) = owner_at(book, moment, number) else {
+        return Ok(refused(alloc, NOT_FOUND));
+    };
+    let Some(challenge) = challenge_of(row, number) else {
+        return Ok(refused(alloc, NOT_FOUND));
+    };
+    let wanted = expected(alloc, book, row, challenge)?;
+    match outcome_of(challenge.kind, wanted.as_str(), finding) {
+        Some(outcome) => Ok(outcome_verdict(alloc, number, row, status, challenge, outcome)),
+        None => Ok(refused(alloc, MALFORMED)),
+    }
+}
+
+fn is_processing(status: OrderStatus) -> bool
+    ensures { result ≡ is_processing status }
+{
+    matches!(status, OrderStatus::Processing)
+}
+
+/// Whether two lists of bytes are the same.
+fn is_same(bytes: &[u8], other: &[u8]) -> bool
+    ensures { result ≡ bytes_eq bytes.now other.now }
+{
+    bytes == other
+}
+
+/// Whether an order has this certificate.
+fn has_certificate(row: &OrderRow, bytes: &[u8]) -> bool
+    ensures { result ≡ holds (λ k. bytes_eq k.bytes bytes.now) row.now.certified }
+{
+    match &row.certified {
+        Some(certified) => is_same(certified.bytes.as_slice(), bytes),
+        None => false,
+    }
+}
+
+/// The certificate of an order: the same again records nothing, another is refused where the order does not wait for
+/// one.
+#[tactic(auto, unfolding(desk_model::specs::Verdict::check, desk_model::specs::Verdict::choose))]
+fn certify_verdict(
+    alloc: Global,
+    number: u64,
+    bytes: &Sequence<u8>,
+    row: &OrderRow,
+    status: OrderStatus,
+) -> Result<Verdict, AllocError>
+    ensures { IfOk result (λ v. v ≡ certify_verdict number bytes.now (record row.now { status = status })) }
+{
+    let certificate = bytes.as_slice();
+    if certificate.is_empty() {
+        return Ok(refused(alloc, MALFORMED));
+    }
+    if certificate.len() > 65536 {
+        return Ok(refused(alloc, TOO_LARGE));
+    }
+    if has_certificate(row, certificate) {
+        return Ok(answers(Shows::Order(number)));
+    }
+    if !is_processing(status) {
+        return Ok(refused(alloc, NOT_WAITING));
+    }
+    let entry = Entry::Certified(number, bytes.clone()?);
+    Ok(records(entry, Shows::Order(number)))
+}
+
+fn is_text(text: &str, other: &str) -> bool
+    ensures { result ≡ bytes_eq text.now other.now }
+{
+    text == other
+}
+
+/// Whether a problem has an error type that the signing office may hand in, and a detail of 1 to 256 bytes.
+fn is_problem(problem: &OrderProblem) -> bool
+    ensures { result ≡ is_problem problem.now }
+{
+    has_known_kind(problem) && has_detail(problem)
+}
+
+fn has_known_kind(problem: &OrderProblem) -> bool
+    ensures { result ≡ (bytes_eq problem.now.kind (codes "badCSR") || bytes_eq problem.now.kind (codes "serverInternal")) }
+{
+    is_text(problem.kind.as_str(), "badCSR") || is_text(problem.kind.as_str(), "serverInternal")
+}
+
+fn has_detail(problem: &OrderProblem) -> bool
+    ensures { result ≡ has_length 1 256 problem.now.detail }
+{
+    let count = problem.detail.as_str().len();
+    1 <= count && count <= 256
+}
+
+fn is_same_problem(problem: &OrderProblem, other: &OrderProblem) -> bool
+    ensures { result ≡ same_problem problem.now other.now }
+{
+    is_text(problem.kind.as_str(), other.kind.as_str())
+        && is_text(problem.detail.as_str(), other.detail.as_str())
+}
+
+/// Whether an order failed for this problem.
+fn has_failed_for(row: &OrderRow, problem: &OrderProblem) -> bool
+    ensures { result ≡ holds (λ f. same_problem f.problem problem.now) row.now.failed }
+{
+    match &row.failed {
+        Some(failed) => is_same_problem(&failed.problem, problem),
+        None => false,
+    }
+}
+
+/// Why an order fails: the same again records nothing, another is refused where the order waits for no certificate.
+#[tactic(auto, unfolding(desk_model::specs::Verdict::check, desk_model::specs::Verdict::choose))]
+fn fail_verdict(
+    alloc: Global,
+    number: u64,
+    problem: &OrderProblem,
+    row: &OrderRow,
+    status: OrderStatus,
+) -> Result<Verdict, AllocError>
+    ensures { IfOk result (λ v. v ≡ fail_verdict number problem.now (record row.now { status = status })) }
+{
+    if !is_problem(problem) {
+        return Ok(refused(alloc, MALFORMED));
+    }
+    if has_failed_for(row, problem) {
+        return Ok(answers(Shows::Order(number)));
+    }
+    if !is_processing(status) {
+        return Ok(refused(alloc, NOT_WAITING));
+    }
+    let entry = Entry::Failed(number, problem.clone()?);
+    Ok(records(entry, Shows::Order(number)))
+}
+
+/// The operator takes back an authorization; one that is revoked already stays as it is.
+#[tactic(auto, unfolding(desk_model::specs::Verdict::check, desk_model::specs::Verdict::choose))]
+fn revoke_authorization(
+    alloc: Global,
+    number: u64,
+    row: &AuthorizationRow,
+    status: AuthzStatus,
+) -> Verdict
+    ensures { result ≡ revoke_authorization number (record row.now { status = status }) }
+{
+    let shows = Shows::Authorization(number);
+    if is_revoked_status(status) {
+        return answers(shows);
+    }
+    if !is_endable(status) {
+        return refused(alloc, NOT_WAITING);
+    }
+    records(Entry::AuthorizationEnded(number, Ending::Revoked), shows)
+}
+
+fn is_revoked_status(status: AuthzStatus) -> bool
+    ensures { result ≡ is_revoked_status status }
+{
+    matches!(status, AuthzStatus::Revoked)
+}
+
+/// Whether an account was revoked.
+fn is_revoked(row: &AccountRow) -> bool
+    ensures { result ≡ holds (λ e. is_revoked e.ending) row.now.ended }
+{
+    match row.ended {
+        Some(end) => matches!(end.ending, Ending::Revoked),
+        None => false,
+    }
+}
+
+/// The operator ends an account; one that is revoked already stays as it is (RFC 8555, 7.1.6).
+#[tactic(auto, unfolding(desk_model::specs::Verdict::check, desk_model::specs::Verdict::choose))]
+fn revoke_account(alloc: Global, number: u64, row: &AccountRow) -> Verdict
+    ensures { result ≡ revoke_account number row.now }
+{
+    if is_revoked(row) {
+        return answers(Shows::Account(number));
+    }
+    if row.status != AccountStatus::Valid {
+        return refused(alloc, NOT_WAITING);
+    }
+    records(
+        Entry::AccountEnded(number, Ending::Revoked),
+        Shows::Account(number),
+    )
+}
+
+/// A certificate for the order of a number.
+#[tactic(auto, unfolding(desk_model::specs::Verdict::given))]
+fn certify(
+    alloc: Global,
+    book: &Book,
+    moment: u64,
+    number: u64,
+    bytes: &Sequence<u8>,
+) -> Result<Verdict, AllocError>
+    ensures { IfOk result (λ v. v ≡ given (order_on (swept moment book.now) number) 2 (certify_verdict number bytes.now)) }
+{
+    match order_at(book, moment, number) {
+        Some((row, status)) => certify_verdict(alloc, number, bytes, row, status),
+        None => Ok(refused(alloc, NOT_FOUND)),
+    }
+}
+
+/// A problem of the order of a number.
+#[tactic(auto, unfolding(desk_model::specs::Verdict::given))]
+fn fail_order(
+    alloc: Global,
+    book: &Book,
+    moment: u64,
+    number: u64,
+    problem: &OrderProblem,
+) -> Result<Verdict, AllocError>
+    ensures { IfOk result (λ v. v ≡ given (order_on (swept moment book.now) number) 2 (fail_verdict number problem.now)) }
+{
+    match order_at(book, moment, number) {
+        Some((row, status)) => fail_verdict(alloc, number, problem, row, status),
+        None => Ok(refused(alloc, NOT_FOUND)),
+    }
+}
+
+/// The operator takes back the authorization of a number.
+#[tactic(auto, unfolding(desk_model::specs::Verdict::given))]
+fn revoke_authorization_of(alloc: Global, book: &Book, moment: u64, number: u64) -> Verdict
+    ensures { result ≡ given (authorization_on (swept moment book.now) number) 2 (revoke_authorization number) }
+{
+    match authorization_at(book, moment, number) {
+        Some((row, status)) => revoke_authorization(alloc, number, row, status),
+        None => refused(alloc, NOT_FOUND),
+    }
+}
+
+/// The operator ends the account of a number.
+#[tactic(auto, unfolding(desk_model::specs::Verdict::given))]
+fn revoke_account_of(alloc: Global, book: &Book, number: u64) -> Verdict
+    ensures { result ≡ given (account_on book.now number) 2 (revoke_account number) }
+{
+    match book.account(number) {
+        Some(row) => revoke_account(alloc, number, row),
+        None => refused(alloc, NOT_FOUND),
+    }
+}
+
+/// The key of the account of a number is asked for.
+#[tactic(auto, unfolding(desk_model::specs::Verdict::given))]
+fn key_verdict(alloc: Global, book: &Book, number: u64) -> Verdict
+    ensures { result ≡ office_verdict book.now (KeyOf number) }
+{
+    if book.account(number).is_none() {
+        return refused(alloc, NOT_FOUND);
+    }
+    answers(Shows::Key(number))
+}
+
+/// The verdict on an ask that carries no nonce, by the tables of a book at a moment; newNonce and signed requests,
+/// which are none, are refused as not found.
+pub fn judge_office(
+    alloc: Global,
+    book: &Book,
+    moment: u64,
+    ask: &Ask,
+) -> Result<Verdict, AllocError>
+    ensures { IfOk result (λ v. v ≡ office_verdict (swept moment book.now) ask.now) }
+{
+    match ask {
+        Ask::Directory => Ok(answers(Shows::Directory)),
+        Ask::NewNonce { head: _ } | Ask::Signed(_) => Ok(refused(alloc, NOT_FOUND)),
+        Ask::Report { challenge, finding } => {
+            report_verdict(alloc, book, moment, *challenge, finding)
+        }
+        Ask::Certify { order, bytes } => certify(alloc, book, moment, *order, bytes),
+        Ask::FailOrder { order, problem } => fail_order(alloc, book, moment, *order, problem),
+        Ask::RevokeAuthz(number) => Ok(revoke_authorization_of(alloc, book, moment, *number)),
+        Ask::RevokeAccount(number) => Ok(revoke_account_of(alloc, book, *number)),
+        Ask::ChallengeWork => Ok(answers(Shows::ChallengeWork)),
+        Ask::OrderWork => Ok(answers(Shows::OrderWork)),
+        Ask::KeyOf(number) => Ok(key_verdict(alloc, book, *number)),
+    }
+}

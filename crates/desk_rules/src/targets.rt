@@ -1,0 +1,208 @@
+//! Signed requests, by their targets (RFC 8555, 6.2, 6.3).
+ghost use Rattle.std.specs.Prelude.{◌≡◌, ◌==◌, IfOk, MatchResult, drop, option_map};
+ghost use Rattle.desk_model.specs.Effect.{swept};
+ghost use Rattle.desk_model.specs.Payload.{account_change, authorization_change, challenge_change, finalize};
+ghost use Rattle.desk_model.specs.Questions.{account_with_key, authorization_on, order_on, owner_on};
+ghost use Rattle.desk_model.specs.Rules.{account_verdict, authorization_verdict, certificate_verdict, challenge_verdict, finalize_verdict, holder_verdict, nothing, own, signed_verdict, target_verdict};
+ghost use Rattle.desk_model.specs.Verdict.{answers, check, given};
+ghost use Rattle.desk_model.specs.declared.verdict.Shows.TheVariants as show;
+
+use crate::accounts::account_verdict;
+use crate::authorization_rules::authorization_verdict;
+use crate::challenge_rules::challenge_verdict;
+use crate::order_rules::{certificate_verdict, finalize_verdict};
+use crate::payload::{account_change, authorization_change, challenge_change, finalize};
+use crate::verdicts::{answers, refused};
+use desk_book::Book;
+use desk_changes::{authorization_at, order_at, owner_at};
+use desk_model::{
+    AccountStatus, AuthorizationRow, AuthzStatus, OrderRow, OrderStatus, Shows, Signed, Target,
+    Verdict,
+};
+use std::alloc::{AllocError, Global};
+
+/// The payload has not the form that the route reads.
+const MALFORMED: u8 = 1;
+
+/// There is no such object, or it is not the account's own.
+const NOT_FOUND: u8 = 2;
+
+/// Whether a payload is that of a route that only reads (RFC 8555, 6.3).
+fn is_nothing(payload: &str) -> bool
+    ensures { result ≡ nothing payload.now }
+{
+    payload.is_empty()
+}
+
+/// The order of a number with its status at a moment, where it is the sender's own.
+fn own_order(book: &Book, moment: u64, sender: u64, number: u64) -> Option<(&OrderRow, OrderStatus)>
+    ensures { option_map (λ p. record p.0.now { status = p.1 }) result ≡ own (λ o. o.account) sender (order_on (swept moment book.now) number) }
+{
+    match order_at(book, moment, number) {
+        Some((row, status)) => {
+            if row.account == sender {
+                return Some((row, status));
+            }
+            None
+        }
+        None => None,
+    }
+}
+
+/// An authorization with its status, where it is the sender's own.
+fn own_authorization<'b>(
+    sender: u64,
+    found: Option<(&'b AuthorizationRow, AuthzStatus)>,
+) -> Option<(&'b AuthorizationRow, AuthzStatus)>
+    ensures { option_map (λ p. record p.0.now { status = p.1 }) result
+        ≡ own (λ a. a.account) sender (option_map (λ p. record p.0.now { status = p.1 }) found.entry) }
+{
+    match found {
+        Some((row, status)) => {
+            if row.account == sender {
+                return Some((row, status));
+            }
+            None
+        }
+        None => None,
+    }
+}
+
+/// A request to an account.
+#[tactic(auto, unfolding(desk_model::specs::Verdict::check, desk_model::specs::Verdict::given))]
+pub(crate) fn account_target(
+    alloc: Global,
+    sender: u64,
+    number: u64,
+    payload: &str,
+) -> Result<Verdict, AllocError>
+    ensures { IfOk result (λ v. v ≡ check (number == sender) 2 (given (account_change payload.now) 1 (account_verdict sender))) }
+{
+    if number != sender {
+        return Ok(refused(alloc, NOT_FOUND));
+    }
+    match account_change(alloc, payload)? {
+        Some(change) => Ok(account_verdict(alloc, sender, change)),
+        None => Ok(refused(alloc, MALFORMED)),
+    }
+}
+
+/// A request for the orders of an account.
+#[tactic(auto, unfolding(desk_model::specs::Verdict::check))]
+pub(crate) fn orders_target(alloc: Global, sender: u64, number: u64, payload: &str) -> Verdict
+    ensures { result ≡ check (number == sender) 2 (check (nothing payload.now) 1 (answers (show.Orders sender))) }
+{
+    if number != sender {
+        return refused(alloc, NOT_FOUND);
+    }
+    if !is_nothing(payload) {
+        return refused(alloc, MALFORMED);
+    }
+    answers(Shows::Orders(sender))
+}
+
+/// A request for an order.
+#[tactic(auto, unfolding(desk_model::specs::Verdict::check, desk_model::specs::Verdict::given))]
+pub(crate) fn order_target(
+    alloc: Global,
+    book: &Book,
+    moment: u64,
+    sender: u64,
+    number: u64,
+    payload: &str,
+) -> Verdict
+    ensures { result ≡ given (own (λ o. o.account) sender (order_on (swept moment book.now) number)) 2 (λ o. check (nothing payload.now) 1 (answers (show.Order number))) }
+{
+    if own_order(book, moment, sender, number).is_none() {
+        return refused(alloc, NOT_FOUND);
+    }
+    if !is_nothing(payload) {
+        return refused(alloc, MALFORMED);
+    }
+    answers(Shows::Order(number))
+}
+
+/// A request to finalize an order.
+#[tactic(auto, unfolding(desk_model::specs::Verdict::given))]
+pub(crate) fn finalize_target(
+    alloc: Global,
+    book: &Book,
+    moment: u64,
+    sender: u64,
+    number: u64,
+    payload: &str,
+) -> Result<Verdict, AllocError>
+    ensures { IfOk result (λ v. v ≡ given (own (λ o. o.account) sender (order_on (swept moment book.now) number)) 2 (λ o. given (finalize payload.now) 1 (finalize_verdict number o))) }
+{
+    let Some((_row, status)) = own_order(book, moment, sender, number) else {
+        return Ok(refused(alloc, NOT_FOUND));
+    };
+    match finalize(alloc, payload)? {
+        Some(text) => finalize_verdict(alloc, number, status, text.as_str()),
+        None => Ok(refused(alloc, MALFORMED)),
+    }
+}
+
+/// A request for the certificate of an order.
+#[tactic(auto, unfolding(desk_model::specs::Verdict::check, desk_model::specs::Verdict::given))]
+pub(crate) fn certificate_target(
+    alloc: Global,
+    book: &Book,
+    moment: u64,
+    sender: u64,
+    number: u64,
+    payload: &str,
+) -> Verdict
+    ensures { result ≡ given (own (λ o. o.account) sender (order_on (swept moment book.now) number)) 2 (λ o. check (nothing payload.now) 1 (certificate_verdict number o)) }
+{
+    let Some((row, _status)) = own_order(book, moment, sender, number) else {
+        return refused(alloc, NOT_FOUND);
+    };
+    if !is_nothing(payload) {
+        return refused(alloc, MALFORMED);
+    }
+    certificate_verdict(alloc, number, row)
+}
+
+/// A request to an authorization.
+#[tactic(auto, unfolding(desk_model::specs::Verdict::given))]
+pub(crate) fn authorization_target(
+    alloc: Global,
+    book: &Book,
+    moment: u64,
+    sender: u64,
+    number: u64,
+    payload: &str,
+) -> Result<Verdict, AllocError>
+    ensures { IfOk result (λ v. v ≡ given (own (λ a. a.account) sender (authorization_on (swept moment book.now) number)) 2 (λ a. given (authorization_change payload.now) 1 (authorization_verdict number a))) }
+{
+    let Some((row, status)) = own_authorization(sender, authorization_at(book, moment, number))
+    else {
+        return Ok(refused(alloc, NOT_FOUND));
+    };
+    match authorization_change(alloc, payload)? {
+        Some(change) => Ok(authorization_verdict(number, row, status, change)),
+        None => Ok(refused(alloc, MALFORMED)),
+    }
+}
+
+/// A request to a challenge.
+#[tactic(auto, unfolding(desk_model::specs::Verdict::given))]
+pub(crate) fn challenge_target(
+    alloc: Global,
+    book: &Book,
+    moment: u64,
+    sender: u64,
+    number: u64,
+    payload: &str,
+) -> Result<Verdict, AllocError>
+    ensures { IfOk result (λ v. v ≡ given (own (λ a. a.account) sender (owner_on (swept moment book.now) number)) 2 (λ a. given (challenge_change payload.now) 1 (challenge_verdict number a))) }
+{
+    let Some((row, status)) = own_authorization(sender, owner_at(book, moment, number)) else {
+        return Ok(refused(alloc, NOT_FOUND));
+    };
+    match challenge_change(alloc, payload)? {
+        Some(change) => Ok(challenge_verdict(number, row, status, change)),
+        None => Ok(refused(alloc, MALFORMED)),
+    }
+}
