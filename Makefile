@@ -2,7 +2,7 @@
 SHELL := /bin/bash
 SOURCES := crates.txt $(shell find crates -name out -prune -o -type f -print)
 
-.PHONY: all bench first test
+.PHONY: all bench first planted test
 
 all: bin/desk
 
@@ -35,3 +35,11 @@ bench: bin/desk
 	@python3 bench/bench.py > docs/PERFORMANCE.md.new
 	@mv docs/PERFORMANCE.md.new docs/PERFORMANCE.md
 	@cat docs/PERFORMANCE.md
+
+planted:
+	@echo 'Trying the bugs of planted/ one at a time (an hour and more); the prover must refuse each.'
+	@copy=$$(mktemp -d) && trap 'rm -rf '$$copy EXIT && cp -a HANDLES crates.txt crates $$copy && \
+		for crate in planted/*; do \
+			rm -rf $$copy/crates/$${crate#planted/}/must-fail && cp -a $$crate $$copy/crates/$${crate#planted/}/must-fail; \
+		done && \
+		cd $$copy && for crate in $(notdir $(wildcard planted/*)); do rt must-fail $$crate || exit 1; done
