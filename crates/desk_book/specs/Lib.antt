@@ -1,2 +1,6 @@
 pub mod FaultNumbers
+pub mod Flat
+pub mod IsBook
 pub mod Keyed
+pub mod Nesting
+pub mod Tests

@@ -51,6 +51,25 @@ impl Book {
         }
     }
 
+    /// The book of these tables.
+    pub(crate) fn of_tables(
+        meta: Meta,
+        nonces: Table<Nonce>,
+        accounts: Table<AccountRow>,
+        authorizations: Table<AuthorizationRow>,
+        orders: Table<OrderRow>,
+    ) -> Book
+        ensures { result ≡ record { meta = meta; nonces = nonces; accounts = accounts; authorizations = authorizations; orders = orders } }
+    {
+        Book {
+            meta,
+            nonces,
+            accounts,
+            authorizations,
+            orders,
+        }
+    }
+
     /// The policy, the clock and the counters.
     pub fn meta(&self) -> &Meta
         ensures { result.now ≡ self.now.meta }

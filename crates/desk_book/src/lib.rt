@@ -1,9 +1,16 @@
 //! The rows of a desk in memory, and changes of them.
 #![tactic(auto)]
 
+mod assembling;
 mod book;
 mod derived;
+mod from_rows;
+#[cfg(test)]
+mod from_rows_tests;
+mod nesting;
 mod row;
+mod rows_fault;
+mod soundness;
 mod status_check;
 #[cfg(test)]
 mod status_tests;
@@ -14,5 +21,6 @@ mod tests;
 pub use book::Book;
 pub use derived::{derived_account, derived_authorization, derived_challenge, derived_order};
 pub use row::Row;
+pub use rows_fault::RowsFault;
 pub use status_check::check;
 pub use table::Table;

@@ -1,0 +1,141 @@
+-- The columns of each row, in format 1. What stands in a table of its own is left out: the challenges of an
+-- authorization, and what an order lists.
+use Rattle.std.specs.Prelude.{ℕ, ℤ, pos, List, map, Bool, if◌then◌else◌, Option, option_map}
+use Rattle.desk_model.specs.Document.{account_status_text, authorization_status_text, challenge_status_text, kind_text, order_status_text}
+use Rattle.desk_model.specs.declared.objects.AccountEnd.{AccountEnd}
+use Rattle.desk_model.specs.declared.objects.AuthorizationEnd.{AuthorizationEnd}
+use Rattle.desk_model.specs.declared.objects.Nonce.{Nonce}
+use Rattle.desk_model.specs.declared.objects.Report.{Report}
+use Rattle.desk_model.specs.declared.rows.AccountRow.{AccountRow}
+use Rattle.desk_model.specs.declared.rows.AuthorizationRow.{AuthorizationRow}
+use Rattle.desk_model.specs.declared.rows.ChallengeRow.{ChallengeRow}
+use Rattle.desk_model.specs.declared.rows.DatedBytes.{DatedBytes}
+use Rattle.desk_model.specs.declared.rows.DatedProblem.{DatedProblem}
+use Rattle.desk_model.specs.declared.rows.Listed.{Listed}
+use Rattle.desk_model.specs.declared.rows.Meta.{Meta}
+use Rattle.desk_model.specs.declared.rows.OrderRow.{OrderRow}
+use Rattle.desk_columns.specs.Spelling.{ending_text, end_kind_text, outcome_text, contacts_text, problem_text}
+use Rattle.desk_columns.specs.declared.columns.AccountColumns.{AccountColumns}
+use Rattle.desk_columns.specs.declared.columns.AuthzColumns.{AuthzColumns}
+use Rattle.desk_columns.specs.declared.columns.ChallColumns.{ChallColumns}
+use Rattle.desk_columns.specs.declared.columns.MetaColumns.{MetaColumns}
+use Rattle.desk_columns.specs.declared.columns.NonceColumns.{NonceColumns}
+use Rattle.desk_columns.specs.declared.columns.OrderAuthzColumns.{OrderAuthzColumns}
+use Rattle.desk_columns.specs.declared.columns.OrderColumns.{OrderColumns}
+use Rattle.desk_columns.specs.declared.columns.StoredRows.{StoredRows}
+use Rattle.desk_columns.specs.declared.flat_rows.FlatRows.{FlatRows}
+use Rattle.desk_columns.specs.declared.flat_rows.Owned.{Owned}
+
+-- the columns of one fact
+
+abbrev pub account_end_columns : Option AccountEnd → Option ℤ × Option (List ℕ)
+account_end_columns end = (option_map (λ e. pos e.date) end, option_map (λ e. ending_text e.ending) end)
+
+abbrev pub authorization_end_columns : Option AuthorizationEnd → Option ℤ × Option (List ℕ)
+authorization_end_columns end = (option_map (λ e. pos e.date) end, option_map (λ e. end_kind_text e.kind) end)
+
+abbrev pub dated_bytes_columns : Option DatedBytes → Option ℤ × Option (List ℕ)
+dated_bytes_columns kept = (option_map (λ k. pos k.date) kept, option_map (λ k. k.bytes) kept)
+
+abbrev pub dated_problem_columns : Option DatedProblem → Option ℤ × Option (List ℕ)
+dated_problem_columns failure = (option_map (λ f. pos f.date) failure, option_map (λ f. problem_text f.problem) failure)
+
+abbrev pub report_columns : Option Report → Option ℤ × Option (List ℕ)
+report_columns report = (option_map (λ r. pos r.date) report, option_map (λ r. outcome_text r.outcome) report)
+
+-- the columns of one row
+
+abbrev pub meta_columns : Meta → MetaColumns
+meta_columns row =
+    record {
+      id = pos 1;
+      format = pos 1;
+      base = row.policy.base;
+      nonce_life = pos row.policy.nonce_life;
+      order_life = pos row.policy.order_life;
+      authz_life = pos row.policy.authz_life;
+      clock = pos row.clock;
+      nonces = pos row.nonces;
+      accounts = pos row.accounts;
+      orders = pos row.orders;
+      authzs = pos row.authorizations;
+      challs = pos row.challenges;
+    }
+
+abbrev pub nonce_columns : Nonce → NonceColumns
+nonce_columns row = record { serial = pos row.serial; random = row.random; issued = pos row.issued }
+
+abbrev pub account_columns : AccountRow → AccountColumns
+account_columns row =
+    record {
+      num = pos row.number;
+      jwk = row.key;
+      contacts = contacts_text row.contacts;
+      opened = pos row.opened;
+      ended = (account_end_columns row.ended).0;
+      end_kind = (account_end_columns row.ended).1;
+      status = account_status_text row.status;
+    }
+
+abbrev pub order_columns : OrderRow → OrderColumns
+order_columns row =
+    record {
+      num = pos row.number;
+      account = pos row.account;
+      made = pos row.made;
+      expires = pos row.expires;
+      finalized = (dated_bytes_columns row.finalized).0;
+      csr = (dated_bytes_columns row.finalized).1;
+      certified = (dated_bytes_columns row.certified).0;
+      cert = (dated_bytes_columns row.certified).1;
+      failed = (dated_problem_columns row.failed).0;
+      problem = (dated_problem_columns row.failed).1;
+      status = order_status_text row.status;
+    }
+
+-- 1 for a wildcard
+abbrev pub wildcard_column : Bool → ℤ
+wildcard_column wildcard = if wildcard then pos 1 else pos 0
+
+abbrev pub authorization_columns : AuthorizationRow → AuthzColumns
+authorization_columns row =
+    record {
+      num = pos row.number;
+      account = pos row.account;
+      name = row.name.base;
+      wildcard = wildcard_column row.name.wildcard;
+      made = pos row.made;
+      expires = pos row.expires;
+      ended = (authorization_end_columns row.ended).0;
+      end_kind = (authorization_end_columns row.ended).1;
+      status = authorization_status_text row.status;
+    }
+
+abbrev pub listed_columns : Owned Listed → OrderAuthzColumns
+listed_columns row = record { ord = pos row.owner; place = pos row.row.place; authz = pos row.row.authorization }
+
+abbrev pub challenge_columns : Owned ChallengeRow → ChallColumns
+challenge_columns row =
+    record {
+      num = pos row.row.number;
+      authz = pos row.owner;
+      kind = kind_text row.row.kind;
+      token = row.row.token;
+      answered = option_map (λ n. pos n) row.row.answered;
+      reported = (report_columns row.row.reported).0;
+      outcome = (report_columns row.row.reported).1;
+      status = challenge_status_text row.row.status;
+    }
+
+-- the columns of the rows of all tables
+abbrev pub rows_columns : FlatRows → StoredRows
+rows_columns rows =
+    record {
+      metas = map meta_columns rows.metas;
+      nonces = map nonce_columns rows.nonces;
+      accounts = map account_columns rows.accounts;
+      orders = map order_columns rows.orders;
+      authzs = map authorization_columns rows.authorizations;
+      order_authzs = map listed_columns rows.listed;
+      challs = map challenge_columns rows.challenges;
+    }

@@ -1,0 +1,64 @@
+//! Rows of the table `account`.
+ghost use Rattle.std.specs.Prelude.{◌≡◌, IfOk};
+ghost use Rattle.desk_columns.specs.Columns.{account_columns};
+ghost use Rattle.desk_columns.specs.Limits.{IsStoredAccount};
+ghost use Rattle.desk_columns.specs.Reading.{IsRead};
+ghost use Rattle.desk_columns.specs.Spelling.{contacts_text};
+
+use crate::columns::AccountColumns;
+use crate::contacts::read_contacts;
+use crate::facts::read_account_end;
+use crate::numbers::{read_moment, read_number};
+use crate::spelling::read_account_status;
+use crate::table::Columns;
+use desk_model::{AccountRow, Jwk, Sequence, Text};
+use std::alloc::{AllocError, Global};
+
+/// The account with these columns, or `None` where none in its limits has them.
+///
+/// # Errors
+///
+/// Where there is no memory to read the contacts.
+pub fn read_account(
+    alloc: Global,
+    columns: AccountColumns,
+) -> Result<Option<AccountRow>, AllocError>
+    ensures { IfOk result (λ row. IsRead account_columns IsStoredAccount columns row) }
+{
+    match read_contacts(alloc, columns.contacts.as_str())? {
+        Some(contacts) => Ok(account_with(contacts, columns)),
+        None => Ok(None),
+    }
+}
+
+// The account with these columns, which has these contacts.
+fn account_with(contacts: Sequence<Text>, columns: AccountColumns) -> Option<AccountRow>
+    requires { columns.contacts ≡ contacts_text contacts }
+    ensures { IsRead account_columns IsStoredAccount columns result }
+{
+    let number = read_number(columns.num)?;
+    let key = Jwk::from_canonical(columns.jwk.into_string())?;
+    let opened = read_moment(columns.opened)?;
+    let ended = read_account_end(columns.ended, columns.end_kind)?;
+    let status = read_account_status(columns.status.as_str())?;
+    Some(AccountRow {
+        number,
+        key,
+        contacts,
+        opened,
+        ended,
+        status,
+    })
+}
+
+impl Columns for AccountColumns {
+    type Row = AccountRow;
+
+    ghost write = { account_columns };
+
+    ghost IsStored = { IsStoredAccount };
+
+    fn read(self, alloc: Global) -> Result<Option<AccountRow>, AllocError> {
+        read_account(alloc, self)
+    }
+}

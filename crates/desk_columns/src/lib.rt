@@ -1,0 +1,38 @@
+//! The columns of the tables, and the rows that they spell.
+#![tactic(auto)]
+
+mod account;
+mod authorization;
+mod challenge;
+mod columns;
+mod contacts;
+mod facts;
+mod flat_rows;
+mod laws;
+mod listed;
+mod meta;
+mod nonce;
+mod numbers;
+mod order;
+mod problem;
+mod spelling;
+mod stored;
+mod table;
+#[cfg(test)]
+mod tests;
+mod values;
+
+pub use account::read_account;
+pub use authorization::read_authorization;
+pub use challenge::read_challenge;
+pub use columns::{
+    AccountColumns, AuthzColumns, ChallColumns, MetaColumns, NonceColumns, OrderAuthzColumns,
+    OrderColumns, StoredRows,
+};
+pub use flat_rows::{FlatRows, Owned};
+pub use laws::columns_tell_rows_apart;
+pub use listed::read_listed;
+pub use meta::read_meta;
+pub use nonce::read_nonce;
+pub use order::read_order;
+pub use stored::read_rows;

@@ -1,0 +1,79 @@
+//! The column `problem`: a compact JSON object of a detail and a type.
+ghost use Rattle.std.specs.Prelude.{◌≡◌, codes, string_bytes, IfOk, option_and_then, option_map};
+ghost use Rattle.serde_json.specs.Find.{get, as_str};
+ghost use Rattle.serde_json.specs.View.{view};
+ghost use Rattle.desk_columns.specs.Limits.{IsProblem, is_problem_kind};
+ghost use Rattle.desk_columns.specs.ProblemParts.{IsProblemIn};
+ghost use Rattle.desk_columns.specs.Reading.{IsRead};
+ghost use Rattle.desk_columns.specs.Spelling.{problem_document, problem_text};
+
+use crate::values::{is_text, read};
+use desk_model::{OrderProblem, Text};
+use serde_json::{Value, json};
+use std::alloc::{AllocError, Global};
+
+// The problem that a column spells.
+pub(crate) fn read_problem(alloc: Global, text: &str) -> Result<Option<OrderProblem>, AllocError>
+    ensures { IfOk result (λ problem. IsRead problem_text IsProblem text.now problem) }
+{
+    let Some(value) = read(alloc, text)? else {
+        return Ok(None);
+    };
+    let Some(problem) = problem_in(alloc, &value)? else {
+        return Ok(None);
+    };
+    let written = problem_text(alloc, &problem)?;
+    if is_text(text, written.as_str()) {
+        return Ok(Some(problem));
+    }
+    Ok(None)
+}
+
+// The problem of the members `detail` and `type`, if its type is allowed.
+fn problem_in(alloc: Global, value: &Value) -> Result<Option<OrderProblem>, AllocError>
+    ensures { IfOk result (λ problem. IsProblemIn (view value.now) problem) }
+{
+    let Some(detail) = string_in(value, "detail") else {
+        return Ok(None);
+    };
+    let Some(kind) = string_in(value, "type") else {
+        return Ok(None);
+    };
+    if !is_problem_kind(kind) {
+        return Ok(None);
+    }
+    Ok(Some(OrderProblem {
+        kind: Text::new(String::from_str(alloc, kind)?),
+        detail: Text::new(String::from_str(alloc, detail)?),
+    }))
+}
+
+// The string of this member.
+fn string_in<'v>(value: &'v Value, name: &str) -> Option<&'v str>
+    ensures { option_map (λ s. s.now) result ≡ option_and_then as_str (get name.now (view value.now)) }
+{
+    value.get(name)?.as_str()
+}
+
+// Whether the signing office may hand in a problem of this type.
+fn is_problem_kind(kind: &str) -> bool
+    ensures { result ≡ is_problem_kind kind.now }
+{
+    kind == "badCSR" || kind == "serverInternal"
+}
+
+// The text of a problem.
+fn problem_text(alloc: Global, problem: &OrderProblem) -> Result<String, AllocError>
+    ensures { IfOk result (λ text. string_bytes text ≡ problem_text problem.now) }
+{
+    problem_value(alloc, problem)?.to_string(alloc)
+}
+
+// The value of a problem.
+fn problem_value(alloc: Global, problem: &OrderProblem) -> Result<Value, AllocError>
+    ensures { IfOk result (λ value. view value ≡ problem_document problem.now) }
+{
+    let detail = problem.detail.as_str();
+    let kind = problem.kind.as_str();
+    json!(in alloc; {"detail": detail, "type": kind})
+}
