@@ -1,7 +1,7 @@
 use crate::{
     AccountColumns, AuthzColumns, ChallColumns, MetaColumns, NonceColumns, OrderAuthzColumns,
-    OrderColumns, columns_tell_rows_apart, read_account, read_authorization, read_challenge,
-    read_listed, read_meta, read_nonce, read_order,
+    OrderColumns, StoredRows, columns_tell_rows_apart, read_account, read_authorization,
+    read_challenge, read_listed, read_meta, read_nonce, read_order, read_rows,
 };
 use desk_model::{
     AccountStatus, AuthzStatus, ChallengeStatus, EndKind, Ending, Kind, OrderStatus, Outcome,
@@ -485,6 +485,62 @@ fn challenges(rt: HostRuntime) -> Result<(), Fail> {
         let row = read_challenge(challenge_columns(alloc, kind, len, report)?);
         assert_eq!(rt; row.is_some(), accepted, "{shows}");
     }
+    Ok(())
+}
+
+// The one row of a table.
+fn table<C: Drop>(alloc: Global, columns: C) -> Result<Sequence<C>, Fail> {
+    let mut rows = Vec::new(alloc);
+    rows.push(columns)?;
+    Ok(Sequence::new(rows))
+}
+
+// A row in each table, listed at this place.
+fn stored_rows(alloc: Global, place: i64) -> Result<StoredRows, Fail> {
+    Ok(StoredRows {
+        metas: table(alloc, first_meta(alloc)?)?,
+        nonces: table(
+            alloc,
+            NonceColumns {
+                serial: 2,
+                random: zeros(alloc, 16)?,
+                issued: 0,
+            },
+        )?,
+        accounts: table(
+            alloc,
+            account_columns(alloc, KEY, CONTACTS, (None, None), "valid")?,
+        )?,
+        orders: table(alloc, order_columns(alloc, (None, None))?)?,
+        authzs: table(alloc, authorization_columns(alloc, "example.org", 0, 20)?)?,
+        order_authzs: table(
+            alloc,
+            OrderAuthzColumns {
+                ord: 3,
+                place,
+                authz: 2,
+            },
+        )?,
+        challs: table(
+            alloc,
+            challenge_columns(alloc, "http-01", 16, (None, None))?,
+        )?,
+    })
+}
+
+#[test]
+fn all_tables(rt: HostRuntime) -> Result<(), Fail> {
+    let alloc = rt.alloc();
+    let rows = read_rows(alloc, stored_rows(alloc, 1)?)?.ok_or("refused")?;
+    assert_eq!(rt; rows.metas.as_slice().len(), 1);
+    assert_eq!(rt; rows.nonces.as_slice()[0].serial, 2);
+    assert_eq!(rt; rows.accounts.as_slice()[0].number, 1);
+    assert_eq!(rt; rows.orders.as_slice()[0].number, 3);
+    assert_eq!(rt; rows.authorizations.as_slice()[0].number, 2);
+    assert_eq!(rt; rows.listed.as_slice()[0].owner, 3);
+    assert_eq!(rt; rows.challenges.as_slice()[0].row.number, 5);
+    let refused = read_rows(alloc, stored_rows(alloc, 0)?)?;
+    assert!(rt; refused.is_none(), "no place");
     Ok(())
 }
 
