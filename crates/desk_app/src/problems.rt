@@ -5,8 +5,8 @@ ghost use Rattle.desk_model.specs.Json.{list};
 ghost use Rattle.desk_model.specs.Refusals.{refusal_of, error_type, problem_document, subproblem_document};
 ghost use Rattle.desk_app.specs.Problems.{joint_document, lone_document};
 
-use desk_replies::{refusal_detail, refusal_name, refusal_status};
 use desk_model::{Problem, Subproblem};
+use desk_replies::{refusal_detail, refusal_name, refusal_status};
 use serde_json::{Value, json};
 use std::alloc::{AllocError, Global};
 

@@ -7,8 +7,8 @@ use crate::offices::{finding, order_problem};
 use crate::routes::{
     OfficeResource, Resource, has_index, is_visible, methods_of, resource_at, serves,
 };
-use desk_replies::refusal_status;
 use desk_model::{Allow, Ask, Body, Problem, Reply, Sequence, Target};
+use desk_replies::refusal_status;
 use std::alloc::{AllocError, Global};
 
 /// What a request asks, or the refusal of one that is no call.

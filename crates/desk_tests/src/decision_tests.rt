@@ -1,5 +1,5 @@
 //! Decisions on calls (RFC 8555, 6.5, 7.3, 7.4).
-use crate::desks::{key, new_desk, text};
+use crate::desks::{PlainAsk, ask_of, key, new_desk, text};
 use crate::words::reply_words;
 use desk_book::Book;
 use desk_core::{CoreFault, Outcome, decide};
@@ -58,6 +58,16 @@ fn answer(rt: &impl Abort, alloc: Global, book: &mut Book, call: &Call) -> Resul
     let Outcome { changes, reply } = decide(alloc, book, call).ok().expect(rt, "an outcome");
     book.apply(changes)?;
     Ok(reply)
+}
+
+fn answer_words(
+    rt: &impl Abort,
+    alloc: Global,
+    book: &mut Book,
+    call: &Call,
+) -> Result<String, Fail> {
+    let reply = answer(rt, alloc, book, call)?;
+    Ok(reply_words(alloc, &reply)?)
 }
 
 fn shown(text: &Option<Text>) -> &str {
@@ -164,8 +174,7 @@ fn an_order_is_made_and_read(rt: HostRuntime) -> Result<(), Fail> {
         ),
     ] {
         let asked = signed_call(&rt, alloc, 0, nonce, target, payload)?;
-        let reply = answer(&rt, alloc, &mut book, &asked)?;
-        let words = reply_words(alloc, &reply)?;
+        let words = answer_words(&rt, alloc, &mut book, &asked)?;
         assert_eq!(rt; words.as_str(), wanted, "{target:?}");
     }
     Ok(())
@@ -185,19 +194,27 @@ fn a_call_acts_at_the_clock(rt: HostRuntime) -> Result<(), Fail> {
     Ok(())
 }
 
+/// The reply of a new desk to an ask that records nothing, in words.
+fn reply_to(rt: &impl Abort, alloc: Global, ask: PlainAsk) -> Result<String, Fail> {
+    let book = new_desk(rt, alloc)?;
+    let call = call_of(alloc, 9, 0, ask_of(ask))?;
+    let Outcome { changes, reply } = decide(alloc, &book, &call).ok().expect(rt, "an outcome");
+    assert!(rt; changes.is_empty(), "no changes");
+    Ok(reply_words(alloc, &reply)?)
+}
+
 #[test]
 fn an_ask_that_records_nothing_changes_nothing(rt: HostRuntime) -> Result<(), Fail> {
     let alloc = rt.alloc();
-    let book = new_desk(&rt, alloc)?;
     for (ask, wanted) in [
-        (Ask::OrderWork, r#"200 - - - {"orders":[]}"#),
-        (Ask::KeyOf(1), "404 - - - refused 2, Allow No, index false"),
+        (PlainAsk::OrderWork, r#"200 - - - {"orders":[]}"#),
+        (
+            PlainAsk::KeyOf(1),
+            "404 - - - refused 2, Allow No, index false",
+        ),
     ] {
-        let call = call_of(alloc, 9, 0, ask)?;
-        let outcome = decide(alloc, &book, &call).ok().expect(&rt, "an outcome");
-        let words = reply_words(alloc, &outcome.reply)?;
-        assert_eq!(rt; words.as_str(), wanted);
-        assert!(rt; outcome.changes.is_empty(), "no changes");
+        let words = reply_to(&rt, alloc, ask)?;
+        assert_eq!(rt; words.as_str(), wanted, "{ask:?}");
     }
     Ok(())
 }

@@ -1,10 +1,10 @@
 //! Desks with an order at each stage of its life, and the values that tests put into them.
 use desk_book::Book;
 use desk_model::{
-    AccountEnd, AccountRow, AccountStatus, AuthorizationEnd, AuthorizationRow, AuthzStatus,
-    ChallengeRow, ChallengeStatus, Change, DatedBytes, DatedProblem, DnsName, EndKind, Ending, Jwk,
-    Kind, Listed, Meta, Nonce, OrderProblem, OrderRow, OrderStatus, Outcome, Policy, Report,
-    Sequence, Text,
+    AccountEnd, AccountRow, AccountStatus, Ask, AuthorizationEnd, AuthorizationRow, AuthzStatus,
+    ChallengeRow, ChallengeStatus, Change, DatedBytes, DatedProblem, DnsName, EndKind, Ending,
+    Entry, Jwk, Kind, Listed, Meta, Nonce, OrderProblem, OrderRow, OrderStatus, Outcome, Policy,
+    Report, Sequence, Text,
 };
 use std::alloc::Global;
 use std::process::Abort;
@@ -40,6 +40,68 @@ pub(crate) enum Stage {
     Certified,
     /// The signing office failed it at 40.
     Failed,
+}
+
+/// An entry that moves rows: of challenge 1, authorization 1, order 1, or the account of a number.
+#[derive(Clone, Copy, Debug, PartialEq, Eq)]
+pub(crate) enum Step {
+    Answered,
+    Reported(Outcome),
+    AuthorizationEnded(Ending),
+    AccountEnded(u64, Ending),
+    ContactsChanged,
+    Finalized,
+    Certified,
+    Failed,
+}
+
+/// The entry of a step, with what stage `Certified` or `Failed` holds of it.
+pub(crate) fn entry_of(alloc: Global, step: Step) -> Result<Entry, Fail> {
+    match step {
+        Step::Answered => Ok(Entry::Answered(1)),
+        Step::Reported(outcome) => Ok(Entry::Reported(1, outcome)),
+        Step::AuthorizationEnded(ending) => Ok(Entry::AuthorizationEnded(1, ending)),
+        Step::AccountEnded(account, ending) => Ok(Entry::AccountEnded(account, ending)),
+        Step::ContactsChanged => Ok(Entry::ContactsChanged(1, texts(alloc, "mailto:c@d")?)),
+        Step::Finalized => Ok(Entry::Finalized(1, bytes(alloc, &[1, 2, 3])?)),
+        Step::Certified => Ok(Entry::Certified(1, bytes(alloc, &[7, 10])?)),
+        Step::Failed => Ok(Entry::Failed(1, problem(alloc, "badCSR", "key too short")?)),
+    }
+}
+
+/// The entry of a step, if there is one.
+pub(crate) fn entry_if(alloc: Global, step: Option<Step>) -> Result<Option<Entry>, Fail> {
+    match step {
+        Some(step) => {
+            let entry = entry_of(alloc, step)?;
+            Ok(Some(entry))
+        }
+        None => Ok(None),
+    }
+}
+
+/// An ask that names a number at most.
+#[derive(Clone, Copy, Debug, PartialEq, Eq)]
+pub(crate) enum PlainAsk {
+    Directory,
+    NewNonce,
+    RevokeAuthz(u64),
+    RevokeAccount(u64),
+    ChallengeWork,
+    OrderWork,
+    KeyOf(u64),
+}
+
+pub(crate) fn ask_of(ask: PlainAsk) -> Ask {
+    match ask {
+        PlainAsk::Directory => Ask::Directory,
+        PlainAsk::NewNonce => Ask::NewNonce { head: false },
+        PlainAsk::RevokeAuthz(number) => Ask::RevokeAuthz(number),
+        PlainAsk::RevokeAccount(number) => Ask::RevokeAccount(number),
+        PlainAsk::ChallengeWork => Ask::ChallengeWork,
+        PlainAsk::OrderWork => Ask::OrderWork,
+        PlainAsk::KeyOf(number) => Ask::KeyOf(number),
+    }
 }
 
 pub(crate) fn text(alloc: Global, text: &str) -> Result<Text, Fail> {

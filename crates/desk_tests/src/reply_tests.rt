@@ -1,9 +1,9 @@
 //! Refusals, documents and replies (RFC 8555, 6.7, 7.1).
 use crate::desks::{
-    KEY, SECOND_KEY, Stage, account_row, bytes, desk_at, name, order_row, policy, text,
+    KEY, SECOND_KEY, Stage, Step, account_row, desk_at, entry_if, name, order_row, policy, text,
 };
 use crate::words::reply_words;
-use desk_model::{Ending, Entry, Outcome, Sequence, Shows, Subproblem};
+use desk_model::{Ending, Outcome, Reply, Sequence, Shows, Subproblem};
 use desk_replies::{
     located_account, located_order, nonce_reply, refusal_detail, refusal_name, refusal_reply,
     refusal_status, show, with_nonce,
@@ -48,21 +48,33 @@ fn refusals_have_statuses_names_and_texts(rt: HostRuntime) {
     }
 }
 
-#[test]
-fn a_refusal_keeps_its_identifiers(rt: HostRuntime) -> Result<(), Fail> {
-    let alloc = rt.alloc();
+fn one_subproblem(alloc: Global) -> Result<Sequence<Subproblem>, Fail> {
+    let kind = text(alloc, "dns")?;
+    let value = text(alloc, "a..b")?;
     let mut subproblems = Vec::new(alloc);
     subproblems.push(Subproblem {
         number: 11,
-        kind: text(alloc, "dns")?,
-        value: text(alloc, "a..b")?,
+        kind,
+        value,
     })?;
-    let reply = refusal_reply(11, Sequence::new(subproblems), true);
+    Ok(Sequence::new(subproblems))
+}
+
+#[test]
+fn a_refusal_keeps_its_identifiers(rt: HostRuntime) -> Result<(), Fail> {
+    let alloc = rt.alloc();
+    let reply = refusal_reply(11, one_subproblem(alloc)?, true);
     let words = reply_words(alloc, &reply)?;
     assert_eq!(rt;
         words.as_str(),
         "400 - - - refused 11, 11 dns a..b, Allow No, index true"
     );
+    Ok(())
+}
+
+#[test]
+fn a_refusal_of_an_office_has_no_link(rt: HostRuntime) -> Result<(), Fail> {
+    let alloc = rt.alloc();
     let reply = refusal_reply(14, Sequence::new(Vec::new(alloc)), false);
     let words = reply_words(alloc, &reply)?;
     assert_eq!(rt;
@@ -86,18 +98,28 @@ fn nonces_are_answered_by_method(rt: HostRuntime) -> Result<(), Fail> {
     Ok(())
 }
 
+fn opened_account(rt: &impl Abort, alloc: Global) -> Result<Reply, Fail> {
+    let row = account_row(rt, alloc, 1, KEY)?;
+    let policy = policy(rt, alloc)?;
+    Ok(located_account(alloc, &policy, 201, &row)?)
+}
+
 #[test]
-fn a_nonce_keeps_the_rest_of_a_reply(rt: HostRuntime) -> Result<(), Fail> {
+fn an_account_is_answered_with_its_location(rt: HostRuntime) -> Result<(), Fail> {
     let alloc = rt.alloc();
-    let row = account_row(&rt, alloc, 1, KEY)?;
-    let policy = policy(&rt, alloc)?;
-    let reply = located_account(alloc, &policy, 201, &row)?;
+    let reply = opened_account(&rt, alloc)?;
     let words = reply_words(alloc, &reply)?;
     assert_eq!(rt;
         words.as_str(),
         r#"201 https://ca.example/account/1 - - {"contact":["mailto:a@b.example"],"orders":"https://ca.example/account/1/orders","status":"valid"}"#
     );
-    let reply = with_nonce(alloc, 2, [0; 16], reply)?;
+    Ok(())
+}
+
+#[test]
+fn a_nonce_keeps_the_rest_of_a_reply(rt: HostRuntime) -> Result<(), Fail> {
+    let alloc = rt.alloc();
+    let reply = with_nonce(alloc, 2, [0; 16], opened_account(&rt, alloc)?)?;
     let words = reply_words(alloc, &reply)?;
     assert_eq!(rt;
         words.as_str(),
@@ -106,13 +128,17 @@ fn a_nonce_keeps_the_rest_of_a_reply(rt: HostRuntime) -> Result<(), Fail> {
     Ok(())
 }
 
+fn made_order(rt: &impl Abort, alloc: Global) -> Result<Reply, Fail> {
+    let row = order_row(alloc, Stage::Made)?;
+    let policy = policy(rt, alloc)?;
+    let names = [name(rt, alloc, "example.org", true)?];
+    Ok(located_order(alloc, &policy, 201, &row, &names)?)
+}
+
 #[test]
 fn an_order_is_answered_with_its_location(rt: HostRuntime) -> Result<(), Fail> {
     let alloc = rt.alloc();
-    let row = order_row(alloc, Stage::Made)?;
-    let policy = policy(&rt, alloc)?;
-    let names = Vec::from_array(alloc, [name(&rt, alloc, "example.org", true)?])?;
-    let reply = located_order(alloc, &policy, 201, &row, &names)?;
+    let reply = made_order(&rt, alloc)?;
     let words = reply_words(alloc, &reply)?;
     assert_eq!(rt;
         words.as_str(),
@@ -126,11 +152,12 @@ fn shown(
     rt: &impl Abort,
     alloc: Global,
     stage: Stage,
-    entry: Option<Entry>,
+    step: Option<Step>,
     moment: u64,
     shows: Shows,
 ) -> Result<String, Fail> {
     let book = desk_at(rt, alloc, stage)?;
+    let entry = entry_if(alloc, step)?;
     let reply = show(alloc, &book, &entry, moment, shows)?;
     Ok(reply_words(alloc, &reply)?)
 }
@@ -138,7 +165,7 @@ fn shown(
 #[test]
 fn accounts_are_shown(rt: HostRuntime) -> Result<(), Fail> {
     let alloc = rt.alloc();
-    for (shows, ending, wanted) in [
+    for (shows, step, wanted) in [
         (
             Shows::Account(1),
             None,
@@ -156,17 +183,16 @@ fn accounts_are_shown(rt: HostRuntime) -> Result<(), Fail> {
         ),
         (
             Shows::Account(1),
-            Some(Ending::Deactivated),
+            Some(Step::AccountEnded(1, Ending::Deactivated)),
             r#"200 - - - {"contact":["mailto:a@b.example"],"orders":"https://ca.example/account/1/orders","status":"deactivated"}"#,
         ),
         (
             Shows::Account(1),
-            Some(Ending::Revoked),
+            Some(Step::AccountEnded(1, Ending::Revoked)),
             r#"200 - - - {"contact":["mailto:a@b.example"],"orders":"https://ca.example/account/1/orders","status":"revoked"}"#,
         ),
     ] {
-        let entry = ending.map(|ending| Entry::AccountEnded(1, ending));
-        let words = shown(&rt, alloc, Stage::Made, entry, 5, shows)?;
+        let words = shown(&rt, alloc, Stage::Made, step, 5, shows)?;
         assert_eq!(rt; words.as_str(), wanted, "{shows:?}");
     }
     Ok(())
@@ -231,20 +257,19 @@ fn orders_are_shown_by_their_status(rt: HostRuntime) -> Result<(), Fail> {
 #[test]
 fn orders_have_locations(rt: HostRuntime) -> Result<(), Fail> {
     let alloc = rt.alloc();
-    let csr = Entry::Finalized(1, bytes(alloc, &[1, 2, 3])?);
-    for (entry, shows, wanted) in [
+    for (step, shows, wanted) in [
         (
             None,
             Shows::MadeOrder(1),
             r#"201 https://ca.example/order/1 - - {"authorizations":["https://ca.example/authz/1"],"expires":"1970-01-08T00:00:00Z","finalize":"https://ca.example/order/1/finalize","identifiers":[{"type":"dns","value":"example.org"}],"status":"ready"}"#,
         ),
         (
-            Some(csr),
+            Some(Step::Finalized),
             Shows::FinalizedOrder(1),
             r#"200 https://ca.example/order/1 - - {"authorizations":["https://ca.example/authz/1"],"expires":"1970-01-08T00:00:00Z","finalize":"https://ca.example/order/1/finalize","identifiers":[{"type":"dns","value":"example.org"}],"status":"processing"}"#,
         ),
     ] {
-        let words = shown(&rt, alloc, Stage::Proved, entry, 30, shows)?;
+        let words = shown(&rt, alloc, Stage::Proved, step, 30, shows)?;
         assert_eq!(rt; words.as_str(), wanted, "{shows:?}");
     }
     Ok(())
@@ -283,8 +308,8 @@ fn ended_authorizations_are_shown(rt: HostRuntime) -> Result<(), Fail> {
         (Ending::Deactivated, "deactivated"),
         (Ending::Revoked, "revoked"),
     ] {
-        let entry = Some(Entry::AuthorizationEnded(1, ending));
-        let words = shown(&rt, alloc, Stage::Made, entry, 5, Shows::Authorization(1))?;
+        let step = Some(Step::AuthorizationEnded(ending));
+        let words = shown(&rt, alloc, Stage::Made, step, 5, Shows::Authorization(1))?;
         let rest = words.as_str().rsplit_once(r#","status":""#);
         let (_, rest) = rest.expect(&rt, "a status");
         let wanted = format!(in alloc; "{status}\"}}")?;
@@ -314,8 +339,8 @@ fn challenges_are_shown_by_their_reports(rt: HostRuntime) -> Result<(), Fail> {
             r#"200 - - - {"error":{"detail":"the validator found no records","status":400,"type":"urn:ietf:params:acme:error:dns"},"status":"invalid","token":"AAAAAAAAAAAAAAAAAAAAAA","type":"http-01","url":"https://ca.example/chall/1"}"#,
         ),
     ] {
-        let entry = Some(Entry::Reported(1, outcome));
-        let words = shown(&rt, alloc, Stage::Answered, entry, 20, Shows::Challenge(1))?;
+        let step = Some(Step::Reported(outcome));
+        let words = shown(&rt, alloc, Stage::Answered, step, 20, Shows::Challenge(1))?;
         assert_eq!(rt; words.as_str(), wanted, "{outcome:?}");
     }
     Ok(())

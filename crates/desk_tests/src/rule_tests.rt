@@ -1,6 +1,7 @@
 //! Verdicts on requests (RFC 8555, 6 to 8).
 use crate::desks::{
-    ENDED_KEY, KEY, NEW_KEY, SECOND_KEY, Stage, desk_at, key, meta_row, problem, text, texts,
+    ENDED_KEY, KEY, NEW_KEY, PlainAsk, SECOND_KEY, Stage, ask_of, desk_at, key, meta_row, problem,
+    text, texts,
 };
 use crate::words::verdict_words;
 use desk_book::Book;
@@ -232,11 +233,20 @@ fn orders_are_made(rt: HostRuntime) -> Result<(), Fail> {
     Ok(())
 }
 
+/// The verdict on an order of `a.example` after this many orders, in words.
+fn ordered_after(rt: &impl Abort, alloc: Global, orders: u64) -> Result<String, Fail> {
+    let names = r#"{"identifiers":[{"type":"dns","value":"a.example"}]}"#;
+    let request = signed(rt, alloc, KEY, Target::NewOrder, names)?;
+    let mut changes = Vec::new(alloc);
+    changes.push(Change::PutMeta(meta_row(rt, alloc, 5, orders)?))?;
+    let mut book = desk_at(rt, alloc, Stage::Made)?;
+    book.apply(changes)?;
+    words_of(alloc, judge_signed(alloc, &book, 5, &RANDOM, &request))
+}
+
 #[test]
 fn numbers_run_out(rt: HostRuntime) -> Result<(), Fail> {
     let alloc = rt.alloc();
-    let names = r#"{"identifiers":[{"type":"dns","value":"a.example"}]}"#;
-    let request = signed(&rt, alloc, KEY, Target::NewOrder, names)?;
     for (orders, wanted) in [
         (
             4611686018427387903,
@@ -244,11 +254,7 @@ fn numbers_run_out(rt: HostRuntime) -> Result<(), Fail> {
         ),
         (LAST_NUMBER, "Full"),
     ] {
-        let mut book = desk_at(&rt, alloc, Stage::Made)?;
-        let mut changes = Vec::new(alloc);
-        changes.push(Change::PutMeta(meta_row(&rt, alloc, 5, orders)?))?;
-        book.apply(changes)?;
-        let words = words_of(alloc, judge_signed(alloc, &book, 5, &RANDOM, &request))?;
+        let words = ordered_after(&rt, alloc, orders)?;
         assert_eq!(rt; words.as_str(), wanted, "after {orders} orders");
     }
     Ok(())
@@ -376,14 +382,15 @@ fn office(
 fn lists_and_keys_are_shown(rt: HostRuntime) -> Result<(), Fail> {
     let alloc = rt.alloc();
     for (ask, wanted) in [
-        (Ask::Directory, "Directory"),
-        (Ask::ChallengeWork, "ChallengeWork"),
-        (Ask::OrderWork, "OrderWork"),
-        (Ask::KeyOf(3), "Key(3)"),
-        (Ask::KeyOf(4), "refused 2"),
+        (PlainAsk::Directory, "Directory"),
+        (PlainAsk::ChallengeWork, "ChallengeWork"),
+        (PlainAsk::OrderWork, "OrderWork"),
+        (PlainAsk::KeyOf(3), "Key(3)"),
+        (PlainAsk::KeyOf(4), "refused 2"),
+        (PlainAsk::NewNonce, "refused 2"),
     ] {
-        let words = office(&rt, alloc, Stage::Made, 5, &ask)?;
-        assert_eq!(rt; words.as_str(), wanted);
+        let words = office(&rt, alloc, Stage::Made, 5, &ask_of(ask))?;
+        assert_eq!(rt; words.as_str(), wanted, "{ask:?}");
     }
     Ok(())
 }
@@ -392,41 +399,55 @@ fn lists_and_keys_are_shown(rt: HostRuntime) -> Result<(), Fail> {
 fn the_operator_revokes(rt: HostRuntime) -> Result<(), Fail> {
     let alloc = rt.alloc();
     let revoked = "Authorization(1) after authorization 1 Revoked";
+    let ended = "Account(1) after account 1 Revoked";
     for (stage, moment, ask, wanted) in [
-        (Stage::Made, 2592000, Ask::RevokeAuthz(1), revoked),
-        (Stage::Proved, 25, Ask::RevokeAuthz(1), revoked),
-        (Stage::Made, 2592001, Ask::RevokeAuthz(1), "refused 14"),
-        (Stage::Disproved, 25, Ask::RevokeAuthz(1), "refused 14"),
-        (Stage::Made, 5, Ask::RevokeAuthz(2), "refused 2"),
-        (
-            Stage::Made,
-            5,
-            Ask::RevokeAccount(1),
-            "Account(1) after account 1 Revoked",
-        ),
-        (Stage::Made, 5, Ask::RevokeAccount(3), "refused 14"),
-        (Stage::Made, 5, Ask::RevokeAccount(4), "refused 2"),
+        (Stage::Made, 2592000, PlainAsk::RevokeAuthz(1), revoked),
+        (Stage::Proved, 25, PlainAsk::RevokeAuthz(1), revoked),
+        (Stage::Made, 2592001, PlainAsk::RevokeAuthz(1), "refused 14"),
+        (Stage::Disproved, 25, PlainAsk::RevokeAuthz(1), "refused 14"),
+        (Stage::Made, 5, PlainAsk::RevokeAuthz(2), "refused 2"),
+        (Stage::Made, 5, PlainAsk::RevokeAccount(1), ended),
+        (Stage::Made, 5, PlainAsk::RevokeAccount(3), "refused 14"),
+        (Stage::Made, 5, PlainAsk::RevokeAccount(4), "refused 2"),
     ] {
-        let words = office(&rt, alloc, stage, moment, &ask)?;
-        assert_eq!(rt; words.as_str(), wanted, "{stage:?} at {moment}");
+        let words = office(&rt, alloc, stage, moment, &ask_of(ask))?;
+        assert_eq!(rt; words.as_str(), wanted, "{ask:?} of {stage:?} at {moment}");
     }
     Ok(())
+}
+
+/// A desk with this step at a moment.
+fn desk_after(
+    rt: &impl Abort,
+    alloc: Global,
+    stage: Stage,
+    moment: u64,
+    entry: Entry,
+) -> Result<Book, Fail> {
+    let mut book = desk_at(rt, alloc, stage)?;
+    let mut recording = Recording::begin(alloc, &book, moment)?;
+    recording.shift(alloc, &book, &entry)?;
+    book.apply(recording.changes)?;
+    Ok(book)
+}
+
+/// The verdict on an ask once account 1 is revoked, in words.
+fn office_afterwards(rt: &impl Abort, alloc: Global, ask: PlainAsk) -> Result<String, Fail> {
+    let entry = Entry::AccountEnded(1, Ending::Revoked);
+    let book = desk_after(rt, alloc, Stage::Proved, 25, entry)?;
+    let verdict = judge_office(alloc, &book, 30, &ask_of(ask))?;
+    Ok(verdict_words(alloc, &verdict)?)
 }
 
 #[test]
 fn a_revocation_is_repeated(rt: HostRuntime) -> Result<(), Fail> {
     let alloc = rt.alloc();
-    let mut book = desk_at(&rt, alloc, Stage::Proved)?;
-    let mut recording = Recording::begin(alloc, &book, 25)?;
-    recording.shift(alloc, &book, &Entry::AccountEnded(1, Ending::Revoked))?;
-    book.apply(recording.changes)?;
     for (ask, wanted) in [
-        (Ask::RevokeAccount(1), "Account(1)"),
-        (Ask::RevokeAuthz(1), "Authorization(1)"),
+        (PlainAsk::RevokeAccount(1), "Account(1)"),
+        (PlainAsk::RevokeAuthz(1), "Authorization(1)"),
     ] {
-        let verdict = judge_office(alloc, &book, 30, &ask)?;
-        let words = verdict_words(alloc, &verdict)?;
-        assert_eq!(rt; words.as_str(), wanted);
+        let words = office_afterwards(&rt, alloc, ask)?;
+        assert_eq!(rt; words.as_str(), wanted, "{ask:?}");
     }
     Ok(())
 }
@@ -489,10 +510,7 @@ fn bodies_are_matched(rt: HostRuntime) -> Result<(), Fail> {
 
 /// The verdict on a record that was found for challenge 2, which was answered at 2592000.
 fn recorded(rt: &impl Abort, alloc: Global, moment: u64, text: &str) -> Result<String, Fail> {
-    let mut book = desk_at(rt, alloc, Stage::Made)?;
-    let mut recording = Recording::begin(alloc, &book, 2592000)?;
-    recording.shift(alloc, &book, &Entry::Answered(2))?;
-    book.apply(recording.changes)?;
+    let book = desk_after(rt, alloc, Stage::Made, 2592000, Entry::Answered(2))?;
     let ask = Ask::Report {
         challenge: 2,
         finding: record(alloc, text)?,
@@ -521,6 +539,14 @@ fn records_are_matched(rt: HostRuntime) -> Result<(), Fail> {
 }
 
 #[test]
+fn records_are_for_the_other_kind(rt: HostRuntime) -> Result<(), Fail> {
+    let alloc = rt.alloc();
+    let words = reported(&rt, alloc, Stage::Answered, 1, record(alloc, "x")?)?;
+    assert_eq!(rt; words.as_str(), "refused 1");
+    Ok(())
+}
+
+#[test]
 fn errors_are_reported(rt: HostRuntime) -> Result<(), Fail> {
     let alloc = rt.alloc();
     for (challenge, error, wanted) in [
@@ -542,8 +568,6 @@ fn errors_are_reported(rt: HostRuntime) -> Result<(), Fail> {
         )?;
         assert_eq!(rt; words.as_str(), wanted, "challenge {challenge}");
     }
-    let words = reported(&rt, alloc, Stage::Answered, 1, record(alloc, "x")?)?;
-    assert_eq!(rt; words.as_str(), "refused 1");
     Ok(())
 }
 
@@ -581,6 +605,14 @@ fn certificates_are_handed_in(rt: HostRuntime) -> Result<(), Fail> {
     Ok(())
 }
 
+fn certificate_of(alloc: Global, length: u64) -> Result<Vec<u8>, Fail> {
+    let mut certificate = Vec::new(alloc);
+    for _ in 0..length {
+        certificate.push(7)?;
+    }
+    Ok(certificate)
+}
+
 #[test]
 fn certificates_have_a_greatest_length(rt: HostRuntime) -> Result<(), Fail> {
     let alloc = rt.alloc();
@@ -588,14 +620,23 @@ fn certificates_have_a_greatest_length(rt: HostRuntime) -> Result<(), Fail> {
         (65536, "Order(1) after certified 1 65536"),
         (65537, "refused 16"),
     ] {
-        let mut certificate = Vec::new(alloc);
-        for _ in 0..length {
-            certificate.push(7)?;
-        }
+        let certificate = certificate_of(alloc, length)?;
         let words = certified(&rt, alloc, Stage::Finalized, 1, certificate)?;
-        assert_eq!(rt; words.as_str(), wanted);
+        assert_eq!(rt; words.as_str(), wanted, "{length} bytes");
     }
     Ok(())
+}
+
+/// The verdict on a problem of an order, in words.
+fn failed(
+    rt: &impl Abort,
+    alloc: Global,
+    stage: Stage,
+    order: u64,
+    [kind, detail]: [&str; 2],
+) -> Result<String, Fail> {
+    let problem = problem(alloc, kind, detail)?;
+    office(rt, alloc, stage, 45, &Ask::FailOrder { order, problem })
 }
 
 #[test]
@@ -630,21 +671,18 @@ fn orders_are_failed(rt: HostRuntime) -> Result<(), Fail> {
         ),
         (Stage::Proved, 1, "badCSR", "key too short", "refused 14"),
     ] {
-        let problem = problem(alloc, kind, detail)?;
-        let words = office(&rt, alloc, stage, 45, &Ask::FailOrder { order, problem })?;
+        let words = failed(&rt, alloc, stage, order, [kind, detail])?;
         assert_eq!(rt; words.as_str(), wanted, "{stage:?} {kind} {detail}");
     }
     Ok(())
 }
 
 #[test]
-fn calls_of_the_other_kind_are_not_found(rt: HostRuntime) -> Result<(), Fail> {
+fn a_signed_request_is_no_ask_of_an_office(rt: HostRuntime) -> Result<(), Fail> {
     let alloc = rt.alloc();
     let request = signed(&rt, alloc, KEY, Target::Account(1), "")?;
-    for ask in [Ask::NewNonce { head: false }, Ask::Signed(request)] {
-        let words = office(&rt, alloc, Stage::Made, 5, &ask)?;
-        assert_eq!(rt; words.as_str(), "refused 2");
-    }
+    let words = office(&rt, alloc, Stage::Made, 5, &Ask::Signed(request))?;
+    assert_eq!(rt; words.as_str(), "refused 2");
     Ok(())
 }
 

@@ -1,8 +1,8 @@
 use crate::{
-    KeyFault, dns_matches, dns_value, http_matches, key_authorization, nonce_text, read_jwk,
-    read_nonce, thumbprint, token_text,
+    KeyFault, dns_matches, dns_value, expected_text, http_matches, key_authorization, nonce_text,
+    read_jwk, read_nonce, thumbprint, token_text,
 };
-use desk_model::{Jwk, Text};
+use desk_model::{Jwk, Kind, Text};
 use serde_json::Value;
 use std::alloc::Global;
 use std::test::Fail;
@@ -34,6 +34,26 @@ fn rfc_7638_example(rt: HostRuntime) -> Result<(), Fail> {
         authorization.as_str(),
         "AAAAAAAAAAAAAAAAAAAAAA.NzbLsXh8uDCcd-6MNwXF4W_7noWXFZAfHkxZsRGC9Xs"
     );
+    Ok(())
+}
+
+#[test]
+fn answers_by_the_kind_of_a_challenge(rt: HostRuntime) -> Result<(), Fail> {
+    let alloc = rt.alloc();
+    assert_eq!(rt;
+        token_text(alloc, [0; 16])?.as_str(),
+        "AAAAAAAAAAAAAAAAAAAAAA"
+    );
+    for (kind, wanted) in [
+        (
+            Kind::Http01,
+            "AAAAAAAAAAAAAAAAAAAAAA.NzbLsXh8uDCcd-6MNwXF4W_7noWXFZAfHkxZsRGC9Xs",
+        ),
+        (Kind::Dns01, "6H4FhzYmR97XkCWAT_eXR2sP0qjpSQae4RcMSVuj2EU"),
+    ] {
+        let text = expected_text(alloc, kind, [0; 16], RSA_CANONICAL)?;
+        assert_eq!(rt; text.as_str(), wanted, "{kind:?}");
+    }
     Ok(())
 }
 
