@@ -26,25 +26,31 @@ use Rattle.desk_columns.specs.declared.columns.StoredRows.{StoredRows}
 use Rattle.desk_columns.specs.declared.flat_rows.FlatRows.{FlatRows}
 use Rattle.desk_columns.specs.declared.flat_rows.Owned.{Owned}
 
--- the columns of one fact
+-- ---- the columns of one fact
 
+-- `ended` and `end_kind` of an account
 abbrev pub account_end_columns : Option AccountEnd → Option ℤ × Option (List ℕ)
 account_end_columns end = (option_map (λ e. pos e.date) end, option_map (λ e. ending_text e.ending) end)
 
+-- `ended` and `end_kind` of an authorization
 abbrev pub authorization_end_columns : Option AuthorizationEnd → Option ℤ × Option (List ℕ)
 authorization_end_columns end = (option_map (λ e. pos e.date) end, option_map (λ e. end_kind_text e.kind) end)
 
+-- `finalized` and `csr`, or `certified` and `cert`
 abbrev pub dated_bytes_columns : Option DatedBytes → Option ℤ × Option (List ℕ)
 dated_bytes_columns kept = (option_map (λ k. pos k.date) kept, option_map (λ k. k.bytes) kept)
 
+-- `failed` and `problem`
 abbrev pub dated_problem_columns : Option DatedProblem → Option ℤ × Option (List ℕ)
 dated_problem_columns failure = (option_map (λ f. pos f.date) failure, option_map (λ f. problem_text f.problem) failure)
 
+-- `reported` and `outcome`
 abbrev pub report_columns : Option Report → Option ℤ × Option (List ℕ)
 report_columns report = (option_map (λ r. pos r.date) report, option_map (λ r. outcome_text r.outcome) report)
 
--- the columns of one row
+-- ---- the columns of one row
 
+-- those of `meta`
 abbrev pub meta_columns : Meta → MetaColumns
 meta_columns row =
     record {
@@ -62,9 +68,11 @@ meta_columns row =
       challs = pos row.challenges;
     }
 
+-- those of `nonce`
 abbrev pub nonce_columns : Nonce → NonceColumns
 nonce_columns row = record { serial = pos row.serial; random = row.random; issued = pos row.issued }
 
+-- those of `account`
 abbrev pub account_columns : AccountRow → AccountColumns
 account_columns row =
     record {
@@ -77,6 +85,7 @@ account_columns row =
       status = account_status_text row.status;
     }
 
+-- those of `ord`
 abbrev pub order_columns : OrderRow → OrderColumns
 order_columns row =
     record {
@@ -97,6 +106,7 @@ order_columns row =
 abbrev pub wildcard_column : Bool → ℤ
 wildcard_column wildcard = if wildcard then pos 1 else pos 0
 
+-- those of `authz`
 abbrev pub authorization_columns : AuthorizationRow → AuthzColumns
 authorization_columns row =
     record {
@@ -111,9 +121,11 @@ authorization_columns row =
       status = authorization_status_text row.status;
     }
 
+-- those of `ord_authz`
 abbrev pub listed_columns : Owned Listed → OrderAuthzColumns
 listed_columns row = record { ord = pos row.owner; place = pos row.row.place; authz = pos row.row.authorization }
 
+-- those of `chall`
 abbrev pub challenge_columns : Owned ChallengeRow → ChallColumns
 challenge_columns row =
     record {

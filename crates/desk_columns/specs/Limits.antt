@@ -49,24 +49,31 @@ IfRecorded P (Some x) = P x
 abbrev pub is_problem_kind : List ℕ → Bool
 is_problem_kind kind = bytes_eq kind (codes "badCSR") || bytes_eq kind (codes "serverInternal")
 
+-- how an account ended is dated
 abbrev pub IsAccountEnd : AccountEnd → Type 0
 IsAccountEnd end = IsMoment end.date
 
+-- how an authorization ended is dated
 abbrev pub IsAuthorizationEnd : AuthorizationEnd → Type 0
 IsAuthorizationEnd end = IsMoment end.date
 
+-- a report is dated
 abbrev pub IsReport : Report → Type 0
 IsReport report = IsMoment report.date
 
+-- bytes that were handed in are dated
 abbrev pub AreDatedBytes : DatedBytes → Type 0
 AreDatedBytes kept = IsMoment kept.date
 
+-- a problem of such a type
 abbrev pub IsProblem : OrderProblem → Type 0
 IsProblem problem = IsTrue (is_problem_kind problem.kind)
 
+-- why an order failed is dated, and such a problem
 abbrev pub IsDatedProblem : DatedProblem → Type 0
 IsDatedProblem failure = IsMoment failure.date × IsProblem failure.problem
 
+-- a row of `meta`
 pub record IsStoredMeta (row : Meta) : Type 0 where
   pub policy : IsTrue (are_terms row.policy)
   pub clock : IsMoment row.clock
@@ -76,18 +83,20 @@ pub record IsStoredMeta (row : Meta) : Type 0 where
   pub authorizations : IsCounter row.authorizations
   pub challenges : IsCounter row.challenges
 
+-- a row of `nonce`
 pub record IsStoredNonce (row : Nonce) : Type 0 where
   pub serial : IsNumber row.serial
   pub random : IsSixteen row.random
   pub issued : IsMoment row.issued
 
+-- a row of `account`
 pub record IsStoredAccount (row : AccountRow) : Type 0 where
   pub number : IsNumber row.number
   pub key : IsKeyText row.key
   pub opened : IsMoment row.opened
   pub ended : IfRecorded IsAccountEnd row.ended
 
--- what it lists stands in a table of its own
+-- a row of `ord`; what it lists stands in a table of its own
 pub record IsStoredOrder (row : OrderRow) : Type 0 where
   pub number : IsNumber row.number
   pub account : IsNumber row.account
@@ -98,7 +107,7 @@ pub record IsStoredOrder (row : OrderRow) : Type 0 where
   pub certified : IfRecorded AreDatedBytes row.certified
   pub failed : IfRecorded IsDatedProblem row.failed
 
--- its challenges stand in a table of their own
+-- a row of `authz`; its challenges stand in a table of their own
 pub record IsStoredAuthorization (row : AuthorizationRow) : Type 0 where
   pub number : IsNumber row.number
   pub account : IsNumber row.account
@@ -108,11 +117,13 @@ pub record IsStoredAuthorization (row : AuthorizationRow) : Type 0 where
   pub ended : IfRecorded IsAuthorizationEnd row.ended
   pub challenges : row.challenges ≡ []
 
+-- a row of `ord_authz`
 pub record IsStoredListed (row : Owned Listed) : Type 0 where
   pub order : IsNumber row.owner
   pub place : 1 ≤ row.row.place
   pub authorization : IsNumber row.row.authorization
 
+-- a row of `chall`
 pub record IsStoredChallenge (row : Owned ChallengeRow) : Type 0 where
   pub number : IsNumber row.row.number
   pub authorization : IsNumber row.owner

@@ -10,8 +10,10 @@ IsRead write IsStored columns (Some row) = IsStored row × (columns ≡ write ro
 abbrev pub Unlimited : {R : Type 0} → R → Type 0
 Unlimited row = ⊤
 
+-- a number up to a limit
 abbrev pub IsAtMost : (limit n : ℕ) → Type 0
 IsAtMost limit n = n ≤ limit
 
+-- a number from a least one
 abbrev pub IsFrom : (least n : ℕ) → Type 0
 IsFrom least n = least ≤ n

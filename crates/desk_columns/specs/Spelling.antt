@@ -37,5 +37,6 @@ contacts_text contacts = compact_text (list (map string contacts))
 abbrev pub problem_document : OrderProblem → Data
 problem_document p = document ((codes "detail", string p.detail) ∷ (codes "type", string p.kind) ∷ [])
 
+-- the text of that object
 abbrev pub problem_text : OrderProblem → List ℕ
 problem_text p = compact_text (problem_document p)
