@@ -112,7 +112,8 @@ def main():
     print(
         "\nEvery signed request records its nonces at least. A call that records something costs time linear in the rows of "
         "the desk: the book is copied before the changes are made, so that a want of memory in between leaves it as it "
-        "was, and the tables are walked over for what the passing of time ends. A call that records nothing copies "
+        "was, and the tables are walked over for what the passing of time ends. A large desk pays more for a row than a "
+        "small one, probably since its rows no longer fit the processor's caches. A call that records nothing copies "
         "nothing: what it looks up by number takes the time of a map, and the lists of the whole desk take time linear "
         "in what they go through."
     )
