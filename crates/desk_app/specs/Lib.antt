@@ -1,9 +1,3 @@
 pub mod Answers
 pub mod CoreFaults
-pub mod Envelopes
-pub mod Lines
-pub mod Offices
-pub mod Problems
-pub mod Requests
-pub mod Routes
 pub mod Said

@@ -1,52 +1,15 @@
 -- What is said to a line of a batch.
 use Rattle.std.specs.Prelude.{◌≡◌, ◌⊎◌, ℕ, List}
-use Rattle.serde_json.specs.Data.{Data}
 use Rattle.desk_model.specs.Tables.{Tables}
-use Rattle.desk_model.specs.declared.call.Ask.{Ask}
-use Rattle.desk_model.specs.declared.call.Call.{Call}
 use Rattle.desk_model.specs.declared.reply.Reply.{Reply}
+use Rattle.requests.specs.Lines.{Line, Spells, line_text}
+use Rattle.requests.specs.LineRequests.{Asks}
+use Rattle.requests.specs.declared.lines.LineRequest.{LineRequest}
+use Rattle.requests.specs.declared.lines.LineRequest.TheVariants as spelled
 use Rattle.desk_app.specs.Answers.{Answers, Declines}
-use Rattle.desk_app.specs.Lines.{Line, IsLine, Spells, line_text}
-use Rattle.desk_app.specs.Requests.{IsRequest}
-use Rattle.desk_app.specs.declared.batch.LineFault.{LineFault}
-use Rattle.desk_app.specs.declared.batch.LineFault.TheVariants as linefault
+use Rattle.desk_app.specs.declared.batch.AnswerFault.{AnswerFault}
+use Rattle.desk_app.specs.declared.batch.AnswerFault.TheVariants as answerfault
 use Rattle.desk_app.specs.declared.desk.DeskFault.{DeskFault}
-use Rattle.desk_app.specs.declared.lines.LineRequest.{LineRequest}
-use Rattle.desk_app.specs.declared.lines.LineRequest.TheVariants as spelled
-use Rattle.desk_app.specs.declared.requests.Request.TheVariants as request
-
--- ---- what a line asks
-
--- the call of a line that asks this
-abbrev pub call_of : Line → Ask → Call
-call_of l what = record { at = l.at; random = l.random; ask = what }
-
--- what the line's request asks, at the line's moment, or how it is refused
-abbrev pub IsRequestOf : Line → LineRequest → Type 0
-IsRequestOf l (spelled.Call call) = (what : Ask) × IsRequest l.method l.path l.body (request.Asks what) × (call ≡ call_of l what)
-IsRequestOf l (spelled.Refused reply) = IsRequest l.method l.path l.body (request.Refused reply)
-
--- the value is a line with this request
-abbrev pub IsRequestIn : Data → LineRequest → Type 0
-IsRequestIn d r = (l : Line) × IsLine d l × IsRequestOf l r
-
--- the bytes spell a line with this request
-abbrev pub Asks : List ℕ → LineRequest → Type 0
-Asks bytes r = (l : Line) × Spells bytes l × IsRequestOf l r
-
--- why the value gives no request: it is no line, or memory was refused
-abbrev pub IsNoLine : Data → LineFault → Type 0
-IsNoLine d linefault.NotACall = (l : Line) → IsLine d l → ⊥
-IsNoLine d (linefault.Desk why) = ⊥
-IsNoLine d linefault.Memory = Unit {0}
-
--- why the bytes give none
-abbrev pub SpellsNone : List ℕ → LineFault → Type 0
-SpellsNone bytes linefault.NotACall = (l : Line) → Spells bytes l → ⊥
-SpellsNone bytes (linefault.Desk why) = ⊥
-SpellsNone bytes linefault.Memory = Unit {0}
-
--- ---- what is said
 
 -- the reply to a line: the desk's to the call, or the refusal of a request that is none
 abbrev pub RepliesTo : Tables → LineRequest → Reply → Tables → Type 0
@@ -72,8 +35,8 @@ LacksMemory before bytes later =
     (later ≡ before) ⊎ ((asked : LineRequest) × Asks bytes asked × ((reply : Reply) × RepliesTo before asked reply later))
 
 -- why nothing is said: the line is no call, the desk declines the call, or memory was refused
-abbrev pub SaysNothing : Tables → List ℕ → LineFault → Tables → Type 0
-SaysNothing before bytes linefault.NotACall later = ((l : Line) → Spells bytes l → ⊥) × (later ≡ before)
-SaysNothing before bytes (linefault.Desk why) later =
+abbrev pub SaysNothing : Tables → List ℕ → AnswerFault → Tables → Type 0
+SaysNothing before bytes answerfault.NotACall later = ((l : Line) → Spells bytes l → ⊥) × (later ≡ before)
+SaysNothing before bytes (answerfault.Desk why) later =
     (asked : LineRequest) × Asks bytes asked × DeclinesTo before asked why later
-SaysNothing before bytes linefault.Memory later = LacksMemory before bytes later
+SaysNothing before bytes answerfault.Memory later = LacksMemory before bytes later

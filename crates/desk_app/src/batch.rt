@@ -3,15 +3,15 @@ ghost use Rattle.std.specs.Prelude.{◌≤◌, MatchResult};
 ghost use Rattle.desk_app.specs.Said.{Says, SaysNothing, RepliesTo, DeclinesTo};
 
 use crate::desk::{Desk, DeskFault};
-use crate::lines::{LineRequest, read_line, reply_line};
 use desk_model::Reply;
+use requests::{LineFault, LineRequest, read_line, reply_line};
 use std::alloc::Global;
 use std::fmt;
 use std::io::{self, BufRead, BufReader, ErrorKind, Read, Write};
 
 /// Why a line is not answered.
 #[derive(Clone, Copy, Debug, PartialEq, Eq)]
-pub enum LineFault {
+pub enum AnswerFault {
     /// The line is no call.
     NotACall,
     /// The desk declined the call.
@@ -47,19 +47,23 @@ impl fmt::Display for BatchFault {
 ///
 /// `NotACall` where the line spells none, `Desk` where the desk declines the call, `Memory` where there is no
 /// memory beside the desk's own.
-pub fn batch_line(alloc: Global, desk: &mut Desk, line: &[u8]) -> Result<Vec<u8>, LineFault>
+pub fn batch_line(alloc: Global, desk: &mut Desk, line: &[u8]) -> Result<Vec<u8>, AnswerFault>
     ensures { MatchResult result
         (λ said. Says desk.old line.now said.items desk.new)
         (λ fault. SaysNothing desk.old line.now fault desk.new) }
 {
-    let asked = read_line(alloc, line)?;
+    let asked = match read_line(alloc, line) {
+        Ok(asked) => asked,
+        Err(LineFault::NotACall) => return Err(AnswerFault::NotACall),
+        Err(LineFault::Memory) => return Err(AnswerFault::Memory),
+    };
     let reply = match reply_to(desk, asked) {
         Ok(reply) => reply,
-        Err(fault) => return Err(LineFault::Desk(fault)),
+        Err(fault) => return Err(AnswerFault::Desk(fault)),
     };
     match reply_line(alloc, &reply) {
         Ok(text) => Ok(text.into_bytes()),
-        Err(_) => Err(LineFault::Memory),
+        Err(_) => Err(AnswerFault::Memory),
     }
 }
 
@@ -146,9 +150,9 @@ fn answer_line<W: Write>(
             Ok(()) => Ok(()),
             Err(_) => Err(BatchFault::Output),
         },
-        Err(LineFault::NotACall) => Err(BatchFault::NotACall(number)),
-        Err(LineFault::Desk(fault)) => Err(BatchFault::Desk(fault)),
-        Err(LineFault::Memory) => Err(BatchFault::Desk(DeskFault::Memory)),
+        Err(AnswerFault::NotACall) => Err(BatchFault::NotACall(number)),
+        Err(AnswerFault::Desk(fault)) => Err(BatchFault::Desk(fault)),
+        Err(AnswerFault::Memory) => Err(BatchFault::Desk(DeskFault::Memory)),
     }
 }
 

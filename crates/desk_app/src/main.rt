@@ -3,19 +3,10 @@
 
 mod batch;
 mod desk;
-mod envelopes;
 #[cfg(test)]
 mod failing_streams;
-mod lines;
-mod offices;
-mod problems;
-#[cfg(test)]
-mod request_tests;
-mod requests;
-mod routes;
 #[cfg(test)]
 mod tests;
-mod values;
 
 use crate::desk::Desk;
 use desk_model::Policy;

@@ -5,18 +5,12 @@ mod assembling;
 mod book;
 mod derived;
 mod from_rows;
-#[cfg(test)]
-mod from_rows_tests;
 mod nesting;
 mod row;
 mod rows_fault;
 mod soundness;
 mod status_check;
-#[cfg(test)]
-mod status_tests;
 mod table;
-#[cfg(test)]
-mod tests;
 
 pub use book::Book;
 pub use derived::{derived_account, derived_authorization, derived_challenge, derived_order};

@@ -6,8 +6,9 @@ ghost use Rattle.desk_model.specs.Json.{list};
 ghost use Rattle.desk_columns.specs.Reading.{IsRead, Unlimited};
 ghost use Rattle.desk_columns.specs.Spelling.{contacts_text};
 
-use crate::values::{is_compact, read};
+use crate::values::is_compact;
 use desk_model::{Sequence, Text};
+use json_values::value_of;
 use serde_json::Value;
 use std::alloc::{AllocError, Global};
 
@@ -15,7 +16,7 @@ use std::alloc::{AllocError, Global};
 pub(crate) fn read_contacts(alloc: Global, text: &str) -> Result<Option<Sequence<Text>>, AllocError>
     ensures { IfOk result (λ contacts. IsRead contacts_text Unlimited text.now contacts) }
 {
-    let Some(value) = read(alloc, text)? else {
+    let Some(value) = value_of(alloc, text)? else {
         return Ok(None);
     };
     let Some(contacts) = strings_in(alloc, &value)? else {

@@ -18,8 +18,6 @@ mod problem;
 mod spelling;
 mod stored;
 mod table;
-#[cfg(test)]
-mod tests;
 mod values;
 
 pub use account::read_account;

@@ -7,8 +7,9 @@ ghost use Rattle.desk_columns.specs.ProblemParts.{IsProblemIn};
 ghost use Rattle.desk_columns.specs.Reading.{IsRead};
 ghost use Rattle.desk_columns.specs.Spelling.{problem_document, problem_text};
 
-use crate::values::{is_text, read};
+use crate::values::is_text;
 use desk_model::{OrderProblem, Text};
+use json_values::value_of;
 use serde_json::{Value, json};
 use std::alloc::{AllocError, Global};
 
@@ -16,7 +17,7 @@ use std::alloc::{AllocError, Global};
 pub(crate) fn read_problem(alloc: Global, text: &str) -> Result<Option<OrderProblem>, AllocError>
     ensures { IfOk result (λ problem. IsRead problem_text IsProblem text.now problem) }
 {
-    let Some(value) = read(alloc, text)? else {
+    let Some(value) = value_of(alloc, text)? else {
         return Ok(None);
     };
     let Some(problem) = problem_in(alloc, &value)? else {

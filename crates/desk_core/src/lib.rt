@@ -6,6 +6,3 @@ mod decisions;
 
 pub use decisions::{Outcome, decide};
 pub use desk_rules::CoreFault;
-
-#[cfg(test)]
-mod tests;

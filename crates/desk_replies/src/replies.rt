@@ -6,8 +6,8 @@ ghost use Rattle.desk_model.specs.declared.reply.Body.TheVariants.{Empty};
 ghost use Rattle.desk_model.specs.Tables.{Tables};
 
 use crate::documents::{account_document, account_url};
-use crate::refusal::refusal_status;
 use desk_model::{AccountRow, Allow, Body, Policy, Problem, Reply, Sequence, Subproblem, Text};
+use refusals::refusal_status;
 use std::alloc::{AllocError, Global};
 
 /// The refusal of a number; `index` says whether the reply has the link to the directory.

@@ -1,4 +1,3 @@
-pub mod EachIn
 pub mod KeyVerdicts
 pub mod Looking
 pub mod NamesKept

@@ -1,5 +1,5 @@
 //! The payloads of signed requests: JSON texts in the forms that the routes read.
-ghost use Rattle.std.specs.Prelude.{◌≡◌, Some, Option, option_map, option_and_then, string_bytes, IfOk, OnOk};
+ghost use Rattle.std.specs.Prelude.{◌≡◌, Some, Option, option_map, option_and_then, string_bytes, IfOk};
 ghost use Rattle.serde_json.specs.View.{view, items_view};
 ghost use Rattle.desk_model.specs.Payload.{object_in, each_in, texts_in, optional, new_account, new_account_in, is_deactivated_text, says_deactivated, account_change, account_change_in, authorization_change, authorization_change_in, challenge_change, identifier_in, new_order, new_order_in, finalize};
 ghost use Rattle.serde_json.specs.Find.{get, as_bool, as_str};
@@ -8,60 +8,22 @@ ghost use Rattle.serde_json.specs.Read.{read};
 use desk_model::{
     AccountChange, AuthorizationChange, ChallengeChange, Identifier, NewAccount, Sequence, Text,
 };
+use json_values::{texts_in, value_of};
 use serde_json::Value;
 use std::alloc::{AllocError, Global};
-
-/// The JSON value of a text, `None` where it holds none.
-fn read(alloc: Global, text: &str) -> Result<Option<Value>, AllocError>
-    ensures { IfOk result (λ o. option_map (λ v. view v) o ≡ read text.now) }
-{
-    match Value::from_str(alloc, text) {
-        Ok(value) => Ok(Some(value)),
-        Err(error) => {
-            if error.is_memory() {
-                return Err(AllocError);
-            }
-            Ok(None)
-        }
-    }
-}
 
 /// The object that a text holds, `None` where it holds no JSON, or something else.
 #[tactic(auto, unfolding(desk_model::specs::Payload::object_in))]
 fn object_in(alloc: Global, text: &str) -> Result<Option<Value>, AllocError>
     ensures { IfOk result (λ o. option_map (λ v. view v) o ≡ object_in text.now) }
 {
-    let Some(value) = read(alloc, text)? else {
+    let Some(value) = value_of(alloc, text)? else {
         return Ok(None);
     };
     if value.is_object() {
         return Ok(Some(value));
     }
     Ok(None)
-}
-
-/// The texts of a list, `None` where one of its items is no text.
-fn texts(alloc: Global, items: &[Value]) -> Result<Option<Sequence<Text>>, AllocError>
-    ensures { IfOk result (λ o. o ≡ each_in as_str (items_view items.now)) }
-{
-    let mut found = Vec::new(alloc);
-    for item in items {
-        let Some(text) = item.as_str() else {
-            return Ok(None);
-        };
-        found.push(Text::new(String::from_str(alloc, text)?))?;
-    }
-    Ok(Some(Sequence::new(found)))
-}
-
-/// The texts of a value, `None` where it is no list of texts.
-fn texts_in(alloc: Global, value: &Value) -> Result<Option<Sequence<Text>>, AllocError>
-    ensures { IfOk result (λ o. o ≡ texts_in (view value.now)) }
-{
-    match value.as_array() {
-        Some(items) => texts(alloc, items.as_slice()),
-        None => Ok(None),
-    }
 }
 
 /// The texts of a member that may be left out, `None` where it is there in another form.

@@ -1,7 +1,7 @@
 use Rattle.std.proofs.Common.{Some, List, sym, ap, ◌∙◌, arith}
 use Rattle.desk_model.specs.declared.payload.Identifier.{Identifier}
 use Rattle.desk_model.specs.Payload.{identifier_in}
-use Rattle.desk_rules.proofs.EachIn.{each_in-none, each_in-last}
+use Rattle.json_values.proofs.EachIn.{each_in-none, each_in-last}
 use Rattle.desk_rules.proofs.payload.identifiers.Goals as goal
 
 pub returns-in_default : goal.returns-in_default

@@ -1,0 +1,5 @@
+//! Tests of reading columns.
+#![tactic(auto)]
+
+#[cfg(test)]
+mod reading_tests;

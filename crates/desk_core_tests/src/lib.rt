@@ -1,0 +1,5 @@
+//! Tests of decisions.
+#![tactic(auto)]
+
+#[cfg(test)]
+mod decision_tests;

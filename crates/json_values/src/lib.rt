@@ -1,0 +1,10 @@
+//! JSON values: the value of a text, members that are strings, lists of strings.
+#![tactic(auto)]
+
+mod lists;
+#[cfg(test)]
+mod tests;
+mod values;
+
+pub use lists::texts_in;
+pub use values::{text_of, value_of};

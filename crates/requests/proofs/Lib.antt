@@ -1,0 +1,4 @@
+pub mod Numbers
+pub mod OneResource
+pub mod Places
+pub mod Spelled

@@ -1,0 +1,10 @@
+use Rattle.std.proofs.Common.{◌≡◌, true}
+use Rattle.requests.proofs.Places.{no_office_resource}
+use Rattle.requests.proofs.routes.office_resource_at.Goals as goal
+
+pub returns : goal.returns
+returns c =
+    no_office_resource c.args.path.now
+    (λ e. let yes : c.is_text.result ≡ true = c.is_text.ensures.1 e in cc)
+    (λ e. let yes : c.is_text-2.result ≡ true = c.is_text-2.ensures.1 e in cc)
+    c.in_default.ensures c.in_default-number_between.ensures c.in_default-number_between-2.ensures c.in_default-number_between-3.ensures

@@ -1,0 +1,83 @@
+-- What a request asks, by its method, its path and its body.
+use Rattle.std.specs.Prelude.{◌≡◌, ℕ, Bool, true, false, ◌&&◌, List, [], codes, bytes_eq, Option, Some, None, option_map}
+use Rattle.desk_model.specs.Refusals.{refusal_of}
+use Rattle.desk_model.specs.declared.call.Ask.{Ask}
+use Rattle.desk_model.specs.declared.call.Ask.TheVariants as ask
+use Rattle.desk_model.specs.declared.call.Signed.{Signed}
+use Rattle.desk_model.specs.declared.call.Target.{Target}
+use Rattle.desk_model.specs.declared.reply.Allow.{Allow}
+use Rattle.desk_model.specs.declared.reply.Allow.TheVariants as allow
+use Rattle.desk_model.specs.declared.reply.Body.TheVariants as body
+use Rattle.desk_model.specs.declared.reply.Reply.{Reply}
+use Rattle.requests.specs.Envelopes.{Envelope, IsEnvelopeText, IsSigned}
+use Rattle.requests.specs.Offices.{finding, order_problem}
+use Rattle.requests.specs.Routes.{IsResourceAt, has_index, is_visible, methods_of, serves}
+use Rattle.requests.specs.declared.request.Request.{Request}
+use Rattle.requests.specs.declared.request.Request.TheVariants as request
+use Rattle.requests.specs.declared.routes.OfficeResource.{OfficeResource}
+use Rattle.requests.specs.declared.routes.OfficeResource.TheVariants as office
+use Rattle.requests.specs.declared.routes.Resource.{Resource}
+use Rattle.requests.specs.declared.routes.Resource.TheVariants as resource
+
+-- ---- what is asked of a resource
+
+-- what a signed request asks of its target: the body is its envelope, or it asks nothing (RFC 8555, 6.2)
+abbrev pub IsSignedAsk : Target → List ℕ → Option Ask → Type 0
+IsSignedAsk target text None = (e : Envelope) → IsEnvelopeText text e → ⊥
+IsSignedAsk target text (Some what) = (e : Envelope) × (s : Signed) × IsEnvelopeText text e × IsSigned target e s × (what ≡ ask.Signed s)
+
+-- what the validator reports of a challenge
+abbrev pub report_ask : ℕ → List ℕ → Option Ask
+report_ask challenge text = option_map (λ found. ask.Report challenge found) (finding text)
+
+-- the certificate of an order: the bytes of the body, as they are
+abbrev pub certify_ask : ℕ → List ℕ → Option Ask
+certify_ask order text = Some (ask.Certify order text)
+
+-- why the signing office gives an order up
+abbrev pub fail_ask : ℕ → List ℕ → Option Ask
+fail_ask order text = option_map (λ problem. ask.FailOrder order problem) (order_problem text)
+
+abbrev pub office_ask : OfficeResource → List ℕ → Option Ask
+office_ask (office.Key account) text = Some (ask.KeyOf account)
+office_ask office.ChallengeWork text = Some ask.ChallengeWork
+office_ask office.OrderWork text = Some ask.OrderWork
+office_ask (office.Report challenge) text = report_ask challenge text
+office_ask (office.Certify order) text = certify_ask order text
+office_ask (office.FailOrder order) text = fail_ask order text
+
+-- what a request of this method and body asks of a resource; None: the body is none for it
+abbrev pub IsAskOf : Resource → List ℕ → List ℕ → Option Ask → Type 0
+IsAskOf resource.Directory method text asked = asked ≡ Some ask.Directory
+IsAskOf resource.NewNonce method text asked = asked ≡ Some (ask.NewNonce (bytes_eq method (codes "HEAD")))
+IsAskOf (resource.Signed target) method text asked = IsSignedAsk target text asked
+IsAskOf (resource.Office o) method text asked = asked ≡ office_ask o text
+
+-- ---- requests
+
+-- the reply to a request that is no call: nothing is recorded, and there is no nonce
+abbrev pub refused_request : ℕ → Allow → Bool → Reply
+refused_request number methods index =
+    record {
+      status = (refusal_of number).status;
+      location = None;
+      up = None;
+      nonce = None;
+      body = body.Problem (record { number = number; subproblems = []; allow = methods; index = index });
+    }
+
+-- a method and a path of visible characters
+abbrev pub are_visible : List ℕ → List ℕ → Bool
+are_visible method path = is_visible method && is_visible path
+
+-- what the request asks, or how it is refused: the characters are looked at first, then the path, the method and the body
+pub data IsRequest (method path text : List ℕ) : Request → Type 0 where
+  asked : (r : Resource) (what : Ask) → are_visible method path ≡ true → IsResourceAt path r → serves (methods_of r) method ≡ true
+      → IsAskOf r method text (Some what) → IsRequest method path text (request.Asks what)
+  ill_formed : are_visible method path ≡ false → IsRequest method path text (request.Refused (refused_request 1 allow.No true))
+  not_here : are_visible method path ≡ true → ((r : Resource) → IsResourceAt path r → ⊥)
+      → IsRequest method path text (request.Refused (refused_request 2 allow.No (has_index path)))
+  not_served : (r : Resource) → are_visible method path ≡ true → IsResourceAt path r → serves (methods_of r) method ≡ false
+      → IsRequest method path text (request.Refused (refused_request 3 (methods_of r) (has_index path)))
+  unread : (r : Resource) → are_visible method path ≡ true → IsResourceAt path r → serves (methods_of r) method ≡ true
+      → IsAskOf r method text None → IsRequest method path text (request.Refused (refused_request 1 allow.No (has_index path)))
