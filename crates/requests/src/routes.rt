@@ -31,7 +31,7 @@ pub enum OfficeResource {
 }
 
 /// The resource at this path, or `None` where there is none (RFC 8555, 7.1).
-pub fn resource_at(path: &str) -> Option<Resource>
+pub(crate) fn resource_at(path: &str) -> Option<Resource>
     ensures there { MatchOption result ((r : Resource) → ¬ (IsResourceAt path.now r)) (λ r. IsResourceAt path.now r) }
     ensures one { (r : Resource) → IsResourceAt path.now r → result ≡ Some r }
 {
@@ -152,7 +152,7 @@ fn begins_a_number(text: &[u8]) -> bool
 }
 
 /// The methods that a resource serves.
-pub fn methods_of(resource: Resource) -> Allow
+pub(crate) fn methods_of(resource: Resource) -> Allow
     ensures { result ≡ methods_of resource }
 {
     match resource {
@@ -167,7 +167,7 @@ pub fn methods_of(resource: Resource) -> Allow
 }
 
 /// Whether these methods hold this one.
-pub fn serves(methods: Allow, method: &str) -> bool
+pub(crate) fn serves(methods: Allow, method: &str) -> bool
     ensures { result ≡ serves methods method.now }
 {
     match methods {
@@ -179,7 +179,7 @@ pub fn serves(methods: Allow, method: &str) -> bool
 }
 
 /// Whether a reply at this path has the link to the directory.
-pub fn has_index(path: &str) -> bool
+pub(crate) fn has_index(path: &str) -> bool
     ensures { result ≡ has_index path.now }
 {
     path != "/directory" && !is_inside(path)
@@ -193,7 +193,7 @@ fn is_inside(path: &str) -> bool
 }
 
 /// Whether each byte is a visible character of ASCII.
-pub fn is_visible(text: &str) -> bool
+pub(crate) fn is_visible(text: &str) -> bool
     ensures { result ≡ is_visible text.now }
 {
     text.bytes().all(|b| is_visible_byte(b))
