@@ -1,12 +1,2 @@
 pub mod Applied
-pub mod Ascending
-pub mod Distinctness
 pub mod KeyedRows
-pub mod NestedRows
-pub mod Nests
-pub mod OrderedRows
-pub mod Pushed
-pub mod SortedFaults
-pub mod SortedLists
-pub mod SoundBooks
-pub mod StableSorts

@@ -1,6 +1,1 @@
-pub mod FaultNumbers
-pub mod Flat
-pub mod IsBook
 pub mod Keyed
-pub mod Nesting
-pub mod Tests

@@ -51,8 +51,8 @@ impl Book {
         }
     }
 
-    /// The book of these tables.
-    pub(crate) fn of_tables(
+    /// The book of these tables, whose rows stand by number as a table's do.
+    pub fn of_tables(
         meta: Meta,
         nonces: Table<Nonce>,
         accounts: Table<AccountRow>,

@@ -4,4 +4,3 @@ pub mod Moving
 pub mod QuietEntries
 pub mod Recordings
 pub mod ShownAfter
-pub mod SweptRows

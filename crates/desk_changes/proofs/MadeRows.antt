@@ -3,7 +3,7 @@ use Rattle.std.proofs.Common.{◌≡◌, ◌≤◌, ◌<◌, ℕ, ◌+◌, List,
 use Rattle.std.specs.Prelude.{◌==◌, find}
 use Rattle.std.specs.Option.{option_map}
 use Rattle.desk_model.specs.Tables.{Tables, listed_from}
-use Rattle.desk_model.specs.Touched.{EachOf}
+use Rattle.desk_model.specs.Kept.{EachOf}
 use Rattle.desk_model.specs.Authorization.{made_for}
 use Rattle.desk_model.specs.Derived.{and_status, authorization_numbered, derived_order, numbers_of, restated_order, stored_statuses}
 use Rattle.desk_model.specs.Effect.{authorizations_after, moved_authorization, new_authorizations}
@@ -19,7 +19,7 @@ use Rattle.desk_laws.proofs.RowLists.{ascends_above, ascends_found, ascends_map,
 use Rattle.desk_laws.proofs.OrderFacts.{made_by_numbered}
 use Rattle.desk_laws.proofs.Local.{moved_number, restated_same}
 use Rattle.desk_changes.specs.Made.{made_row, made_rows, places_from}
-use Rattle.desk_changes.proofs.SweptRows.{find-moved}
+use Rattle.swept_rows.proofs.SweptRows.{find-moved}
 
 -- the numbers in the places
 pub numbers_placed : (place : ℕ) (rows : List AuthorizationRow) → numbers_of (places_from place rows) ≡ map (λ r. r.number) rows

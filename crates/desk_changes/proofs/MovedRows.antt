@@ -14,7 +14,7 @@ use Rattle.desk_model.specs.declared.rows.OrderRow.{OrderRow}
 use Rattle.desk_model.specs.declared.status.AuthzStatus.{AuthzStatus}
 use Rattle.desk_laws.proofs.Local.{moved_number}
 use Rattle.desk_changes.specs.Moved.{standing_rows, rows_after, moved_one, stated_order}
-use Rattle.desk_changes.proofs.SweptRows.{swept_authorization-status, swept_order-status, find-moved}
+use Rattle.swept_rows.proofs.SweptRows.{swept_authorization-status, swept_order-status, find-moved}
 
 -- one row after the other
 pub moved_rows-one : {X : Type 0} (touched : X → Bool) (differs : X → X → Bool) (move : X → X) (x : X) (xs : List X) →

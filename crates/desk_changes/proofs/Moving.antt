@@ -27,7 +27,7 @@ use Rattle.desk_laws.proofs.Plain.{issued_effect, spent_effect}
 use Rattle.desk_changes.specs.Made.{made_rows, next_order, next_rows, ordered_meta}
 use Rattle.desk_changes.proofs.MadeRows.{made_beside, places_made}
 use Rattle.desk_changes.proofs.QuietEntries.{issued_meta, quiet_changes, spent_meta}
-use Rattle.desk_changes.proofs.SweptRows.{swept_authorization-status}
+use Rattle.swept_rows.proofs.SweptRows.{swept_authorization-status}
 use Rattle.desk_changes.specs.Moved.{standing_rows, stated_authorization}
 use Rattle.desk_changes.specs.Recorded.{IsMoving, IsRecorded, IsUntouched, book_moves}
 use Rattle.desk_changes.proofs.Recordings.{one_more, clock_is, same_clock}

@@ -14,9 +14,9 @@ use Rattle.desk_model.specs.declared.rows.OrderRow.{OrderRow}
 use Rattle.desk_model.specs.declared.rows.Meta.{Meta}
 use Rattle.desk_laws.proofs.Local.{moved_number}
 use Rattle.desk_laws.proofs.Chain.{account_number, order_number}
-use Rattle.desk_lives.proofs.Ended.{has_row-moved}
+use Rattle.desk_laws.proofs.MovedRows.{has_row-moved}
 use Rattle.desk_laws.specs.LegalLaws.{last_end}
-use Rattle.desk_lives.proofs.Finds.{each_found}
+use Rattle.desk_laws.proofs.Finds.{each_found}
 use Rattle.desk_model.specs.Shown.{plain, shown}
 use Rattle.desk_model.specs.declared.reply.Body.TheVariants.{Empty}
 use Rattle.desk_model.specs.declared.reply.Reply.{Reply}
@@ -25,7 +25,7 @@ use Rattle.desk_changes.specs.Acting.{HasTexts, MakesNone, account_with, authori
 use Rattle.desk_changes.specs.Moved.{rows_after, standing_rows}
 use Rattle.desk_changes.specs.Recorded.{IsMoving}
 use Rattle.desk_changes.proofs.Moving.{makes_nothing, moving_after, moving_meta}
-use Rattle.desk_changes.proofs.SweptRows.{find-moved, swept_authorization-status, swept_authorization_on, swept_order_on, swept_order-status, swept_owner_on}
+use Rattle.swept_rows.proofs.SweptRows.{find-moved, swept_authorization-status, swept_authorization_on, swept_order_on, swept_order-status, swept_owner_on}
 
 -- the tables after an entry that makes nothing
 moving_accounts : (m : ℕ) (T : Tables) (e : Entry) → IsMoving e → (effect m T e).accounts ≡ map (moved_account e m) T.accounts

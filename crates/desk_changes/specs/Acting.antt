@@ -4,7 +4,7 @@ use Rattle.desk_laws.specs.LegalLaws.{last_end}
 use Rattle.desk_model.specs.Decide.{listed_entry}
 use Rattle.desk_model.specs.Effect.{effects, swept, swept_authorization, swept_order, moved_account, moved_authorization, moved_order}
 use Rattle.desk_model.specs.Tables.{Tables}
-use Rattle.desk_model.specs.Touched.{EachOf}
+use Rattle.desk_model.specs.Kept.{EachOf}
 use Rattle.desk_model.specs.declared.entry.Entry.{Entry}
 use Rattle.desk_model.specs.declared.entry.Entry.TheVariants.{Opened as opened, Ordered as ordered}
 use Rattle.desk_model.specs.declared.rows.AccountRow.{AccountRow}

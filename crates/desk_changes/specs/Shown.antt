@@ -17,7 +17,7 @@ use Rattle.desk_model.specs.Authorization.{is_pending}
 use Rattle.desk_model.specs.Legal.{is_processing_challenge}
 use Rattle.desk_model.specs.Effect.{swept_authorization}
 use Rattle.desk_model.specs.Derived.{numbers_of}
-use Rattle.desk_model.specs.Touched.{EachOf}
+use Rattle.desk_model.specs.Kept.{EachOf}
 use Rattle.desk_model.specs.Document.{authorization_url, certificate_url, finalize_url, identifier, order_error, order_status_text, work_document}
 
 -- ---- moments: one past the last that has a text is shown as the last

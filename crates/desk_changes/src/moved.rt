@@ -8,11 +8,11 @@ ghost use Rattle.desk_changes.specs.Moved.{moved_one, rows_after, standing_rows,
 
 use crate::differing::{account_differs, authorization_differs, order_differs};
 use crate::noted::{noted_account, noted_authorization, noted_order};
-use crate::standing::{authorization_status, order_status};
 use crate::touched::{touches_account, touches_authorization, touches_order};
 use desk_book::{Book, derived_authorization, derived_order};
 use desk_model::{AccountRow, AuthorizationRow, AuthzStatus, Change, Entry, Listed, OrderRow};
 use std::alloc::{AllocError, Global};
+use swept_rows::{authorization_status, order_status};
 
 // ---- accounts
 

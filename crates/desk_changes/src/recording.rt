@@ -14,13 +14,13 @@ ghost use Rattle.desk_model.specs.declared.status.AccountStatus.TheVariants as a
 
 use crate::making::{Making, push_authorizations, push_places, statuses_of};
 use crate::moved::{put_accounts, put_authorizations, put_orders};
-use crate::sweep::sweep_changes;
 use desk_book::{Book, derived_order};
 use desk_model::{
     AccountRow, AccountStatus, AuthorizationRow, Change, Entry, Jwk, Meta, Nonce, OrderRow,
     OrderStatus, Sequence, Text, Wanted,
 };
 use std::alloc::{AllocError, Global};
+use swept_rows::sweep_changes;
 
 /// The changes that a call makes so far, and the meta row after them.
 #[derive(Drop)]

@@ -6,7 +6,7 @@ use Rattle.serde_json.specs.Find.{get, as_str}
 use Rattle.serde_json.specs.Read.{read}
 use Rattle.serde_json.specs.View.{items_of}
 use Rattle.desk_model.specs.Json.{list}
-use Rattle.desk_model.specs.Touched.{EachOf}
+use Rattle.desk_model.specs.Kept.{EachOf}
 use Rattle.desk_model.specs.declared.call.OrderProblem.{OrderProblem}
 use Rattle.desk_model.specs.declared.objects.AccountEnd.{AccountEnd}
 use Rattle.desk_model.specs.declared.objects.AuthorizationEnd.{AuthorizationEnd}

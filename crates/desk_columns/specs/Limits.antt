@@ -2,7 +2,7 @@
 use Rattle.std.specs.Prelude.{◌≡◌, ◌≤◌, ◌^◌, ℕ, List, [], length, Option, None, Some, ⊤, Bool, ◌||◌, bytes_eq, codes, IsTrue}
 use Rattle.desk_model.specs.Terms.{are_terms}
 use Rattle.desk_model.specs.Keys.{IsKeyText}
-use Rattle.desk_model.specs.Touched.{EachOf}
+use Rattle.desk_model.specs.Kept.{EachOf}
 use Rattle.desk_model.specs.BaseName.{is_base_name}
 use Rattle.desk_model.specs.declared.call.OrderProblem.{OrderProblem}
 use Rattle.desk_model.specs.declared.objects.AccountEnd.{AccountEnd}

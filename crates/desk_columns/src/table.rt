@@ -1,6 +1,6 @@
 //! Tables of columns, read row by row.
 ghost use Rattle.std.specs.Prelude.{IfOk, map};
-ghost use Rattle.desk_model.specs.Touched.{EachOf};
+ghost use Rattle.desk_model.specs.Kept.{EachOf};
 ghost use Rattle.desk_columns.specs.Reading.{IsRead};
 
 use desk_model::Sequence;

@@ -5,7 +5,7 @@ use Rattle.std.specs.List.{list_any, list_all}
 use Rattle.std.specs.Option.{option_map}
 use Rattle.std.proofs.lemmas.Bool.{ne_eqb}
 use Rattle.desk_model.specs.History.{earlier}
-use Rattle.desk_model.specs.Touched.{EachOf}
+use Rattle.desk_model.specs.Kept.{EachOf}
 
 -- what came first stays first
 pub earlier-some : {X : Type 0} (x : X) (o : Option X) → earlier (Some x) o ≡ Some x

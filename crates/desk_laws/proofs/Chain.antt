@@ -10,7 +10,7 @@ use Rattle.desk_model.specs.Tables.{Tables, picture}
 use Rattle.desk_model.specs.Derived.{numbers_of, restated_authorization, restated_order}
 use Rattle.desk_model.specs.Effect.{noted_account, noted_order, touches_account, touches_order, moved_account, moved_authorization, moved_order, fresh_account, fresh_authorization, fresh_order, not_spent, new_authorizations, authorizations_after, effect, effects, swept}
 use Rattle.desk_model.specs.Change.{all_changes, sweep_changes, applied}
-use Rattle.desk_model.specs.Touched.{Kept, restricted, EachOf, IsClosed, CoversSweep}
+use Rattle.desk_model.specs.Kept.{Kept, restricted, EachOf, IsClosed, CoversSweep}
 use Rattle.desk_model.specs.declared.entry.Entry.{Entry}
 use Rattle.desk_model.specs.declared.objects.Nonce.{Nonce}
 use Rattle.desk_model.specs.declared.rows.AccountRow.{AccountRow}

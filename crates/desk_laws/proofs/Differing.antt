@@ -10,7 +10,7 @@ use Rattle.desk_model.specs.Account.{ends as account_ends}
 use Rattle.desk_model.specs.Derived.{account_code, chall_code, authz_code, order_code, restated_authorization, restated_order}
 use Rattle.desk_model.specs.Effect.{noted_account, noted_challenge, answered_challenge, reported_challenge, noted_authorization, noted_order}
 use Rattle.desk_model.specs.Change.{is_gained, account_differs, challenge_differs, authorization_differs, order_differs}
-use Rattle.desk_model.specs.Touched.{EachOf}
+use Rattle.desk_model.specs.Kept.{EachOf}
 use Rattle.desk_model.specs.declared.entry.Entry.{Entry}
 use Rattle.desk_model.specs.declared.entry.Entry.TheVariants.{Answered as answered, Reported as reported}
 use Rattle.desk_model.specs.declared.rows.AccountRow.{AccountRow}

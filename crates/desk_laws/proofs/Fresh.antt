@@ -16,7 +16,7 @@ use Rattle.desk_model.specs.Derived.{restated_authorization, restated_order}
 use Rattle.desk_model.specs.Effect.{fresh_account, fresh_challenge, fresh_authorization, fresh_order}
 use Rattle.desk_model.specs.declared.objects.EndKind.TheVariants as kind
 use Rattle.desk_model.specs.declared.status.AccountStatus.TheVariants as account
-use Rattle.desk_model.specs.Touched.{EachOf}
+use Rattle.desk_model.specs.Kept.{EachOf}
 use Rattle.desk_model.specs.declared.entry.Dated.{Dated}
 use Rattle.desk_model.specs.declared.entry.Ending.{Ending}
 use Rattle.desk_model.specs.declared.entry.Ending.TheVariants.{Deactivated as deactivated, Revoked as revoked}

@@ -16,7 +16,7 @@ use Rattle.desk_model.specs.Nonce.{is_open, issued_by, nonces}
 use Rattle.desk_model.specs.Order.{ordered_by, orders}
 use Rattle.desk_model.specs.Tables.{account_row, authorization_row, order_row, tables_at}
 use Rattle.desk_model.specs.Terms.{Terms, are_terms, is_base, is_life}
-use Rattle.desk_model.specs.Touched.{EachOf}
+use Rattle.desk_model.specs.Kept.{EachOf}
 use Rattle.desk_model.specs.declared.entry.Dated.{Dated}
 use Rattle.desk_model.specs.declared.entry.Entry.{Entry}
 use Rattle.desk_model.specs.declared.entry.Entry.TheVariants.{Made as made, Issued as issued, Opened as opened, Ordered as ordered, Reported as reported}

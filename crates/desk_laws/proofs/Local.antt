@@ -11,7 +11,7 @@ use Rattle.desk_model.specs.Tables.{Tables}
 use Rattle.desk_model.specs.Derived.{numbers_of, authorization_numbered, stored_statuses, and_status, restated_authorization, restated_order}
 use Rattle.desk_model.specs.Effect.{noted_account, noted_authorization, noted_order, touches_account, touches_authorization, touches_order, names_order, lists_one, moved_authorization, fresh_account, fresh_authorization, fresh_order, new_authorizations, authorizations_after, effect, lasts, swept, swept_authorization, swept_order, is_overdue, falls, is_live_order}
 use Rattle.desk_model.specs.Change.{moved_rows, account_differs, authorization_differs, order_differs, spent_by, nonces_put, accounts_put, authorizations_put, changes, sweep_changes, nonces_gone, authorizations_expired, orders_fallen}
-use Rattle.desk_model.specs.Touched.{Kept, restricted, EachOf, IsClosed, Covers, CoversSweep}
+use Rattle.desk_model.specs.Kept.{Kept, restricted, EachOf, IsClosed, Covers, CoversSweep}
 use Rattle.desk_model.specs.declared.status.AuthzStatus.TheVariants as authz
 use Rattle.desk_model.specs.declared.status.OrderStatus.TheVariants as order
 use Rattle.desk_model.specs.declared.entry.Entry.{Entry}

@@ -9,7 +9,7 @@ use Rattle.desk_model.specs.Tables.{Tables, tables_at, picture}
 use Rattle.desk_model.specs.Derived.{restated_authorization, restated_order}
 use Rattle.desk_model.specs.Effect.{noted_account, noted_authorization, noted_order, touches_account, touches_authorization, touches_order, authorizations_after, new_authorizations, effect, swept, is_overdue, falls}
 use Rattle.desk_model.specs.Change.{put, remove, moved_rows, account_differs, authorization_differs, order_differs, applied, applied_one, spent_by, nonces_put, accounts_put, authorizations_put, orders_put, changes, nonces_gone, authorizations_expired, orders_fallen, sweep_changes, all_changes}
-use Rattle.desk_model.specs.Touched.{EachOf}
+use Rattle.desk_model.specs.Kept.{EachOf}
 use Rattle.desk_model.specs.declared.entry.Entry.{Entry}
 use Rattle.desk_model.specs.declared.objects.Nonce.{Nonce}
 use Rattle.desk_model.specs.declared.rows.AccountRow.{AccountRow}
@@ -30,7 +30,7 @@ use Rattle.desk_laws.proofs.Step.{follows_before, step, sweep}
 -- ---- one table
 
 -- a put row leaves those of greater numbers
-find_put : {X : Type 0} (number : X → ℕ) (x : X) (k : ℕ) (rows : List X) → number x < k →
+pub find_put : {X : Type 0} (number : X → ℕ) (x : X) (k : ℕ) (rows : List X) → number x < k →
     find (λ y. number y == k) (put number x rows) ≡ find (λ y. number y == k) rows
 find_put number x k [] lt = ap (λ b. cond b (Some x) None) (less_differs (number x) k lt)
 find_put number x k (y ∷ ys) lt = by (number x == number y) (nat_lt (number x) (number y)) refl (find_put number x k ys lt)
@@ -63,7 +63,7 @@ ascends-append number n k (x ∷ xs) ys le up below h =
     let lt : number x < k = below.0 in (up.0, ascends-append number (number x + 1) k xs ys (omega arith) up.1 below.1 h)
 
 -- the rows that are put ascend
-put_up : {X : Type 0} (number : X → ℕ) (touched : X → Bool) (differs : X → X → Bool) (move : X → X) → ((x : X) → number (move x) ≡ number x) →
+pub put_up : {X : Type 0} (number : X → ℕ) (touched : X → Bool) (differs : X → X → Bool) (move : X → X) → ((x : X) → number (move x) ≡ number x) →
     (last : ℕ) (rows fresh : List X) → IsTable number last rows → Ascends number (last + 1) fresh →
     Ascends number 1 (moved_rows touched differs move rows ++ fresh)
 put_up number touched differs move same last rows fresh h up =

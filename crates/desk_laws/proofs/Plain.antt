@@ -1,28 +1,23 @@
 -- A signed request spends a nonce and issues one before its own entry: these two touch no other table.
-use Rattle.std.proofs.Common.{◌≡◌, ◌≤◌, ℕ, ◌+◌, List, [], ◌∷◌, ◌++◌, map, Option, Some, None, refl, sym, ap, subst, true, false, cond, arith}
+use Rattle.std.proofs.Common.{◌≡◌, ℕ, ◌+◌, List, [], ◌∷◌, ◌++◌, map, Option, Some, None, refl, sym, ap, subst, true, false, cond, arith}
 use Rattle.std.specs.Prelude.{◌||◌}
 use Rattle.desk_model.specs.Lookup.{holds}
-use Rattle.desk_model.specs.Entry.{History}
-use Rattle.desk_model.specs.History.{clock, record_all}
-use Rattle.desk_model.specs.Legal.{EachFollows}
-use Rattle.desk_model.specs.Tables.{Tables, picture}
+use Rattle.desk_model.specs.Tables.{Tables}
 use Rattle.desk_model.specs.Derived.{numbers_of, authorization_numbered, restated_order}
-use Rattle.desk_model.specs.Effect.{effect, swept, moved_order, lists_one, noted_order, new_authorizations}
-use Rattle.desk_model.specs.Touched.{Kept, EachOf, IsClosed, Covers, Named, kept_for, part}
+use Rattle.desk_model.specs.Effect.{effect, moved_order, lists_one, noted_order, new_authorizations}
+use Rattle.desk_model.specs.Kept.{Kept, EachOf, IsClosed, Covers}
 use Rattle.desk_model.specs.declared.entry.Entry.{Entry}
 use Rattle.desk_model.specs.declared.entry.Entry.TheVariants.{Issued as issued, Spent as spent, Ordered as ordered}
 use Rattle.desk_model.specs.declared.objects.Authorization.{Authorization}
 use Rattle.desk_model.specs.declared.rows.AuthorizationRow.{AuthorizationRow}
 use Rattle.desk_laws.proofs.RowLists.{numbered_ascends}
 use Rattle.desk_laws.proofs.OrderFacts.{made_by_numbered, numbers_listed}
-use Rattle.desk_laws.specs.PartLaws.{RecordsFrom}
-use Rattle.desk_laws.specs.Parts.{IsNamed, FreshKept, CoversAll}
+use Rattle.desk_laws.specs.Parts.{FreshKept, CoversAll}
 use Rattle.desk_laws.proofs.Basics.{each_all, each-map}
-use Rattle.desk_laws.proofs.Touched.{part_closed, part_covers_sweep, part_covers, swept_closed, swept_covers}
-use Rattle.desk_laws.proofs.Chain.{up_kept, part_recorded}
+use Rattle.desk_laws.proofs.Chain.{up_kept}
 
 -- no listed row passes a test that none passes
-nothing_touched : (rows : List AuthorizationRow) (ns : List ℕ) → lists_one (λ a. false) rows ns ≡ false
+pub nothing_touched : (rows : List AuthorizationRow) (ns : List ℕ) → lists_one (λ a. false) rows ns ≡ false
 nothing_touched rows [] = refl
 nothing_touched rows (n ∷ ns) = λ i. nowhere (authorization_numbered n rows) i || nothing_touched rows ns i
   where
@@ -67,7 +62,7 @@ issued_effect m T r =
 -- ---- what holds of a part stays so
 
 -- a closed part stays closed when a nonce is spent
-spent_closed : (k : Kept) (m : ℕ) (T : Tables) (n : ℕ) → IsClosed k T → IsClosed k (effect m T (spent n))
+pub spent_closed : (k : Kept) (m : ℕ) (T : Tables) (n : ℕ) → IsClosed k T → IsClosed k (effect m T (spent n))
 spent_closed k m T n h =
     subst (IsClosed k) (sym (spent_effect m T n))
     (record {
@@ -79,7 +74,7 @@ spent_closed k m T n h =
     })
 
 -- and when one is issued
-issued_closed : (k : Kept) (m : ℕ) (T : Tables) (r : List ℕ) → IsClosed k T → IsClosed k (effect m T (issued r))
+pub issued_closed : (k : Kept) (m : ℕ) (T : Tables) (r : List ℕ) → IsClosed k T → IsClosed k (effect m T (issued r))
 issued_closed k m T r h =
     subst (IsClosed k) (sym (issued_effect m T r))
     (record {
@@ -91,17 +86,17 @@ issued_closed k m T r h =
     })
 
 -- a part that covers an entry covers it when a nonce was spent
-spent_covers : (k : Kept) (m : ℕ) (T : Tables) (n : ℕ) (e : Entry) → Covers k T e → Covers k (effect m T (spent n)) e
+pub spent_covers : (k : Kept) (m : ℕ) (T : Tables) (n : ℕ) (e : Entry) → Covers k T e → Covers k (effect m T (spent n)) e
 spent_covers k m T n e h =
     subst (λ U. Covers k U e) (sym (spent_effect m T n)) (record { accounts = h.accounts; authorizations = h.authorizations; orders = h.orders })
 
 -- and when one was issued
-issued_covers : (k : Kept) (m : ℕ) (T : Tables) (r : List ℕ) (e : Entry) → Covers k T e → Covers k (effect m T (issued r)) e
+pub issued_covers : (k : Kept) (m : ℕ) (T : Tables) (r : List ℕ) (e : Entry) → Covers k T e → Covers k (effect m T (issued r)) e
 issued_covers k m T r e h =
     subst (λ U. Covers k U e) (sym (issued_effect m T r)) (record { accounts = h.accounts; authorizations = h.authorizations; orders = h.orders })
 
 -- each part covers the spending of a nonce
-covers_spent : (k : Kept) (T : Tables) (n : ℕ) → Covers k T (spent n)
+pub covers_spent : (k : Kept) (T : Tables) (n : ℕ) → Covers k T (spent n)
 covers_spent k T n =
     record {
       accounts = each_all _ T.accounts (λ a h. cc);
@@ -112,7 +107,7 @@ covers_spent k T n =
     }
 
 -- and the issuing of one
-covers_issued : (k : Kept) (T : Tables) (r : List ℕ) → Covers k T (issued r)
+pub covers_issued : (k : Kept) (T : Tables) (r : List ℕ) → Covers k T (issued r)
 covers_issued k T r =
     record {
       accounts = each_all _ T.accounts (λ a h. cc);
@@ -123,7 +118,7 @@ covers_issued k T r =
     }
 
 -- a new order lists new authorizations
-fresh_kept : (k : Kept) (T : Tables) (m : ℕ) (e : Entry) → IsClosed k T → FreshKept k T m e
+pub fresh_kept : (k : Kept) (T : Tables) (m : ℕ) (e : Entry) → IsClosed k T → FreshKept k T m e
 fresh_kept k T m (ordered account ws) h =
     let made : List Authorization = new_authorizations T (ordered account ws) m in (
       subst (EachOf (λ n. k.authorizations n ≡ true)) (sym (numbers_listed 1 made))
@@ -136,45 +131,8 @@ fresh_kept k T m (ordered account ws) h =
     )
 fresh_kept k T m _ h = tt
 
--- ---- the whole: what a call records from the rows that it touches makes the tables of the longer history
-
--- a call that records one entry
-pub office_recorded : (F : History) (c : Named) (e : Entry) (m : ℕ) → clock F ≤ m → EachFollows (record_all m (e ∷ []) F) → IsNamed c e →
-    RecordsFrom (part (picture F) m c) F m (e ∷ [])
-office_recorded F c e m le follows named =
-    let T : Tables = picture F in
-    let k : Kept = kept_for T m c in
-    let closed : IsClosed k (swept m T) = swept_closed k T m (part_closed T m c) in
-    part_recorded F k e [] m le follows (part_closed T m c) (part_covers_sweep T m c)
-    (closed, swept_covers k T m e (part_covers T m c e named), fresh_kept k (swept m T) m e closed, tt)
-
 -- a part covers the entries of nonces, and then what it covered before
-nonces_covered : (k : Kept) (m : ℕ) (T : Tables) (n : ℕ) (r : List ℕ) (es : List Entry) → IsClosed k T →
+pub nonces_covered : (k : Kept) (m : ℕ) (T : Tables) (n : ℕ) (r : List ℕ) (es : List Entry) → IsClosed k T →
     CoversAll k m (effect m (effect m T (spent n)) (issued r)) es → CoversAll k m T (spent n ∷ issued r ∷ es)
 nonces_covered k m T n r es closed rest =
     (closed, covers_spent k T n, tt, (spent_closed k m T n closed, covers_issued k (effect m T (spent n)) r, tt, rest))
-
--- a signed request that records no entry of its own
-pub nonces_recorded : (F : History) (c : Named) (n : ℕ) (r : List ℕ) (m : ℕ) → clock F ≤ m → EachFollows (record_all m (spent n ∷ issued r ∷ []) F) →
-    RecordsFrom (part (picture F) m c) F m (spent n ∷ issued r ∷ [])
-nonces_recorded F c n r m le follows =
-    let T : Tables = picture F in
-    let k : Kept = kept_for T m c in
-    part_recorded F k (spent n) (issued r ∷ []) m le follows (part_closed T m c) (part_covers_sweep T m c)
-    (nonces_covered k m (swept m T) n r [] (swept_closed k T m (part_closed T m c)) tt)
-
--- a signed request that records one
-pub signed_recorded : (F : History) (c : Named) (n : ℕ) (r : List ℕ) (e : Entry) (m : ℕ) → clock F ≤ m →
-    EachFollows (record_all m (spent n ∷ issued r ∷ e ∷ []) F) → IsNamed c e →
-    RecordsFrom (part (picture F) m c) F m (spent n ∷ issued r ∷ e ∷ [])
-signed_recorded F c n r e m le follows named =
-    let T : Tables = picture F in
-    let k : Kept = kept_for T m c in
-    let T0 : Tables = swept m T in
-    let T1 : Tables = effect m T0 (spent n) in
-    let T2 : Tables = effect m T1 (issued r) in
-    let closed : IsClosed k T0 = swept_closed k T m (part_closed T m c) in
-    let later : IsClosed k T2 = issued_closed k m T1 r (spent_closed k m T0 n closed) in
-    let covers : Covers k T2 e = issued_covers k m T1 r e (spent_covers k m T0 n e (swept_covers k T m e (part_covers T m c e named))) in
-    part_recorded F k (spent n) (issued r ∷ e ∷ []) m le follows (part_closed T m c) (part_covers_sweep T m c)
-    (nonces_covered k m T0 n r (e ∷ []) closed (later, covers, fresh_kept k T2 m e later, tt))

@@ -10,7 +10,7 @@ use Rattle.desk_model.specs.Order.{is_ready, is_processing}
 use Rattle.desk_model.specs.Legal.{is_pending_challenge, is_processing_challenge, has_length, all_different, is_wanted, wanted_name, is_problem}
 use Rattle.desk_model.specs.Tables.{Tables}
 use Rattle.desk_model.specs.Effect.{has_row}
-use Rattle.desk_model.specs.Touched.{Kept, restricted}
+use Rattle.desk_model.specs.Kept.{Kept, restricted}
 use Rattle.desk_model.specs.Allowed.{may_on}
 use Rattle.desk_model.specs.declared.entry.Entry.{Entry}
 use Rattle.desk_model.specs.declared.entry.Entry.TheVariants.{Spent as spent, Opened as opened, ContactsChanged as contacts_changed, AccountEnded as account_ended, Ordered as ordered, Answered as answered, Reported as reported, AuthorizationEnded as authorization_ended, Finalized as finalized, Certified as certified, Failed as failed}

@@ -14,7 +14,7 @@ use Rattle.desk_model.specs.Effect.{noted_challenge, answered_challenge, reporte
 use Rattle.desk_model.specs.declared.objects.EndKind.TheVariants as kind
 use Rattle.desk_model.specs.declared.status.AuthzStatus.TheVariants as authz
 use Rattle.desk_model.specs.declared.status.ChallengeStatus.TheVariants as chall
-use Rattle.desk_model.specs.Touched.{EachOf}
+use Rattle.desk_model.specs.Kept.{EachOf}
 use Rattle.desk_model.specs.declared.entry.Entry.{Entry}
 use Rattle.desk_model.specs.declared.entry.Entry.TheVariants.{AccountEnded as account_ended, Answered as answered, Reported as reported, AuthorizationEnded as authorization_ended}
 use Rattle.desk_model.specs.declared.entry.Outcome.{Outcome}

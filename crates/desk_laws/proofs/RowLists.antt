@@ -3,7 +3,7 @@ use Rattle.std.proofs.Common.{Some, None, ◌≡◌, ◌≤◌, ◌<◌, ℕ, �
 use Rattle.std.specs.Prelude.{find, nat_lt, ◌==◌, ◌&&◌}
 use Rattle.std.proofs.lemmas.Bool.{ltb-true, eq-eqb}
 use Rattle.desk_model.specs.Change.{put, remove, moved_rows}
-use Rattle.desk_model.specs.Touched.{EachOf}
+use Rattle.desk_model.specs.Kept.{EachOf}
 use Rattle.desk_laws.specs.Ordered.{Ascends, Below}
 use Rattle.desk_laws.proofs.Basics.{less_differs, more_differs, each, each_all, map-each, IsNumbered}
 

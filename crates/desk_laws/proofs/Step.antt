@@ -14,7 +14,7 @@ use Rattle.desk_model.specs.Legal.{EachFollows, is_empty}
 use Rattle.desk_model.specs.Tables.{account_row, authorization_row, order_row, tables_at, picture}
 use Rattle.desk_model.specs.Derived.{restated_authorization, restated_order}
 use Rattle.desk_model.specs.Effect.{noted_account, touches_account, moved_account, moved_authorization, moved_order, fresh_account, fresh_authorization, fresh_order, not_spent, effect, effects, lasts, swept, swept_authorization, swept_order}
-use Rattle.desk_model.specs.Touched.{EachOf}
+use Rattle.desk_model.specs.Kept.{EachOf}
 use Rattle.desk_model.specs.declared.entry.Dated.{Dated}
 use Rattle.desk_model.specs.declared.entry.Entry.{Entry}
 use Rattle.desk_model.specs.declared.entry.Entry.TheVariants.{Made as made, Issued as issued, Spent as spent, ContactsChanged as contacts_changed, AccountEnded as account_ended}

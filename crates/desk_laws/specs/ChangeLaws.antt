@@ -7,10 +7,10 @@ use Rattle.desk_model.specs.Entry.{History}
 use Rattle.desk_model.specs.History.{clock, record_all}
 use Rattle.desk_model.specs.Legal.{EachFollows}
 use Rattle.desk_model.specs.Tables.{Tables, tables_at, picture}
-use Rattle.desk_model.specs.Touched.{EachOf}
+use Rattle.desk_model.specs.Kept.{EachOf}
 use Rattle.desk_model.specs.declared.entry.Entry.{Entry}
 use Rattle.desk_model.specs.declared.rows.AuthorizationRow.{AuthorizationRow}
-use Rattle.desk_laws.specs.News.{AreNews, IsNews, KeepsChildren}
+use Rattle.desk_laws.specs.News.{AreKept, AreNews, IsNews, KeepsChildren}
 use Rattle.desk_laws.specs.Ordered.{Ascends, IsOrdered}
 
 -- the tables of a history stand by number
@@ -57,3 +57,9 @@ SweepKeepsChildren = (T : Tables) (m : ℕ) → IsOrdered T → EachOf (KeepsChi
 -- and so by an entry
 abbrev pub EntryKeepsChildren : Type 0
 EntryKeepsChildren = (T : Tables) (m : ℕ) (e : Entry) → IsOrdered T → EachOf (KeepsChildren T) (changes m T e)
+
+-- and so in a whole record
+abbrev pub RecordsKeepChildren : Type 0
+RecordsKeepChildren =
+    (F : History) (e : Entry) (es : List Entry) (m : ℕ) → clock F ≤ m → EachFollows (record_all m (e ∷ es) F) →
+    AreKept (picture F) (sweep_changes m (picture F) ++ all_changes m (swept m (picture F)) (e ∷ es))

@@ -1,6 +1,6 @@
 -- Lists without repetition.
 use Rattle.std.specs.Prelude.{◌≢◌, List, [], ◌∷◌}
-use Rattle.desk_model.specs.Touched.{EachOf}
+use Rattle.desk_model.specs.Kept.{EachOf}
 
 -- no two of the items have the same value
 abbrev pub Distinct : {X Y : Type 0} → (X → Y) → List X → Type 0

@@ -10,7 +10,7 @@ use Rattle.desk_model.specs.Legal.{EachFollows, Legal, numbers_fit}
 use Rattle.desk_model.specs.Lookup.{holds}
 use Rattle.desk_model.specs.Tables.{Tables, tables_at}
 use Rattle.desk_model.specs.Terms.{are_terms}
-use Rattle.desk_model.specs.Touched.{EachOf}
+use Rattle.desk_model.specs.Kept.{EachOf}
 use Rattle.desk_model.specs.declared.entry.Dated.{Dated}
 use Rattle.desk_model.specs.declared.objects.Authorization.{Authorization}
 use Rattle.desk_model.specs.declared.rows.Meta.{Meta}

@@ -24,3 +24,8 @@ KeepsChildren T _ = Unit {0}
 abbrev pub AreNews : Tables → List Change → Type 0
 AreNews T [] = Unit {0}
 AreNews T (c ∷ cs) = IsNews T c × AreNews (applied_one c T) cs
+
+-- and so: each row that is put has the children of the one that the changes before it left in its place
+abbrev pub AreKept : Tables → List Change → Type 0
+AreKept T [] = Unit {0}
+AreKept T (c ∷ cs) = KeepsChildren T c × AreKept (applied_one c T) cs

@@ -8,14 +8,13 @@ use Rattle.desk_model.specs.Entry.{History}
 use Rattle.desk_model.specs.History.{clock, record_all}
 use Rattle.desk_model.specs.Legal.{EachFollows}
 use Rattle.desk_model.specs.Tables.{Tables, picture}
-use Rattle.desk_model.specs.Touched.{Covers, CoversSweep, EachOf, IsClosed, Kept, Named, kept_for, part, restricted}
+use Rattle.desk_model.specs.Kept.{Covers, CoversSweep, EachOf, IsClosed, Kept, restricted}
 use Rattle.desk_model.specs.declared.entry.Entry.{Entry}
-use Rattle.desk_model.specs.declared.entry.Entry.TheVariants.{Issued as issued, Spent as spent}
 use Rattle.desk_model.specs.declared.objects.Nonce.{Nonce}
 use Rattle.desk_model.specs.declared.rows.AccountRow.{AccountRow}
 use Rattle.desk_model.specs.declared.rows.AuthorizationRow.{AuthorizationRow}
 use Rattle.desk_model.specs.declared.rows.OrderRow.{OrderRow}
-use Rattle.desk_laws.specs.Parts.{CoversAll, FreshKept, IsNamed, ReadsKept}
+use Rattle.desk_laws.specs.Parts.{CoversAll, FreshKept, ReadsKept}
 
 -- ---- what is asked of a part
 
@@ -84,36 +83,3 @@ PartsRecord =
     (F : History) (k : Kept) (e : Entry) (es : List Entry) (m : ℕ) → clock F ≤ m → EachFollows (record_all m (e ∷ es) F) →
     IsClosed k (picture F) → CoversSweep k (picture F) m → CoversAll k m (swept m (picture F)) (e ∷ es) →
     RecordsFrom (restricted k (picture F)) F m (e ∷ es)
-
--- ---- the part that a call touches
-
--- it is closed
-abbrev pub CallPartsAreClosed : Type 0
-CallPartsAreClosed = (T : Tables) (m : ℕ) (c : Named) → IsClosed (kept_for T m c) T
-
--- it keeps what falls
-abbrev pub CallPartsCoverSweeps : Type 0
-CallPartsCoverSweeps = (T : Tables) (m : ℕ) (c : Named) → CoversSweep (kept_for T m c) T m
-
--- it keeps what an entry touches, where the call names that
-abbrev pub CallPartsCover : Type 0
-CallPartsCover = (T : Tables) (m : ℕ) (c : Named) (e : Entry) → IsNamed c e → Covers (kept_for T m c) T e
-
--- a call that records one entry
-abbrev pub OneIsRecorded : Type 0
-OneIsRecorded =
-    (F : History) (c : Named) (e : Entry) (m : ℕ) → clock F ≤ m → EachFollows (record_all m (e ∷ []) F) → IsNamed c e →
-    RecordsFrom (part (picture F) m c) F m (e ∷ [])
-
--- a signed request that records no entry of its own
-abbrev pub NoncesAreRecorded : Type 0
-NoncesAreRecorded =
-    (F : History) (c : Named) (n : ℕ) (r : List ℕ) (m : ℕ) → clock F ≤ m → EachFollows (record_all m (spent n ∷ issued r ∷ []) F) →
-    RecordsFrom (part (picture F) m c) F m (spent n ∷ issued r ∷ [])
-
--- a signed request that records one
-abbrev pub SignedIsRecorded : Type 0
-SignedIsRecorded =
-    (F : History) (c : Named) (n : ℕ) (r : List ℕ) (e : Entry) (m : ℕ) → clock F ≤ m →
-    EachFollows (record_all m (spent n ∷ issued r ∷ e ∷ []) F) → IsNamed c e →
-    RecordsFrom (part (picture F) m c) F m (spent n ∷ issued r ∷ e ∷ [])

@@ -1,15 +1,12 @@
 -- When a part of the tables is enough for entries and for what is asked of them.
 use Rattle.std.specs.Prelude.{ℕ, ◌+◌, ◌==◌, ◌≡◌, List, [], ◌∷◌, true, bytes_eq}
 use Rattle.desk_model.specs.Derived.{numbers_of}
-use Rattle.desk_model.specs.Effect.{effect, fresh_order, has_row, names_order, new_authorizations, touches_account, touches_authorization}
+use Rattle.desk_model.specs.Effect.{effect, fresh_order, has_row, new_authorizations}
 use Rattle.desk_model.specs.Order.{ordered_by}
 use Rattle.desk_model.specs.Tables.{Tables}
-use Rattle.desk_model.specs.Touched.{Covers, EachOf, IsClosed, Kept, Named}
+use Rattle.desk_model.specs.Kept.{Covers, EachOf, IsClosed, Kept}
 use Rattle.desk_model.specs.declared.entry.Entry.{Entry}
 use Rattle.desk_model.specs.declared.entry.Entry.TheVariants.{Spent as spent, Opened as opened, ContactsChanged as contacts_changed, AccountEnded as account_ended, Ordered as ordered, Answered as answered, Reported as reported, AuthorizationEnded as authorization_ended, Finalized as finalized, Certified as certified, Failed as failed}
-use Rattle.desk_model.specs.declared.rows.AccountRow.{AccountRow}
-use Rattle.desk_model.specs.declared.rows.AuthorizationRow.{AuthorizationRow}
-use Rattle.desk_model.specs.declared.rows.OrderRow.{OrderRow}
 
 -- the rows that are read to tell whether the entry may follow are kept
 abbrev pub ReadsKept : Kept → Tables → Entry → Type 0
@@ -36,9 +33,3 @@ FreshKept k T m e =
 abbrev pub CoversAll : Kept → ℕ → Tables → List Entry → Type 0
 CoversAll k m T [] = Unit {0}
 CoversAll k m T (e ∷ es) = IsClosed k T × Covers k T e × FreshKept k T m e × CoversAll k m (effect m T e) es
-
--- the call names what the entry touches
-pub record IsNamed (c : Named) (e : Entry) : Type 0 where
-  pub account : (a : AccountRow) → touches_account e a ≡ true → c.account a ≡ true
-  pub authorization : (a : AuthorizationRow) → touches_authorization e a ≡ true → c.authorization a ≡ true
-  pub order : (o : OrderRow) → names_order e o.number ≡ true → c.order o ≡ true

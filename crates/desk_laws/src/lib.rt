@@ -1,9 +1,9 @@
 //! The laws that tie the tables of a desk to its history.
 #![tactic(auto)]
 
-ghost use Rattle.desk_laws.specs.ChangeLaws.{TablesAreOrdered, ChallengesAreOrdered, SweepKeepsChildren, EntryKeepsChildren, SweepIsMade, EffectIsMade, PicturesAreMade, SweepPutsDiffer, EntryPutsDiffer, RecordsPutNews};
+ghost use Rattle.desk_laws.specs.ChangeLaws.{TablesAreOrdered, ChallengesAreOrdered, SweepKeepsChildren, EntryKeepsChildren, SweepIsMade, EffectIsMade, PicturesAreMade, SweepPutsDiffer, EntryPutsDiffer, RecordsPutNews, RecordsKeepChildren};
 ghost use Rattle.desk_laws.specs.LegalLaws.{OnlyGivenAreNamed, ReportedOnce, ProvedByReports, KeysDiffer, NumbersFitCounters, CountersFitNumbers, TermsAreInLimits, AllEndInTime, KeysAreFormed, NamesAreFormed};
-ghost use Rattle.desk_laws.specs.PartLaws.{FindsAreLocal, FiltersAreLocal, MayFollowIsLocal, PartsAreSwept, PartsHaveEffect, PartsHaveEffects, SweepChangesAreLocal, ChangesAreLocal, PartsRecord, CallPartsAreClosed, CallPartsCoverSweeps, CallPartsCover, OneIsRecorded, NoncesAreRecorded, SignedIsRecorded};
+ghost use Rattle.desk_laws.specs.PartLaws.{FindsAreLocal, FiltersAreLocal, MayFollowIsLocal, PartsAreSwept, PartsHaveEffect, PartsHaveEffects, SweepChangesAreLocal, ChangesAreLocal, PartsRecord};
 ghost use Rattle.desk_laws.specs.TableLaws.{TablesAreSwept, EntryHasEffect, EntriesHaveEffects, PicturesGrow, TablesHaveNoFaults, TablesSayWhatMayFollow, LegalGrows};
 
 /// The tables of a history change as `swept` says by the passing of time, and as `effect` says by each entry.
@@ -25,7 +25,8 @@ pub fn rows_say_what_may_follow()
     ensures legal { LegalGrows }
 {}
 
-/// What is recorded, as changes of rows, makes the picture of the longer history, and puts no row that stands already.
+/// What is recorded, as changes of rows, makes the picture of the longer history, puts no row that stands already, and keeps
+/// the children of each row that it replaces.
 pub fn changes_make_pictures()
     ensures ordered { TablesAreOrdered }
     ensures challenges { ChallengesAreOrdered }
@@ -37,9 +38,10 @@ pub fn changes_make_pictures()
     ensures news { RecordsPutNews }
     ensures sweep_children { SweepKeepsChildren }
     ensures entry_children { EntryKeepsChildren }
+    ensures kept { RecordsKeepChildren }
 {}
 
-/// The rows that a call touches answer, move and record as the whole tables do.
+/// A part of the tables answers, moves and records as the whole, where it has what is looked for.
 pub fn parts_are_enough()
     ensures finds { FindsAreLocal }
     ensures filters { FiltersAreLocal }
@@ -50,12 +52,6 @@ pub fn parts_are_enough()
     ensures sweep_changes { SweepChangesAreLocal }
     ensures changes { ChangesAreLocal }
     ensures recorded { PartsRecord }
-    ensures closed { CallPartsAreClosed }
-    ensures covers_sweep { CallPartsCoverSweeps }
-    ensures covers { CallPartsCover }
-    ensures one { OneIsRecorded }
-    ensures nonces { NoncesAreRecorded }
-    ensures signed { SignedIsRecorded }
 {}
 
 /// What holds of every legal history, whatever was recorded.

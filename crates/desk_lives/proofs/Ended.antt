@@ -26,19 +26,15 @@ use Rattle.desk_model.specs.declared.status.OrderStatus.{OrderStatus}
 use Rattle.desk_model.specs.declared.status.OrderStatus.TheVariants as order
 use Rattle.desk_laws.proofs.AllowedFacts.{allowed}
 use Rattle.desk_laws.proofs.Basics.{each, each_all, each-map, find-append, list_any-map, list_any-same}
+use Rattle.desk_laws.proofs.MovedRows.{challenge_number, has_row-moved, one_kept}
 use Rattle.desk_laws.proofs.OrderFacts.{listed_found, order_stated}
 use Rattle.desk_laws.proofs.Recorded.{challenges_ordered}
 use Rattle.desk_laws.proofs.RowFacts.{authorization_stated}
 use Rattle.desk_laws.proofs.Step.{step, sweep}
-use Rattle.desk_lives.proofs.Finds.{found_moved}
+use Rattle.desk_laws.proofs.Finds.{found_moved}
 use Rattle.desk_lives.proofs.EndedRows.{IsStated, account_stays, authorization_stays, challenge_stays}
 use Rattle.desk_lives.proofs.EndedOrders.{order_stays}
 use Rattle.desk_lives.proofs.Extends.{begins, extends_beginning, histories_are_legal}
-
--- a row that is moved or not keeps what both have
-one_kept : {X Y : Type 0} (value : X → Y) (b : Bool) (x y : X) → value x ≡ value y → value (cond b x y) ≡ value y
-one_kept value true x y h = h
-one_kept value false x y h = refl
 
 -- ---- a challenge through its authorization
 
@@ -57,19 +53,6 @@ stands T n row h = by (owner_on T n) refl h
     by (Some a) e k = record { owner = a; owned = e; found = k }
 
 -- ---- an entry
-
--- an entry leaves the number of a challenge
-pub challenge_number : (e : Entry) (m : ℕ) (c : ChallengeRow) → (noted_challenge e m c).number ≡ c.number
-challenge_number (answered n) m c = one_kept (λ (c : ChallengeRow). c.number) (n == c.number) _ c refl
-challenge_number (reported n o) m c = one_kept (λ (c : ChallengeRow). c.number) (n == c.number) _ c refl
-challenge_number _ m c = refl
-
--- the challenges of an authorization keep their numbers
-pub has_row-moved : (n : ℕ) (e : Entry) (m : ℕ) (a : AuthorizationRow) → has_row n (moved_authorization e m a) ≡ has_row n a
-has_row-moved n e m a =
-    one_kept (has_row n) (touches_authorization e a) _ a
-    (list_any-map (λ c. n == c.number) (noted_challenge e m) a.challenges
-    ∙ list_any-same _ _ a.challenges (λ c. ap (λ k. n == k) (challenge_number e m c)))
 
 -- a challenge that has ended stands in the moved authorization
 challenge_moved : (T : Tables) (e : Entry) (m n : ℕ) (a : AuthorizationRow) (row : ChallengeRow) → may_on T e ≡ true → owner_on T n ≡ Some a →

@@ -20,7 +20,7 @@ use Rattle.desk_model.specs.Effect.{moved_order, names_order, noted_order, touch
 use Rattle.desk_model.specs.Life.{is_final_order}
 use Rattle.desk_model.specs.declared.status.OrderStatus.{OrderStatus}
 use Rattle.desk_model.specs.declared.status.OrderStatus.TheVariants as order
-use Rattle.desk_lives.proofs.Finds.{each_found}
+use Rattle.desk_laws.proofs.Finds.{each_found}
 use Rattle.desk_lives.proofs.EndedRows.{IsStated, shut}
 
 -- an order that is ready has not ended

@@ -21,7 +21,7 @@ use Rattle.desk_model.specs.declared.rows.AuthorizationRow.{AuthorizationRow}
 use Rattle.desk_model.specs.Derived.{derived_authorization, derived_order, is_proved, restated_authorization}
 use Rattle.desk_model.specs.Effect.{answered_challenge, has_row, moved_account, moved_authorization, noted_account, noted_authorization, noted_challenge, reported_challenge, row_ends}
 use Rattle.desk_model.specs.Life.{is_final_account, is_final_challenge}
-use Rattle.desk_model.specs.Touched.{EachOf}
+use Rattle.desk_model.specs.Kept.{EachOf}
 use Rattle.desk_model.specs.declared.status.AccountStatus.{AccountStatus}
 use Rattle.desk_model.specs.declared.status.AccountStatus.TheVariants as account
 use Rattle.desk_model.specs.declared.status.AuthzStatus.{AuthzStatus}
@@ -31,7 +31,7 @@ use Rattle.desk_model.specs.declared.status.ChallengeStatus.TheVariants as chall
 use Rattle.desk_laws.specs.Ordered.{Ascends}
 use Rattle.desk_laws.proofs.Basics.{each_all, earlier-some}
 use Rattle.desk_laws.proofs.RowFacts.{kept_challenges}
-use Rattle.desk_lives.proofs.Finds.{each_found, found_passes}
+use Rattle.desk_laws.proofs.Finds.{each_found, found_passes}
 use Rattle.desk_lives.proofs.Owners.{owner_found}
 
 -- each stored status is the one that its row's columns give at m, and challenges stand by number

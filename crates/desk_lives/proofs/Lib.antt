@@ -1,10 +1,9 @@
-pub mod Finds
-pub mod Names
-pub mod Sound
-pub mod SoundCalls
+pub mod Ended
+pub mod EndedOrders
+pub mod EndedRows
 pub mod Extends
+pub mod Names
 pub mod Nonces
 pub mod Owners
-pub mod EndedRows
-pub mod EndedOrders
-pub mod Ended
+pub mod Sound
+pub mod SoundCalls

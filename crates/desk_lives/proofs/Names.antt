@@ -11,7 +11,7 @@ use Rattle.desk_model.specs.Legal.{all_different, has_length, is_wanted, wanted_
 use Rattle.desk_model.specs.declared.payload.Identifier.{Identifier}
 use Rattle.desk_model.specs.Rules.{and_name, and_subproblem, fault_of, is_dns, kept, names_in, pieces, subproblems, wanted}
 use Rattle.desk_model.specs.Run.{count_tokens}
-use Rattle.desk_model.specs.Touched.{EachOf}
+use Rattle.desk_model.specs.Kept.{EachOf}
 
 -- ---- names
 

@@ -19,7 +19,7 @@ use Rattle.desk_model.specs.declared.call.Call.{Call}
 use Rattle.desk_model.specs.declared.call.Ask.{Ask}
 use Rattle.desk_model.specs.declared.call.Signed.{Signed}
 use Rattle.desk_laws.proofs.AllowedFacts.{allowed}
-use Rattle.desk_lives.proofs.Finds.{found_passes}
+use Rattle.desk_laws.proofs.Finds.{found_passes}
 use Rattle.desk_lives.proofs.Sound.{open_serial}
 use Rattle.desk_lives.proofs.Extends.{Extends, extends_record_all, extends_beginning, begins, first-extends}
 

@@ -44,7 +44,7 @@ use Rattle.desk_model.specs.declared.call.Target.TheVariants as to
 use Rattle.desk_laws.specs.Later.{IsLater}
 use Rattle.desk_laws.specs.Ordered.{IsOrdered}
 use Rattle.desk_laws.proofs.RowLists.{ascends_found}
-use Rattle.desk_lives.proofs.Finds.{each_found}
+use Rattle.desk_laws.proofs.Finds.{each_found}
 use Rattle.desk_lives.proofs.Names.{wanted_fits}
 
 -- the entry may be recorded by these tables

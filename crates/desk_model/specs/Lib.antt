@@ -1,5 +1,6 @@
 pub mod Account
 pub mod Allowed
+pub mod Asked
 pub mod Authorization
 pub mod BaseName
 pub mod Change
@@ -13,6 +14,7 @@ pub mod Entry
 pub mod History
 pub mod Json
 pub mod KeyTexts
+pub mod Kept
 pub mod Keys
 pub mod Legal
 pub mod Life

@@ -1,92 +1,91 @@
--- Some rows of the tables, chosen by their numbers, and what makes them enough for a call.
-use Rattle.std.specs.Prelude.{ℕ, ◌<◌, ◌≡◌, List, [], ◌∷◌, Bool, true, not, ◌&&◌, ◌||◌, ◌==◌, nat_lt}
+-- The rows that a call touches: what it names, what falls by the passing of time, and what hangs on these.
+use Rattle.std.specs.Prelude.{ℕ, max, ◌==◌, ◌&&◌, ◌||◌, not, nat_lt, Bool, []}
 use Rattle.std.specs.List.{filter, list_any}
-use Rattle.desk_model.specs.Entry.{Entry}
-use Rattle.desk_model.specs.Nonce.{Nonce}
-use Rattle.desk_model.specs.Tables.{AccountRow, AuthorizationRow, OrderRow, Tables}
 use Rattle.desk_model.specs.Derived.{numbers_of}
-use Rattle.desk_model.specs.Effect.{touches_account, touches_authorization, touches_order, lasts, is_overdue, is_live_order, lists_one, falls}
+use Rattle.desk_model.specs.Effect.{is_live_order, is_overdue, lasts}
+use Rattle.desk_model.specs.Tables.{Tables}
+use Rattle.desk_model.specs.declared.rows.AccountRow.{AccountRow}
+use Rattle.desk_model.specs.declared.rows.AuthorizationRow.{AuthorizationRow}
+use Rattle.desk_model.specs.declared.rows.OrderRow.{OrderRow}
+use Rattle.desk_model.specs.declared.call.Ask.{Ask}
+use Rattle.desk_model.specs.declared.call.Ask.TheVariants as ask
+use Rattle.desk_model.specs.declared.call.Call.{Call}
+use Rattle.desk_model.specs.declared.objects.Nonce.{Nonce}
+use Rattle.desk_model.specs.Asked.{carries, has_key, names_account, names_order, names_authorization, names_owner, asks_orders, asks_authorizations}
 
--- which rows are kept, by number
-pub record Kept : Type 0 where
-  pub nonces : ℕ → Bool
-  pub accounts : ℕ → Bool
-  pub authorizations : ℕ → Bool
-  pub orders : ℕ → Bool
+-- the nonce that the request carries, and each past its life
+abbrev pub is_touched_nonce : Tables → ℕ → Ask → Nonce → Bool
+is_touched_nonce T m a x = carries a x.serial || not (lasts T.meta.policy m x)
 
-abbrev pub restricted : Kept → Tables → Tables
-restricted k T =
+-- the account with the request's key, and the one that is named
+abbrev pub is_named_account : Ask → AccountRow → Bool
+is_named_account a x = has_key a x.key || names_account a x.number
+
+-- the order that is named
+abbrev pub is_named_order : Ask → OrderRow → Bool
+is_named_order a o = names_order a o.number
+
+-- the authorization that is named, or whose challenge is
+abbrev pub is_named_authorization : Ask → AuthorizationRow → Bool
+is_named_authorization a r = names_authorization a r.number || names_owner a r
+
+-- an order of one of these accounts, where the orders of an account are asked for
+abbrev pub is_own_order : Tables → Ask → OrderRow → Bool
+is_own_order T a o = asks_orders a && list_any (λ x. is_named_account a x && (o.account == x.number)) T.accounts
+
+-- an authorization of one of these accounts, where the account may end
+abbrev pub is_own_authorization : Tables → Ask → AuthorizationRow → Bool
+is_own_authorization T a r = asks_authorizations a && list_any (λ x. is_named_account a x && (r.account == x.number)) T.accounts
+
+-- an order that is not over, past its moment
+abbrev pub is_past_order : ℕ → OrderRow → Bool
+is_past_order m o = is_live_order o.status && nat_lt o.expires m
+
+-- an authorization of these rules, or one that is pending or valid, past its moment
+abbrev pub is_first_authorization : Tables → ℕ → Ask → AuthorizationRow → Bool
+is_first_authorization T m a r = is_named_authorization a r || (is_own_authorization T a r || is_overdue m r)
+
+abbrev pub lists : OrderRow → ℕ → Bool
+lists o n = list_any (λ j. j == n) (numbers_of o.listed)
+
+-- an order of these rules, or one that lists such an authorization
+abbrev pub is_touched_order : Tables → ℕ → Ask → OrderRow → Bool
+is_touched_order T m a o =
+    (is_named_order a o || (is_own_order T a o || is_past_order m o))
+    || list_any (λ r. is_first_authorization T m a r && lists o r.number) T.authorizations
+
+-- an authorization of these rules, or one that such an order lists
+abbrev pub is_touched_authorization : Tables → ℕ → Ask → AuthorizationRow → Bool
+is_touched_authorization T m a r = is_first_authorization T m a r || list_any (λ o. is_touched_order T m a o && lists o r.number) T.orders
+
+-- an account of these rules, or that of such an order or authorization
+abbrev pub is_touched_account : Tables → ℕ → Ask → AccountRow → Bool
+is_touched_account T m a x =
+    is_named_account a x
+    || (list_any (λ o. is_touched_order T m a o && (o.account == x.number)) T.orders
+    || list_any (λ r. is_touched_authorization T m a r && (r.account == x.number)) T.authorizations)
+
+-- these rows; with an authorization go its challenges, with an order the places of its authorizations
+abbrev pub touched_rows : Tables → ℕ → Ask → Tables
+touched_rows T m a =
     record {
       meta = T.meta;
-      nonces = filter (λ n. k.nonces n.serial) T.nonces;
-      accounts = filter (λ a. k.accounts a.number) T.accounts;
-      authorizations = filter (λ a. k.authorizations a.number) T.authorizations;
-      orders = filter (λ o. k.orders o.number) T.orders;
+      nonces = filter (is_touched_nonce T m a) T.nonces;
+      accounts = filter (is_touched_account T m a) T.accounts;
+      authorizations = filter (is_touched_authorization T m a) T.authorizations;
+      orders = filter (is_touched_order T m a) T.orders;
     }
 
--- what holds of each item
-abbrev pub EachOf : {X : Type 0} → (X → Type 0) → List X → Type 0
-EachOf P [] = Unit {0}
-EachOf P (x ∷ xs) = P x × EachOf P xs
+abbrev pub only_meta : Tables → Tables
+only_meta T = record { meta = T.meta; nonces = []; accounts = []; authorizations = []; orders = [] }
 
--- with an order its authorizations are kept, and new numbers are kept
-pub record IsClosed (k : Kept) (T : Tables) : Type 0 where
-  pub listed : EachOf (λ o. k.orders o.number ≡ true → EachOf (λ n. k.authorizations n ≡ true) (numbers_of o.listed)) T.orders
-  pub new_nonces : (n : ℕ) → T.meta.nonces < n → k.nonces n ≡ true
-  pub new_accounts : (n : ℕ) → T.meta.accounts < n → k.accounts n ≡ true
-  pub new_authorizations : (n : ℕ) → T.meta.authorizations < n → k.authorizations n ≡ true
-  pub new_orders : (n : ℕ) → T.meta.orders < n → k.orders n ≡ true
+-- the directory shows no row, and the work lists may show each
+abbrev pub touched_at : Tables → ℕ → Ask → Tables
+touched_at T m ask.Directory = only_meta T
+touched_at T m ask.ChallengeWork = T
+touched_at T m ask.OrderWork = T
+touched_at T m a = touched_rows T m a
 
--- what the entry touches is kept
-pub record Covers (k : Kept) (T : Tables) (e : Entry) : Type 0 where
-  pub accounts : EachOf (λ a. touches_account e a ≡ true → k.accounts a.number ≡ true) T.accounts
-  pub authorizations : EachOf (λ a. touches_authorization e a ≡ true → k.authorizations a.number ≡ true) T.authorizations
-  pub orders : EachOf (λ o. touches_order e T.authorizations o ≡ true → k.orders o.number ≡ true) T.orders
-
--- what falls by the passing of time is kept
-pub record CoversSweep (k : Kept) (T : Tables) (m : ℕ) : Type 0 where
-  pub nonces : EachOf (λ n. not (lasts T.meta.policy m n) ≡ true → k.nonces n.serial ≡ true) T.nonces
-  pub authorizations : EachOf (λ a. is_overdue m a ≡ true → k.authorizations a.number ≡ true) T.authorizations
-  pub orders : EachOf (λ o. falls m T.authorizations o ≡ true → k.orders o.number ≡ true) T.orders
-
--- ---- the rows that a call touches
-
--- what a call names, by tests on rows
-pub record Named : Type 0 where
-  pub nonce : Nonce → Bool
-  pub account : AccountRow → Bool
-  pub authorization : AuthorizationRow → Bool
-  pub order : OrderRow → Bool
-
--- the authorizations from which orders are looked for
-abbrev pub is_root : ℕ → Named → AuthorizationRow → Bool
-is_root m c a = c.authorization a || is_overdue m a
-
--- orders that are named, past their moment or list one of these authorizations
-abbrev pub is_picked : Tables → ℕ → Named → OrderRow → Bool
-is_picked T m c o = c.order o || ((is_live_order o.status && nat_lt o.expires m) || lists_one (is_root m c) T.authorizations (numbers_of o.listed))
-
-abbrev pub kept_order : Tables → ℕ → Named → ℕ → Bool
-kept_order T m c n = list_any (λ o. (o.number == n) && is_picked T m c o) T.orders || nat_lt T.meta.orders n
-
-abbrev pub kept_authorization : Tables → ℕ → Named → ℕ → Bool
-kept_authorization T m c n =
-    list_any (λ o. kept_order T m c o.number && list_any (λ j. j == n) (numbers_of o.listed)) T.orders
-    || (list_any (λ a. (a.number == n) && is_root m c a) T.authorizations
-    || nat_lt T.meta.authorizations n)
-
-abbrev pub kept_account : Tables → ℕ → Named → ℕ → Bool
-kept_account T m c n =
-    list_any (λ a. (a.number == n) && c.account a) T.accounts
-    || (list_any (λ a. (a.account == n) && kept_authorization T m c a.number) T.authorizations
-    || (list_any (λ o. (o.account == n) && kept_order T m c o.number) T.orders
-    || nat_lt T.meta.accounts n))
-
-abbrev pub kept_nonce : Tables → ℕ → Named → ℕ → Bool
-kept_nonce T m c n = list_any (λ x. (x.serial == n) && (c.nonce x || not (lasts T.meta.policy m x))) T.nonces || nat_lt T.meta.nonces n
-
-abbrev pub kept_for : Tables → ℕ → Named → Kept
-kept_for T m c = record { nonces = kept_nonce T m c; accounts = kept_account T m c; authorizations = kept_authorization T m c; orders = kept_order T m c }
-
-abbrev pub part : Tables → ℕ → Named → Tables
-part T m c = restricted (kept_for T m c) T
+-- at the moment at which the call acts
+abbrev pub touched : Tables → Call → Tables
+touched T call = touched_at T (max call.at T.meta.clock) call.ask

@@ -5,7 +5,7 @@ use Rattle.serde_json.specs.Data.{Data, string, boolean}
 use Rattle.desk_model.specs.Json.{members, list, when}
 use Rattle.desk_model.specs.Terms.{Terms}
 use Rattle.desk_model.specs.Moment.{moment_text}
-use Rattle.desk_model.specs.Touched.{EachOf}
+use Rattle.desk_model.specs.Kept.{EachOf}
 use Rattle.desk_model.specs.declared.rows.ChallengeRow.{ChallengeRow}
 use Rattle.desk_model.specs.declared.rows.AuthorizationRow.{AuthorizationRow}
 use Rattle.desk_model.specs.declared.objects.Report.{Report}

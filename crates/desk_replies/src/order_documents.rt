@@ -16,12 +16,12 @@ ghost use Rattle.desk_changes.specs.Shown.{capped, capped_order, order_with_name
 use crate::document_values::{error_value, identifier_value, list_value, moment_value, text_value};
 use crate::urls::{authorization_url, certificate_url, finalize_url, order_url};
 use desk_book::{Book, Table};
-use desk_changes::order_status;
 use desk_model::{
     AuthorizationRow, DatedProblem, DnsName, Document, Listed, OrderRow, OrderStatus, Policy,
 };
 use serde_json::{Map, Value, json, put};
 use std::alloc::{AllocError, Global};
+use swept_rows::order_status;
 
 /// The status of an order as RFC 8555 spells it.
 fn order_status_text(status: OrderStatus) -> &'static str

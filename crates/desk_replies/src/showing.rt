@@ -18,12 +18,13 @@ use crate::replies::{located_account, plain};
 use crate::urls::{authorization_url, order_url};
 use crate::work_documents::{challenge_work, order_work};
 use desk_book::Book;
-use desk_changes::{challenge_of, shown_account, shown_authorization, shown_order, shown_owner};
+use desk_changes::{shown_account, shown_authorization, shown_order, shown_owner};
 use desk_model::{
     AccountRow, AuthorizationRow, Body, ChallengeRow, DnsName, Document, Entry, OrderRow, Policy,
     Reply, Shows, Text,
 };
 use std::alloc::{AllocError, Global};
+use swept_rows::challenge_of;
 
 /// A reply with a document.
 fn json_reply(status: u16, document: Document) -> Reply

@@ -17,7 +17,6 @@ use crate::document_values::{kind_text, list_value, text_value};
 use crate::order_documents::order_names;
 use base64::engine::general_purpose::URL_SAFE_NO_PAD;
 use desk_book::Book;
-use desk_changes::{authorization_status, order_status};
 use desk_model::{
     AuthorizationRow, AuthzStatus, ChallengeRow, ChallengeStatus, DatedBytes, DnsName, Document,
     OrderRow, OrderStatus,
@@ -25,6 +24,7 @@ use desk_model::{
 use keys::expected_text;
 use serde_json::{Value, json};
 use std::alloc::{AllocError, Global};
+use swept_rows::{authorization_status, order_status};
 
 /// The key under which the challenges of an authorization are answered, empty where its account is not there.
 fn answer_key<'b>(book: &'b Book, row: &AuthorizationRow) -> &'b str

@@ -2,7 +2,7 @@
 use Rattle.std.specs.Prelude.{ℕ, ◌+◌, ◌*◌, ◌≡◌, ◌<◌, ◌≤◌, ◌^◌, ◌⊎◌, List, length, Option, Some}
 use Rattle.desk_model.specs.Authorization.{kinds_of}
 use Rattle.desk_model.specs.Run.{count_tokens, count_pieces}
-use Rattle.desk_model.specs.Touched.{EachOf}
+use Rattle.desk_model.specs.Kept.{EachOf}
 use Rattle.desk_model.specs.Decide.{entries_of}
 use Rattle.desk_model.specs.declared.rows.Meta.{Meta}
 use Rattle.desk_model.specs.declared.verdict.Verdict.{Verdict}

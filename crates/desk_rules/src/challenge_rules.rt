@@ -9,13 +9,13 @@ ghost use Rattle.desk_model.specs.Rules.{challenge_verdict, outcome_of, outcome_
 use crate::authorization_rules::is_pending;
 use crate::verdicts::{answers, records, refused};
 use desk_book::Book;
-use desk_changes::challenge_of;
 use desk_model::{
     AuthorizationRow, AuthzStatus, ChallengeChange, ChallengeRow, ChallengeStatus, Entry,
     FetchError, Finding, Kind, Outcome, Shows, Verdict,
 };
 use keys::{dns_matches, expected_text, http_matches};
 use std::alloc::{AllocError, Global};
+use swept_rows::challenge_of;
 
 /// The challenge does not wait for a report.
 const NOT_WAITING: u8 = 14;

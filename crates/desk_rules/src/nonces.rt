@@ -8,9 +8,9 @@ ghost use Rattle.desk_rules.specs.Lists.{only};
 ghost use Rattle.desk_laws.specs.Ordered.{IsOrdered};
 
 use desk_book::Book;
-use desk_changes::lasts;
 use desk_model::{Nonce, Text};
 use keys::read_nonce;
+use swept_rows::lasts;
 
 /// A nonce, unless it is past its life.
 fn if_lasting<'a>(book: &Book, moment: u64, nonce: Option<&'a Nonce>) -> Option<&'a Nonce>

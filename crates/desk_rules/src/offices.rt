@@ -13,12 +13,12 @@ use crate::authorization_rules::is_endable;
 use crate::challenge_rules::{expected, outcome_of, outcome_verdict};
 use crate::verdicts::{answers, records, refused};
 use desk_book::Book;
-use desk_changes::{authorization_at, challenge_of, order_at, owner_at};
 use desk_model::{
     AccountRow, AccountStatus, Ask, AuthorizationRow, AuthzStatus, Ending, Entry, Finding,
     OrderProblem, OrderRow, OrderStatus, Sequence, Shows, Verdict,
 };
 use std::alloc::{AllocError, Global};
+use swept_rows::{authorization_at, challenge_of, order_at, owner_at};
 
 /// What is handed in has not the form that the desk takes.
 const MALFORMED: u8 = 1;

@@ -14,12 +14,12 @@ use crate::order_rules::{certificate_verdict, finalize_verdict};
 use crate::payload::{account_change, authorization_change, challenge_change, finalize};
 use crate::verdicts::{answers, refused};
 use desk_book::Book;
-use desk_changes::{authorization_at, order_at, owner_at};
 use desk_model::{
     AccountStatus, AuthorizationRow, AuthzStatus, OrderRow, OrderStatus, Shows, Signed, Target,
     Verdict,
 };
 use std::alloc::{AllocError, Global};
+use swept_rows::{authorization_at, order_at, owner_at};
 
 /// The payload has not the form that the route reads.
 const MALFORMED: u8 = 1;

@@ -1,4 +1,5 @@
 use Rattle.desk_laws.proofs.PutsDiffer.{swept_puts_differ, puts_differ, swept_puts_keep_children, puts_keep_children}
+use Rattle.desk_laws.proofs.KeptInOrder.{records_keep}
 use Rattle.desk_laws.proofs.NewsInOrder.{records_put_news}
 use Rattle.desk_laws.proofs.Recorded.{tables_ordered, challenges_ordered, sweep_makes, changes_make, recorded}
 use Rattle.desk_laws.proofs.changes_make_pictures.Goals as goal
@@ -32,3 +33,6 @@ returns-clause-sweep_children c = swept_puts_keep_children
 
 pub returns-clause-entry_children : goal.returns-clause-entry_children
 returns-clause-entry_children c = puts_keep_children
+
+pub returns-clause-kept : goal.returns-clause-kept
+returns-clause-kept c = records_keep

@@ -1,8 +1,6 @@
 use Rattle.desk_laws.proofs.Chain.{effect_part, effects_part, part_recorded}
 use Rattle.desk_laws.proofs.Local.{swept_part, sweep_changes_local, changes_local, find_part, filter_part}
-use Rattle.desk_laws.proofs.Plain.{office_recorded, nonces_recorded, signed_recorded}
 use Rattle.desk_laws.proofs.ReadRows.{may_local}
-use Rattle.desk_laws.proofs.Touched.{part_closed, part_covers_sweep, part_covers}
 use Rattle.desk_laws.proofs.parts_are_enough.Goals as goal
 
 pub returns-clause-may_follow : goal.returns-clause-may_follow
@@ -25,24 +23,6 @@ returns-clause-changes c = changes_local
 
 pub returns-clause-recorded : goal.returns-clause-recorded
 returns-clause-recorded c = part_recorded
-
-pub returns-clause-closed : goal.returns-clause-closed
-returns-clause-closed c = part_closed
-
-pub returns-clause-covers_sweep : goal.returns-clause-covers_sweep
-returns-clause-covers_sweep c = part_covers_sweep
-
-pub returns-clause-covers : goal.returns-clause-covers
-returns-clause-covers c = part_covers
-
-pub returns-clause-one : goal.returns-clause-one
-returns-clause-one c = office_recorded
-
-pub returns-clause-nonces : goal.returns-clause-nonces
-returns-clause-nonces c = nonces_recorded
-
-pub returns-clause-signed : goal.returns-clause-signed
-returns-clause-signed c = signed_recorded
 
 pub returns-clause-finds : goal.returns-clause-finds
 returns-clause-finds c = (find_part, find_part, find_part, find_part)

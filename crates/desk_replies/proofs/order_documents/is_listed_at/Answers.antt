@@ -1,6 +1,6 @@
 use Rattle.std.proofs.Common.{◌∙◌, ap}
 use Rattle.desk_model.specs.Document.{is_listed}
-use Rattle.desk_changes.proofs.SweptRows.{swept_order-status}
+use Rattle.swept_rows.proofs.SweptRows.{swept_order-status}
 use Rattle.desk_replies.proofs.order_documents.is_listed_at.Goals as goal
 
 pub returns : goal.returns

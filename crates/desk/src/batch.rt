@@ -1,0 +1,163 @@
+//! Batches: a call a line in, a reply a line out.
+ghost use Rattle.std.specs.Prelude.{◌≤◌, MatchResult};
+ghost use Rattle.desk.specs.Said.{Says, SaysNothing, RepliesTo, DeclinesTo};
+
+use crate::desk::{Desk, DeskFault};
+use desk_model::Reply;
+use requests::{LineFault, LineRequest, read_line, reply_line};
+use std::alloc::Global;
+use std::fmt;
+use std::io::{self, BufRead, BufReader, ErrorKind, Read, Write};
+
+/// Why a line is not answered.
+#[derive(Clone, Copy, Debug, PartialEq, Eq)]
+pub enum AnswerFault {
+    /// The line is no call.
+    NotACall,
+    /// The desk declined the call.
+    Desk(DeskFault),
+    /// A growth was refused outside the desk, which is unchanged or as its answer left it.
+    Memory,
+}
+
+/// Why a batch ends before its input does.
+#[derive(Clone, Copy, Debug, PartialEq, Eq)]
+enum BatchFault {
+    Input,
+    Output,
+    /// The line of this number, from 1, is no call.
+    NotACall(u64),
+    Desk(DeskFault),
+}
+
+impl fmt::Display for BatchFault {
+    fn fmt<W: fmt::Write>(&self, f: &mut fmt::Formatter<W>) -> fmt::Result {
+        match self {
+            BatchFault::Input => write!(f, "input"),
+            BatchFault::Output => write!(f, "output"),
+            BatchFault::NotACall(number) => write!(f, "line {number}: not a call"),
+            BatchFault::Desk(fault) => write!(f, "{fault}"),
+        }
+    }
+}
+
+/// The output line for the call that a line spells, or for the refusal of its request.
+///
+/// # Errors
+///
+/// `NotACall` where the line spells none, `Desk` where the desk declines the call, `Memory` where there is no
+/// memory beside the desk's own.
+pub fn batch_line(alloc: Global, desk: &mut Desk, line: &[u8]) -> Result<Vec<u8>, AnswerFault>
+    ensures { MatchResult result
+        (λ said. Says desk.old line.now said.items desk.new)
+        (λ fault. SaysNothing desk.old line.now fault desk.new) }
+{
+    let asked = match read_line(alloc, line) {
+        Ok(asked) => asked,
+        Err(LineFault::NotACall) => return Err(AnswerFault::NotACall),
+        Err(LineFault::Memory) => return Err(AnswerFault::Memory),
+    };
+    let reply = match reply_to(desk, asked) {
+        Ok(reply) => reply,
+        Err(fault) => return Err(AnswerFault::Desk(fault)),
+    };
+    match reply_line(alloc, &reply) {
+        Ok(text) => Ok(text.into_bytes()),
+        Err(_) => Err(AnswerFault::Memory),
+    }
+}
+
+// The reply to what a line asks.
+fn reply_to(desk: &mut Desk, asked: LineRequest) -> Result<Reply, DeskFault>
+    ensures { MatchResult result
+        (λ reply. RepliesTo desk.old asked reply desk.new)
+        (λ fault. DeclinesTo desk.old asked fault desk.new) }
+{
+    match asked {
+        LineRequest::Call(call) => desk.answer(&call),
+        LineRequest::Refused(reply) => Ok(reply),
+    }
+}
+
+/// Answers the lines of a reader on a writer, each before the next is read, and gives the exit status: 0, or 1
+/// after a line on `errors` that says why the rest is not answered.
+pub fn batch<R: Read + Drop, W: Write, E: Write>(
+    alloc: Global,
+    reader: R,
+    writer: &mut W,
+    errors: &mut E,
+    desk: &mut Desk,
+) -> u8
+    ensures { result ≤ 1 }
+{
+    match answer_lines(alloc, reader, writer, desk) {
+        Ok(()) => 0,
+        Err(fault) => {
+            let _ = writeln!(errors, "desk: {fault}");
+            1
+        }
+    }
+}
+
+fn answer_lines<R: Read + Drop, W: Write>(
+    alloc: Global,
+    reader: R,
+    writer: &mut W,
+    desk: &mut Desk,
+) -> Result<(), BatchFault> {
+    let Ok(mut reader) = BufReader::new(alloc, reader) else {
+        return Err(BatchFault::Desk(DeskFault::Memory));
+    };
+    let mut line = Vec::new(alloc);
+    for number in 1..u64::MAX {
+        if !next_line(&mut reader, &mut line)? {
+            return Ok(());
+        }
+        answer_line(alloc, desk, number, line.as_slice(), writer)?;
+    }
+    Ok(())
+}
+
+// Reads the next line, without its end, and tells whether there was one.
+fn next_line<R: BufRead>(reader: &mut R, line: &mut Vec<u8>) -> Result<bool, BatchFault> {
+    line.clear();
+    match reader.read_until(b'\n', line) {
+        Ok(0) => Ok(false),
+        Ok(_) => {
+            if line.last() == Some(&b'\n') {
+                line.pop();
+            }
+            Ok(true)
+        }
+        Err(error) => Err(if error.kind() == ErrorKind::OutOfMemory {
+            BatchFault::Desk(DeskFault::Memory)
+        } else {
+            BatchFault::Input
+        }),
+    }
+}
+
+// Answers the line of this number, from 1.
+fn answer_line<W: Write>(
+    alloc: Global,
+    desk: &mut Desk,
+    number: u64,
+    line: &[u8],
+    writer: &mut W,
+) -> Result<(), BatchFault> {
+    match batch_line(alloc, desk, line) {
+        Ok(said) => match write_line(writer, said.as_slice()) {
+            Ok(()) => Ok(()),
+            Err(_) => Err(BatchFault::Output),
+        },
+        Err(AnswerFault::NotACall) => Err(BatchFault::NotACall(number)),
+        Err(AnswerFault::Desk(fault)) => Err(BatchFault::Desk(fault)),
+        Err(AnswerFault::Memory) => Err(BatchFault::Desk(DeskFault::Memory)),
+    }
+}
+
+fn write_line<W: Write>(writer: &mut W, line: &[u8]) -> io::Result<()> {
+    writer.write_all(line)?;
+    writer.write_all(b"\n")?;
+    writer.flush()
+}

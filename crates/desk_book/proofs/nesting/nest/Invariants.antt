@@ -1,9 +1,0 @@
-use Rattle.std.proofs.Common.{◌≡◌}
-use Rattle.desk_book.specs.Nesting.{nested, left_over}
-use Rattle.desk_book.proofs.nesting.nest.Given as goal
-
-abbrev pub invariant-loop-parent : goal.invariant-loop-parent
-invariant-loop-parent g l = record {
-  rows : l.rows.items ≡ nested (λ r. g.P.Row.number r) g.P.Parent.with_children l.yielded l.fn.children.items;
-  rest : l.rest.items ≡ left_over (λ r. g.P.Row.number r) l.yielded l.fn.children.items;
-}

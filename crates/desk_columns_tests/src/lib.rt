@@ -1,5 +1,0 @@
-//! Tests of reading columns.
-#![tactic(auto)]
-
-#[cfg(test)]
-mod reading_tests;

@@ -1,5 +1,0 @@
-//! Tests of decisions.
-#![tactic(auto)]
-
-#[cfg(test)]
-mod decision_tests;

@@ -1,0 +1,203 @@
+-- What a verdict's entry makes, as the reply shows it.
+use Rattle.std.proofs.Common.{◌≡◌, ℕ, ◌+◌, ◌<◌, ◌≤◌, List, [], ◌∷◌, ◌++◌, map, Option, Some, None, true, false, refl, sym, ap, subst, ◌∙◌, arith, cond}
+use Rattle.std.specs.Prelude.{◌==◌, find}
+use Rattle.std.specs.Option.{option_map}
+use Rattle.std.proofs.lemmas.Bool.{eq-eqb}
+use Rattle.desk_model.specs.Tables.{Tables}
+use Rattle.desk_model.specs.Derived.{authorization_numbered}
+use Rattle.desk_model.specs.Document.{and_row, listed_rows, rows_of}
+use Rattle.desk_model.specs.Effect.{authorizations_after, effect, moved_account, moved_authorization, moved_order, swept, swept_order}
+use Rattle.desk_model.specs.Legal.{wanted_name}
+use Rattle.desk_model.specs.Authorization.{made_for}
+use Rattle.desk_model.specs.Questions.{account_on, order_on}
+use Rattle.desk_model.specs.Kept.{EachOf}
+use Rattle.desk_model.specs.declared.entry.Entry.{Entry}
+use Rattle.desk_model.specs.declared.entry.Entry.TheVariants.{Opened as opened, Ordered as ordered}
+use Rattle.desk_model.specs.declared.entry.Wanted.{Wanted}
+use Rattle.desk_model.specs.declared.entry.Wanted.TheVariants.{New as new}
+use Rattle.desk_model.specs.declared.rows.AccountRow.{AccountRow}
+use Rattle.desk_model.specs.declared.rows.AuthorizationRow.{AuthorizationRow}
+use Rattle.desk_model.specs.declared.rows.Meta.{Meta}
+use Rattle.desk_model.specs.declared.rows.OrderRow.{OrderRow}
+use Rattle.desk_model.specs.declared.verdict.Shows.{Shows}
+use Rattle.desk_model.specs.declared.verdict.Shows.TheVariants as show
+use Rattle.desk_model.specs.declared.verdict.Verdict.{Verdict}
+use Rattle.desk_model.specs.declared.verdict.Verdict.TheVariants.{Refused as refused, Accepted as accepted}
+use Rattle.desk_laws.specs.Ordered.{Ascends, Below, IsOrdered}
+use Rattle.desk_laws.specs.LegalLaws.{last_end}
+use Rattle.desk_laws.proofs.Chain.{account_number, order_number}
+use Rattle.desk_laws.proofs.Local.{swept_order_number}
+use Rattle.desk_laws.proofs.RowLists.{ascends_above, ascends_found, none_below}
+use Rattle.desk_changes.specs.Acting.{HasTexts, IsActable, IsAt, IsShownWith, MakesNone, is_recording}
+use Rattle.desk_changes.specs.Made.{made_rows, next_account, next_order, next_rows}
+use Rattle.desk_rules.specs.Needs.{NumbersLeft}
+use Rattle.desk_changes.specs.Recorded.{recorded_changes}
+use Rattle.desk_model.specs.Change.{all_changes, sweep_changes}
+use Rattle.desk_model.specs.Decide.{entries_of}
+use Rattle.desk_changes.proofs.MadeRows.{find-after, made_ascends, numbers_placed, stood_before}
+use Rattle.desk_changes.proofs.Moving.{below_standing, ordered_one}
+use Rattle.desk_changes.proofs.ShownAfter.{order_text}
+use Rattle.swept_rows.proofs.SweptRows.{find-moved}
+
+-- what is shown of rows that move makes none
+pub shown_makes_none : (entry : Option Entry) (what : Shows) → IsShownWith entry what → MakesNone entry
+shown_makes_none None what h = tt
+shown_makes_none (Some e) (show.Account n) h = h
+shown_makes_none (Some e) (show.Order n) h = h
+shown_makes_none (Some e) (show.FinalizedOrder n) h = h
+shown_makes_none (Some e) (show.Authorization n) h = h
+shown_makes_none (Some e) (show.Challenge n) h = h
+shown_makes_none (Some e) (show.ClientChallenge n) h = h
+shown_makes_none (Some e) _ h = absurd h
+
+-- what a verdict needs and names does not hang on the count of nonces
+pub actable_at : (m : ℕ) (B : Tables) (M : Meta) (v : Verdict) → IsAt m B M → IsActable B.meta v → IsActable M v
+actable_at m B M (refused n ss) is h = tt
+actable_at m B M (accepted (Some (opened key contacts)) what) is h = h ∙ ap (λ (x : Meta). show.OpenedAccount (x.accounts + 1)) (sym is)
+actable_at m B M (accepted (Some (ordered account wanted)) what) is h = h ∙ ap (λ (x : Meta). show.MadeOrder (x.orders + 1)) (sym is)
+actable_at m B M (accepted None what) is h = h
+actable_at m B M (accepted (Some _) what) is h = h
+
+pub numbers_at : (m : ℕ) (B : Tables) (M : Meta) (v : Verdict) → IsAt m B M → NumbersLeft B.meta v → NumbersLeft M v
+numbers_at m B M v is h = subst (λ x. NumbersLeft x v) (sym is) (still v h)
+  where
+    still : (v : Verdict) → NumbersLeft B.meta v → NumbersLeft (record B.meta { clock = m; nonces = M.nonces }) v
+    still (refused n ss) h = tt
+    still (accepted None what) h = tt
+    still (accepted (Some (opened key contacts)) what) h = h
+    still (accepted (Some (ordered account wanted)) what) h = h
+    still (accepted (Some _) what) h = tt
+
+-- the meta row when a recording has begun
+pub at_begun : (m : ℕ) (B : Tables) (M : Meta) → M ≡ record B.meta { clock = m } → IsAt m B M
+at_begun m B M is = is ∙ (λ i. record B.meta { clock = m; nonces = (sym is i).nonces })
+
+-- and when a nonce was spent and one issued
+pub at_issued : (m : ℕ) (B : Tables) (begun spent issued : Meta) → begun ≡ record B.meta { clock = m } → spent ≡ begun → issued ≡ record spent { nonces = spent.nonces + 1 } → IsAt m B issued
+at_issued m B begun spent issued is same more =
+    by (more ∙ ap (λ (x : Meta). record x { nonces = x.nonces + 1 }) (same ∙ is))
+  where
+    by : issued ≡ record B.meta { clock = m; nonces = B.meta.nonces + 1 } → IsAt m B issued
+    by p = p ∙ (λ i. record B.meta { clock = m; nonces = (sym p i).nonces })
+
+-- its moment
+pub clock_at : (m last : ℕ) (B : Tables) (M : Meta) → IsAt m B M → m ≤ last → M.clock ≤ last
+clock_at m last B M is le = subst (λ (x : Meta). x.clock ≤ last) (sym is) le
+
+-- ---- an account that is opened
+
+-- the accounts that stood have not its number
+account_after : (m : ℕ) (B : Tables) (key : List ℕ) (contacts : List (List ℕ)) → IsOrdered B →
+    account_on (effect m (swept m B) (opened key contacts)) (B.meta.accounts + 1) ≡ Some (next_account (record B.meta { clock = m }) key contacts)
+account_after m B key contacts is =
+    find-after (λ a. a.number == B.meta.accounts + 1) (map (moved_account (opened key contacts) m) B.accounts) (fresh ∷ [])
+    (find-moved (λ a. a.number == B.meta.accounts + 1) (moved_account (opened key contacts) m) B.accounts (λ a. ap (λ k. k == B.meta.accounts + 1) (account_number (opened key contacts) m a))
+    ∙ ap (option_map (moved_account (opened key contacts) m)) (none_below (λ a. a.number) (B.meta.accounts + 1) (B.meta.accounts + 1) B.accounts (omega arith) is.accounts.1))
+    ∙ ap (λ b. cond b (Some fresh) None) (eq-eqb (B.meta.accounts + 1) (B.meta.accounts + 1) refl)
+  where
+    fresh : AccountRow
+    fresh = next_account (record B.meta { clock = m }) key contacts
+
+-- it is found by its number
+pub opened_found : (m : ℕ) (B : Tables) (M : Meta) (key : List ℕ) (contacts : List (List ℕ)) → IsAt m B M → IsOrdered B →
+    account_on (effect m (swept m B) (opened key contacts)) (M.accounts + 1) ≡ Some (next_account M key contacts)
+opened_found m B M key contacts at is =
+    ap (λ (x : Meta). account_on (effect m (swept m B) (opened key contacts)) (x.accounts + 1)) at
+    ∙ account_after m B key contacts is
+    ∙ ap (λ x. Some (next_account x key contacts)) (sym at)
+
+-- ---- an order that is made
+
+-- it is found by its number
+order_after : (m : ℕ) (B : Tables) (account : ℕ) (wanted : List Wanted) → IsOrdered B →
+    order_on (effect m (swept m B) (ordered account wanted)) (B.meta.orders + 1) ≡ Some (next_order (record B.meta { clock = m }) account wanted)
+order_after m B account wanted is =
+    find-after (λ o. o.number == B.meta.orders + 1) stood _
+    (find-moved (λ o. o.number == B.meta.orders + 1) (moved_order e m S.authorizations (authorizations_after S e m)) S.orders
+    (λ o. ap (λ k. k == B.meta.orders + 1) (order_number e m S.authorizations (authorizations_after S e m) o))
+    ∙ ap (option_map (moved_order e m S.authorizations (authorizations_after S e m)))
+    (find-moved (λ o. o.number == B.meta.orders + 1) (swept_order m B.authorizations) B.orders (λ o. ap (λ k. k == B.meta.orders + 1) (swept_order_number m B.authorizations o))
+    ∙ ap (option_map (swept_order m B.authorizations)) (none_below (λ o. o.number) (B.meta.orders + 1) (B.meta.orders + 1) B.orders (omega arith) is.orders.1)))
+    ∙ ap (find (λ o. o.number == B.meta.orders + 1)) (ordered_one m S account wanted (below_standing m (B.meta.authorizations + 1) B.authorizations is.authorizations.1))
+    ∙ ap (λ b. cond b (Some (next_order (record B.meta { clock = m }) account wanted)) None) (eq-eqb (B.meta.orders + 1) (B.meta.orders + 1) refl)
+  where
+    e : Entry
+    e = ordered account wanted
+
+    S : Tables
+    S = swept m B
+
+    stood : List OrderRow
+    stood = map (moved_order e m S.authorizations (authorizations_after S e m)) S.orders
+
+pub ordered_found : (m : ℕ) (B : Tables) (M : Meta) (account : ℕ) (wanted : List Wanted) → IsAt m B M → IsOrdered B →
+    order_on (effect m (swept m B) (ordered account wanted)) (M.orders + 1) ≡ Some (next_order M account wanted)
+ordered_found m B M account wanted at is =
+    ap (λ (x : Meta). order_on (effect m (swept m B) (ordered account wanted)) (x.orders + 1)) at
+    ∙ order_after m B account wanted is
+    ∙ ap (λ x. Some (next_order x account wanted)) (sym at)
+
+-- rows that are found by their numbers are those that an order lists
+rows_found : (all rows : List AuthorizationRow) → EachOf (λ r. authorization_numbered r.number all ≡ Some r) rows → rows_of all (map (λ r. r.number) rows) ≡ rows
+rows_found all [] h = refl
+rows_found all (r ∷ rows) h = λ i. and_row (h.0 i) (rows_found all rows h.1 i)
+
+-- new rows are found among all
+made_found : (T : Tables) (m account : ℕ) (wanted : List Wanted) → Below (λ a. a.number) (T.meta.authorizations + 1) T.authorizations →
+    (all rows : List AuthorizationRow) → EachOf (λ r. T.meta.authorizations < r.number) rows → EachOf (λ r. authorization_numbered r.number all ≡ Some r) rows →
+    EachOf (λ r. authorization_numbered r.number (map (moved_authorization (ordered account wanted) m) T.authorizations ++ all) ≡ Some r) rows
+made_found T m account wanted below all [] h k = tt
+made_found T m account wanted below all (r ∷ rows) h k = (
+  find-after (λ a. a.number == r.number) (map (moved_authorization (ordered account wanted) m) T.authorizations) all
+      (stood_before T m account r.number wanted below (let lt : T.meta.authorizations < r.number = h.0 in omega arith)) ∙ k.0,
+  made_found T m account wanted below all rows h.1 k.1,
+)
+
+-- the names of new authorizations are those that are wanted
+made_names : (m account expires : ℕ) (wanted : List Wanted) (n c : ℕ) → map (λ r. r.name) (made_rows m (made_for account m expires wanted n c)) ≡ map wanted_name wanted
+made_names m account expires [] n c = refl
+made_names m account expires (new name tokens ∷ wanted) n c = ap (λ l. name ∷ l) (made_names m account expires wanted (n + 1) _)
+
+-- so the new order names them
+names_after : (m : ℕ) (B : Tables) (account : ℕ) (wanted : List Wanted) → IsOrdered B →
+    map (λ a. a.name) (listed_rows (effect m (swept m B) (ordered account wanted)) (next_order (record B.meta { clock = m }) account wanted)) ≡ map wanted_name wanted
+names_after m B account wanted is =
+    ap (λ ns. map (λ a. a.name) (rows_of (effect m (swept m B) (ordered account wanted)).authorizations ns)) (numbers_placed 1 rows)
+    ∙ ap (map (λ a. a.name)) (rows_found (effect m (swept m B) (ordered account wanted)).authorizations rows
+    (made_found (swept m B) m account wanted (below_standing m (B.meta.authorizations + 1) B.authorizations is.authorizations.1) rows rows
+    (ascends_above (λ r. r.number) B.meta.authorizations (B.meta.authorizations + 1) rows (omega arith) up)
+    (ascends_found (λ r. r.number) (B.meta.authorizations + 1) rows up)))
+    ∙ made_names m account (m + B.meta.policy.authz_life) wanted (B.meta.authorizations + 1) (B.meta.challenges + 1)
+  where
+    rows : List AuthorizationRow
+    rows = next_rows (record B.meta { clock = m }) account wanted
+
+    up : Ascends (λ r. r.number) (B.meta.authorizations + 1) (next_rows (record B.meta { clock = m }) account wanted)
+    up = made_ascends m account B.meta.policy.authz_life wanted (B.meta.authorizations + 1) (B.meta.challenges + 1)
+
+pub ordered_names : (m : ℕ) (B : Tables) (M : Meta) (account : ℕ) (wanted : List Wanted) → IsAt m B M → IsOrdered B →
+    map (λ a. a.name) (listed_rows (effect m (swept m B) (ordered account wanted)) (next_order M account wanted)) ≡ map wanted_name wanted
+ordered_names m B M account wanted at is =
+    ap (λ x. map (λ a. a.name) (listed_rows (effect m (swept m B) (ordered account wanted)) (next_order x account wanted))) at
+    ∙ names_after m B account wanted is
+
+-- its moment has a text
+pub ordered_text : (m : ℕ) (B : Tables) (M : Meta) (account : ℕ) (wanted : List Wanted) → IsAt m B M → IsOrdered B →
+    HasTexts (effect m (swept m B) (ordered account wanted)) → (next_order M account wanted).expires ≤ last_end
+ordered_text m B M account wanted at is texts =
+    order_text (effect m (swept m B) (ordered account wanted)) (M.orders + 1) _ (next_order M account wanted) texts (ordered_found m B M account wanted at is) refl
+
+-- ---- verdicts with and without an entry
+
+-- a verdict without an entry records nothing
+pub no_entries : (v : Verdict) → is_recording v ≡ false → entries_of v ≡ []
+no_entries (refused n ss) none = refl
+no_entries (accepted None what) none = refl
+no_entries (accepted (Some e) what) none = cc
+
+-- one with an entry records it after the passing of time
+pub one_entry : (m : ℕ) (B : Tables) (v : Verdict) → is_recording v ≡ true →
+    sweep_changes m B ++ all_changes m (swept m B) (entries_of v) ≡ recorded_changes m B (entries_of v)
+one_entry m B (refused n ss) is = cc
+one_entry m B (accepted None what) is = cc
+one_entry m B (accepted (Some e) what) is = refl

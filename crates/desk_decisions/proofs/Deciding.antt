@@ -1,0 +1,188 @@
+-- From what the code answers by rows to what is promised against histories.
+use Rattle.std.proofs.Common.{◌≡◌, ℕ, ◌+◌, ◌*◌, ◌<◌, ◌≤◌, ◌^◌, true, false, not, List, [], ◌∷◌, length, Some, None, sym, ap, subst, ◌∙◌, arith, length-append, append-nil, cond}
+use Rattle.std.specs.Prelude.{nat_lt, IsTrue}
+use Rattle.desk_model.specs.Entry.{History}
+use Rattle.desk_model.specs.History.{clock, moment_of, record_all}
+use Rattle.desk_model.specs.Legal.{Legal, EachFollows, numbers_fit, last_moment}
+use Rattle.desk_model.specs.Nonce.{nonces}
+use Rattle.desk_model.specs.Account.{accounts}
+use Rattle.desk_model.specs.Order.{orders}
+use Rattle.desk_model.specs.Authorization.{authorizations, count_challenges}
+use Rattle.desk_model.specs.Tables.{Tables, picture, tables_at}
+use Rattle.desk_model.specs.Kept.{EachOf}
+use Rattle.desk_model.specs.Change.{applied}
+use Rattle.desk_model.specs.Decide.{decide, after, tables_after}
+use Rattle.desk_model.specs.Effect.{effects, swept}
+use Rattle.desk_model.specs.Run.{fault, count_pieces, IsFormedCall}
+use Rattle.desk_model.specs.declared.call.Call.{Call}
+use Rattle.desk_model.specs.declared.reply.Reply.{Reply}
+use Rattle.desk_model.specs.declared.rows.Change.{Change}
+use Rattle.desk_model.specs.declared.rows.Meta.{Meta}
+use Rattle.desk_model.specs.declared.entry.Entry.{Entry}
+use Rattle.desk_model.specs.declared.entry.Entry.TheVariants.{Issued as issued, Spent as spent, Opened as opened, Ordered as ordered}
+use Rattle.desk_model.specs.declared.verdict.Verdict.{Verdict}
+use Rattle.desk_model.specs.declared.verdict.Verdict.TheVariants.{Refused as refused, Accepted as accepted}
+use Rattle.desk_laws.specs.News.{AreNews}
+use Rattle.desk_laws.specs.News.{AreKept}
+use Rattle.desk_laws.proofs.KeptInOrder.{records_keep}
+use Rattle.desk_laws.proofs.NewsInOrder.{records_put_news}
+use Rattle.desk_laws.proofs.Recorded.{recorded}
+use Rattle.desk_laws.proofs.Step.{steps, sweep}
+use Rattle.desk_laws.proofs.Keeps.{counters_fit, numbers_fit_counters}
+use Rattle.desk_laws.specs.LegalLaws.{CountersFit, last_end}
+use Rattle.desk_lives.proofs.SoundCalls.{moment_later, call_follows, legal_by_numbers}
+use Rattle.desk_changes.specs.Acting.{HasTexts, IsActable}
+use Rattle.desk_changes.specs.Recorded.{recorded_changes}
+use Rattle.desk_decisions.specs.Decided.{IsDecision}
+use Rattle.desk_rules.specs.Needs.{NumbersLeft, NumbersSpent}
+use Rattle.desk_decisions.specs.SameRows.{SameRows}
+use Rattle.desk_changes.specs.Shown.{HasMoments}
+use Rattle.std.proofs.lemmas.Bool.Decides.{nat_tests}
+
+pub not_less : (a b : ℕ) → b ≤ a → nat_lt a b ≡ false
+not_less a b h = grind (arith, nat_tests)
+
+pub less : (a b : ℕ) → a < b → nat_lt a b ≡ true
+less a b h = grind (arith, nat_tests)
+
+-- no fault, from its three tests
+pub faultless : (F : History) (call : Call) → call.at ≤ last_moment → IsTrue (numbers_fit (after F call)) → 16 * count_pieces (decide F call).entries ≤ length call.random →
+    fault F call ≡ None
+faultless F call at fits enough =
+    λ i. cond (not_less last_moment call.at at i) (Some 24)
+    (cond (not (fits i)) (Some 26)
+    (cond (not_less (length call.random) (16 * count_pieces (decide F call).entries) enough i) (Some 25) None))
+
+-- ---- numbers
+
+pub counters : (F : History) → Legal F → CountersFit (picture F).meta
+counters F legal = counters_fit F legal.numbered (clock F)
+
+pub fitting : (F : History) → CountersFit (picture F).meta → IsTrue (numbers_fit F)
+fitting F h = numbers_fit_counters F (clock F) h
+
+-- the numbers after some entries
+pub fits_issued : (F : History) (m : ℕ) (r : List ℕ) → CountersFit (picture F).meta → length (nonces F) < 2 ^ 62 → CountersFit (picture (record { date = m; entry = issued r } ∷ F)).meta
+fits_issued F m r h lt =
+    record {
+      nonces = omega (arith, length-append (nonces F) (record { serial = length (nonces F) + 1; random = r; issued = m } ∷ []));
+      accounts = let le : length (accounts F) ≤ 2 ^ 62 = h.accounts in omega (arith, length-append (accounts F) []);
+      orders = let le : length (orders F) ≤ 2 ^ 62 = h.orders in omega (arith, length-append (orders F) []);
+      authorizations = let le : length (authorizations F) ≤ 2 ^ 62 = h.authorizations in omega (arith, length-append (authorizations F) []);
+      challenges = subst (λ l. count_challenges l ≤ 2 ^ 62) (sym (append-nil (authorizations F))) h.challenges;
+    }
+
+fits_spent : (F : History) (m n : ℕ) → CountersFit (picture F).meta → CountersFit (picture (record { date = m; entry = spent n } ∷ F)).meta
+fits_spent F m n h =
+    record {
+      nonces = let le : length (nonces F) ≤ 2 ^ 62 = h.nonces in omega (arith, length-append (nonces F) []);
+      accounts = let le : length (accounts F) ≤ 2 ^ 62 = h.accounts in omega (arith, length-append (accounts F) []);
+      orders = let le : length (orders F) ≤ 2 ^ 62 = h.orders in omega (arith, length-append (orders F) []);
+      authorizations = let le : length (authorizations F) ≤ 2 ^ 62 = h.authorizations in omega (arith, length-append (authorizations F) []);
+      challenges = subst (λ l. count_challenges l ≤ 2 ^ 62) (sym (append-nil (authorizations F))) h.challenges;
+    }
+
+nonces_stay : (F : History) (m n : ℕ) → length (nonces (record { date = m; entry = spent n } ∷ F)) ≡ length (nonces F)
+nonces_stay F m n = omega (arith, length-append (nonces F) [])
+
+-- the numbers after a nonce was spent and one issued
+pub fits_nonces : (F : History) (m n : ℕ) (r : List ℕ) → CountersFit (picture F).meta → length (nonces F) < 2 ^ 62 →
+    CountersFit (picture (record_all m (spent n ∷ issued r ∷ []) F)).meta
+fits_nonces F m n r h lt = fits_issued (record { date = m; entry = spent n } ∷ F) m r (fits_spent F m n h) (omega (arith, nonces_stay F m n))
+
+-- what a verdict needs does not hang on the count of nonces
+pub left_same : (M N : Meta) (v : Verdict) → M.accounts ≡ N.accounts → M.orders ≡ N.orders → M.authorizations ≡ N.authorizations → M.challenges ≡ N.challenges →
+    NumbersLeft N v → NumbersLeft M v
+left_same M N v a o z c h =
+    subst (λ (K : Meta). NumbersLeft K v) (λ i. record M { accounts = sym a i; orders = sym o i; authorizations = sym z i; challenges = sym c i }) (still v h)
+  where
+    still : (v : Verdict) → NumbersLeft N v → NumbersLeft (record M { accounts = N.accounts; orders = N.orders; authorizations = N.authorizations; challenges = N.challenges }) v
+    still (refused n ss) h = tt
+    still (accepted None what) h = tt
+    still (accepted (Some (opened key contacts)) what) h = h
+    still (accepted (Some (ordered account wanted)) what) h = h
+    still (accepted (Some _) what) h = tt
+
+pub spent_same : (M N : Meta) (v : Verdict) → M.accounts ≡ N.accounts → M.orders ≡ N.orders → M.authorizations ≡ N.authorizations → M.challenges ≡ N.challenges →
+    NumbersSpent N v → NumbersSpent M v
+spent_same M N v a o z c h =
+    subst (λ (K : Meta). NumbersSpent K v) (λ i. record M { accounts = sym a i; orders = sym o i; authorizations = sym z i; challenges = sym c i }) (still v h)
+  where
+    still : (v : Verdict) → NumbersSpent N v → NumbersSpent (record M { accounts = N.accounts; orders = N.orders; authorizations = N.authorizations; challenges = N.challenges }) v
+    still (refused n ss) h = absurd h
+    still (accepted None what) h = absurd h
+    still (accepted (Some (opened key contacts)) what) h = h
+    still (accepted (Some (ordered account wanted)) what) h = h
+    still (accepted (Some _) what) h = absurd h
+
+-- nor what it names
+pub actable_from : (m : ℕ) (B : Tables) (v : Verdict) → IsActable (record B.meta { clock = m }) v → IsActable B.meta v
+actable_from m B (refused n ss) h = tt
+actable_from m B (accepted None what) h = h
+actable_from m B (accepted (Some (opened key contacts)) what) h = h
+actable_from m B (accepted (Some (ordered account wanted)) what) h = h
+actable_from m B (accepted (Some _) what) h = h
+
+-- ---- tables
+
+-- the tables at a moment and those after some entries, by the picture
+pub now_is : (F : History) (call : Call) → tables_at F (moment_of call.at F) ≡ swept (moment_of call.at F) (picture F)
+now_is F call = sweep F (clock F) (moment_of call.at F) (moment_later F call)
+
+pub after_is : (F : History) (call : Call) (es : List Entry) → EachFollows (record_all (moment_of call.at F) es F) →
+    tables_after (moment_of call.at F) es F ≡ effects (moment_of call.at F) (swept (moment_of call.at F) (picture F)) es
+after_is F call es follows = steps F es (moment_of call.at F) follows ∙ ap (λ T. effects (moment_of call.at F) T es) (now_is F call)
+
+-- moments that have texts in some rows have them in the same rows
+pub texts_same : (T U : Tables) → SameRows T U → HasTexts T → HasTexts U
+texts_same T U same texts =
+    record {
+      authorizations = subst (EachOf HasMoments) same.authorizations texts.authorizations;
+      orders = subst (EachOf (λ o. o.expires ≤ last_end)) same.orders texts.orders;
+    }
+
+-- ---- decisions
+
+-- a decision that records these entries
+pub decides : (F : History) (call : Call) (e : Entry) (es : List Entry) (changes : List Change) (reply : Reply) → Legal F → IsFormedCall call → call.at ≤ last_moment →
+    (decide F call).entries ≡ e ∷ es → IsTrue (numbers_fit (record_all (moment_of call.at F) (e ∷ es) F)) → 16 * count_pieces (e ∷ es) ≤ length call.random →
+    changes ≡ recorded_changes (moment_of call.at F) (picture F) (e ∷ es) →
+    (EachFollows (record_all (moment_of call.at F) (e ∷ es) F) → reply ≡ (decide F call).reply) →
+    IsDecision F call changes reply
+decides F call e es changes reply legal formed at is fits enough made replies =
+    let grown : record_all (moment_of call.at F) (e ∷ es) F ≡ after F call = ap (λ l. record_all (moment_of call.at F) l F) (sym is) in
+    let numbers : IsTrue (numbers_fit (after F call)) = subst (λ G. IsTrue (numbers_fit G)) grown fits in
+    let bytes : 16 * count_pieces (decide F call).entries ≤ length call.random = subst (λ l. 16 * count_pieces l ≤ length call.random) (sym is) enough in
+    let follows : EachFollows (after F call) = call_follows F call legal formed at bytes in
+    let makes : applied changes (picture F) ≡ picture (after F call) =
+    ap (λ cs. applied cs (picture F)) made
+    ∙ recorded F e es (moment_of call.at F) (moment_later F call) (subst EachFollows (sym grown) follows)
+    ∙ ap picture grown in
+    record {
+      faultless = faultless F call at numbers bytes;
+      replies = replies (subst EachFollows (sym grown) follows);
+      news =
+          subst (AreNews (picture F)) (sym made)
+          (records_put_news F e es (moment_of call.at F) (moment_later F call) (subst EachFollows (sym grown) follows));
+      kept =
+          subst (AreKept (picture F)) (sym made)
+          (records_keep F e es (moment_of call.at F) (moment_later F call) (subst EachFollows (sym grown) follows));
+      makes = makes;
+      stays_legal = legal_by_numbers F call legal follows numbers;
+    }
+
+-- a decision that records nothing
+pub decides_none : (F : History) (call : Call) (changes : List Change) (reply : Reply) → Legal F → call.at ≤ last_moment →
+    (decide F call).entries ≡ [] → changes ≡ [] → reply ≡ (decide F call).reply → IsDecision F call changes reply
+decides_none F call changes reply legal at is none said =
+    let same : F ≡ after F call = ap (λ l. record_all (moment_of call.at F) l F) (sym is) in
+    record {
+      faultless =
+          faultless F call at (subst (λ G. IsTrue (numbers_fit G)) same legal.numbered)
+          (subst (λ l. 16 * count_pieces l ≤ length call.random) (sym is) (omega arith));
+      replies = said;
+      news = subst (AreNews (picture F)) (sym none) tt;
+      kept = subst (AreKept (picture F)) (sym none) tt;
+      makes = ap (λ cs. applied cs (picture F)) none ∙ ap picture same;
+      stays_legal = subst Legal same legal;
+    }

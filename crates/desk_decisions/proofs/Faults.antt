@@ -1,0 +1,32 @@
+-- The faults of calls, from those of their parts.
+use Rattle.std.proofs.Common.{◌≡◌, ℕ, ◌<◌, ◌≤◌, ◌^◌, List, length, inl, inr, arith}
+use Rattle.desk_model.specs.Tables.{Tables}
+use Rattle.desk_model.specs.Decide.{entries_of}
+use Rattle.desk_model.specs.Run.{count_pieces}
+use Rattle.desk_model.specs.declared.verdict.Verdict.{Verdict}
+use Rattle.desk_rules.specs.Needs.{IsNeedFault, NumbersLeft}
+use Rattle.desk_decisions.specs.Outcomes.{IsPassedFault, IsShort}
+use Rattle.desk_rules.specs.declared.fault.CoreFault.{CoreFault}
+use Rattle.desk_rules.specs.declared.fault.CoreFault.TheVariants as fault
+
+-- a fault of the verdict is one of the request
+pub need_fault : (B : Tables) (random : List ℕ) (v : Verdict) (e : CoreFault) → B.meta.nonces < 2 ^ 62 → IsNeedFault B.meta random v e → IsPassedFault B random v e
+need_fault B random v fault.Memory left h = tt
+need_fault B random v fault.Full left h = inl h
+need_fault B random v fault.ShortRandom left h = (left, h.0, h.1)
+need_fault B random v fault.Moment left h = absurd h
+
+-- so is want of bytes for the fresh nonce
+pub short_fault : (B : Tables) (random : List ℕ) (v : Verdict) (e : CoreFault) → B.meta.nonces < 2 ^ 62 → NumbersLeft B.meta v → IsShort random e → IsPassedFault B random v e
+short_fault B random v fault.Memory left numbers h = tt
+short_fault B random v fault.Full left numbers h = absurd h
+short_fault B random v fault.ShortRandom left numbers h =
+    (left, numbers, (let short : length random < 16 = h in let k : ℕ = count_pieces (entries_of v) in omega arith))
+short_fault B random v fault.Moment left numbers h = absurd h
+
+-- and want of numbers for it
+pub full_fault : (B : Tables) (random : List ℕ) (v : Verdict) (e : CoreFault) → e ≡ fault.Full → 2 ^ 62 ≤ B.meta.nonces → IsPassedFault B random v e
+full_fault B random v fault.Memory is h = tt
+full_fault B random v fault.Full is h = inr h
+full_fault B random v fault.ShortRandom is h = cc
+full_fault B random v fault.Moment is h = cc

@@ -1,0 +1,13 @@
+pub mod Actable
+pub mod ActingRows
+pub mod Deciding
+pub mod DecidingAsks
+pub mod DecidingFaults
+pub mod Faults
+pub mod NumbersAfter
+pub mod QuietRows
+pub mod SameReplies
+pub mod SameVerdicts
+pub mod Spaced
+pub mod Texts
+pub mod Parts

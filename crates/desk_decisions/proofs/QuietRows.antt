@@ -1,0 +1,38 @@
+-- The rows of a history after a nonce was spent and one issued: what they were.
+use Rattle.std.proofs.Common.{◌≡◌, ℕ, ◌+◌, List, [], ◌∷◌, ◌++◌, length, map, unwrap_or, refl, ap, ◌∙◌, append-nil, length-append}
+use Rattle.desk_model.specs.Entry.{History}
+use Rattle.desk_model.specs.History.{latest, record_all}
+use Rattle.desk_model.specs.Nonce.{nonces}
+use Rattle.desk_model.specs.Account.{accounts, changing}
+use Rattle.desk_model.specs.Authorization.{authorizations, count_challenges}
+use Rattle.desk_model.specs.Order.{orders}
+use Rattle.desk_model.specs.Tables.{account_row, authorization_row, order_row, tables_at}
+use Rattle.desk_model.specs.declared.entry.Entry.TheVariants.{Issued as issued, Spent as spent}
+use Rattle.desk_laws.proofs.Basics.{none_earlier}
+use Rattle.desk_decisions.specs.SameRows.{SameRows}
+
+-- nothing added twice
+twice_nil : {X : Type 0} (xs : List X) → (xs ++ []) ++ [] ≡ xs
+twice_nil xs = append-nil (xs ++ []) ∙ append-nil xs
+
+-- a nonce spent and one issued leave each row but the nonces'
+pub nonce_rows : (F : History) (m serial : ℕ) (r : List ℕ) → SameRows (tables_at (record_all m (spent serial ∷ issued r ∷ []) F) m) (tables_at F m)
+nonce_rows F m serial r =
+    record {
+      accounts =
+          λ i. map (λ a. record (account_row F a) {
+            contacts = unwrap_or (none_earlier (none_earlier (latest (λ d. changing a.number d.entry) F) i) i) a.contacts;
+          }) (twice_nil (accounts F) i);
+      authorizations = ap (map (authorization_row F m)) (twice_nil (authorizations F));
+      orders = ap (map (order_row F m)) (twice_nil (orders F));
+      policy = refl;
+      clock = refl;
+      last_accounts = ap length (twice_nil (accounts F));
+      last_orders = ap length (twice_nil (orders F));
+      last_authorizations = ap length (twice_nil (authorizations F));
+      last_challenges = ap count_challenges (twice_nil (authorizations F));
+    }
+
+-- and one nonce more is counted
+pub nonces_more : (F : History) (m serial : ℕ) (r : List ℕ) → length (nonces (record_all m (spent serial ∷ issued r ∷ []) F)) ≡ length (nonces F) + 1
+nonces_more F m serial r = length-append (nonces F ++ []) _ ∙ ap (λ l. length l + 1) (append-nil (nonces F))

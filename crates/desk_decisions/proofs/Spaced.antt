@@ -1,0 +1,250 @@
+-- The tokens that verdicts take: one for each challenge of a new order, and none else.
+use Rattle.std.proofs.Common.{◌≡◌, ◌≤◌, ◌+◌, ◌*◌, ℕ, length, List, [], ◌∷◌, Bool, true, false, not, drop, Option, Some, None, Result, Ok, Err, refl}
+use Rattle.std.specs.Prelude.{nat_le}
+use Rattle.desk_model.specs.Account.{is_valid as is_valid_account}
+use Rattle.desk_model.specs.Authorization.{kinds_of}
+use Rattle.desk_model.specs.Contact.{contacts_fault}
+use Rattle.desk_model.specs.Decide.{entries_of}
+use Rattle.desk_model.specs.Legal.{has_length, is_pending_challenge, is_problem, is_processing_challenge}
+use Rattle.desk_model.specs.Name.{Name}
+use Rattle.desk_model.specs.Order.{is_processing, is_ready}
+use Rattle.desk_model.specs.Questions.{account_with_key}
+use Rattle.desk_model.specs.Run.{count_pieces}
+use Rattle.desk_model.specs.Tables.{Tables}
+use Rattle.desk_model.specs.Kept.{EachOf}
+use Rattle.desk_model.specs.Verdict.{check, given, unless_fault, choose}
+use Rattle.desk_model.specs.Rules.{open_account, new_account_verdict, account_verdict, kept, names_in, wanted, order_of, new_order_verdict, subproblems, csr_in, finalize_verdict, is_endable, authorization_verdict, stands_open, challenge_verdict, target_verdict, holder_verdict, key_verdict, signed_verdict, outcome_verdict, report_verdict, certify_verdict, fail_verdict, revoke_authorization, revoke_account, office_verdict}
+use Rattle.desk_model.specs.declared.call.Ask.{Ask}
+use Rattle.desk_model.specs.declared.call.Ask.TheVariants as ask
+use Rattle.desk_model.specs.declared.call.BadKey.{BadKey}
+use Rattle.desk_model.specs.declared.call.Finding.{Finding}
+use Rattle.desk_model.specs.declared.call.OrderProblem.{OrderProblem}
+use Rattle.desk_model.specs.declared.call.Signed.{Signed}
+use Rattle.desk_model.specs.declared.call.Target.{Target}
+use Rattle.desk_model.specs.declared.call.Target.TheVariants as to
+use Rattle.desk_model.specs.declared.entry.Entry.TheVariants.{Made as made, Issued as issued, Spent as spent, Opened as opened, Ordered as ordered}
+use Rattle.desk_model.specs.declared.entry.Outcome.{Outcome}
+use Rattle.desk_model.specs.declared.payload.AccountChange.{AccountChange}
+use Rattle.desk_model.specs.declared.payload.AccountChange.TheVariants as change
+use Rattle.desk_model.specs.declared.payload.AuthorizationChange.{AuthorizationChange}
+use Rattle.desk_model.specs.declared.payload.AuthorizationChange.TheVariants as authz_change
+use Rattle.desk_model.specs.declared.payload.ChallengeChange.{ChallengeChange}
+use Rattle.desk_model.specs.declared.payload.ChallengeChange.TheVariants as chall_change
+use Rattle.desk_model.specs.declared.payload.Identifier.{Identifier}
+use Rattle.desk_model.specs.declared.payload.NewAccount.{NewAccount}
+use Rattle.desk_model.specs.declared.reply.Subproblem.{Subproblem}
+use Rattle.desk_model.specs.declared.rows.AccountRow.{AccountRow}
+use Rattle.desk_model.specs.declared.rows.AuthorizationRow.{AuthorizationRow}
+use Rattle.desk_model.specs.declared.rows.ChallengeRow.{ChallengeRow}
+use Rattle.desk_model.specs.declared.rows.Meta.{Meta}
+use Rattle.desk_model.specs.declared.rows.OrderRow.{OrderRow}
+use Rattle.desk_model.specs.declared.verdict.Verdict.{Verdict}
+use Rattle.desk_model.specs.declared.verdict.Verdict.TheVariants.{Refused as refused, Accepted as accepted}
+use Rattle.desk_changes.specs.Acting.{MakesNone}
+use Rattle.desk_rules.specs.Needs.{HasTokens, IsSpaced, NumbersLeft, BytesLeft}
+use Rattle.desk_rules.proofs.NamesWanted.{length-pieces}
+
+-- ---- steps of verdicts
+
+-- what holds of a refusal and of what comes after a test
+check_keeps : (P : Verdict → Type 0) (b : Bool) (n : ℕ) (v : Verdict) → P (refused n []) → P v → P (check b n v)
+unfolding check
+check_keeps P true n v r h = h
+check_keeps P false n v r h = r
+
+-- of what comes after a value that is there
+given_keeps : {X : Type 0} (P : Verdict → Type 0) (o : Option X) (n : ℕ) (f : X → Verdict) → P (refused n []) → ((x : X) → P (f x)) → P (given o n f)
+unfolding given
+given_keeps P None n f r h = r
+given_keeps P (Some x) n f r h = h x
+
+-- of what comes after a fault that is not there
+fault_keeps : (P : Verdict → Type 0) (o : Option ℕ) (v : Verdict) → ((n : ℕ) → P (refused n [])) → P v → P (unless_fault o v)
+unfolding unless_fault
+fault_keeps P None v r h = h
+fault_keeps P (Some n) v r h = r n
+
+-- of one of two
+choose_keeps : (P : Verdict → Type 0) (b : Bool) (v w : Verdict) → P v → P w → P (choose b v w)
+unfolding choose
+choose_keeps P true v w h k = h
+choose_keeps P false v w h k = k
+
+-- ---- signed requests
+
+-- an account that is opened
+open_spaced : (T : Tables) (key : List ℕ) (p : NewAccount) → IsSpaced (open_account T key p)
+open_spaced T key p = check_keeps IsSpaced (not p.only_existing) 6 _ tt (fault_keeps IsSpaced (contacts_fault p.contacts) _ (λ _. tt) tt)
+
+-- newAccount
+new_account_spaced : (T : Tables) (key : List ℕ) (o : Option AccountRow) (p : Option NewAccount) → IsSpaced (new_account_verdict T key o p)
+new_account_spaced T key (Some a) p = check_keeps IsSpaced (is_valid_account a.status) 7 _ tt (given_keeps IsSpaced p 1 _ tt (λ _. tt))
+new_account_spaced T key None p = given_keeps IsSpaced p 1 _ tt (open_spaced T key)
+
+-- a change of an account
+account_spaced : (n : ℕ) (p : AccountChange) → IsSpaced (account_verdict n p)
+account_spaced n change.Read = tt
+account_spaced n change.Deactivate = tt
+account_spaced n (change.Update None) = tt
+account_spaced n (change.Update (Some contacts)) = fault_keeps IsSpaced (contacts_fault contacts) _ (λ _. tt) tt
+
+-- names that are wanted have their tokens, however many bytes there are
+pub wanted_spaced : (ns : List Name) (r : List ℕ) → EachOf HasTokens (wanted ns r)
+wanted_spaced [] r = tt
+wanted_spaced (n ∷ ns) r = (length-pieces (length (kinds_of n)) r, wanted_spaced ns (drop (16 * length (kinds_of n)) r))
+
+-- an order of names
+order_spaced : (T : Tables) (r : List ℕ) (n : ℕ) (ids : List Identifier) (ss : List Subproblem) → IsSpaced (order_of T r n ids ss)
+order_spaced T r n ids (s ∷ ss) = tt
+order_spaced T r n ids [] = wanted_spaced (kept (names_in ids)) r
+
+-- newOrder
+new_order_spaced : (T : Tables) (r : List ℕ) (n : ℕ) (ids : List Identifier) → IsSpaced (new_order_verdict T r n ids)
+new_order_spaced T r n ids = check_keeps IsSpaced (has_length 1 50 ids) 1 _ tt (order_spaced T r n ids (subproblems ids))
+
+-- an order that is finalized
+finalize_spaced : (n : ℕ) (o : OrderRow) (text : List ℕ) → IsSpaced (finalize_verdict n o text)
+finalize_spaced n o text = check_keeps IsSpaced (is_ready o.status) 12 _ tt (given_keeps IsSpaced (csr_in text) 13 _ tt (λ _. tt))
+
+-- an authorization that is ended
+authorization_spaced : (n : ℕ) (a : AuthorizationRow) (p : AuthorizationChange) → IsSpaced (authorization_verdict n a p)
+authorization_spaced n a authz_change.Read = tt
+authorization_spaced n a authz_change.Deactivate = choose_keeps IsSpaced (is_endable a) _ _ tt tt
+
+-- a challenge that is answered
+challenge_spaced : (n : ℕ) (a : AuthorizationRow) (p : ChallengeChange) → IsSpaced (challenge_verdict n a p)
+challenge_spaced n a chall_change.Read = tt
+challenge_spaced n a chall_change.Answer = choose_keeps IsSpaced (stands_open (λ c. is_pending_challenge c.status) a n) _ _ tt tt
+
+-- a request of an account
+target_spaced : (T : Tables) (r : List ℕ) (n : ℕ) (p : List ℕ) (t : Target) → IsSpaced (target_verdict T r n p t)
+target_spaced T r n p to.NewAccount = tt
+target_spaced T r n p to.NewOrder = given_keeps IsSpaced _ 1 _ tt (new_order_spaced T r n)
+target_spaced T r n p (to.Account k) = check_keeps IsSpaced _ 2 _ tt (given_keeps IsSpaced _ 1 _ tt (account_spaced n))
+target_spaced T r n p (to.Orders k) = check_keeps IsSpaced _ 2 _ tt (check_keeps IsSpaced _ 1 _ tt tt)
+target_spaced T r n p (to.Order k) = given_keeps IsSpaced _ 2 _ tt (λ o. check_keeps IsSpaced _ 1 _ tt tt)
+target_spaced T r n p (to.Finalize k) = given_keeps IsSpaced _ 2 _ tt (λ o. given_keeps IsSpaced _ 1 _ tt (finalize_spaced k o))
+target_spaced T r n p (to.Cert k) = given_keeps IsSpaced _ 2 _ tt (λ o. check_keeps IsSpaced _ 1 _ tt (given_keeps IsSpaced _ 2 _ tt (λ _. tt)))
+target_spaced T r n p (to.Authz k) = given_keeps IsSpaced _ 2 _ tt (λ a. given_keeps IsSpaced _ 1 _ tt (authorization_spaced k a))
+target_spaced T r n p (to.Chall k) = given_keeps IsSpaced _ 2 _ tt (λ a. given_keeps IsSpaced _ 1 _ tt (challenge_spaced k a))
+
+-- a request of a key that has an account
+holder_spaced : (T : Tables) (r p : List ℕ) (t : Target) (o : Option AccountRow) → IsSpaced (holder_verdict T r p t o)
+holder_spaced T r p t o = given_keeps IsSpaced o 6 _ tt (λ a. check_keeps IsSpaced _ 7 _ tt (target_spaced T r a.number p t))
+
+-- a request of a key
+key_spaced : (T : Tables) (r key p : List ℕ) (t : Target) → IsSpaced (key_verdict T r key p t)
+key_spaced T r key p to.NewAccount = new_account_spaced T key (account_with_key T key) _
+key_spaced T r key p t = holder_spaced T r p t (account_with_key T key)
+
+-- a signed request
+pub signed_spaced : (T : Tables) (r : List ℕ) (s : Signed) → IsSpaced (signed_verdict T r s)
+signed_spaced T r s = by s.key
+  where
+    by : (k : Result (List ℕ) BadKey) → IsSpaced (elim k [ Err e ↦ refused 5 [] | Ok key ↦ key_verdict T r key s.payload s.target ])
+    by (Err e) = tt
+    by (Ok key) = key_spaced T r key s.payload s.target
+
+-- ---- the other asks
+
+-- the verdict's entry, if it has one, moves rows and makes none
+abbrev pub IsQuiet : Verdict → Type 0
+IsQuiet (refused number subproblems) = Unit {0}
+IsQuiet (accepted entry what) = MakesNone entry
+
+-- a report on a challenge
+outcome_quiet : (n : ℕ) (a : AuthorizationRow) (c : ChallengeRow) (outcome : Outcome) → IsQuiet (outcome_verdict n a c outcome)
+outcome_quiet n a c outcome =
+    choose_keeps IsQuiet _ _ _ tt (check_keeps IsQuiet (stands_open (λ c. is_processing_challenge c.status) a n) 14 _ tt tt)
+
+-- a report
+report_quiet : (T : Tables) (n : ℕ) (finding : Finding) → IsQuiet (report_verdict T n finding)
+report_quiet T n finding =
+    given_keeps IsQuiet _ 2 _ tt (λ a. given_keeps IsQuiet _ 2 _ tt (λ c. given_keeps IsQuiet _ 1 _ tt (outcome_quiet n a c)))
+
+-- a certificate
+certify_quiet : (n : ℕ) (bytes : List ℕ) (o : OrderRow) → IsQuiet (certify_verdict n bytes o)
+certify_quiet n bytes o =
+    check_keeps IsQuiet (nat_le 1 (length bytes)) 1 _ tt
+    (check_keeps IsQuiet (nat_le (length bytes) 65536) 16 _ tt (choose_keeps IsQuiet _ _ _ tt (check_keeps IsQuiet (is_processing o.status) 14 _ tt tt)))
+
+-- a failure
+fail_quiet : (n : ℕ) (problem : OrderProblem) (o : OrderRow) → IsQuiet (fail_verdict n problem o)
+fail_quiet n problem o =
+    check_keeps IsQuiet (is_problem problem) 1 _ tt (choose_keeps IsQuiet _ _ _ tt (check_keeps IsQuiet (is_processing o.status) 14 _ tt tt))
+
+-- the operator takes back an authorization
+revoke_authorization_quiet : (n : ℕ) (a : AuthorizationRow) → IsQuiet (revoke_authorization n a)
+revoke_authorization_quiet n a = choose_keeps IsQuiet _ _ _ tt (check_keeps IsQuiet (is_endable a) 14 _ tt tt)
+
+-- the operator ends an account
+revoke_account_quiet : (n : ℕ) (a : AccountRow) → IsQuiet (revoke_account n a)
+revoke_account_quiet n a = choose_keeps IsQuiet _ _ _ tt (check_keeps IsQuiet (is_valid_account a.status) 14 _ tt tt)
+
+-- an ask that carries no nonce
+pub office_quiet : (T : Tables) (a : Ask) → IsQuiet (office_verdict T a)
+office_quiet T ask.Directory = tt
+office_quiet T (ask.NewNonce head) = tt
+office_quiet T (ask.Signed s) = tt
+office_quiet T (ask.Report n finding) = report_quiet T n finding
+office_quiet T (ask.Certify n bytes) = given_keeps IsQuiet _ 2 _ tt (certify_quiet n bytes)
+office_quiet T (ask.FailOrder n problem) = given_keeps IsQuiet _ 2 _ tt (fail_quiet n problem)
+office_quiet T (ask.RevokeAuthz n) = given_keeps IsQuiet _ 2 _ tt (revoke_authorization_quiet n)
+office_quiet T (ask.RevokeAccount n) = given_keeps IsQuiet _ 2 _ tt (revoke_account_quiet n)
+office_quiet T ask.ChallengeWork = tt
+office_quiet T ask.OrderWork = tt
+office_quiet T (ask.KeyOf n) = given_keeps IsQuiet _ 2 _ tt (λ _. tt)
+
+-- such a verdict takes no tokens
+quiet_spaced : (v : Verdict) → IsQuiet v → IsSpaced v
+quiet_spaced (refused number ss) h = tt
+quiet_spaced (accepted None what) h = tt
+quiet_spaced (accepted (Some (made terms)) what) h = absurd h
+quiet_spaced (accepted (Some (issued r)) what) h = absurd h
+quiet_spaced (accepted (Some (spent n)) what) h = absurd h
+quiet_spaced (accepted (Some (opened key contacts)) what) h = absurd h
+quiet_spaced (accepted (Some (ordered n ws)) what) h = absurd h
+quiet_spaced (accepted (Some _) what) h = tt
+
+-- no numbers
+quiet_numbers : (M : Meta) (v : Verdict) → IsQuiet v → NumbersLeft M v
+quiet_numbers M (refused number ss) h = tt
+quiet_numbers M (accepted None what) h = tt
+quiet_numbers M (accepted (Some (opened key contacts)) what) h = absurd h
+quiet_numbers M (accepted (Some (ordered n ws)) what) h = absurd h
+quiet_numbers M (accepted (Some _) what) h = tt
+
+-- and no random bytes
+quiet_bytes : (v : Verdict) → IsQuiet v → count_pieces (entries_of v) ≡ 0
+quiet_bytes (refused number ss) h = refl
+quiet_bytes (accepted None what) h = refl
+quiet_bytes (accepted (Some (issued r)) what) h = absurd h
+quiet_bytes (accepted (Some (ordered n ws)) what) h = absurd h
+quiet_bytes (accepted (Some _) what) h = refl
+
+-- so it is for an ask that carries no nonce: no tokens,
+pub office_spaced : (T : Tables) (a : Ask) → IsSpaced (office_verdict T a)
+office_spaced T a = quiet_spaced (office_verdict T a) (office_quiet T a)
+
+-- no numbers
+pub no_numbers : (M : Meta) (a : Ask) (T : Tables) → NumbersLeft M (office_verdict T a)
+no_numbers M a T = quiet_numbers M (office_verdict T a) (office_quiet T a)
+
+-- and no random bytes
+pub no_bytes : (a : Ask) (T : Tables) → count_pieces (entries_of (office_verdict T a)) ≡ 0
+no_bytes a T = quiet_bytes (office_verdict T a) (office_quiet T a)
+
+-- ---- random bytes
+
+-- where there are bytes for the tokens of an order, and for a nonce, there are for both
+bytes_enough : (random : List ℕ) (v : Verdict) → IsSpaced v → BytesLeft random v → 16 ≤ length random → 16 * (1 + count_pieces (entries_of v)) ≤ length random
+bytes_enough random (refused number ss) spaced left enough = enough
+bytes_enough random (accepted None what) spaced left enough = enough
+bytes_enough random (accepted (Some (ordered n ws)) what) spaced left enough = left
+bytes_enough random (accepted (Some (issued r)) what) spaced left enough = absurd spaced
+bytes_enough random (accepted (Some _) what) spaced left enough = enough
+
+-- a signed request
+pub pieces_bounded : (T : Tables) (r : List ℕ) (s : Signed) (random : List ℕ) → BytesLeft random (signed_verdict T r s) → 16 ≤ length random →
+    16 * (1 + count_pieces (entries_of (signed_verdict T r s))) ≤ length random
+pieces_bounded T r s random = bytes_enough random (signed_verdict T r s) (signed_spaced T r s)

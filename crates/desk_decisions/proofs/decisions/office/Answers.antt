@@ -1,0 +1,9 @@
+use Rattle.std.proofs.Common.{subst, sym}
+use Rattle.desk_model.specs.Effect.{swept}
+use Rattle.desk_rules.specs.Needs.{NumbersLeft}
+use Rattle.desk_decisions.proofs.Spaced.{no_numbers}
+use Rattle.desk_decisions.proofs.decisions.office.Goals as goal
+
+pub settled-requires-clause-numbers : goal.settled-requires-clause-numbers
+settled-requires-clause-numbers c =
+    subst (NumbersLeft c.args.book.now.meta) (sym c.in_ok-verdict.ensures) (no_numbers c.args.book.now.meta c.args.ask.now (swept c.args.moment c.args.book.now))

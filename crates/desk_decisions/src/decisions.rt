@@ -1,0 +1,275 @@
+//! The decision on a call: what changes in the book, and what is answered.
+ghost use Rattle.std.specs.Prelude.{◌≡◌, ◌<◌, ◌≤◌, ◌^◌, ◌++◌, ◌∷◌, [], true, false, length, take, drop, IfOk, IfErr, MatchResult};
+ghost use Rattle.desk_model.specs.Decide.{entries_of, nonce_entries, verdict_reply};
+ghost use Rattle.desk_model.specs.Effect.{effects, swept};
+ghost use Rattle.desk_model.specs.Rules.{office_verdict, open_nonce, signed_verdict as verdict_of};
+ghost use Rattle.desk_laws.specs.Ordered.{IsOrdered};
+ghost use Rattle.desk_model.specs.Change.{all_changes, sweep_changes};
+ghost use Rattle.desk_rules.specs.declared.fault.CoreFault.TheVariants.{Memory};
+ghost use Rattle.desk_model.specs.Shown.{fresh_nonce, with_nonce};
+ghost use Rattle.desk_model.specs.declared.entry.Entry.TheVariants.{Issued as issued_entry};
+ghost use Rattle.desk_model.specs.Entry.{History};
+ghost use Rattle.desk_model.specs.Legal.{Legal};
+ghost use Rattle.desk_model.specs.Tables.{picture};
+ghost use Rattle.desk_model.specs.Run.{IsFormedCall};
+ghost use Rattle.desk_changes.specs.Acting.{HasTexts, IsActable, is_recording};
+ghost use Rattle.desk_decisions.specs.Decided.{IsDecision, IsFaultOf};
+ghost use Rattle.desk_parts.specs.IsPart.{IsPartFor};
+ghost use Rattle.desk_rules.specs.Needs.{NumbersLeft};
+ghost use Rattle.desk_decisions.specs.Outcomes.{IsAskFault, IsPassedFault, IsShort, IsSignedFault, MeetsAsk, MeetsSigned, Passes, Settles};
+ghost use Rattle.desk_changes.specs.Recorded.{recorded_changes};
+ghost use Rattle.desk_decisions.specs.Room.{IsIssueFault};
+
+use crate::acts::act;
+use desk_book::Book;
+use desk_changes::Recording;
+use desk_model::{Ask, Call, Change, Reply, Sequence, Signed, Verdict};
+use desk_replies::{nonce_reply, refusal_reply, show, with_nonce};
+use desk_rules::{
+    CoreFault, LAST_MOMENT, first_random, has_room, judge_office, judge_signed, open_nonce,
+};
+use std::alloc::{AllocError, Global};
+
+/// The nonce of the request is not open.
+const BAD_NONCE: u8 = 4;
+
+/// What a call does: the changes that it makes, none where nothing is recorded, and the reply.
+#[derive(Drop)]
+pub struct Outcome {
+    pub changes: Vec<Change>,
+    pub reply: Reply,
+}
+
+/// Issues a nonce and nothing else, with this reply.
+fn issued(
+    alloc: Global,
+    book: &Book,
+    moment: u64,
+    random: &[u8],
+    reply: Reply,
+) -> Result<Outcome, CoreFault>
+    ensures changes { IfOk result (λ o. o.changes.items ≡ recorded_changes moment book.now (issued_entry (take 16 random.now) ∷ [])) }
+    ensures reply { IfOk result (λ o. o.reply ≡ with_nonce (fresh_nonce book.now random.now) reply) }
+    ensures room { IfOk result (λ _. (book.now.meta.nonces < 2 ^ 62) × (16 ≤ length random.now)) }
+    ensures fault { IfErr result (λ e. IsIssueFault book.now random.now e) }
+{
+    let last = book.meta().nonces;
+    has_room(last)?;
+    let bytes = first_random(random)?;
+    let mut recording = Recording::begin(alloc, book, moment)?;
+    recording.issue(bytes)?;
+    let reply = with_nonce(alloc, last + 1, bytes, reply)?;
+    Ok(Outcome {
+        changes: recording.changes,
+        reply,
+    })
+}
+
+/// A signed request whose nonce was open: the nonce is spent and a fresh one issued, and the verdict is carried out.
+fn passed(
+    alloc: Global,
+    book: &Book,
+    moment: u64,
+    random: &[u8],
+    serial: u64,
+    verdict: Verdict,
+) -> Result<Outcome, CoreFault>
+    requires moment { moment ≤ 250000000000 }
+    requires nonces { book.now.meta.nonces < 2 ^ 62 }
+    requires numbers { NumbersLeft book.now.meta verdict }
+    ensures changes { IfOk result (λ o. IsOrdered book.now → IsActable book.now.meta verdict
+        → o.changes.items ≡ recorded_changes moment book.now (nonce_entries serial random.now ++ entries_of verdict)) }
+    ensures reply { IfOk result (λ o. IsOrdered book.now → IsActable book.now.meta verdict → HasTexts (effects moment (swept moment book.now) (entries_of verdict))
+        → o.reply ≡ with_nonce (fresh_nonce book.now random.now) (verdict_reply true (effects moment (swept moment book.now) (entries_of verdict)) verdict)) }
+    ensures bytes { IfOk result (λ _. 16 ≤ length random.now) }
+    ensures fault { IfErr result (λ e. IsShort random.now e) }
+{
+    let bytes = first_random(random)?;
+    let mut recording = Recording::begin(alloc, book, moment)?;
+    recording.spend(serial)?;
+    recording.issue(bytes)?;
+    let reply = act(alloc, book, &mut recording, verdict, true)?;
+    let reply = with_nonce(alloc, book.meta().nonces + 1, bytes, reply)?;
+    Ok(Outcome {
+        changes: recording.changes,
+        reply,
+    })
+}
+
+/// A signed request whose nonce was open, by the verdict on it.
+fn spent(
+    alloc: Global,
+    book: &Book,
+    moment: u64,
+    random: &[u8],
+    serial: u64,
+    signed: &Signed,
+) -> Result<Outcome, CoreFault>
+    requires { moment ≤ 250000000000 }
+    ensures { let v = verdict_of (swept moment book.now) (drop 16 random.now) signed.now in
+        MatchResult result
+        (λ o. Passes moment book.now random.now serial v o.changes.items o.reply)
+        (λ e. IsPassedFault book.now random.now v e) }
+{
+    has_room(book.meta().nonces)?;
+    let verdict = judge_signed(alloc, book, moment, random, signed)?;
+    let outcome = passed(alloc, book, moment, random, serial, verdict)?;
+    Ok(outcome)
+}
+
+/// A signed request (RFC 8555, 6.5): refused with a fresh nonce where its nonce is not open.
+fn signed(
+    alloc: Global,
+    book: &Book,
+    moment: u64,
+    random: &[u8],
+    signed: &Signed,
+) -> Result<Outcome, CoreFault>
+    requires { moment ≤ 250000000000 }
+    ensures { IsOrdered book.now → (let found = open_nonce (swept moment book.now) signed.now.nonce in
+        MatchResult result
+        (λ o. MeetsSigned moment book.now random.now signed.now found o.changes.items o.reply)
+        (λ e. IsSignedFault moment book.now random.now signed.now found e)) }
+{
+    match open_nonce(book, moment, &signed.nonce) {
+        Some(serial) => spent(alloc, book, moment, random, serial, signed),
+        None => {
+            let refusal = refusal_reply(BAD_NONCE, Sequence::new(Vec::new(alloc)), true);
+            issued(alloc, book, moment, random, refusal)
+        }
+    }
+}
+
+/// Whether a verdict records an entry.
+fn records_entry(verdict: &Verdict) -> bool
+    ensures { result ≡ is_recording verdict.now }
+{
+    match verdict {
+        Verdict::Refused { .. } => false,
+        Verdict::Accepted { entry, .. } => entry.is_some(),
+    }
+}
+
+/// A request without a nonce that records an entry.
+fn recorded(
+    alloc: Global,
+    book: &Book,
+    moment: u64,
+    verdict: Verdict,
+) -> Result<Outcome, AllocError>
+    requires moment { moment ≤ 250000000000 }
+    requires numbers { NumbersLeft book.now.meta verdict }
+    ensures changes { IfOk result (λ o. IsOrdered book.now → IsActable book.now.meta verdict
+        → o.changes.items ≡ sweep_changes moment book.now ++ all_changes moment (swept moment book.now) (entries_of verdict)) }
+    ensures reply { IfOk result (λ o. IsOrdered book.now → IsActable book.now.meta verdict → HasTexts (effects moment (swept moment book.now) (entries_of verdict))
+        → o.reply ≡ verdict_reply false (effects moment (swept moment book.now) (entries_of verdict)) verdict) }
+{
+    let mut recording = Recording::begin(alloc, book, moment)?;
+    let reply = act(alloc, book, &mut recording, verdict, false)?;
+    Ok(Outcome {
+        changes: recording.changes,
+        reply,
+    })
+}
+
+/// The reply to a request without a nonce that records nothing.
+fn unrecorded(
+    alloc: Global,
+    book: &Book,
+    moment: u64,
+    verdict: Verdict,
+) -> Result<Reply, AllocError>
+    ensures { IfOk result (λ r. is_recording verdict ≡ false → HasTexts (swept moment book.now) → r ≡ verdict_reply false (swept moment book.now) verdict) }
+{
+    match verdict {
+        Verdict::Refused {
+            number,
+            subproblems,
+        } => Ok(refusal_reply(number, subproblems, false)),
+        Verdict::Accepted { entry: _, shows } => {
+            let reply = show(alloc, book, &None, moment, shows)?;
+            Ok(reply)
+        }
+    }
+}
+
+/// A request without a nonce, by the verdict on it.
+fn settled(alloc: Global, book: &Book, moment: u64, verdict: Verdict) -> Result<Outcome, AllocError>
+    requires moment { moment ≤ 250000000000 }
+    requires numbers { NumbersLeft book.now.meta verdict }
+    ensures { IfOk result (λ o. Settles moment book.now verdict o.changes.items o.reply) }
+{
+    if records_entry(&verdict) {
+        let outcome = recorded(alloc, book, moment, verdict)?;
+        return Ok(outcome);
+    }
+    let reply = unrecorded(alloc, book, moment, verdict)?;
+    Ok(Outcome {
+        changes: Vec::new(alloc),
+        reply,
+    })
+}
+
+/// A request of the validator, the signing office or the operator, or for the directory.
+fn office(alloc: Global, book: &Book, moment: u64, ask: &Ask) -> Result<Outcome, CoreFault>
+    requires { moment ≤ 250000000000 }
+    ensures { MatchResult result
+        (λ o. Settles moment book.now (office_verdict (swept moment book.now) ask.now) o.changes.items o.reply)
+        (λ e. e ≡ Memory) }
+{
+    let verdict = judge_office(alloc, book, moment, ask)?;
+    let outcome = settled(alloc, book, moment, verdict)?;
+    Ok(outcome)
+}
+
+/// The answer to an ask.
+fn decide_at(
+    alloc: Global,
+    book: &Book,
+    moment: u64,
+    random: &[u8],
+    ask: &Ask,
+) -> Result<Outcome, CoreFault>
+    requires { moment ≤ 250000000000 }
+    ensures { IsOrdered book.now → MatchResult result
+        (λ o. MeetsAsk moment book.now random.now ask.now o.changes.items o.reply)
+        (λ e. IsAskFault moment book.now random.now ask.now e) }
+{
+    match ask {
+        Ask::NewNonce { head } => issued(alloc, book, moment, random, nonce_reply(*head)),
+        Ask::Signed(request) => signed(alloc, book, moment, random, request),
+        _ => office(alloc, book, moment, ask),
+    }
+}
+
+/// What the types of a call keep: an accepted key has its canonical text.
+fn keep_form(call: &Call)
+    ensures { IsFormedCall call.now }
+{
+    if let Ask::Signed(request) = &call.ask {
+        if let Ok(key) = &request.key {
+            let _text = key.canonical();
+        }
+    }
+}
+
+/// Decides on a call: the changes that it makes, none where nothing is recorded, and the reply. The book may hold a part
+/// of a desk's rows, if the rows that the call touches are among them.
+///
+/// # Errors
+///
+/// `Moment`, `Full` and `ShortRandom` are the faults 24, 26 and 25 of the call, tested in this order; `Memory` comes
+/// where a growth was refused. The book stays as it was.
+pub fn decide(alloc: Global, book: &Book, call: &Call) -> Result<Outcome, CoreFault>
+    ensures decided { IfOk result (λ o. (F : History) → Legal F → IsPartFor call.now (picture F) book.now
+        → IsDecision F call.now o.changes.items o.reply) }
+    ensures faulty { IfErr result (λ e. (F : History) → Legal F → IsPartFor call.now (picture F) book.now
+        → IsFaultOf F call.now e) }
+{
+    keep_form(call);
+    let moment = call.at.max(book.meta().clock);
+    if moment > LAST_MOMENT {
+        return Err(CoreFault::Moment);
+    }
+    decide_at(alloc, book, moment, call.random.as_slice(), &call.ask)
+}

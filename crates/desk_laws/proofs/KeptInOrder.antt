@@ -1,0 +1,160 @@
+-- Change after change, what is put has the children of what stands there by then.
+use Rattle.std.proofs.Common.{◌≡◌, ◌≢◌, ◌≤◌, ◌<◌, ℕ, ◌+◌, List, [], ◌∷◌, ◌++◌, map, Some, None, refl, sym, ap, subst, ◌∙◌, true, false, Bool, cond, not, arith}
+use Rattle.std.specs.Prelude.{IfSome, find, nat_lt, ◌==◌, ◌&&◌}
+use Rattle.std.proofs.lemmas.Bool.{eqb-true}
+use Rattle.desk_model.specs.Entry.{History}
+use Rattle.desk_model.specs.History.{clock, record_all}
+use Rattle.desk_model.specs.Legal.{EachFollows}
+use Rattle.desk_model.specs.Tables.{Tables, tables_at, picture}
+use Rattle.desk_model.specs.Derived.{restated_authorization, restated_order}
+use Rattle.desk_model.specs.Effect.{noted_account, noted_authorization, noted_order, touches_account, touches_authorization, touches_order, authorizations_after, new_authorizations, effect, swept, is_overdue, falls}
+use Rattle.desk_model.specs.Change.{put, remove, moved_rows, account_differs, authorization_differs, order_differs, applied, applied_one, spent_by, nonces_put, accounts_put, authorizations_put, orders_put, changes, nonces_gone, authorizations_expired, orders_fallen, sweep_changes, all_changes}
+use Rattle.desk_model.specs.Kept.{EachOf}
+use Rattle.desk_model.specs.declared.entry.Entry.{Entry}
+use Rattle.desk_model.specs.declared.objects.Nonce.{Nonce}
+use Rattle.desk_model.specs.declared.rows.AccountRow.{AccountRow}
+use Rattle.desk_model.specs.declared.rows.AuthorizationRow.{AuthorizationRow}
+use Rattle.desk_model.specs.declared.rows.Change.{Change}
+use Rattle.desk_model.specs.declared.rows.Change.TheVariants.{PutNonce, RemoveNonce, PutAccount, PutAuthorization, PutOrder}
+use Rattle.desk_model.specs.declared.rows.OrderRow.{OrderRow}
+use Rattle.desk_model.specs.declared.status.AuthzStatus.TheVariants as authz
+use Rattle.desk_model.specs.declared.status.OrderStatus.TheVariants as order
+use Rattle.desk_laws.specs.News.{AreKept, KeepsChildren}
+use Rattle.desk_laws.specs.Ordered.{Ascends, Below, IsTable, IsOrdered}
+use Rattle.desk_laws.proofs.Basics.{less_differs, each_both, each}
+use Rattle.desk_laws.proofs.NewsInOrder.{find_put, put_up}
+use Rattle.desk_laws.proofs.PutsDiffer.{puts_keep_children, swept_puts_keep_children}
+use Rattle.desk_laws.proofs.Recorded.{below_filter, below_map, tables_ordered, changes_make, sweep_makes, issued_up, opened_up, ordered_up, made_up}
+use Rattle.desk_laws.proofs.RowLists.{puts, removes, Above, ascends_above, ascends_from, ascends_map, ascends_filter}
+use Rattle.desk_laws.proofs.Step.{follows_before, step, sweep}
+
+-- ---- one table
+
+-- so what holds of the row in the place of each row above a put one still does
+still_kept : {X : Type 0} (number : X → ℕ) (P : X → X → Type 0) (x : X) (rows xs : List X) → Above number (number x) xs →
+    EachOf (λ y. IfSome (find (λ z. number z == number y) rows) (λ z. P z y)) xs →
+    EachOf (λ y. IfSome (find (λ z. number z == number y) (put number x rows)) (λ z. P z y)) xs
+still_kept number P x rows xs above h =
+    each _ _ xs (λ y p. subst (λ o. IfSome o (λ z. P z y)) (sym (find_put number x (number y) rows p.0)) p.1)
+    (each_both (λ y. number x < number y) (λ y. IfSome (find (λ z. number z == number y) rows) (λ z. P z y)) xs above h)
+
+-- what holds of two lists, one behind the other
+each_parts : {X : Type 0} (P : X → Type 0) (xs ys : List X) → EachOf P (xs ++ ys) → EachOf P xs × EachOf P ys
+each_parts P [] ys h = (tt, h)
+each_parts P (x ∷ xs) ys h = let rest = each_parts P xs ys h.1 in ((h.0, rest.0), rest.1)
+
+-- what holds of moved items
+each_of_map : {X Y : Type 0} (P : Y → Type 0) (f : X → Y) (xs : List X) → EachOf P (map f xs) → EachOf (λ x. P (f x)) xs
+each_of_map P f [] h = tt
+each_of_map P f (x ∷ xs) h = (h.0, each_of_map P f xs h.1)
+
+-- ---- changes of one table in a row, then others
+
+-- removals keep all children
+removing : (ns : List ℕ) (cs : List Change) (T : Tables) → AreKept (record T { nonces = removes (λ n. n.serial) ns T.nonces }) cs →
+    AreKept T (map RemoveNonce ns ++ cs)
+removing [] cs T h = h
+removing (n ∷ ns) cs T h = (tt, removing ns cs (applied_one (RemoveNonce n) T) h)
+
+-- nonces have none
+putting_nonces : (xs : List Nonce) (cs : List Change) (T : Tables) → AreKept (record T { nonces = puts (λ n. n.serial) xs T.nonces }) cs → AreKept T (map PutNonce xs ++ cs)
+putting_nonces [] cs T h = h
+putting_nonces (x ∷ xs) cs T h = (tt, putting_nonces xs cs (applied_one (PutNonce x) T) h)
+
+-- nor have accounts
+putting_accounts : (xs : List AccountRow) (cs : List Change) (T : Tables) → AreKept (record T { accounts = puts (λ a. a.number) xs T.accounts }) cs → AreKept T (map PutAccount xs ++ cs)
+putting_accounts [] cs T h = h
+putting_accounts (x ∷ xs) cs T h = (tt, putting_accounts xs cs (applied_one (PutAccount x) T) h)
+
+-- authorizations
+putting_authorizations : (k : ℕ) (xs : List AuthorizationRow) (cs : List Change) (T : Tables) → Ascends (λ a. a.number) k xs →
+    EachOf (λ x. KeepsChildren T (PutAuthorization x)) xs →
+    AreKept (record T { authorizations = puts (λ a. a.number) xs T.authorizations }) cs → AreKept T (map PutAuthorization xs ++ cs)
+putting_authorizations k [] cs T up kept h = h
+putting_authorizations k (x ∷ xs) cs T up kept h = (
+  kept.0,
+  putting_authorizations (x.number + 1) xs cs (applied_one (PutAuthorization x) T) up.1
+      (still_kept (λ a. a.number) (λ a y. map (λ c. c.number) a.challenges ≡ map (λ c. c.number) y.challenges) x T.authorizations xs
+      (ascends_above (λ a. a.number) x.number (x.number + 1) xs (omega arith) up.1) kept.1) h,
+)
+
+-- orders
+putting_orders : (k : ℕ) (xs : List OrderRow) (T : Tables) → Ascends (λ o. o.number) k xs →
+    EachOf (λ x. KeepsChildren T (PutOrder x)) xs → AreKept T (map PutOrder xs)
+putting_orders k [] T up kept = tt
+putting_orders k (x ∷ xs) T up kept = (
+  kept.0,
+  putting_orders (x.number + 1) xs (applied_one (PutOrder x) T) up.1
+      (still_kept (λ o. o.number) (λ o y. o.listed ≡ y.listed) x T.orders xs (ascends_above (λ o. o.number) x.number (x.number + 1) xs (omega arith) up.1) kept.1),
+)
+
+-- changes after changes
+kept-append : (cs ds : List Change) (T : Tables) → AreKept T cs → AreKept (applied cs T) ds → AreKept T (cs ++ ds)
+kept-append [] ds T h k = k
+kept-append (c ∷ cs) ds T h k = (h.0, kept-append cs ds (applied_one c T) h.1 k)
+
+-- ---- a sweep, an entry, and all of a record
+
+-- the changes of a sweep
+sweep_kept : (T : Tables) (m : ℕ) → IsOrdered T → AreKept T (sweep_changes m T)
+sweep_kept T m h =
+    let all = swept_puts_keep_children T m h in
+    let rest = (each_parts (KeepsChildren T) (map RemoveNonce (nonces_gone m T)) _ all.1).1 in
+    let parts = each_parts (KeepsChildren T) (map PutAuthorization (authorizations_expired m T)) _ rest in (
+      tt,
+      removing (nonces_gone m T) _ (record T { meta = record T.meta { clock = m } })
+          (putting_authorizations 1 (authorizations_expired m T) _ _
+          (ascends_map (λ a. a.number) (λ a. a.number) (λ (r : AuthorizationRow). record r { status = authz.Expired }) (λ a. refl) 1 _
+          (ascends_filter (λ a. a.number) (is_overdue m) 1 T.authorizations h.authorizations.0))
+          (each_of_map (KeepsChildren T) PutAuthorization (authorizations_expired m T) parts.0)
+          (putting_orders 1 (orders_fallen m T) _
+          (ascends_map (λ o. o.number) (λ o. o.number) (λ (r : OrderRow). record r { status = order.Invalid }) (λ o. refl) 1 _
+          (ascends_filter (λ o. o.number) (falls m T.authorizations) 1 T.orders h.orders.0))
+          (each_of_map (KeepsChildren T) PutOrder (orders_fallen m T) parts.1))),
+    )
+
+-- the changes of an entry
+entry_kept : (T : Tables) (m : ℕ) (e : Entry) → IsOrdered T → AreKept T (changes m T e)
+entry_kept T m e h =
+    let all = puts_keep_children T m e h in
+    let a = (each_parts (KeepsChildren T) (map RemoveNonce (spent_by e)) _ all.1).1 in
+    let b = (each_parts (KeepsChildren T) (map PutNonce (nonces_put T e m)) _ a).1 in
+    let c = (each_parts (KeepsChildren T) (map PutAccount (accounts_put T e m)) _ b).1 in
+    let d = each_parts (KeepsChildren T) (map PutAuthorization (authorizations_put T e m)) _ c in (
+      tt,
+      removing (spent_by e) _ (record T { meta = (effect m T e).meta })
+          (putting_nonces (nonces_put T e m) _ _
+          (putting_accounts (accounts_put T e m) _ _
+          (putting_authorizations 1 (authorizations_put T e m) _ _
+          (put_up (λ a. a.number) (touches_authorization e) authorization_differs (λ r. restated_authorization m (noted_authorization e m r)) (λ a. refl)
+          T.meta.authorizations T.authorizations _ h.authorizations
+          (made_up e m T.meta.policy.authz_life (T.meta.authorizations + 1) (T.meta.challenges + 1)))
+          (each_of_map (KeepsChildren T) PutAuthorization (authorizations_put T e m) d.0)
+          (putting_orders 1 (orders_put T e m) _
+          (put_up (λ o. o.number) (touches_order e T.authorizations) order_differs
+          (λ r. restated_order m (authorizations_after T e m) (noted_order e m r)) (λ o. refl) T.meta.orders T.orders _ h.orders
+          (ordered_up e m T.meta.policy (new_authorizations T e m) (T.meta.orders + 1) (authorizations_after T e m)))
+          (each_of_map (KeepsChildren T) PutOrder (orders_put T e m) d.1))))),
+    )
+
+-- the changes of entries in a row
+entries_kept : (F : History) (m : ℕ) (es : List Entry) → EachFollows (record_all m es F) → AreKept (tables_at F m) (all_changes m (tables_at F m) es)
+entries_kept F m [] h = tt
+entries_kept F m (e ∷ es) h =
+    let G : History = record { date = m; entry = e } ∷ F in
+    let one : effect m (tables_at F m) e ≡ tables_at G m = sym (step F e m (follows_before m es G h)) in
+    let made : applied (changes m (tables_at F m) e) (tables_at F m) ≡ tables_at G m = changes_make (tables_at F m) m e (tables_ordered F m) ∙ one in
+    kept-append (changes m (tables_at F m) e) (all_changes m (effect m (tables_at F m) e) es) (tables_at F m)
+    (entry_kept (tables_at F m) m e (tables_ordered F m))
+    (subst (λ T. AreKept T (all_changes m (effect m (tables_at F m) e) es)) (sym made)
+    (subst (λ T. AreKept (tables_at G m) (all_changes m T es)) (sym one) (entries_kept G m es h)))
+
+-- what a call records puts news alone
+pub records_keep : (F : History) (e : Entry) (es : List Entry) (m : ℕ) → clock F ≤ m → EachFollows (record_all m (e ∷ es) F) →
+    AreKept (picture F) (sweep_changes m (picture F) ++ all_changes m (swept m (picture F)) (e ∷ es))
+records_keep F e es m le h =
+    let now : swept m (picture F) ≡ tables_at F m = sym (sweep F (clock F) m le) in
+    kept-append (sweep_changes m (picture F)) (all_changes m (swept m (picture F)) (e ∷ es)) (picture F)
+    (sweep_kept (picture F) m (tables_ordered F (clock F)))
+    (subst (λ T. AreKept T (all_changes m (swept m (picture F)) (e ∷ es))) (sym (sweep_makes (picture F) m (tables_ordered F (clock F)) ∙ now))
+    (subst (λ T. AreKept (tables_at F m) (all_changes m T (e ∷ es))) (sym now) (entries_kept F m (e ∷ es) h)))

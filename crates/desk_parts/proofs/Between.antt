@@ -1,0 +1,319 @@
+-- A part that holds what a call touches answers as the touched rows do, and so as the whole.
+use Rattle.std.proofs.Common.{◌≡◌, ◌≤◌, ℕ, ◌+◌, max, List, [], ◌∷◌, ◌++◌, map, filter, refl, sym, ap, subst, ◌∙◌, true, false, Bool, cond, Some, None}
+use Rattle.std.specs.Prelude.{◌==◌, ◌&&◌, ◌||◌}
+use Rattle.std.specs.List.{list_any}
+use Rattle.std.proofs.lemmas.Bool.{and_from, and_parts}
+use Rattle.desk_model.specs.Decide.{entries_of}
+use Rattle.desk_model.specs.Derived.{restated_order}
+use Rattle.desk_model.specs.Effect.{effect, effects, falls, fresh_order, moved_order, new_authorizations, noted_order, swept, swept_order, touches_order}
+use Rattle.desk_model.specs.Order.{ordered_by}
+use Rattle.desk_model.specs.Rules.{office_verdict, signed_verdict}
+use Rattle.desk_model.specs.Tables.{Tables}
+use Rattle.desk_model.specs.Kept.{EachOf, IsClosed, Kept, restricted}
+use Rattle.desk_model.specs.declared.call.Ask.{Ask}
+use Rattle.desk_model.specs.declared.call.Ask.TheVariants as ask
+use Rattle.desk_model.specs.declared.call.Call.{Call}
+use Rattle.desk_model.specs.declared.call.Signed.{Signed}
+use Rattle.desk_model.specs.declared.entry.Entry.{Entry}
+use Rattle.desk_model.specs.declared.entry.Entry.TheVariants.{Issued as issued, Spent as spent}
+use Rattle.desk_model.specs.declared.objects.Nonce.{Nonce}
+use Rattle.desk_model.specs.declared.rows.AccountRow.{AccountRow}
+use Rattle.desk_model.specs.declared.rows.AuthorizationRow.{AuthorizationRow}
+use Rattle.desk_model.specs.declared.rows.OrderRow.{OrderRow}
+use Rattle.desk_model.specs.declared.status.OrderStatus.TheVariants as order
+use Rattle.desk_model.specs.declared.verdict.Verdict.{Verdict}
+use Rattle.desk_model.specs.declared.verdict.Verdict.TheVariants.{Refused as refused, Accepted as accepted}
+use Rattle.desk_laws.specs.Ordered.{IsOrdered}
+use Rattle.desk_laws.proofs.Basics.{each, each_after, each_all, each_both, each-append, each-map}
+use Rattle.desk_laws.proofs.Chain.{effect_part}
+use Rattle.desk_laws.proofs.Local.{swept_part}
+use Rattle.desk_laws.proofs.SweptParts.{swept_closed}
+use Rattle.desk_parts.specs.AnswersAs.{AnswersAs, CarriesOutAs, IssuesAs, PassesAs, SettlesAs, changes_of}
+use Rattle.desk_parts.specs.IsPart.{IsPartFor, Keeps}
+use Rattle.desk_model.specs.Asked.{asks_authorizations, asks_orders}
+use Rattle.desk_model.specs.Touched.{is_first_authorization, is_named_account, is_named_authorization, is_named_order, is_own_authorization, is_own_order, is_past_order, is_touched_account, is_touched_authorization, is_touched_nonce, is_touched_order, lists, only_meta, touched_at, touched_rows}
+use Rattle.desk_parts.proofs.Cut.{kept_by, no_part, no_rows, numbered, same_authorizations, touched_kept, touched_listed}
+use Rattle.desk_parts.proofs.Enough.{answers_at, restricted_ordered, work_as}
+use Rattle.desk_parts.proofs.Grown.{grown, grown_closed, grown_part}
+use Rattle.desk_parts.proofs.Listed.{KeepsListed}
+use Rattle.desk_parts.proofs.Lists.{each_filtered, filtered_each, or_cases, or_left, or_right}
+use Rattle.desk_laws.proofs.Plain.{fresh_kept}
+
+-- ---- what a call touches in a part it touches in the whole
+
+any_part : {X : Type 0} (p q kept : X → Bool) (xs : List X) → ((x : X) → p x ≡ true → q x ≡ true) → list_any p (filter kept xs) ≡ true → list_any q xs ≡ true
+any_part p q kept [] f h = h
+any_part p q kept (x ∷ xs) f h = by (kept x) h (any_part p q kept xs f)
+  where
+    by : (b : Bool) → list_any p (cond b (x ∷ filter kept xs) (filter kept xs)) ≡ true → (list_any p (filter kept xs) ≡ true → list_any q xs ≡ true) →
+        (q x || list_any q xs) ≡ true
+    by true k g = or_cases (p x) (list_any p (filter kept xs)) k (λ e. or_left (q x) _ (f x e)) (λ e. or_right (q x) _ (g e))
+    by false k g = or_right (q x) _ (g k)
+
+own_order_wider : (k : Kept) (T : Tables) (a : Ask) (o : OrderRow) → is_own_order (restricted k T) a o ≡ true → is_own_order T a o ≡ true
+own_order_wider k T a o h =
+    let p = and_parts (asks_orders a) _ h in
+    and_from _ _ p.0 (any_part (λ x. is_named_account a x && (o.account == x.number)) (λ x. is_named_account a x && (o.account == x.number)) (λ x. k.accounts x.number) T.accounts (λ x e. e) p.1)
+
+own_authorization_wider : (k : Kept) (T : Tables) (a : Ask) (r : AuthorizationRow) → is_own_authorization (restricted k T) a r ≡ true → is_own_authorization T a r ≡ true
+own_authorization_wider k T a r h =
+    let p = and_parts (asks_authorizations a) _ h in
+    and_from _ _ p.0 (any_part (λ x. is_named_account a x && (r.account == x.number)) (λ x. is_named_account a x && (r.account == x.number)) (λ x. k.accounts x.number) T.accounts (λ x e. e) p.1)
+
+first_wider : (k : Kept) (T : Tables) (m : ℕ) (a : Ask) (r : AuthorizationRow) → is_first_authorization (restricted k T) m a r ≡ true → is_first_authorization T m a r ≡ true
+first_wider k T m a r h =
+    or_cases (is_named_authorization a r) _ h (λ e. or_left _ _ e) (λ e. or_right (is_named_authorization a r) _
+    (or_cases (is_own_authorization (restricted k T) a r) _ e (λ f. or_left _ _ (own_authorization_wider k T a r f)) (λ f. or_right (is_own_authorization T a r) _ f)))
+
+order_wider : (k : Kept) (T : Tables) (m : ℕ) (a : Ask) (o : OrderRow) → is_touched_order (restricted k T) m a o ≡ true → is_touched_order T m a o ≡ true
+order_wider k T m a o h =
+    or_cases (is_named_order a o || (is_own_order (restricted k T) a o || is_past_order m o)) _ h
+    (λ e. or_left _ _ (or_cases (is_named_order a o) _ e (λ f. or_left _ _ f) (λ f. or_right (is_named_order a o) _
+    (or_cases (is_own_order (restricted k T) a o) _ f (λ g. or_left _ _ (own_order_wider k T a o g)) (λ g. or_right (is_own_order T a o) _ g)))))
+    (λ e. or_right _ _ (any_part (λ r. is_first_authorization (restricted k T) m a r && lists o r.number) (λ r. is_first_authorization T m a r && lists o r.number) (λ r. k.authorizations r.number) T.authorizations
+    (λ r f. let p = and_parts (is_first_authorization (restricted k T) m a r) _ f in and_from _ _ (first_wider k T m a r p.0) p.1) e))
+
+authorization_wider : (k : Kept) (T : Tables) (m : ℕ) (a : Ask) (r : AuthorizationRow) → is_touched_authorization (restricted k T) m a r ≡ true → is_touched_authorization T m a r ≡ true
+authorization_wider k T m a r h =
+    or_cases (is_first_authorization (restricted k T) m a r) _ h (λ e. or_left _ _ (first_wider k T m a r e))
+    (λ e. or_right (is_first_authorization T m a r) _ (any_part (λ o. is_touched_order (restricted k T) m a o && lists o r.number) (λ o. is_touched_order T m a o && lists o r.number) (λ o. k.orders o.number) T.orders
+    (λ o f. let p = and_parts (is_touched_order (restricted k T) m a o) _ f in and_from _ _ (order_wider k T m a o p.0) p.1) e))
+
+account_wider : (k : Kept) (T : Tables) (m : ℕ) (a : Ask) (x : AccountRow) → is_touched_account (restricted k T) m a x ≡ true → is_touched_account T m a x ≡ true
+account_wider k T m a x h =
+    or_cases (is_named_account a x) _ h (λ e. or_left _ _ e) (λ e. or_right (is_named_account a x) _
+    (or_cases (list_any (λ o. is_touched_order (restricted k T) m a o && (o.account == x.number)) (restricted k T).orders) _ e
+    (λ f. or_left _ _ (any_part (λ o. is_touched_order (restricted k T) m a o && (o.account == x.number)) (λ o. is_touched_order T m a o && (o.account == x.number)) (λ o. k.orders o.number) T.orders
+    (λ o g. let p = and_parts (is_touched_order (restricted k T) m a o) _ g in and_from _ _ (order_wider k T m a o p.0) p.1) f))
+    (λ f. or_right (list_any (λ o. is_touched_order T m a o && (o.account == x.number)) T.orders) _
+    (any_part (λ r. is_touched_authorization (restricted k T) m a r && (r.account == x.number)) (λ r. is_touched_authorization T m a r && (r.account == x.number)) (λ r. k.authorizations r.number) T.authorizations
+    (λ r g. let p = and_parts (is_touched_authorization (restricted k T) m a r) _ g in and_from _ _ (authorization_wider k T m a r p.0) p.1) f))))
+
+-- so the numbers of what is touched in the whole keep what is touched in the part
+keeps_wider : (k : Kept) (T : Tables) (m : ℕ) (a : Ask) → IsOrdered T → Keeps (kept_by T m a) (touched_rows (restricted k T) m a)
+keeps_wider k T m a h =
+    record {
+      nonces = filtered_each _ (is_touched_nonce (restricted k T) m a) (restricted k T).nonces
+          (filtered_each _ (λ (x : Nonce). k.nonces x.serial) T.nonces (each _ _ T.nonces (λ x e kept yes. e ∙ yes) (numbered (λ (x : Nonce). x.serial) (is_touched_nonce T m a) 1 T.nonces h.nonces.0)));
+      accounts = filtered_each _ (is_touched_account (restricted k T) m a) (restricted k T).accounts
+          (filtered_each _ (λ (x : AccountRow). k.accounts x.number) T.accounts
+          (each _ _ T.accounts (λ x e kept yes. e ∙ account_wider k T m a x yes) (numbered (λ (x : AccountRow). x.number) (is_touched_account T m a) 1 T.accounts h.accounts.0)));
+      authorizations = filtered_each _ (is_touched_authorization (restricted k T) m a) (restricted k T).authorizations
+          (filtered_each _ (λ (r : AuthorizationRow). k.authorizations r.number) T.authorizations
+          (each _ _ T.authorizations (λ r e kept yes. e ∙ authorization_wider k T m a r yes) (same_authorizations T m a h)));
+      orders = filtered_each _ (is_touched_order (restricted k T) m a) (restricted k T).orders
+          (filtered_each _ (λ (o : OrderRow). k.orders o.number) T.orders
+          (each _ _ T.orders (λ o e kept yes. e ∙ order_wider k T m a o yes) (numbered (λ (o : OrderRow). o.number) (is_touched_order T m a) 1 T.orders h.orders.0)));
+    }
+
+-- ---- a part of a part
+
+filter_narrow : {X : Type 0} (p q : X → Bool) (xs : List X) → EachOf (λ x. p x ≡ true → q x ≡ true) xs → filter p (filter q xs) ≡ filter p xs
+filter_narrow p q [] h = refl
+filter_narrow p q (x ∷ xs) h = by (q x) refl (p x) refl (filter_narrow p q xs h.1)
+  where
+    by : (c : Bool) → q x ≡ c → (b : Bool) → p x ≡ b → filter p (filter q xs) ≡ filter p xs →
+        filter p (cond c (x ∷ filter q xs) (filter q xs)) ≡ cond b (x ∷ filter p xs) (filter p xs)
+    by true e true f ih = ap (λ z. cond z (x ∷ filter p (filter q xs)) (filter p (filter q xs))) f ∙ ap (λ l. x ∷ l) ih
+    by true e false f ih = ap (λ z. cond z (x ∷ filter p (filter q xs)) (filter p (filter q xs))) f ∙ ih
+    by false e true f ih = let yes : q x ≡ true = h.0 f in cc
+    by false e false f ih = ih
+
+-- the touched rows of the whole are those numbers in the part
+same_touched : (k : Kept) (T : Tables) (m : ℕ) (a : Ask) → IsOrdered T → Keeps k (touched_rows T m a) → restricted (kept_by T m a) (restricted k T) ≡ restricted (kept_by T m a) T
+same_touched k T m a h holds =
+    λ i. record {
+      meta = T.meta;
+      nonces = filter_narrow _ (λ (x : Nonce). k.nonces x.serial) T.nonces
+          (each _ _ T.nonces (λ x e yes. e.1 (sym e.0 ∙ yes)) (each_both _ _ T.nonces (numbered (λ (x : Nonce). x.serial) (is_touched_nonce T m a) 1 T.nonces h.nonces.0) (each_filtered _ (is_touched_nonce T m a) T.nonces holds.nonces))) i;
+      accounts = filter_narrow _ (λ (x : AccountRow). k.accounts x.number) T.accounts
+          (each _ _ T.accounts (λ x e yes. e.1 (sym e.0 ∙ yes)) (each_both _ _ T.accounts (numbered (λ (x : AccountRow). x.number) (is_touched_account T m a) 1 T.accounts h.accounts.0) (each_filtered _ (is_touched_account T m a) T.accounts holds.accounts))) i;
+      authorizations = filter_narrow _ (λ (r : AuthorizationRow). k.authorizations r.number) T.authorizations
+          (each _ _ T.authorizations (λ r e yes. e.1 (sym e.0 ∙ yes)) (each_both _ _ T.authorizations (same_authorizations T m a h) (each_filtered _ (is_touched_authorization T m a) T.authorizations holds.authorizations))) i;
+      orders = filter_narrow _ (λ (o : OrderRow). k.orders o.number) T.orders
+          (each _ _ T.orders (λ o e yes. e.1 (sym e.0 ∙ yes)) (each_both _ _ T.orders (numbered (λ (o : OrderRow). o.number) (is_touched_order T m a) 1 T.orders h.orders.0) (each_filtered _ (is_touched_order T m a) T.orders holds.orders))) i;
+    }
+
+listed_part : (k j : Kept) (T : Tables) → KeepsListed k T → KeepsListed k (restricted j T)
+listed_part k j T h = filtered_each _ (λ (o : OrderRow). j.orders o.number) T.orders (each _ _ T.orders (λ o f kept. f) h)
+
+-- ---- what stands in a part after an entry
+
+-- tables without orders
+abbrev bare : Tables → Tables
+bare T = record T { orders = [] }
+
+bare_ordered : (T : Tables) → IsOrdered T → IsOrdered (bare T)
+bare_ordered T h = record { nonces = h.nonces; accounts = h.accounts; authorizations = h.authorizations; orders = (tt, tt) }
+
+-- numbers of all orders, and new ones
+abbrev open_kept : Kept → Tables → Kept
+open_kept k T = grown k (bare T)
+
+swept_bare : (k : Kept) (T : Tables) (m : ℕ) → IsOrdered T → swept m (restricted k (bare T)) ≡ restricted (open_kept k T) (swept m (bare T))
+swept_bare k T m h = ap (swept m) (sym (grown_part k (bare T))) ∙ swept_part (open_kept k T) (bare T) m (grown_closed k (bare T) (bare_ordered T h) tt)
+
+authorizations_stand : (k : Kept) (T : Tables) (m : ℕ) (v : Verdict) → IsOrdered T →
+    (effects m (swept m (restricted k T)) (entries_of v)).authorizations ≡ filter (λ r. (open_kept k T).authorizations r.number) (effects m (swept m T) (entries_of v)).authorizations
+authorizations_stand k T m (refused n ss) h = ap (λ (E : Tables). E.authorizations) (swept_bare k T m h)
+authorizations_stand k T m (accepted None what) h = ap (λ (E : Tables). E.authorizations) (swept_bare k T m h)
+authorizations_stand k T m (accepted (Some e) what) h =
+    let closed : IsClosed (open_kept k T) (swept m (bare T)) = swept_closed (open_kept k T) (bare T) m (grown_closed k (bare T) (bare_ordered T h) tt) in
+    ap (λ (E : Tables). (effect m E e).authorizations) (swept_bare k T m h)
+    ∙ ap (λ (E : Tables). E.authorizations) (effect_part (open_kept k T) (swept m (bare T)) m e closed (fresh_kept (open_kept k T) (swept m (bare T)) m e closed))
+
+-- the ends of orders
+
+swept_end : (m : ℕ) (rows : List AuthorizationRow) (o : OrderRow) → (swept_order m rows o).expires ≡ o.expires
+swept_end m rows o = by (falls m rows o)
+  where
+    by : (b : Bool) → (cond b (record o { status = order.Invalid }) o).expires ≡ o.expires
+    by true = refl
+    by false = refl
+
+moved_end : (e : Entry) (m : ℕ) (before after : List AuthorizationRow) (o : OrderRow) → (moved_order e m before after o).expires ≡ o.expires
+moved_end e m before after o = by (touches_order e before o)
+  where
+    by : (b : Bool) → (cond b (restated_order m after (noted_order e m o)) o).expires ≡ o.expires
+    by true = refl
+    by false = refl
+
+abbrev EndBy : ℕ → OrderRow → Type 0
+EndBy n o = o.expires ≤ n
+
+each_unmap : {X Y : Type 0} (P : Y → Type 0) (f : X → Y) (xs : List X) → EachOf P (map f xs) → EachOf (λ x. P (f x)) xs
+each_unmap P f [] h = tt
+each_unmap P f (x ∷ xs) h = (h.0, each_unmap P f xs h.1)
+
+each_front : {X : Type 0} (P : X → Type 0) (xs ys : List X) → EachOf P (xs ++ ys) → EachOf P xs
+each_front P [] ys h = tt
+each_front P (x ∷ xs) ys h = (h.0, each_front P xs ys h.1)
+
+-- orders that a map which keeps ends leaves
+ends_kept : (n : ℕ) (f g : OrderRow → OrderRow) (kept : OrderRow → Bool) (xs : List OrderRow) → ((o : OrderRow) → (f o).expires ≡ o.expires) → ((o : OrderRow) → (g o).expires ≡ o.expires) →
+    EachOf (EndBy n) (map f xs) → EachOf (EndBy n) (map g (filter kept xs))
+ends_kept n f g kept xs same other h =
+    each-map (EndBy n) g (filter kept xs)
+    (filtered_each _ kept xs (each _ _ xs (λ o e yes. subst (λ j. j ≤ n) (same o ∙ sym (other o)) e) (each_unmap (EndBy n) f xs h)))
+
+-- orders that are made, whatever status they get
+made_ends : (n m : ℕ) (rows others : List AuthorizationRow) (xs : List _) → EachOf (EndBy n) (map (λ o. restated_order m rows (fresh_order o)) xs) →
+    EachOf (EndBy n) (map (λ o. restated_order m others (fresh_order o)) xs)
+made_ends n m rows others [] h = tt
+made_ends n m rows others (o ∷ os) h = (h.0, made_ends n m rows others os h.1)
+
+map_twice : {X Y Z : Type 0} (f : Y → Z) (g : X → Y) (xs : List X) → map f (map g xs) ≡ map (λ x. f (g x)) xs
+map_twice f g [] = refl
+map_twice f g (x ∷ xs) = ap (λ l. f (g x) ∷ l) (map_twice f g xs)
+
+entry_ends : (k : Kept) (T : Tables) (m : ℕ) (e : Entry) (n : ℕ) → EachOf (EndBy n) (effect m (swept m T) e).orders → EachOf (EndBy n) (effect m (swept m (restricted k T)) e).orders
+entry_ends k T m e n h =
+    let S : Tables = swept m T in
+    let P : Tables = swept m (restricted k T) in
+    let f : OrderRow → OrderRow = λ o. moved_order e m S.authorizations (effect m S e).authorizations (swept_order m T.authorizations o) in
+    let g : OrderRow → OrderRow = λ o. moved_order e m P.authorizations (effect m P e).authorizations (swept_order m (restricted k T).authorizations o) in
+    each-append (EndBy n) (map (moved_order e m P.authorizations (effect m P e).authorizations) P.orders) _
+    (subst (EachOf (EndBy n)) (sym (map_twice (moved_order e m P.authorizations (effect m P e).authorizations) (swept_order m (restricted k T).authorizations) (restricted k T).orders))
+    (ends_kept n f g (λ o. k.orders o.number) T.orders
+    (λ o. moved_end e m S.authorizations (effect m S e).authorizations (swept_order m T.authorizations o) ∙ swept_end m T.authorizations o)
+    (λ o. moved_end e m P.authorizations (effect m P e).authorizations (swept_order m (restricted k T).authorizations o) ∙ swept_end m (restricted k T).authorizations o)
+    (subst (EachOf (EndBy n)) (map_twice (moved_order e m S.authorizations (effect m S e).authorizations) (swept_order m T.authorizations) T.orders)
+    (each_front (EndBy n) (map (moved_order e m S.authorizations (effect m S e).authorizations) S.orders) _ h))))
+    (made_ends n m (effect m S e).authorizations (effect m P e).authorizations (ordered_by e m S.meta.policy (new_authorizations S e m) (S.meta.orders + 1))
+    (each_after (EndBy n) (map (moved_order e m S.authorizations (effect m S e).authorizations) S.orders) _ h))
+
+orders_end : (k : Kept) (T : Tables) (m : ℕ) (v : Verdict) (n : ℕ) → EachOf (EndBy n) (effects m (swept m T) (entries_of v)).orders →
+    EachOf (EndBy n) (effects m (swept m (restricted k T)) (entries_of v)).orders
+orders_end k T m (refused j ss) n h =
+    ends_kept n (swept_order m T.authorizations) (swept_order m (restricted k T).authorizations) (λ o. k.orders o.number) T.orders (swept_end m T.authorizations) (swept_end m (restricted k T).authorizations) h
+orders_end k T m (accepted None what) n h =
+    ends_kept n (swept_order m T.authorizations) (swept_order m (restricted k T).authorizations) (λ o. k.orders o.number) T.orders (swept_end m T.authorizations) (swept_end m (restricted k T).authorizations) h
+orders_end k T m (accepted (Some e) what) n h = entry_ends k T m e n h
+
+-- ---- from the touched rows to the part
+
+carries_between : (k : Kept) (T Q : Tables) (m : ℕ) (v : Verdict) → IsOrdered T → CarriesOutAs m T Q v → CarriesOutAs m (restricted k T) Q v → CarriesOutAs m T (restricted k T) v
+carries_between k T Q m v h low high =
+    record {
+      standing = λ r. (open_kept k T).authorizations r.number;
+      authorizations = authorizations_stand k T m v h;
+      ends = orders_end k T m v;
+      shows = λ index. sym (high.shows index) ∙ low.shows index;
+    }
+
+issues_between : (k : Kept) (T Q : Tables) (m : ℕ) → IssuesAs m T Q → IssuesAs m (restricted k T) Q → IssuesAs m T (restricted k T)
+issues_between k T Q m low high = record { records = λ r. sym (high.records r) ∙ low.records r }
+
+settles_between : (k : Kept) (T Q : Tables) (m : ℕ) (a : Ask) → IsOrdered T → SettlesAs m a T Q → SettlesAs m a (restricted k T) Q → SettlesAs m a T (restricted k T)
+settles_between k T Q m a h low high =
+    let judged : office_verdict (swept m (restricted k T)) a ≡ office_verdict (swept m T) a = sym high.judged ∙ low.judged in
+    record {
+      judged = judged;
+      verdict = carries_between k T Q m (office_verdict (swept m T) a) h low.verdict (subst (CarriesOutAs m (restricted k T) Q) judged high.verdict);
+      records = sym (subst (λ v. changes_of m Q (entries_of v) ≡ changes_of m (restricted k T) (entries_of v)) judged high.records) ∙ low.records;
+    }
+
+passes_between : (k : Kept) (T Q : Tables) (m : ℕ) (s : Signed) → IsOrdered T → PassesAs m s T Q → PassesAs m s (restricted k T) Q → PassesAs m s T (restricted k T)
+passes_between k T Q m s h low high =
+    let judged : (r : List ℕ) → signed_verdict (swept m (restricted k T)) r s ≡ signed_verdict (swept m T) r s = λ r. sym (high.judged r) ∙ low.judged r in
+    record {
+      nonce = sym high.nonce ∙ low.nonce;
+      issues = issues_between k T Q m low.issues high.issues;
+      judged = judged;
+      verdict = λ r. carries_between k T Q m (signed_verdict (swept m T) r s) h (low.verdict r) (subst (CarriesOutAs m (restricted k T) Q) (judged r) (high.verdict r));
+      records = λ r n fresh.
+          sym (subst (λ v. changes_of m Q (spent n ∷ issued fresh ∷ entries_of v) ≡ changes_of m (restricted k T) (spent n ∷ issued fresh ∷ entries_of v)) (judged r) (high.records r n fresh))
+          ∙ low.records r n fresh;
+    }
+
+answers_between : (k : Kept) (T Q : Tables) (m : ℕ) (a : Ask) → IsOrdered T → AnswersAs m a T Q → AnswersAs m a (restricted k T) Q → AnswersAs m a T (restricted k T)
+answers_between k T Q m (ask.NewNonce head) h low high = issues_between k T Q m low high
+answers_between k T Q m (ask.Signed s) h low high = passes_between k T Q m s h low high
+answers_between k T Q m ask.Directory h low high = settles_between k T Q m ask.Directory h low high
+answers_between k T Q m (ask.Report n finding) h low high = settles_between k T Q m (ask.Report n finding) h low high
+answers_between k T Q m (ask.Certify n bytes) h low high = settles_between k T Q m (ask.Certify n bytes) h low high
+answers_between k T Q m (ask.FailOrder n problem) h low high = settles_between k T Q m (ask.FailOrder n problem) h low high
+answers_between k T Q m (ask.RevokeAuthz n) h low high = settles_between k T Q m (ask.RevokeAuthz n) h low high
+answers_between k T Q m (ask.RevokeAccount n) h low high = settles_between k T Q m (ask.RevokeAccount n) h low high
+answers_between k T Q m ask.ChallengeWork h low high = settles_between k T Q m ask.ChallengeWork h low high
+answers_between k T Q m ask.OrderWork h low high = settles_between k T Q m ask.OrderWork h low high
+answers_between k T Q m (ask.KeyOf n) h low high = settles_between k T Q m (ask.KeyOf n) h low high
+
+-- ---- a part for a call
+
+-- nothing is listed where nothing is kept
+none_listed : (T : Tables) → KeepsListed no_rows T
+none_listed T = each_all _ T.orders (λ o kept. cc)
+
+rows_answer : (k : Kept) (T : Tables) (m : ℕ) (a : Ask) → IsOrdered T → Keeps k (touched_rows T m a) → touched_at T m a ≡ touched_rows T m a →
+    touched_at (restricted k T) m a ≡ touched_rows (restricted k T) m a → AnswersAs m a T (restricted k T)
+rows_answer k T m a h holds here there =
+    let listed : KeepsListed (kept_by T m a) T = touched_listed T m a h in
+    answers_between k T (restricted (kept_by T m a) T) m a h
+    (answers_at (kept_by T m a) T m a h listed (subst (Keeps (kept_by T m a)) (sym here) (touched_kept T m a h)))
+    (subst (AnswersAs m a (restricted k T)) (same_touched k T m a h holds)
+    (answers_at (kept_by T m a) (restricted k T) m a (restricted_ordered k T h) (listed_part (kept_by T m a) k T listed)
+    (subst (Keeps (kept_by T m a)) (sym there) (keeps_wider k T m a h))))
+
+part_answers : (k : Kept) (T : Tables) (m : ℕ) (a : Ask) → IsOrdered T → Keeps k (touched_at T m a) → AnswersAs m a T (restricted k T)
+part_answers k T m ask.Directory h holds =
+    let none : Keeps no_rows (only_meta T) = record { nonces = tt; accounts = tt; authorizations = tt; orders = tt } in
+    answers_between k T (restricted no_rows T) m ask.Directory h
+    (answers_at no_rows T m ask.Directory h (none_listed T) none)
+    (subst (SettlesAs m ask.Directory (restricted k T)) (sym (no_part (restricted k T)) ∙ no_part T)
+    (answers_at no_rows (restricted k T) m ask.Directory (restricted_ordered k T h) (none_listed (restricted k T)) none))
+part_answers k T m (ask.NewNonce head) h holds = rows_answer k T m (ask.NewNonce head) h holds refl refl
+part_answers k T m (ask.Signed s) h holds = rows_answer k T m (ask.Signed s) h holds refl refl
+part_answers k T m (ask.Report n finding) h holds = rows_answer k T m (ask.Report n finding) h holds refl refl
+part_answers k T m (ask.Certify n bytes) h holds = rows_answer k T m (ask.Certify n bytes) h holds refl refl
+part_answers k T m (ask.FailOrder n problem) h holds = rows_answer k T m (ask.FailOrder n problem) h holds refl refl
+part_answers k T m (ask.RevokeAuthz n) h holds = rows_answer k T m (ask.RevokeAuthz n) h holds refl refl
+part_answers k T m (ask.RevokeAccount n) h holds = rows_answer k T m (ask.RevokeAccount n) h holds refl refl
+part_answers k T m ask.ChallengeWork h holds = work_as k T m ask.ChallengeWork holds
+part_answers k T m ask.OrderWork h holds = work_as k T m ask.OrderWork holds
+part_answers k T m (ask.KeyOf n) h holds = rows_answer k T m (ask.KeyOf n) h holds refl refl
+
+-- a part for a call answers it as the whole
+pub parts_answer : (T P : Tables) (call : Call) → IsOrdered T → IsPartFor call T P → AnswersAs (max call.at T.meta.clock) call.ask T P
+parts_answer T P call h part =
+    subst (AnswersAs (max call.at T.meta.clock) call.ask T) (sym part.cut) (part_answers part.kept T (max call.at T.meta.clock) call.ask h part.holds)

@@ -1,0 +1,216 @@
+-- A part for a call answers it as the whole.
+use Rattle.std.proofs.Common.{◌≡◌, ◌≤◌, ◌+◌, ℕ, List, [], ◌∷◌, ◌++◌, filter, Some, None, refl, sym, ap, subst, ◌∙◌, true, Bool}
+use Rattle.desk_model.specs.Change.{all_changes}
+use Rattle.desk_model.specs.Decide.{entries_of, verdict_reply}
+use Rattle.desk_model.specs.Effect.{effect, effects, swept}
+use Rattle.desk_model.specs.Rules.{office_verdict, open_nonce, signed_verdict}
+use Rattle.desk_model.specs.Tables.{Tables}
+use Rattle.desk_model.specs.Kept.{CoversSweep, EachOf, IsClosed, Kept, restricted}
+use Rattle.desk_model.specs.declared.call.Ask.{Ask}
+use Rattle.desk_model.specs.declared.call.Ask.TheVariants as ask
+use Rattle.desk_model.specs.declared.call.Call.{Call}
+use Rattle.desk_model.specs.declared.call.Signed.{Signed}
+use Rattle.desk_model.specs.declared.entry.Entry.{Entry}
+use Rattle.desk_model.specs.declared.entry.Entry.TheVariants.{Issued as issued, Spent as spent}
+use Rattle.desk_model.specs.declared.objects.Nonce.{Nonce}
+use Rattle.desk_model.specs.declared.rows.AccountRow.{AccountRow}
+use Rattle.desk_model.specs.declared.rows.AuthorizationRow.{AuthorizationRow}
+use Rattle.desk_model.specs.declared.rows.OrderRow.{OrderRow}
+use Rattle.desk_model.specs.declared.verdict.Verdict.{Verdict}
+use Rattle.desk_model.specs.declared.verdict.Verdict.TheVariants.{Refused as refused, Accepted as accepted}
+use Rattle.desk_laws.specs.Ordered.{IsOrdered, IsTable}
+use Rattle.desk_laws.specs.Parts.{CoversAll}
+use Rattle.desk_laws.proofs.Basics.{each, each_all}
+use Rattle.desk_laws.proofs.Chain.{all_changes_local, effects_part}
+use Rattle.desk_laws.proofs.Local.{sweep_changes_local, swept_part}
+use Rattle.desk_laws.proofs.Recorded.{below_filter}
+use Rattle.desk_laws.proofs.RowLists.{ascends_filter}
+use Rattle.desk_laws.proofs.SweptParts.{swept_closed}
+use Rattle.desk_parts.specs.AnswersAs.{AnswersAs, CarriesOutAs, IssuesAs, PassesAs, SettlesAs, changes_of}
+use Rattle.desk_parts.specs.IsPart.{IsPartFor, Keeps}
+use Rattle.desk_parts.proofs.Listed.{KeepsListed}
+use Rattle.desk_model.specs.Touched.{touched, touched_at, touched_rows}
+use Rattle.desk_parts.proofs.Grown.{KeepsTouched, grown, grown_closed, grown_part, keeps_falling, keeps_named, keeps_touched}
+use Rattle.desk_parts.proofs.Lists.{filter_keeps, filtered_each}
+use Rattle.desk_laws.proofs.Plain.{covers_issued, fresh_kept, issued_closed, issued_covers, nonces_covered, spent_closed, spent_covers}
+use Rattle.desk_parts.proofs.Ready.{IsAnswered, IsReady, swept_names}
+use Rattle.desk_parts.proofs.Verdicts.{nonce_same, office_same, signed_same}
+use Rattle.desk_parts.proofs.Walks.{IsNoWork, office_answered, signed_answered}
+
+-- ---- rows by number
+
+table_part : {X : Type 0} (number : X → ℕ) (last : ℕ) (p : X → Bool) (xs : List X) → IsTable number last xs → IsTable number last (filter p xs)
+table_part number last p xs h = (ascends_filter number p 1 xs h.0, below_filter number p (last + 1) xs h.1)
+
+pub restricted_ordered : (k : Kept) (T : Tables) → IsOrdered T → IsOrdered (restricted k T)
+restricted_ordered k T h =
+    record {
+      nonces = table_part (λ (n : Nonce). n.serial) T.meta.nonces _ T.nonces h.nonces;
+      accounts = table_part (λ (a : AccountRow). a.number) T.meta.accounts _ T.accounts h.accounts;
+      authorizations = table_part (λ (a : AuthorizationRow). a.number) T.meta.authorizations _ T.authorizations h.authorizations;
+      orders = table_part (λ (o : OrderRow). o.number) T.meta.orders _ T.orders h.orders;
+    }
+
+pub parts_ordered : (T P : Tables) (call : Call) → IsOrdered T → IsPartFor call T P → IsOrdered P
+parts_ordered T P call h part = subst IsOrdered (sym part.cut) (restricted_ordered part.kept T h)
+
+-- ---- entries, on a part that is ready
+
+-- what the verdict's entry touches is kept
+verdict_covered : (k : Kept) (m : ℕ) (S : Tables) (v : Verdict) → IsClosed k S → IsAnswered k m S v → CoversAll k m S (entries_of v)
+verdict_covered k m S (refused n ss) closed h = tt
+verdict_covered k m S (accepted None what) closed h = tt
+verdict_covered k m S (accepted (Some e) what) closed h = (closed, h.0, fresh_kept k S m e closed, tt)
+
+-- also after a nonce was spent and one issued
+nonce_covered : (k : Kept) (m : ℕ) (S : Tables) (n : ℕ) (r : List ℕ) (v : Verdict) → IsClosed k S → IsAnswered k m S v →
+    CoversAll k m S (spent n ∷ issued r ∷ entries_of v)
+nonce_covered k m S n r (refused j ss) closed h = nonces_covered k m S n r [] closed tt
+nonce_covered k m S n r (accepted None what) closed h = nonces_covered k m S n r [] closed tt
+nonce_covered k m S n r (accepted (Some e) what) closed h =
+    let T1 : Tables = effect m S (spent n) in
+    let T2 : Tables = effect m T1 (issued r) in
+    let later : IsClosed k T2 = issued_closed k m T1 r (spent_closed k m S n closed) in
+    nonces_covered k m S n r (e ∷ []) closed (later, issued_covers k m T1 r e (spent_covers k m S n e h.0), fresh_kept k T2 m e later, tt)
+
+-- the changes are the same
+changes_same : (k : Kept) (T : Tables) (m : ℕ) (es : List Entry) → IsClosed k T → CoversSweep k T m → CoversAll k m (swept m T) es →
+    changes_of m (restricted k T) es ≡ changes_of m T es
+changes_same k T m [] closed falling covers = refl
+changes_same k T m (e ∷ es) closed falling covers =
+    λ i. sweep_changes_local k T m closed falling i
+    ++ (ap (λ P. all_changes m P (e ∷ es)) (swept_part k T m closed) ∙ all_changes_local k m (swept m T) (e ∷ es) covers) i
+
+-- the reply is the same
+reply_same : (k : Kept) (m : ℕ) (S : Tables) (v : Verdict) (index : Bool) → IsAnswered k m S v →
+    verdict_reply index (restricted k (effects m S (entries_of v))) v ≡ verdict_reply index (effects m S (entries_of v)) v
+reply_same k m S (refused n ss) index h = refl
+reply_same k m S (accepted None what) index h = h
+reply_same k m S (accepted (Some e) what) index h = h.1
+
+carried_out : (k : Kept) (T : Tables) (m : ℕ) (v : Verdict) → IsClosed k T → IsAnswered k m (swept m T) v → CarriesOutAs m T (restricted k T) v
+carried_out k T m v closed h =
+    let after : effects m (swept m (restricted k T)) (entries_of v) ≡ restricted k (effects m (swept m T) (entries_of v)) =
+    ap (λ P. effects m P (entries_of v)) (swept_part k T m closed)
+    ∙ effects_part k m (swept m T) (entries_of v) (verdict_covered k m (swept m T) v (swept_closed k T m closed) h) in
+    record {
+      standing = λ r. k.authorizations r.number;
+      authorizations = ap (λ (E : Tables). E.authorizations) after;
+      ends = λ n all. subst (EachOf (λ o. o.expires ≤ n)) (sym (ap (λ (E : Tables). E.orders) after))
+          (filtered_each _ (λ (o : OrderRow). k.orders o.number) (effects m (swept m T) (entries_of v)).orders (each _ _ (effects m (swept m T) (entries_of v)).orders (λ o e kept. e) all));
+      shows = λ index. ap (λ E. verdict_reply index E v) after ∙ reply_same k m (swept m T) v index h;
+    }
+
+-- ---- each ask
+
+issues_as : (k : Kept) (T : Tables) (m : ℕ) (a : Ask) → IsReady k T m a → IssuesAs m T (restricted k T)
+issues_as k T m a ready =
+    let closed : IsClosed k (swept m T) = swept_closed k T m ready.closed in
+    record { records = λ r. changes_same k T m (issued r ∷ []) ready.closed (keeps_falling k T m a ready.touched) (closed, covers_issued k (swept m T) r, tt, tt) }
+
+settles_as : (k : Kept) (T : Tables) (m : ℕ) (a : Ask) → IsNoWork a → IsReady k T m a → SettlesAs m a T (restricted k T)
+settles_as k T m a none ready =
+    let answered : IsAnswered k m (swept m T) (office_verdict (swept m T) a) = office_answered k T m a none ready in
+    record {
+      judged = ap (λ P. office_verdict P a) (swept_part k T m ready.closed) ∙ office_same k (swept m T) a (swept_names k T m a ready.named);
+      verdict = carried_out k T m (office_verdict (swept m T) a) ready.closed answered;
+      records =
+          changes_same k T m (entries_of (office_verdict (swept m T) a)) ready.closed (keeps_falling k T m a ready.touched)
+          (verdict_covered k m (swept m T) (office_verdict (swept m T) a) (swept_closed k T m ready.closed) answered);
+    }
+
+passes_as : (k : Kept) (T : Tables) (m : ℕ) (s : Signed) → IsReady k T m (ask.Signed s) → PassesAs m s T (restricted k T)
+passes_as k T m s ready =
+    let named = swept_names k T m (ask.Signed s) ready.named in
+    record {
+      nonce = ap (λ P. open_nonce P s.nonce) (swept_part k T m ready.closed) ∙ nonce_same k (swept m T) s named.nonce;
+      issues = issues_as k T m (ask.Signed s) ready;
+      judged = λ r. ap (λ P. signed_verdict P r s) (swept_part k T m ready.closed) ∙ signed_same k (swept m T) r s named;
+      verdict = λ r. carried_out k T m (signed_verdict (swept m T) r s) ready.closed (signed_answered k T m r s ready);
+      records = λ r n fresh.
+          changes_same k T m (spent n ∷ issued fresh ∷ entries_of (signed_verdict (swept m T) r s)) ready.closed (keeps_falling k T m (ask.Signed s) ready.touched)
+          (nonce_covered k m (swept m T) n fresh (signed_verdict (swept m T) r s) (swept_closed k T m ready.closed) (signed_answered k T m r s ready));
+    }
+
+-- the directory needs no row
+directory_as : (k : Kept) (T : Tables) (m : ℕ) → IsClosed k T → SettlesAs m ask.Directory T (restricted k T)
+directory_as k T m closed = record { judged = refl; verdict = carried_out k T m (office_verdict (swept m T) ask.Directory) closed refl; records = refl }
+
+-- all rows are kept
+abbrev pub all_rows : Kept
+all_rows = record { nonces = λ n. true; accounts = λ n. true; authorizations = λ n. true; orders = λ n. true }
+
+restricted_all : (k : Kept) (T : Tables) → Keeps k T → restricted k T ≡ T
+restricted_all k T h =
+    λ i. record T {
+      nonces = filter_keeps (λ (n : Nonce). k.nonces n.serial) T.nonces h.nonces i;
+      accounts = filter_keeps (λ (a : AccountRow). k.accounts a.number) T.accounts h.accounts i;
+      authorizations = filter_keeps (λ (a : AuthorizationRow). k.authorizations a.number) T.authorizations h.authorizations i;
+      orders = filter_keeps (λ (o : OrderRow). k.orders o.number) T.orders h.orders i;
+    }
+
+keeps_all : (T : Tables) → Keeps all_rows T
+keeps_all T =
+    record {
+      nonces = each_all _ T.nonces (λ n. refl);
+      accounts = each_all _ T.accounts (λ n. refl);
+      authorizations = each_all _ T.authorizations (λ n. refl);
+      orders = each_all _ T.orders (λ n. refl);
+    }
+
+whole_settles : (T : Tables) (m : ℕ) (a : Ask) → SettlesAs m a T T
+whole_settles T m a =
+    let v : Verdict = office_verdict (swept m T) a in
+    record {
+      judged = refl;
+      verdict = record {
+        standing = λ r. true;
+        authorizations = sym (filter_keeps (λ r. true) (effects m (swept m T) (entries_of v)).authorizations (each_all _ (effects m (swept m T) (entries_of v)).authorizations (λ r. refl)));
+        ends = λ n all. all;
+        shows = λ index. refl;
+      };
+      records = refl;
+    }
+
+pub work_as : (k : Kept) (T : Tables) (m : ℕ) (a : Ask) → Keeps k T → SettlesAs m a T (restricted k T)
+work_as k T m a h = subst (SettlesAs m a T) (sym (restricted_all k T h)) (whole_settles T m a)
+
+-- ---- a part for a call
+
+ready_by : (k : Kept) (T : Tables) (m : ℕ) (a : Ask) → IsOrdered T → KeepsListed k T → Keeps k (touched_rows T m a) → IsReady (grown k T) T m a
+ready_by k T m a ordered listed h =
+    let touched : KeepsTouched (grown k T) T m a = keeps_touched k T m a h in
+    record { closed = grown_closed k T ordered listed; touched = touched; named = keeps_named k T m a touched }
+
+pub answers_at : (k : Kept) (T : Tables) (m : ℕ) (a : Ask) → IsOrdered T → KeepsListed k T → Keeps k (touched_at T m a) → AnswersAs m a T (restricted k T)
+answers_at k T m ask.Directory ordered listed h = subst (SettlesAs m ask.Directory T) (grown_part k T) (directory_as (grown k T) T m (grown_closed k T ordered listed))
+answers_at k T m (ask.NewNonce head) ordered listed h =
+    subst (IssuesAs m T) (grown_part k T) (issues_as (grown k T) T m (ask.NewNonce head) (ready_by k T m (ask.NewNonce head) ordered listed h))
+answers_at k T m (ask.Signed s) ordered listed h = subst (PassesAs m s T) (grown_part k T) (passes_as (grown k T) T m s (ready_by k T m (ask.Signed s) ordered listed h))
+answers_at k T m (ask.Report n finding) ordered listed h =
+    subst (SettlesAs m (ask.Report n finding) T) (grown_part k T) (settles_as (grown k T) T m (ask.Report n finding) tt (ready_by k T m (ask.Report n finding) ordered listed h))
+answers_at k T m (ask.Certify n bytes) ordered listed h =
+    subst (SettlesAs m (ask.Certify n bytes) T) (grown_part k T) (settles_as (grown k T) T m (ask.Certify n bytes) tt (ready_by k T m (ask.Certify n bytes) ordered listed h))
+answers_at k T m (ask.FailOrder n problem) ordered listed h =
+    subst (SettlesAs m (ask.FailOrder n problem) T) (grown_part k T) (settles_as (grown k T) T m (ask.FailOrder n problem) tt (ready_by k T m (ask.FailOrder n problem) ordered listed h))
+answers_at k T m (ask.RevokeAuthz n) ordered listed h =
+    subst (SettlesAs m (ask.RevokeAuthz n) T) (grown_part k T) (settles_as (grown k T) T m (ask.RevokeAuthz n) tt (ready_by k T m (ask.RevokeAuthz n) ordered listed h))
+answers_at k T m (ask.RevokeAccount n) ordered listed h =
+    subst (SettlesAs m (ask.RevokeAccount n) T) (grown_part k T) (settles_as (grown k T) T m (ask.RevokeAccount n) tt (ready_by k T m (ask.RevokeAccount n) ordered listed h))
+answers_at k T m ask.ChallengeWork ordered listed h = work_as k T m ask.ChallengeWork h
+answers_at k T m ask.OrderWork ordered listed h = work_as k T m ask.OrderWork h
+answers_at k T m (ask.KeyOf n) ordered listed h =
+    subst (SettlesAs m (ask.KeyOf n) T) (grown_part k T) (settles_as (grown k T) T m (ask.KeyOf n) tt (ready_by k T m (ask.KeyOf n) ordered listed h))
+
+-- all rows are a part for each call
+pub whole_part : (T : Tables) (call : Call) → IsPartFor call T T
+whole_part T call =
+    record {
+      kept = all_rows;
+      cut = sym (restricted_all all_rows T (keeps_all T));
+      holds = keeps_all (touched T call);
+    }
+
+-- and so are the same rows
+pub same_part : (T B : Tables) (call : Call) → B ≡ T → IsPartFor call T B
+same_part T B call same = subst (IsPartFor call T) (sym same) (whole_part T call)

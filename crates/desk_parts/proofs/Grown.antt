@@ -1,0 +1,231 @@
+-- A part with the numbers that no row has: it is the same part, and each number that a call names is kept.
+use Rattle.std.proofs.Common.{◌≡◌, ℕ, ◌+◌, ◌<◌, List, [], ◌∷◌, filter, Option, Some, None, refl, sym, ap, ◌∙◌, true, false, Bool, not, arith, subst}
+use Rattle.std.specs.Prelude.{◌==◌, ◌&&◌, ◌||◌}
+use Rattle.std.specs.List.{list_any}
+use Rattle.std.proofs.lemmas.Bool.{eqb-true, eq-eqb, and_parts, and_from}
+use Rattle.desk_model.specs.Lookup.{holds}
+use Rattle.desk_model.specs.Derived.{numbers_of, authorization_numbered}
+use Rattle.desk_model.specs.Effect.{lists_one, falls, is_live_order, is_overdue, touches_account, touches_authorization, names_order as entry_names_order}
+use Rattle.desk_model.specs.Tables.{Tables}
+use Rattle.desk_model.specs.Kept.{EachOf, Kept, restricted, IsClosed, Covers, CoversSweep}
+use Rattle.desk_model.specs.declared.call.Ask.{Ask}
+use Rattle.desk_model.specs.declared.entry.Entry.{Entry}
+use Rattle.desk_model.specs.declared.objects.Nonce.{Nonce}
+use Rattle.desk_model.specs.declared.rows.AccountRow.{AccountRow}
+use Rattle.desk_model.specs.declared.rows.AuthorizationRow.{AuthorizationRow}
+use Rattle.desk_model.specs.declared.rows.OrderRow.{OrderRow}
+use Rattle.desk_laws.specs.Ordered.{Below, IsOrdered}
+use Rattle.desk_laws.proofs.Basics.{each, each_both, less_differs}
+use Rattle.desk_model.specs.Asked.{carries, has_key, names_account, names_order, names_authorization, names_owner, asks_orders}
+use Rattle.desk_model.specs.Touched.{is_touched_nonce, is_touched_account, is_touched_authorization, is_touched_order, is_named_account, is_named_order, is_named_authorization, is_own_order, is_own_authorization, is_first_authorization, lists, touched_rows}
+use Rattle.desk_parts.specs.IsPart.{Keeps}
+use Rattle.desk_parts.proofs.Listed.{KeepsListed}
+use Rattle.desk_parts.proofs.Lists.{or_left, or_right, or_cases, same_number, each_member, any_gives, each_filtered, filter_same, found_passes, found_each}
+
+-- a row has the number
+abbrev pub stands : {X : Type 0} → (X → ℕ) → List X → ℕ → Bool
+stands number xs n = list_any (λ x. number x == n) xs
+
+-- these numbers and those that no row has
+abbrev pub with_others : {X : Type 0} → (X → ℕ) → List X → (ℕ → Bool) → ℕ → Bool
+with_others number xs kept n = kept n || not (stands number xs n)
+
+abbrev pub grown : Kept → Tables → Kept
+grown k T =
+    record {
+      nonces = with_others (λ (n : Nonce). n.serial) T.nonces k.nonces;
+      accounts = with_others (λ (a : AccountRow). a.number) T.accounts k.accounts;
+      authorizations = with_others (λ (a : AuthorizationRow). a.number) T.authorizations k.authorizations;
+      orders = with_others (λ (o : OrderRow). o.number) T.orders k.orders;
+    }
+
+-- for the rows themselves nothing is added
+same_kept : {X : Type 0} (number : X → ℕ) (xs : List X) (kept : ℕ → Bool) → EachOf (λ x. with_others number xs kept (number x) ≡ kept (number x)) xs
+same_kept number xs kept =
+    each _ _ xs (λ x f. by (kept (number x)) (stands number xs (number x)) (f (λ y. number y == number x) (same_number (number x)))) (each_member xs)
+  where
+    by : (b c : Bool) → c ≡ true → (b || not c) ≡ b
+    by true c e = refl
+    by false true e = refl
+    by false false e = cc
+
+same_part : {X : Type 0} (number : X → ℕ) (xs : List X) (kept : ℕ → Bool) →
+    filter (λ x. with_others number xs kept (number x)) xs ≡ filter (λ x. kept (number x)) xs
+same_part number xs kept = filter_same _ _ xs (same_kept number xs kept)
+
+-- the part is the same
+pub grown_part : (k : Kept) (T : Tables) → restricted (grown k T) T ≡ restricted k T
+grown_part k T =
+    λ i. record {
+      meta = T.meta;
+      nonces = same_part (λ (n : Nonce). n.serial) T.nonces k.nonces i;
+      accounts = same_part (λ (a : AccountRow). a.number) T.accounts k.accounts i;
+      authorizations = same_part (λ (a : AuthorizationRow). a.number) T.authorizations k.authorizations i;
+      orders = same_part (λ (o : OrderRow). o.number) T.orders k.orders i;
+    }
+
+-- a number above all is no row's
+none_stands : {X : Type 0} (number : X → ℕ) (last n : ℕ) (xs : List X) → Below number (last + 1) xs → last < n → stands number xs n ≡ false
+none_stands number last n [] h lt = refl
+none_stands number last n (x ∷ xs) h lt =
+    let low : number x < last + 1 = h.0 in
+    ap (λ b. b || stands number xs n) (less_differs (number x) n (omega arith)) ∙ none_stands number last n xs h.1 lt
+
+new_kept : {X : Type 0} (number : X → ℕ) (last : ℕ) (xs : List X) (kept : ℕ → Bool) → Below number (last + 1) xs →
+    (n : ℕ) → last < n → with_others number xs kept n ≡ true
+new_kept number last xs kept h n lt = or_right (kept n) (not (stands number xs n)) (ap not (none_stands number last n xs h lt))
+
+-- it is closed
+pub grown_closed : (k : Kept) (T : Tables) → IsOrdered T → KeepsListed k T → IsClosed (grown k T) T
+grown_closed k T ordered listed =
+    record {
+      listed =
+          each _ _ T.orders
+          (λ o f yes. each _ _ (numbers_of o.listed) (λ n h. or_left _ _ h) (f.1 (sym f.0 ∙ yes)))
+          (each_both _ _ T.orders (same_kept (λ (o : OrderRow). o.number) T.orders k.orders) listed);
+      new_nonces = new_kept (λ (n : Nonce). n.serial) T.meta.nonces T.nonces k.nonces ordered.nonces.1;
+      new_accounts = new_kept (λ (a : AccountRow). a.number) T.meta.accounts T.accounts k.accounts ordered.accounts.1;
+      new_authorizations = new_kept (λ (a : AuthorizationRow). a.number) T.meta.authorizations T.authorizations k.authorizations ordered.authorizations.1;
+      new_orders = new_kept (λ (o : OrderRow). o.number) T.meta.orders T.orders k.orders ordered.orders.1;
+    }
+
+-- ---- what is kept of the rows that a call touches
+
+-- each touched row is kept
+pub record KeepsTouched (k : Kept) (T : Tables) (m : ℕ) (a : Ask) : Type 0 where
+  pub nonces : EachOf (λ x. is_touched_nonce T m a x ≡ true → k.nonces x.serial ≡ true) T.nonces
+  pub accounts : EachOf (λ x. is_touched_account T m a x ≡ true → k.accounts x.number ≡ true) T.accounts
+  pub authorizations : EachOf (λ r. is_touched_authorization T m a r ≡ true → k.authorizations r.number ≡ true) T.authorizations
+  pub orders : EachOf (λ o. is_touched_order T m a o ≡ true → k.orders o.number ≡ true) T.orders
+
+pub keeps_touched : (k : Kept) (T : Tables) (m : ℕ) (a : Ask) → Keeps k (touched_rows T m a) → KeepsTouched (grown k T) T m a
+keeps_touched k T m a h =
+    record {
+      nonces = each _ _ T.nonces (λ x f yes. or_left _ _ (f yes)) (each_filtered _ (is_touched_nonce T m a) T.nonces h.nonces);
+      accounts = each _ _ T.accounts (λ x f yes. or_left _ _ (f yes)) (each_filtered _ (is_touched_account T m a) T.accounts h.accounts);
+      authorizations = each _ _ T.authorizations (λ x f yes. or_left _ _ (f yes)) (each_filtered _ (is_touched_authorization T m a) T.authorizations h.authorizations);
+      orders = each _ _ T.orders (λ x f yes. or_left _ _ (f yes)) (each_filtered _ (is_touched_order T m a) T.orders h.orders);
+    }
+
+-- a number whose rows are kept, where no row has it or not
+kept_number : {X : Type 0} (number : X → ℕ) (xs : List X) (kept : ℕ → Bool) (test : ℕ → Bool) →
+    EachOf (λ x. test (number x) ≡ true → with_others number xs kept (number x) ≡ true) xs →
+    (n : ℕ) → test n ≡ true → with_others number xs kept n ≡ true
+kept_number number xs kept test h n so = by (stands number xs n) refl
+  where
+    by : (b : Bool) → stands number xs n ≡ b → with_others number xs kept n ≡ true
+    by true e =
+        any_gives (λ x. number x == n) xs e
+        (each _ _ xs (λ x f here. let same : number x ≡ n = eqb-true (number x) n here in
+        subst (λ j. with_others number xs kept j ≡ true) same (f (ap test same ∙ so))) h)
+    by false e = or_right (kept n) (not (stands number xs n)) (ap not e)
+
+-- what an ask names is kept
+pub record KeepsNamed (k : Kept) (T : Tables) (a : Ask) : Type 0 where
+  pub nonce : (n : ℕ) → carries a n ≡ true → k.nonces n ≡ true
+  pub key : EachOf (λ x. has_key a x.key ≡ true → k.accounts x.number ≡ true) T.accounts
+  pub account : (n : ℕ) → names_account a n ≡ true → k.accounts n ≡ true
+  pub order : (n : ℕ) → names_order a n ≡ true → k.orders n ≡ true
+  pub authorization : (n : ℕ) → names_authorization a n ≡ true → k.authorizations n ≡ true
+  pub owner : EachOf (λ r. names_owner a r ≡ true → k.authorizations r.number ≡ true) T.authorizations
+  pub holder : EachOf (λ r. names_owner a r ≡ true → k.accounts r.account ≡ true) T.authorizations
+  pub orders : EachOf (λ x. is_named_account a x ≡ true → EachOf (λ o. asks_orders a ≡ true → (o.account == x.number) ≡ true → k.orders o.number ≡ true) T.orders) T.accounts
+
+pub keeps_named : (k : Kept) (T : Tables) (m : ℕ) (a : Ask) → KeepsTouched (grown k T) T m a → KeepsNamed (grown k T) T a
+keeps_named k T m a h =
+    record {
+      nonce = kept_number (λ (n : Nonce). n.serial) T.nonces k.nonces (carries a) (each _ _ T.nonces (λ x f yes. f (or_left _ _ yes)) h.nonces);
+      key = each _ _ T.accounts (λ x f yes. f (or_left _ _ (or_left _ _ yes))) h.accounts;
+      account =
+          kept_number (λ (x : AccountRow). x.number) T.accounts k.accounts (names_account a)
+          (each _ _ T.accounts (λ x f yes. f (or_left _ _ (or_right (has_key a x.key) _ yes))) h.accounts);
+      order =
+          kept_number (λ (o : OrderRow). o.number) T.orders k.orders (names_order a)
+          (each _ _ T.orders (λ o f yes. f (or_left _ _ (or_left _ _ yes))) h.orders);
+      authorization =
+          kept_number (λ (r : AuthorizationRow). r.number) T.authorizations k.authorizations (names_authorization a)
+          (each _ _ T.authorizations (λ r f yes. f (or_left _ _ (or_left _ _ (or_left _ _ yes)))) h.authorizations);
+      owner = each _ _ T.authorizations (λ r f yes. f (or_left _ _ (or_left _ _ (or_right (names_authorization a r.number) _ yes)))) h.authorizations;
+      holder =
+          each _ _ T.authorizations
+          (λ r member yes. kept_number (λ (x : AccountRow). x.number) T.accounts k.accounts (λ n. r.account == n)
+          (each _ _ T.accounts (λ x f same. f (or_right (is_named_account a x) _ (or_right _ _
+          (member (λ y. is_touched_authorization T m a y && (y.account == x.number))
+          (and_from _ _ (or_left _ _ (or_left _ _ (or_right (names_authorization a r.number) _ yes))) same))))) h.accounts)
+          r.account (same_number r.account)) (each_member T.authorizations);
+      orders =
+          each _ _ T.accounts
+          (λ x member named. each _ _ T.orders (λ o f asked same. f (or_left _ _ (or_right (is_named_order a o) _ (or_left _ _
+          (and_from _ _ asked (member (λ y. is_named_account a y && (o.account == y.number)) (and_from _ _ named same))))))) h.orders) (each_member T.accounts);
+    }
+
+-- ---- what falls, and what an entry touches
+
+-- an authorization that is listed and passes a test
+pub listed_one : (test : AuthorizationRow → Bool) (rows : List AuthorizationRow) (o : OrderRow) → lists_one test rows (numbers_of o.listed) ≡ true →
+    list_any (λ r. test r && lists o r.number) rows ≡ true
+listed_one test rows o h =
+    any_gives (λ n. holds test (authorization_numbered n rows)) (numbers_of o.listed) h
+    (each _ _ (numbers_of o.listed) (λ n member found. at n member (authorization_numbered n rows) refl found) (each_member (numbers_of o.listed)))
+  where
+    at : (n : ℕ) → ((p : ℕ → Bool) → p n ≡ true → list_any p (numbers_of o.listed) ≡ true) →
+        (x : Option AuthorizationRow) → authorization_numbered n rows ≡ x → holds test x ≡ true →
+        list_any (λ r. test r && lists o r.number) rows ≡ true
+    at n member None e k = cc
+    at n member (Some r) e k =
+        let same : r.number ≡ n = eqb-true r.number n (found_passes (λ y. y.number == n) rows r e) in
+        found_each (λ y. (p : AuthorizationRow → Bool) → p y ≡ true → list_any p rows ≡ true) (λ y. y.number == n) rows r (each_member rows) e
+        (λ y. test y && lists o y.number) (and_from _ _ k (member (λ j. j == r.number) (eq-eqb n r.number (sym same))))
+
+-- an authorization of the first rules is touched, and so are the orders that list it
+pub keeps_first : (k : Kept) (T : Tables) (m : ℕ) (a : Ask) → KeepsTouched k T m a →
+    EachOf (λ r. is_first_authorization T m a r ≡ true → k.authorizations r.number ≡ true) T.authorizations
+keeps_first k T m a h = each _ _ T.authorizations (λ r f yes. f (or_left _ _ yes)) h.authorizations
+
+pub keeps_listing : (k : Kept) (T : Tables) (m : ℕ) (a : Ask) → KeepsTouched k T m a → (test : AuthorizationRow → Bool) →
+    ((r : AuthorizationRow) → test r ≡ true → is_first_authorization T m a r ≡ true) →
+    EachOf (λ o. lists_one test T.authorizations (numbers_of o.listed) ≡ true → k.orders o.number ≡ true) T.orders
+keeps_listing k T m a h test wide =
+    each _ _ T.orders
+    (λ o f yes. f (or_right _ _ (wider o T.authorizations (listed_one test T.authorizations o yes)))) h.orders
+  where
+    wider : (o : OrderRow) (rows : List AuthorizationRow) → list_any (λ r. test r && lists o r.number) rows ≡ true →
+        list_any (λ r. is_first_authorization T m a r && lists o r.number) rows ≡ true
+    wider o rows k =
+        any_gives (λ r. test r && lists o r.number) rows k
+        (each _ _ rows (λ r member yes. member (λ y. is_first_authorization T m a y && lists o y.number)
+        (let p = and_parts (test r) (lists o r.number) yes in and_from _ _ (wide r p.0) p.1)) (each_member rows))
+
+-- what falls by the passing of time is kept
+pub keeps_falling : (k : Kept) (T : Tables) (m : ℕ) (a : Ask) → KeepsTouched k T m a → CoversSweep k T m
+keeps_falling k T m a h =
+    record {
+      nonces = each _ _ T.nonces (λ x f yes. f (or_right (carries a x.serial) _ yes)) h.nonces;
+      authorizations = each _ _ T.authorizations (λ r f yes. f (overdue r yes)) (keeps_first k T m a h);
+      orders = each _ _ T.orders (λ o f yes. by o (is_live_order o.status) refl f.0 f.1 yes) (each_both _ _ T.orders h.orders (keeps_listing k T m a h (is_overdue m) overdue));
+    }
+  where
+    overdue : (r : AuthorizationRow) → is_overdue m r ≡ true → is_first_authorization T m a r ≡ true
+    overdue r so = or_right (is_named_authorization a r) _ (or_right (is_own_authorization T a r) _ so)
+
+    by : (o : OrderRow) (b : Bool) → is_live_order o.status ≡ b → (is_touched_order T m a o ≡ true → k.orders o.number ≡ true) →
+        (lists_one (is_overdue m) T.authorizations (numbers_of o.listed) ≡ true → k.orders o.number ≡ true) →
+        falls m T.authorizations o ≡ true → k.orders o.number ≡ true
+    by o b live f g so =
+        let p = and_parts (is_live_order o.status) _ so in
+        or_cases _ _ p.1 (λ past. f (or_left _ _ (or_right (is_named_order a o) _ (or_right (is_own_order T a o) _ (and_from _ _ p.0 past))))) g
+
+-- the entry touches what the ask names, and what hangs on it
+pub record IsNamedBy (T : Tables) (m : ℕ) (a : Ask) (e : Entry) : Type 0 where
+  pub account : (x : AccountRow) → touches_account e x ≡ true → is_named_account a x ≡ true
+  pub authorization : (r : AuthorizationRow) → touches_authorization e r ≡ true → is_first_authorization T m a r ≡ true
+  pub order : (n : ℕ) → entry_names_order e n ≡ true → names_order a n ≡ true
+
+pub keeps_entry : (k : Kept) (T : Tables) (m : ℕ) (a : Ask) (e : Entry) → KeepsTouched k T m a → IsNamedBy T m a e → Covers k T e
+keeps_entry k T m a e h named =
+    record {
+      accounts = each _ _ T.accounts (λ x f yes. f (or_left _ _ (named.account x yes))) h.accounts;
+      authorizations = each _ _ T.authorizations (λ r f yes. f (named.authorization r yes)) (keeps_first k T m a h);
+      orders = each _ _ T.orders (λ o f yes. or_cases _ _ yes (λ n. f.0 (or_left _ _ (or_left _ _ (named.order o.number n)))) f.1)
+          (each_both _ _ T.orders h.orders (keeps_listing k T m a h (touches_authorization e) named.authorization));
+    }

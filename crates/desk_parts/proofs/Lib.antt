@@ -1,0 +1,12 @@
+pub mod Between
+pub mod Cut
+pub mod Enough
+pub mod Found
+pub mod Grown
+pub mod Listed
+pub mod Lists
+pub mod Loading
+pub mod Ready
+pub mod Replies
+pub mod Verdicts
+pub mod Walks

@@ -1,0 +1,164 @@
+-- A part that keeps what a request names gives the same verdict.
+use Rattle.std.proofs.Common.{◌≡◌, ℕ, List, [], Option, Some, None, refl, ap, ◌∙◌, true, false, Bool, Result, Ok, Err}
+use Rattle.std.specs.Prelude.{◌==◌, bytes_eq, option_and_then}
+use Rattle.desk_model.specs.Account.{is_valid as is_valid_account}
+use Rattle.desk_model.specs.Document.{expected, expected_by}
+use Rattle.desk_model.specs.Effect.{has_row}
+use Rattle.desk_model.specs.Lookup.{holds}
+use Rattle.desk_model.specs.Payload.{authorization_change, challenge_change, finalize, new_account}
+use Rattle.desk_model.specs.Questions.{account_on, account_with_key, authorization_on, order_on, owner_on, challenge_of}
+use Rattle.desk_model.specs.Rules.{certificate_verdict, certify_verdict, challenge_verdict, authorization_verdict, fail_verdict, finalize_verdict, finding_verdict, holder_verdict, if_spelled, key_verdict, new_account_verdict, nothing, office_verdict, open_nonce, open_nonce_in, outcome_of, outcome_verdict, own, report_verdict, revoke_account, revoke_authorization, signed_verdict, target_verdict}
+use Rattle.desk_model.specs.Tables.{Tables}
+use Rattle.desk_model.specs.Tokens.{NonceText, authorization_of, nonce_in, token_text}
+use Rattle.sha2.specs.Sha256.{sha256}
+use Rattle.desk_model.specs.Kept.{EachOf, Kept, restricted}
+use Rattle.desk_model.specs.Verdict.{answers, check, given}
+use Rattle.desk_model.specs.declared.verdict.Verdict.{Verdict}
+use Rattle.desk_model.specs.declared.verdict.Verdict.TheVariants.{Refused as refused}
+use Rattle.desk_model.specs.declared.call.Ask.{Ask}
+use Rattle.desk_model.specs.declared.call.Ask.TheVariants as ask
+use Rattle.desk_model.specs.declared.call.BadKey.{BadKey}
+use Rattle.desk_model.specs.declared.call.Finding.{Finding}
+use Rattle.desk_model.specs.declared.call.Signed.{Signed}
+use Rattle.desk_model.specs.declared.call.Target.{Target}
+use Rattle.desk_model.specs.declared.call.Target.TheVariants as to
+use Rattle.desk_model.specs.declared.objects.Nonce.{Nonce}
+use Rattle.desk_model.specs.declared.rows.AccountRow.{AccountRow}
+use Rattle.desk_model.specs.declared.rows.AuthorizationRow.{AuthorizationRow}
+use Rattle.desk_model.specs.declared.rows.ChallengeRow.{ChallengeRow}
+use Rattle.desk_model.specs.declared.rows.OrderRow.{OrderRow}
+use Rattle.desk_model.specs.declared.verdict.Shows.TheVariants as show
+use Rattle.desk_laws.proofs.Local.{find_part}
+use Rattle.desk_model.specs.Asked.{carries, target_order, target_authorization, target_owner}
+use Rattle.desk_parts.proofs.Grown.{KeepsNamed}
+use Rattle.desk_parts.proofs.Lists.{find_kept, found_each, found_passes, same_number}
+
+-- ---- look-ups
+
+pub account_same : (k : Kept) (S : Tables) (n : ℕ) → k.accounts n ≡ true → account_on (restricted k S) n ≡ account_on S n
+account_same k S n h = find_kept (λ (a : AccountRow). a.number) k.accounts n S.accounts h
+
+pub order_same : (k : Kept) (S : Tables) (n : ℕ) → k.orders n ≡ true → order_on (restricted k S) n ≡ order_on S n
+order_same k S n h = find_kept (λ (o : OrderRow). o.number) k.orders n S.orders h
+
+pub authorization_same : (k : Kept) (S : Tables) (n : ℕ) → k.authorizations n ≡ true → authorization_on (restricted k S) n ≡ authorization_on S n
+authorization_same k S n h = find_kept (λ (a : AuthorizationRow). a.number) k.authorizations n S.authorizations h
+
+pub owner_same : (k : Kept) (S : Tables) (n : ℕ) → EachOf (λ r. has_row n r ≡ true → k.authorizations r.number ≡ true) S.authorizations →
+    owner_on (restricted k S) n ≡ owner_on S n
+owner_same k S n h = find_part (has_row n) (λ a. k.authorizations a.number) S.authorizations h
+
+pub key_same : (k : Kept) (S : Tables) (key : List ℕ) → EachOf (λ x. bytes_eq x.key key ≡ true → k.accounts x.number ≡ true) S.accounts →
+    account_with_key (restricted k S) key ≡ account_with_key S key
+key_same k S key h = find_part (λ a. bytes_eq a.key key) (λ a. k.accounts a.number) S.accounts h
+
+-- ---- the nonce
+
+pub nonce_same : (k : Kept) (S : Tables) (s : Signed) → ((n : ℕ) → carries (ask.Signed s) n ≡ true → k.nonces n ≡ true) →
+    open_nonce (restricted k S) s.nonce ≡ open_nonce S s.nonce
+nonce_same k S s h = by (option_and_then nonce_in s.nonce) h
+  where
+    by : (t : Option NonceText) → ((n : ℕ) → holds (λ (x : NonceText). n == x.serial) t ≡ true → k.nonces n ≡ true) → open_nonce_in (restricted k S) t ≡ open_nonce_in S t
+    by None f = refl
+    by (Some t) f = ap (if_spelled t) (find_kept (λ (n : Nonce). n.serial) k.nonces t.serial S.nonces (f t.serial (same_number t.serial)))
+
+-- ---- signed requests
+
+target_same : (k : Kept) (S : Tables) (r : List ℕ) (n : ℕ) (p : List ℕ) (t : Target) →
+    ((j : ℕ) → target_order t j ≡ true → k.orders j ≡ true) →
+    ((j : ℕ) → target_authorization t j ≡ true → k.authorizations j ≡ true) →
+    EachOf (λ a. target_owner t a ≡ true → k.authorizations a.number ≡ true) S.authorizations →
+    target_verdict (restricted k S) r n p t ≡ target_verdict S r n p t
+target_same k S r n p to.NewAccount o a c = refl
+target_same k S r n p to.NewOrder o a c = refl
+target_same k S r n p (to.Account j) o a c = refl
+target_same k S r n p (to.Orders j) o a c = refl
+target_same k S r n p (to.Order j) o a c =
+    ap (λ x. given (own (λ (y : OrderRow). y.account) n x) 2 (λ y. check (nothing p) 1 (answers (show.Order j)))) (order_same k S j (o j (same_number j)))
+target_same k S r n p (to.Finalize j) o a c =
+    ap (λ x. given (own (λ (y : OrderRow). y.account) n x) 2 (λ y. given (finalize p) 1 (finalize_verdict j y))) (order_same k S j (o j (same_number j)))
+target_same k S r n p (to.Cert j) o a c =
+    ap (λ x. given (own (λ (y : OrderRow). y.account) n x) 2 (λ y. check (nothing p) 1 (certificate_verdict j y))) (order_same k S j (o j (same_number j)))
+target_same k S r n p (to.Authz j) o a c =
+    ap (λ x. given (own (λ (y : AuthorizationRow). y.account) n x) 2 (λ y. given (authorization_change p) 1 (authorization_verdict j y))) (authorization_same k S j (a j (same_number j)))
+target_same k S r n p (to.Chall j) o a c =
+    ap (λ x. given (own (λ (y : AuthorizationRow). y.account) n x) 2 (λ y. given (challenge_change p) 1 (challenge_verdict j y))) (owner_same k S j c)
+
+holder_same : (k : Kept) (S : Tables) (r p : List ℕ) (t : Target) (x : Option AccountRow) →
+    ((n : ℕ) → target_verdict (restricted k S) r n p t ≡ target_verdict S r n p t) →
+    holder_verdict (restricted k S) r p t x ≡ holder_verdict S r p t x
+unfolding given
+holder_same k S r p t None h = refl
+holder_same k S r p t (Some a) h = ap (check (is_valid_account a.status) 7) (h a.number)
+
+new_account_same : (k : Kept) (S : Tables) (key p : List ℕ) (x : Option AccountRow) →
+    new_account_verdict (restricted k S) key x (new_account p) ≡ new_account_verdict S key x (new_account p)
+new_account_same k S key p None = refl
+new_account_same k S key p (Some a) = refl
+
+keyed_same : (k : Kept) (S : Tables) (r key p : List ℕ) (t : Target) →
+    EachOf (λ x. bytes_eq x.key key ≡ true → k.accounts x.number ≡ true) S.accounts →
+    ((j : ℕ) → target_order t j ≡ true → k.orders j ≡ true) →
+    ((j : ℕ) → target_authorization t j ≡ true → k.authorizations j ≡ true) →
+    EachOf (λ a. target_owner t a ≡ true → k.authorizations a.number ≡ true) S.authorizations →
+    key_verdict (restricted k S) r key p t ≡ key_verdict S r key p t
+keyed_same k S r key p to.NewAccount h o a c =
+    ap (λ x. new_account_verdict (restricted k S) key x (new_account p)) (key_same k S key h) ∙ new_account_same k S key p (account_with_key S key)
+keyed_same k S r key p t h o a c = rest t (λ n. target_same k S r n p t o a c)
+  where
+    rest : (u : Target) → ((n : ℕ) → target_verdict (restricted k S) r n p u ≡ target_verdict S r n p u) →
+        holder_verdict (restricted k S) r p u (account_with_key (restricted k S) key) ≡ holder_verdict S r p u (account_with_key S key)
+    rest u f = ap (holder_verdict (restricted k S) r p u) (key_same k S key h) ∙ holder_same k S r p u (account_with_key S key) f
+
+-- the verdict by the request's key
+abbrev pub verdict_by : Tables → List ℕ → Signed → Result (List ℕ) BadKey → Verdict
+verdict_by T r s key = elim key [ Err e ↦ refused 5 [] | Ok mine ↦ key_verdict T r mine s.payload s.target ]
+
+abbrev pub is_key : Result (List ℕ) BadKey → List ℕ → Bool
+is_key key text = elim key [ Err e ↦ false | Ok mine ↦ bytes_eq text mine ]
+
+pub signed_same : (k : Kept) (S : Tables) (r : List ℕ) (s : Signed) → KeepsNamed k S (ask.Signed s) → signed_verdict (restricted k S) r s ≡ signed_verdict S r s
+signed_same k S r s h = by s.key h.key
+  where
+    by : (key : Result (List ℕ) BadKey) → EachOf (λ x. is_key key x.key ≡ true → k.accounts x.number ≡ true) S.accounts →
+        verdict_by (restricted k S) r s key ≡ verdict_by S r s key
+    by (Err e) f = refl
+    by (Ok key) f = keyed_same k S r key s.payload s.target f h.order h.authorization h.owner
+
+-- ---- the other asks
+
+-- the key under which a challenge was answered
+expected_same : (k : Kept) (S : Tables) (a : AuthorizationRow) (c : ChallengeRow) → k.accounts a.account ≡ true → expected (restricted k S) a c ≡ expected S a c
+expected_same k S a c h =
+    ap (λ x. expected_by c.kind (authorization_of (token_text c.token) (sha256 (elim x [ None ↦ [] | Some y ↦ y.key ])))) (account_same k S a.account h)
+
+pub report_same : (k : Kept) (S : Tables) (n : ℕ) (finding : Finding) → KeepsNamed k S (ask.Report n finding) →
+    report_verdict (restricted k S) n finding ≡ report_verdict S n finding
+unfolding given
+report_same k S n finding h =
+    ap (λ x. given x 2 (λ a. given (challenge_of n a) 2 (finding_verdict (restricted k S) n finding a))) (owner_same k S n h.owner)
+    ∙ by (owner_on S n) refl
+  where
+    in_row : (a : AuthorizationRow) → k.accounts a.account ≡ true → (c : Option ChallengeRow) →
+        given c 2 (finding_verdict (restricted k S) n finding a) ≡ given c 2 (finding_verdict S n finding a)
+    in_row a own None = refl
+    in_row a own (Some c) = ap (λ x. given (outcome_of c.kind x finding) 1 (outcome_verdict n a c)) (expected_same k S a c own)
+
+    by : (x : Option AuthorizationRow) → owner_on S n ≡ x →
+        given x 2 (λ a. given (challenge_of n a) 2 (finding_verdict (restricted k S) n finding a))
+        ≡ given x 2 (λ a. given (challenge_of n a) 2 (finding_verdict S n finding a))
+    by None e = refl
+    by (Some a) e = in_row a (found_each _ (has_row n) S.authorizations a h.holder e (found_passes (has_row n) S.authorizations a e)) (challenge_of n a)
+
+pub office_same : (k : Kept) (S : Tables) (a : Ask) → KeepsNamed k S a → office_verdict (restricted k S) a ≡ office_verdict S a
+office_same k S ask.Directory h = refl
+office_same k S (ask.NewNonce head) h = refl
+office_same k S (ask.Signed s) h = refl
+office_same k S (ask.Report n finding) h = report_same k S n finding h
+office_same k S (ask.Certify n bytes) h = ap (λ x. given x 2 (certify_verdict n bytes)) (order_same k S n (h.order n (same_number n)))
+office_same k S (ask.FailOrder n problem) h = ap (λ x. given x 2 (fail_verdict n problem)) (order_same k S n (h.order n (same_number n)))
+office_same k S (ask.RevokeAuthz n) h = ap (λ x. given x 2 (revoke_authorization n)) (authorization_same k S n (h.authorization n (same_number n)))
+office_same k S (ask.RevokeAccount n) h = ap (λ x. given x 2 (revoke_account n)) (account_same k S n (h.account n (same_number n)))
+office_same k S ask.ChallengeWork h = refl
+office_same k S ask.OrderWork h = refl
+office_same k S (ask.KeyOf n) h = ap (λ x. given x 2 (λ (y : AccountRow). answers (show.Key n))) (account_same k S n (h.account n (same_number n)))

@@ -1,0 +1,385 @@
+-- Each verdict: what it records is kept, and what it shows is shown by the part as by the whole.
+use Rattle.std.proofs.Common.{◌≡◌, ℕ, ◌+◌, List, [], ◌∷◌, length, Option, Some, None, refl, ap, subst, ◌∙◌, true, false, Bool, not, arith, Result, Ok, Err}
+use Rattle.std.specs.Prelude.{◌==◌, ◌&&◌, nat_le, bytes_eq}
+use Rattle.std.specs.List.{list_any}
+use Rattle.std.proofs.lemmas.Bool.{and_from, eqb-true}
+use Rattle.desk_model.specs.Account.{is_valid as is_valid_account}
+use Rattle.desk_model.specs.Contact.{contacts_fault}
+use Rattle.desk_model.specs.Document.{expected}
+use Rattle.desk_model.specs.Effect.{effect, has_row, swept, touches_account, touches_authorization, names_order as entry_names_order}
+use Rattle.desk_model.specs.declared.call.OrderProblem.{OrderProblem}
+use Rattle.desk_model.specs.declared.entry.Ending.{Ending}
+use Rattle.desk_model.specs.declared.entry.Ending.TheVariants.{Deactivated as deactivated, Revoked as revoked}
+use Rattle.desk_model.specs.declared.entry.Outcome.{Outcome}
+use Rattle.desk_model.specs.Legal.{has_length, is_pending_challenge, is_problem, is_processing_challenge}
+use Rattle.desk_model.specs.Lookup.{holds}
+use Rattle.desk_model.specs.Order.{is_processing, is_ready}
+use Rattle.desk_model.specs.Payload.{account_change, authorization_change, challenge_change, finalize, new_account, new_order}
+use Rattle.desk_model.specs.Questions.{account_on, account_with_key, authorization_on, challenge_of, order_on, owner_on}
+use Rattle.desk_model.specs.Rules.{account_verdict, authorization_verdict, certify_verdict, challenge_verdict, csr_in, fail_verdict, finalize_verdict, holder_verdict, is_endable, is_revoked, is_revoked_status, key_verdict, new_account_verdict, nothing, office_verdict, open_account, order_of, outcome_of, own, report_verdict, revoke_account, revoke_authorization, same_outcome, same_problem, signed_verdict, stands_open, subproblems, target_verdict, wanted, kept, names_in}
+use Rattle.desk_model.specs.Tables.{Tables}
+use Rattle.desk_model.specs.Kept.{EachOf, IsClosed, Kept}
+use Rattle.desk_model.specs.Verdict.{check, choose, given, unless_fault}
+use Rattle.desk_model.specs.declared.call.Ask.{Ask}
+use Rattle.desk_model.specs.declared.call.Ask.TheVariants as ask
+use Rattle.desk_model.specs.declared.call.BadKey.{BadKey}
+use Rattle.desk_model.specs.declared.call.Finding.{Finding}
+use Rattle.desk_model.specs.declared.call.Signed.{Signed}
+use Rattle.desk_model.specs.declared.call.Target.{Target}
+use Rattle.desk_model.specs.declared.call.Target.TheVariants as to
+use Rattle.desk_model.specs.declared.entry.Entry.{Entry}
+use Rattle.desk_model.specs.declared.entry.Entry.TheVariants.{Opened as opened, ContactsChanged as contacts_changed, AccountEnded as account_ended, Ordered as ordered, Answered as answered, Reported as reported, AuthorizationEnded as authorization_ended, Finalized as finalized, Certified as certified, Failed as failed}
+use Rattle.desk_model.specs.declared.payload.AccountChange.{AccountChange}
+use Rattle.desk_model.specs.declared.payload.AccountChange.TheVariants as change
+use Rattle.desk_model.specs.declared.payload.AuthorizationChange.{AuthorizationChange}
+use Rattle.desk_model.specs.declared.payload.AuthorizationChange.TheVariants as authz_change
+use Rattle.desk_model.specs.declared.payload.ChallengeChange.{ChallengeChange}
+use Rattle.desk_model.specs.declared.payload.ChallengeChange.TheVariants as chall_change
+use Rattle.desk_model.specs.declared.payload.Identifier.{Identifier}
+use Rattle.desk_model.specs.declared.payload.NewAccount.{NewAccount}
+use Rattle.desk_model.specs.declared.reply.Subproblem.{Subproblem}
+use Rattle.desk_model.specs.declared.rows.AccountRow.{AccountRow}
+use Rattle.desk_model.specs.declared.rows.AuthorizationRow.{AuthorizationRow}
+use Rattle.desk_model.specs.declared.rows.OrderRow.{OrderRow}
+use Rattle.desk_model.specs.declared.verdict.Verdict.{Verdict}
+use Rattle.desk_model.specs.declared.verdict.Verdict.TheVariants.{Refused as refused}
+use Rattle.desk_laws.proofs.Basics.{each}
+use Rattle.desk_laws.proofs.SweptParts.{swept_closed}
+use Rattle.desk_model.specs.Asked.{asks_authorizations, asks_orders, names_account, names_authorization, names_order, names_owner}
+use Rattle.desk_model.specs.Touched.{is_first_authorization, is_named_account, is_named_authorization, is_own_authorization}
+use Rattle.desk_parts.proofs.Listed.{KeepsListed}
+use Rattle.desk_parts.proofs.Grown.{IsNamedBy}
+use Rattle.desk_parts.proofs.Lists.{each_member, found_each, found_passes, or_left, or_right, same_number, turned}
+use Rattle.desk_laws.proofs.Plain.{fresh_kept}
+use Rattle.desk_parts.proofs.Ready.{IsAnswered, IsReady, covered, swept_names}
+use Rattle.desk_parts.proofs.Verdicts.{is_key, verdict_by}
+use Rattle.desk_parts.proofs.Replies.{account_shown, authorization_shown, certificate_shown, challenge_shown, client_challenge_shown, finalized_shown, key_shown, known_shown, listed_after, made_shown, opened_shown, order_shown, orders_shown, owner_after}
+
+-- ---- steps of verdicts
+
+-- what holds of a refusal and of what comes after a test that passed
+check_keeps : (P : Verdict → Type 0) (b : Bool) (n : ℕ) (v : Verdict) → P (refused n []) → (b ≡ true → P v) → P (check b n v)
+unfolding check
+check_keeps P true n v r h = h refl
+check_keeps P false n v r h = r
+
+given_keeps : {X : Type 0} (P : Verdict → Type 0) (o : Option X) (n : ℕ) (f : X → Verdict) → P (refused n []) → ((x : X) → o ≡ Some x → P (f x)) → P (given o n f)
+unfolding given
+given_keeps P None n f r h = r
+given_keeps P (Some x) n f r h = h x refl
+
+fault_keeps : (P : Verdict → Type 0) (o : Option ℕ) (v : Verdict) → ((n : ℕ) → P (refused n [])) → P v → P (unless_fault o v)
+unfolding unless_fault
+fault_keeps P None v r h = h
+fault_keeps P (Some n) v r h = r n
+
+choose_keeps : (P : Verdict → Type 0) (b : Bool) (v w : Verdict) → P v → P w → P (choose b v w)
+unfolding choose
+choose_keeps P true v w h g = h
+choose_keeps P false v w h g = g
+
+-- ---- what entries touch
+
+no_account : (a : Ask) (T : Tables) (m : ℕ) (e : Entry) → ((r : AuthorizationRow) → touches_authorization e r ≡ true → is_first_authorization T m a r ≡ true) →
+    ((n : ℕ) → entry_names_order e n ≡ true → names_order a n ≡ true) → ((x : AccountRow) → touches_account e x ≡ false) → IsNamedBy T m a e
+no_account a T m e f g none = record { account = λ x h. (let no : touches_account e x ≡ false = none x in cc); authorization = f; order = g }
+
+opened_named : (T : Tables) (m : ℕ) (a : Ask) (key : List ℕ) (contacts : List (List ℕ)) → IsNamedBy T m a (opened key contacts)
+opened_named T m a key contacts = record { account = λ x h. cc; authorization = λ r h. cc; order = λ n h. cc }
+
+ordered_named : (T : Tables) (m : ℕ) (a : Ask) (n : ℕ) (ws : List _) → IsNamedBy T m a (ordered n ws)
+ordered_named T m a n ws = record { account = λ x h. cc; authorization = λ r h. cc; order = λ j h. cc }
+
+contacts_named : (T : Tables) (m : ℕ) (a : Ask) (n : ℕ) (contacts : List (List ℕ)) → names_account a n ≡ true → IsNamedBy T m a (contacts_changed n contacts)
+contacts_named T m a n contacts named =
+    record { account = λ x h. or_right _ _ (subst (λ j. names_account a j ≡ true) (eqb-true n x.number h) named); authorization = λ r h. cc; order = λ j h. cc }
+
+-- an account that is there, with its authorizations
+ended_named : (T : Tables) (m : ℕ) (a : Ask) (n : ℕ) (ending : Ending) → names_account a n ≡ true →
+    ((r : AuthorizationRow) → (n == r.account) ≡ true → is_own_authorization T a r ≡ true) → IsNamedBy T m a (account_ended n ending)
+ended_named T m a n ending named owned =
+    record {
+      account = λ x h. or_right _ _ (subst (λ j. names_account a j ≡ true) (eqb-true n x.number h) named);
+      authorization = λ r h. or_right (is_named_authorization a r) _ (or_left _ _ (owned r h));
+      order = λ j h. cc;
+    }
+
+authorization_named : (T : Tables) (m : ℕ) (a : Ask) (n : ℕ) (ending : Ending) → names_authorization a n ≡ true → IsNamedBy T m a (authorization_ended n ending)
+authorization_named T m a n ending named =
+    record {
+      account = λ x h. cc;
+      authorization = λ r h. or_left _ _ (or_left _ _ (subst (λ j. names_authorization a j ≡ true) (eqb-true n r.number h) named));
+      order = λ j h. cc;
+    }
+
+answered_named : (T : Tables) (m : ℕ) (a : Ask) (n : ℕ) → ((r : AuthorizationRow) → has_row n r ≡ true → names_owner a r ≡ true) → IsNamedBy T m a (answered n)
+answered_named T m a n named =
+    record { account = λ x h. cc; authorization = λ r h. or_left _ _ (or_right (names_authorization a r.number) _ (named r h)); order = λ j h. cc }
+
+reported_named : (T : Tables) (m : ℕ) (a : Ask) (n : ℕ) (o : Outcome) → ((r : AuthorizationRow) → has_row n r ≡ true → names_owner a r ≡ true) → IsNamedBy T m a (reported n o)
+reported_named T m a n o named =
+    record { account = λ x h. cc; authorization = λ r h. or_left _ _ (or_right (names_authorization a r.number) _ (named r h)); order = λ j h. cc }
+
+finalized_named : (T : Tables) (m : ℕ) (a : Ask) (n : ℕ) (csr : List ℕ) → names_order a n ≡ true → IsNamedBy T m a (finalized n csr)
+finalized_named T m a n csr named =
+    record { account = λ x h. cc; authorization = λ r h. cc; order = λ j h. subst (λ i. names_order a i ≡ true) (eqb-true n j h) named }
+
+certified_named : (T : Tables) (m : ℕ) (a : Ask) (n : ℕ) (bytes : List ℕ) → names_order a n ≡ true → IsNamedBy T m a (certified n bytes)
+certified_named T m a n bytes named =
+    record { account = λ x h. cc; authorization = λ r h. cc; order = λ j h. subst (λ i. names_order a i ≡ true) (eqb-true n j h) named }
+
+failed_named : (T : Tables) (m : ℕ) (a : Ask) (n : ℕ) (problem : OrderProblem) → names_order a n ≡ true → IsNamedBy T m a (failed n problem)
+failed_named T m a n problem named =
+    record { account = λ x h. cc; authorization = λ r h. cc; order = λ j h. subst (λ i. names_order a i ≡ true) (eqb-true n j h) named }
+
+-- ---- parts of what is ready
+
+-- closed at the moment, and with what each order lists
+abbrev Closed : Kept → ℕ → Tables → Type 0
+Closed k m T = IsClosed k (swept m T)
+
+-- an order after an entry
+listed_then : (k : Kept) (T : Tables) (m : ℕ) (a : Ask) (e : Entry) → IsReady k T m a → KeepsListed k (effect m (swept m T) e)
+listed_then k T m a e ready =
+    let closed : IsClosed k (swept m T) = swept_closed k T m ready.closed in listed_after k (swept m T) m e closed (fresh_kept k (swept m T) m e closed)
+
+-- ---- the other asks
+
+-- the account that is found owns its authorizations
+owned_by : (T : Tables) (a : Ask) (x : AccountRow) → asks_authorizations a ≡ true → is_named_account a x ≡ true →
+    ((p : AccountRow → Bool) → p x ≡ true → list_any p T.accounts ≡ true) → (r : AuthorizationRow) → (x.number == r.account) ≡ true → is_own_authorization T a r ≡ true
+owned_by T a x asked named member r h =
+    and_from _ _ asked (member (λ y. is_named_account a y && (r.account == y.number)) (and_from _ _ named (turned x.number r.account h)))
+
+report_answered : (k : Kept) (T : Tables) (m : ℕ) (n : ℕ) (finding : Finding) → IsReady k T m (ask.Report n finding) →
+    IsAnswered k m (swept m T) (report_verdict (swept m T) n finding)
+report_answered k T m n finding ready =
+    let S : Tables = swept m T in
+    let owner = (swept_names k T m (ask.Report n finding) ready.named).owner in
+    given_keeps (IsAnswered k m S) (owner_on S n) 2 _ tt (λ a found.
+    given_keeps (IsAnswered k m S) (challenge_of n a) 2 _ tt (λ c there.
+    given_keeps (IsAnswered k m S) (outcome_of c.kind (expected S a c) finding) 1 _ tt (λ o is.
+    choose_keeps (IsAnswered k m S) (holds (λ r. same_outcome r.outcome o) c.reported) _ _ (challenge_shown k S n owner)
+    (check_keeps (IsAnswered k m S) (stands_open (λ c. is_processing_challenge c.status) a n) 14 _ tt (λ stands. (
+      covered k T m (ask.Report n finding) (reported n o) ready (reported_named T m (ask.Report n finding) n o (λ r h. h)),
+      challenge_shown k (effect m S (reported n o)) n (owner_after k S m (reported n o) n (swept_closed k T m ready.closed) owner),
+    ))))))
+
+certify_answered : (k : Kept) (T : Tables) (m : ℕ) (n : ℕ) (bytes : List ℕ) → IsReady k T m (ask.Certify n bytes) → (o : OrderRow) →
+    IsAnswered k m (swept m T) (certify_verdict n bytes o)
+certify_answered k T m n bytes ready o =
+    let S : Tables = swept m T in
+    let kept : k.orders n ≡ true = ready.named.order n (same_number n) in
+    check_keeps (IsAnswered k m S) (nat_le 1 (length bytes)) 1 _ tt (λ some.
+    check_keeps (IsAnswered k m S) (nat_le (length bytes) 65536) 16 _ tt (λ few.
+    choose_keeps (IsAnswered k m S) (holds (λ x. bytes_eq x.bytes bytes) o.certified) _ _ (order_shown k S n kept (swept_closed k T m ready.closed).listed)
+    (check_keeps (IsAnswered k m S) (is_processing o.status) 14 _ tt (λ ready_for. (
+      covered k T m (ask.Certify n bytes) (certified n bytes) ready (certified_named T m (ask.Certify n bytes) n bytes (same_number n)),
+      order_shown k (effect m S (certified n bytes)) n kept (listed_then k T m (ask.Certify n bytes) (certified n bytes) ready),
+    )))))
+
+fail_answered : (k : Kept) (T : Tables) (m : ℕ) (n : ℕ) (problem : OrderProblem) → IsReady k T m (ask.FailOrder n problem) → (o : OrderRow) →
+    IsAnswered k m (swept m T) (fail_verdict n problem o)
+fail_answered k T m n problem ready o =
+    let S : Tables = swept m T in
+    let kept : k.orders n ≡ true = ready.named.order n (same_number n) in
+    check_keeps (IsAnswered k m S) (is_problem problem) 1 _ tt (λ formed.
+    choose_keeps (IsAnswered k m S) (holds (λ f. same_problem f.problem problem) o.failed) _ _ (order_shown k S n kept (swept_closed k T m ready.closed).listed)
+    (check_keeps (IsAnswered k m S) (is_processing o.status) 14 _ tt (λ ready_for. (
+      covered k T m (ask.FailOrder n problem) (failed n problem) ready (failed_named T m (ask.FailOrder n problem) n problem (same_number n)),
+      order_shown k (effect m S (failed n problem)) n kept (listed_then k T m (ask.FailOrder n problem) (failed n problem) ready),
+    ))))
+
+revoke_authorization_answered : (k : Kept) (T : Tables) (m : ℕ) (n : ℕ) → IsReady k T m (ask.RevokeAuthz n) → (r : AuthorizationRow) →
+    IsAnswered k m (swept m T) (revoke_authorization n r)
+revoke_authorization_answered k T m n ready r =
+    let S : Tables = swept m T in
+    let kept : k.authorizations n ≡ true = ready.named.authorization n (same_number n) in
+    choose_keeps (IsAnswered k m S) (is_revoked_status r.status) _ _ (authorization_shown k S n kept)
+    (check_keeps (IsAnswered k m S) (is_endable r) 14 _ tt (λ stands. (
+      covered k T m (ask.RevokeAuthz n) (authorization_ended n revoked) ready (authorization_named T m (ask.RevokeAuthz n) n revoked (same_number n)),
+      authorization_shown k (effect m S (authorization_ended n revoked)) n kept,
+    )))
+
+revoke_account_answered : (k : Kept) (T : Tables) (m : ℕ) (n : ℕ) → IsReady k T m (ask.RevokeAccount n) → (x : AccountRow) → account_on T n ≡ Some x →
+    IsAnswered k m (swept m T) (revoke_account n x)
+revoke_account_answered k T m n ready x found =
+    let S : Tables = swept m T in
+    let a : Ask = ask.RevokeAccount n in
+    let kept : k.accounts n ≡ true = ready.named.account n (same_number n) in
+    let here : (x.number == n) ≡ true = found_passes (λ y. y.number == n) T.accounts x found in
+    let number : x.number ≡ n = eqb-true x.number n here in
+    choose_keeps (IsAnswered k m S) (holds (λ e. is_revoked e.ending) x.ended) _ _ (account_shown k S n kept)
+    (check_keeps (IsAnswered k m S) (is_valid_account x.status) 14 _ tt (λ stands. (
+      covered k T m (ask.RevokeAccount n) (account_ended n revoked) ready (ended_named T m (ask.RevokeAccount n) n revoked (same_number n)
+          (λ r h. owned_by T (ask.RevokeAccount n) x refl here
+          (found_each (λ y. (p : AccountRow → Bool) → p y ≡ true → list_any p T.accounts ≡ true) (λ y. y.number == n) T.accounts x (each_member T.accounts) found)
+          r (ap (λ j. j == r.account) number ∙ h))),
+      account_shown k (effect m S (account_ended n revoked)) n kept,
+    )))
+
+-- an ask that carries no nonce, the work lists apart
+abbrev pub IsNoWork : Ask → Type 0
+IsNoWork ask.ChallengeWork = ⊥
+IsNoWork ask.OrderWork = ⊥
+IsNoWork _ = Unit {0}
+
+pub office_answered : (k : Kept) (T : Tables) (m : ℕ) (a : Ask) → IsNoWork a → IsReady k T m a → IsAnswered k m (swept m T) (office_verdict (swept m T) a)
+office_answered k T m ask.Directory w ready = refl
+office_answered k T m (ask.NewNonce head) w ready = tt
+office_answered k T m (ask.Signed s) w ready = tt
+office_answered k T m (ask.Report n finding) w ready = report_answered k T m n finding ready
+office_answered k T m (ask.Certify n bytes) w ready = given_keeps (IsAnswered k m (swept m T)) (order_on (swept m T) n) 2 _ tt (λ o found. certify_answered k T m n bytes ready o)
+office_answered k T m (ask.FailOrder n problem) w ready = given_keeps (IsAnswered k m (swept m T)) (order_on (swept m T) n) 2 _ tt (λ o found. fail_answered k T m n problem ready o)
+office_answered k T m (ask.RevokeAuthz n) w ready = given_keeps (IsAnswered k m (swept m T)) (authorization_on (swept m T) n) 2 _ tt (λ r found. revoke_authorization_answered k T m n ready r)
+office_answered k T m (ask.RevokeAccount n) w ready = given_keeps (IsAnswered k m (swept m T)) (account_on (swept m T) n) 2 _ tt (λ x found. revoke_account_answered k T m n ready x found)
+office_answered k T m ask.ChallengeWork w ready = absurd w
+office_answered k T m ask.OrderWork w ready = absurd w
+office_answered k T m (ask.KeyOf n) w ready =
+    given_keeps (IsAnswered k m (swept m T)) (account_on (swept m T) n) 2 _ tt (λ x found. key_shown k (swept m T) n (ready.named.account n (same_number n)))
+
+-- ---- signed requests
+
+-- the request to a target
+abbrev sent : Signed → Target → Ask
+sent s t = ask.Signed (record s { target = t })
+
+open_answered : (k : Kept) (T : Tables) (m : ℕ) (a : Ask) (key : List ℕ) (p : NewAccount) → IsReady k T m a → IsAnswered k m (swept m T) (open_account (swept m T) key p)
+open_answered k T m a key p ready =
+    let S : Tables = swept m T in
+    check_keeps (IsAnswered k m S) (not p.only_existing) 6 _ tt (λ new_too.
+    fault_keeps (IsAnswered k m S) (contacts_fault p.contacts) _ (λ n. tt) (
+      covered k T m a (opened key p.contacts) ready (opened_named T m a key p.contacts),
+      opened_shown k (effect m S (opened key p.contacts)) (T.meta.accounts + 1) (ready.closed.new_accounts (T.meta.accounts + 1) (omega arith)),
+    ))
+
+new_account_answered : (k : Kept) (T : Tables) (m : ℕ) (a : Ask) (key : List ℕ) (p : Option NewAccount) → IsReady k T m a →
+    (x : Option AccountRow) → ((y : AccountRow) → x ≡ Some y → k.accounts y.number ≡ true) →
+    IsAnswered k m (swept m T) (new_account_verdict (swept m T) key x p)
+new_account_answered k T m a key p ready (Some y) h =
+    check_keeps (IsAnswered k m (swept m T)) (is_valid_account y.status) 7 _ tt (λ valid.
+    given_keeps (IsAnswered k m (swept m T)) p 1 _ tt (λ q is. known_shown k (swept m T) y.number (h y refl)))
+new_account_answered k T m a key p ready None h =
+    given_keeps (IsAnswered k m (swept m T)) p 1 _ tt (λ q is. open_answered k T m a key q ready)
+
+account_answered : (k : Kept) (T : Tables) (m : ℕ) (s : Signed) (j : ℕ) (x : AccountRow) (p : AccountChange) → IsReady k T m (sent s (to.Account j)) →
+    k.accounts x.number ≡ true → is_named_account (sent s (to.Account j)) x ≡ true → ((q : AccountRow → Bool) → q x ≡ true → list_any q T.accounts ≡ true) →
+    (j == x.number) ≡ true → IsAnswered k m (swept m T) (account_verdict x.number p)
+account_answered k T m s j x change.Read ready kept named member here = account_shown k (swept m T) x.number kept
+account_answered k T m s j x change.Deactivate ready kept named member here = (
+  covered k T m (sent s (to.Account j)) (account_ended x.number deactivated) ready
+      (ended_named T m (sent s (to.Account j)) x.number deactivated (turned j x.number here)
+      (λ r h. owned_by T (sent s (to.Account j)) x refl named member r h)),
+  account_shown k (effect m (swept m T) (account_ended x.number deactivated)) x.number kept,
+)
+account_answered k T m s j x (change.Update None) ready kept named member here = account_shown k (swept m T) x.number kept
+account_answered k T m s j x (change.Update (Some contacts)) ready kept named member here =
+    fault_keeps (IsAnswered k m (swept m T)) (contacts_fault contacts) _ (λ n. tt) (
+      covered k T m (sent s (to.Account j)) (contacts_changed x.number contacts) ready (contacts_named T m (sent s (to.Account j)) x.number contacts (turned j x.number here)),
+      account_shown k (effect m (swept m T) (contacts_changed x.number contacts)) x.number kept,
+    )
+
+new_order_answered : (k : Kept) (T : Tables) (m : ℕ) (a : Ask) (r : List ℕ) (n : ℕ) (ids : List Identifier) → IsReady k T m a → (ss : List Subproblem) →
+    IsAnswered k m (swept m T) (order_of (swept m T) r n ids ss)
+new_order_answered k T m a r n ids ready (s ∷ ss) = tt
+new_order_answered k T m a r n ids ready [] =
+    let ws = wanted (kept (names_in ids)) r in (
+      covered k T m a (ordered n ws) ready (ordered_named T m a n ws),
+      made_shown k (effect m (swept m T) (ordered n ws)) (T.meta.orders + 1) (ready.closed.new_orders (T.meta.orders + 1) (omega arith)) (listed_then k T m a (ordered n ws) ready),
+    )
+
+finalize_answered : (k : Kept) (T : Tables) (m : ℕ) (s : Signed) (j : ℕ) (o : OrderRow) (text : List ℕ) → IsReady k T m (sent s (to.Finalize j)) →
+    IsAnswered k m (swept m T) (finalize_verdict j o text)
+finalize_answered k T m s j o text ready =
+    check_keeps (IsAnswered k m (swept m T)) (is_ready o.status) 12 _ tt (λ stands.
+    given_keeps (IsAnswered k m (swept m T)) (csr_in text) 13 _ tt (λ csr is. (
+      covered k T m (sent s (to.Finalize j)) (finalized j csr) ready (finalized_named T m (sent s (to.Finalize j)) j csr (same_number j)),
+      finalized_shown k (effect m (swept m T) (finalized j csr)) j (ready.named.order j (same_number j)) (listed_then k T m (sent s (to.Finalize j)) (finalized j csr) ready),
+    )))
+
+authorization_answered : (k : Kept) (T : Tables) (m : ℕ) (s : Signed) (j : ℕ) (r : AuthorizationRow) (p : AuthorizationChange) → IsReady k T m (sent s (to.Authz j)) →
+    IsAnswered k m (swept m T) (authorization_verdict j r p)
+authorization_answered k T m s j r authz_change.Read ready = authorization_shown k (swept m T) j (ready.named.authorization j (same_number j))
+authorization_answered k T m s j r authz_change.Deactivate ready =
+    choose_keeps (IsAnswered k m (swept m T)) (is_endable r) _ _ (
+      covered k T m (sent s (to.Authz j)) (authorization_ended j deactivated) ready (authorization_named T m (sent s (to.Authz j)) j deactivated (same_number j)),
+      authorization_shown k (effect m (swept m T) (authorization_ended j deactivated)) j (ready.named.authorization j (same_number j)),
+    )
+    (authorization_shown k (swept m T) j (ready.named.authorization j (same_number j)))
+
+challenge_answered : (k : Kept) (T : Tables) (m : ℕ) (s : Signed) (j : ℕ) (r : AuthorizationRow) (p : ChallengeChange) → IsReady k T m (sent s (to.Chall j)) →
+    IsAnswered k m (swept m T) (challenge_verdict j r p)
+challenge_answered k T m s j r chall_change.Read ready = client_challenge_shown k (swept m T) j (swept_names k T m (sent s (to.Chall j)) ready.named).owner
+challenge_answered k T m s j r chall_change.Answer ready =
+    let owner = (swept_names k T m (sent s (to.Chall j)) ready.named).owner in
+    choose_keeps (IsAnswered k m (swept m T)) (stands_open (λ c. is_pending_challenge c.status) r j) _ _ (
+      covered k T m (sent s (to.Chall j)) (answered j) ready (answered_named T m (sent s (to.Chall j)) j (λ a h. h)),
+      client_challenge_shown k (effect m (swept m T) (answered j)) j (owner_after k (swept m T) m (answered j) j (swept_closed k T m ready.closed) owner),
+    )
+    (client_challenge_shown k (swept m T) j owner)
+
+-- the account with the key is x
+target_answered : (k : Kept) (T : Tables) (m : ℕ) (s : Signed) (r : List ℕ) (x : AccountRow) (p : List ℕ) (t : Target) → IsReady k T m (sent s t) →
+    k.accounts x.number ≡ true → is_named_account (sent s t) x ≡ true → ((q : AccountRow → Bool) → q x ≡ true → list_any q T.accounts ≡ true) →
+    EachOf (λ o. asks_orders (sent s t) ≡ true → (o.account == x.number) ≡ true → k.orders o.number ≡ true) (swept m T).orders →
+    IsAnswered k m (swept m T) (target_verdict (swept m T) r x.number p t)
+target_answered k T m s r x p to.NewAccount ready kept named member owned = known_shown k (swept m T) x.number kept
+target_answered k T m s r x p to.NewOrder ready kept named member owned =
+    given_keeps (IsAnswered k m (swept m T)) (new_order p) 1 _ tt (λ ids is.
+    check_keeps (IsAnswered k m (swept m T)) (has_length 1 50 ids) 1 _ tt (λ few. new_order_answered k T m (sent s to.NewOrder) r x.number ids ready (subproblems ids)))
+target_answered k T m s r x p (to.Account j) ready kept named member owned =
+    check_keeps (IsAnswered k m (swept m T)) (j == x.number) 2 _ tt (λ here.
+    given_keeps (IsAnswered k m (swept m T)) (account_change p) 1 _ tt (λ q is. account_answered k T m s j x q ready kept named member here))
+target_answered k T m s r x p (to.Orders j) ready kept named member owned =
+    check_keeps (IsAnswered k m (swept m T)) (j == x.number) 2 _ tt (λ here.
+    check_keeps (IsAnswered k m (swept m T)) (nothing p) 1 _ tt (λ none.
+    orders_shown k (swept m T) x.number (each _ _ (swept m T).orders (λ o f h. f refl h) owned)))
+target_answered k T m s r x p (to.Order j) ready kept named member owned =
+    given_keeps (IsAnswered k m (swept m T)) (own (λ (y : OrderRow). y.account) x.number (order_on (swept m T) j)) 2 _ tt (λ o is.
+    check_keeps (IsAnswered k m (swept m T)) (nothing p) 1 _ tt (λ none.
+    order_shown k (swept m T) j (ready.named.order j (same_number j)) (swept_closed k T m ready.closed).listed))
+target_answered k T m s r x p (to.Finalize j) ready kept named member owned =
+    given_keeps (IsAnswered k m (swept m T)) (own (λ (y : OrderRow). y.account) x.number (order_on (swept m T) j)) 2 _ tt (λ o is.
+    given_keeps (IsAnswered k m (swept m T)) (finalize p) 1 _ tt (λ q says. finalize_answered k T m s j o q ready))
+target_answered k T m s r x p (to.Cert j) ready kept named member owned =
+    given_keeps (IsAnswered k m (swept m T)) (own (λ (y : OrderRow). y.account) x.number (order_on (swept m T) j)) 2 _ tt (λ o is.
+    check_keeps (IsAnswered k m (swept m T)) (nothing p) 1 _ tt (λ none.
+    given_keeps (IsAnswered k m (swept m T)) o.certified 2 _ tt (λ c there. certificate_shown k (swept m T) j (ready.named.order j (same_number j)))))
+target_answered k T m s r x p (to.Authz j) ready kept named member owned =
+    given_keeps (IsAnswered k m (swept m T)) (own (λ (y : AuthorizationRow). y.account) x.number (authorization_on (swept m T) j)) 2 _ tt (λ a is.
+    given_keeps (IsAnswered k m (swept m T)) (authorization_change p) 1 _ tt (λ q says. authorization_answered k T m s j a q ready))
+target_answered k T m s r x p (to.Chall j) ready kept named member owned =
+    given_keeps (IsAnswered k m (swept m T)) (own (λ (y : AuthorizationRow). y.account) x.number (owner_on (swept m T) j)) 2 _ tt (λ a is.
+    given_keeps (IsAnswered k m (swept m T)) (challenge_change p) 1 _ tt (λ q says. challenge_answered k T m s j a q ready))
+
+-- by the key
+keyed_answered : (k : Kept) (T : Tables) (m : ℕ) (s : Signed) (r key : List ℕ) (t : Target) → IsReady k T m (sent s t) →
+    ((x : AccountRow) → bytes_eq x.key key ≡ true → is_named_account (sent s t) x ≡ true) →
+    EachOf (λ x. bytes_eq x.key key ≡ true → k.accounts x.number ≡ true) T.accounts →
+    IsAnswered k m (swept m T) (key_verdict (swept m T) r key s.payload t)
+keyed_answered k T m s r key to.NewAccount ready named kept =
+    new_account_answered k T m (sent s to.NewAccount) key (new_account s.payload) ready (account_with_key T key)
+    (λ y found. found_each _ (λ a. bytes_eq a.key key) T.accounts y kept found (found_passes (λ a. bytes_eq a.key key) T.accounts y found))
+keyed_answered k T m s r key t ready named kept = rest t ready named
+  where
+    rest : (u : Target) → IsReady k T m (sent s u) → ((x : AccountRow) → bytes_eq x.key key ≡ true → is_named_account (sent s u) x ≡ true) →
+        IsAnswered k m (swept m T) (holder_verdict (swept m T) r s.payload u (account_with_key (swept m T) key))
+    rest u ready named =
+        given_keeps (IsAnswered k m (swept m T)) (account_with_key T key) 6 _ tt (λ x found.
+        let is : bytes_eq x.key key ≡ true = found_passes (λ a. bytes_eq a.key key) T.accounts x found in
+        check_keeps (IsAnswered k m (swept m T)) (is_valid_account x.status) 7 _ tt (λ valid.
+        target_answered k T m s r x s.payload u ready
+        (found_each _ (λ a. bytes_eq a.key key) T.accounts x kept found is)
+        (named x is)
+        (found_each (λ y. (p : AccountRow → Bool) → p y ≡ true → list_any p T.accounts ≡ true) (λ a. bytes_eq a.key key) T.accounts x (each_member T.accounts) found)
+        (found_each _ (λ a. bytes_eq a.key key) T.accounts x (swept_names k T m (sent s u) ready.named).orders found (named x is))))
+
+pub signed_answered : (k : Kept) (T : Tables) (m : ℕ) (r : List ℕ) (s : Signed) → IsReady k T m (ask.Signed s) →
+    IsAnswered k m (swept m T) (signed_verdict (swept m T) r s)
+signed_answered k T m r s ready = by s.key (λ x h. or_left _ _ h) ready.named.key
+  where
+    by : (key : Result (List ℕ) BadKey) → ((x : AccountRow) → is_key key x.key ≡ true → is_named_account (ask.Signed s) x ≡ true) →
+        EachOf (λ x. is_key key x.key ≡ true → k.accounts x.number ≡ true) T.accounts →
+        IsAnswered k m (swept m T) (verdict_by (swept m T) r s key)
+    by (Err e) named kept = tt
+    by (Ok key) named kept = keyed_answered k T m s r key s.target ready named kept

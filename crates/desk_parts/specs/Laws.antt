@@ -1,0 +1,29 @@
+-- That parts are enough for calls.
+use Rattle.std.specs.Prelude.{max, ◌≡◌}
+use Rattle.desk_model.specs.Tables.{Tables}
+use Rattle.desk_model.specs.declared.call.Call.{Call}
+use Rattle.desk_laws.specs.Ordered.{IsOrdered}
+use Rattle.desk_parts.specs.AnswersAs.{AnswersAs}
+use Rattle.desk_parts.specs.IsPart.{IsPartFor}
+use Rattle.desk_parts.specs.Loaded.{loaded}
+use Rattle.desk_model.specs.Touched.{touched}
+
+-- the rows that a call touches are a part for it
+abbrev pub TouchedIsAPart : Type 0
+TouchedIsAPart = (T : Tables) (call : Call) → IsOrdered T → IsPartFor call T (touched T call)
+
+-- so are all rows
+abbrev pub WholeIsAPart : Type 0
+WholeIsAPart = (T : Tables) (call : Call) → IsPartFor call T T
+
+-- a part of tables that stand by number stands by number
+abbrev pub PartsAreOrdered : Type 0
+PartsAreOrdered = (T P : Tables) (call : Call) → IsOrdered T → IsPartFor call T P → IsOrdered P
+
+-- a part for a call answers it as the whole
+abbrev pub PartsAnswer : Type 0
+PartsAnswer = (T P : Tables) (call : Call) → IsOrdered T → IsPartFor call T P → AnswersAs (max call.at T.meta.clock) call.ask T P
+
+-- what the look-ups find is what the call touches
+abbrev pub LoadedIsTouched : Type 0
+LoadedIsTouched = (T : Tables) (call : Call) → IsOrdered T → loaded T call ≡ touched T call

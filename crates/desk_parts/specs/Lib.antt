@@ -1,0 +1,5 @@
+pub mod AnswersAs
+pub mod IsPart
+pub mod Laws
+pub mod Loaded
+pub mod LookUps

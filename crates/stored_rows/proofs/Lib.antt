@@ -1,0 +1,10 @@
+pub mod Ascending
+pub mod Distinctness
+pub mod NestedRows
+pub mod Nests
+pub mod OrderedRows
+pub mod Pushed
+pub mod SortedFaults
+pub mod SortedLists
+pub mod SoundBooks
+pub mod StableSorts

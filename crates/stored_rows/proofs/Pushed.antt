@@ -1,0 +1,33 @@
+-- Faults pushed row by row.
+use Rattle.std.proofs.Common.{◌≡◌, List, [], ◌∷◌, ◌++◌, sym, ap, ◌∙◌, append_assoc}
+use Rattle.std.specs.List.{flat_map}
+use Rattle.std.proofs.lemmas.List.Concat.{flat_map-append}
+use Rattle.desk_model.specs.Entry.{History}
+use Rattle.desk_model.specs.History.{clock}
+use Rattle.desk_model.specs.Legal.{Legal}
+use Rattle.desk_model.specs.Tables.{Tables, picture}
+use Rattle.desk_model.specs.declared.rows.AuthorizationRow.{AuthorizationRow}
+use Rattle.desk_model.specs.declared.rows.StatusFault.{StatusFault}
+use Rattle.desk_model.specs.Derived.{challenge_faults, status_faults}
+use Rattle.desk_laws.proofs.Faults.{no_faults}
+use Rattle.stored_rows.specs.FaultNumbers.{challenges_of}
+
+-- one row's faults, and what is left
+pub pushed-step : {X : Type 0} (faults_of : X → List StatusFault) (x : X) (rest : List X) (before now whole : List StatusFault) →
+    now ≡ before ++ faults_of x → before ++ flat_map faults_of (x ∷ rest) ≡ whole → now ++ flat_map faults_of rest ≡ whole
+pushed-step faults_of x rest before now whole e h =
+    ap (λ l. l ++ flat_map faults_of rest) e ∙ append_assoc before (faults_of x) (flat_map faults_of rest) ∙ h
+
+-- the faults of one authorization's challenges, and what is left
+pub pushed_all-step : (a : AuthorizationRow) (rest : List AuthorizationRow) (before now whole : List StatusFault) →
+    now ≡ before ++ flat_map challenge_faults a.challenges → before ++ flat_map challenge_faults (challenges_of (a ∷ rest)) ≡ whole →
+    now ++ flat_map challenge_faults (challenges_of rest) ≡ whole
+pushed_all-step a rest before now whole e h =
+    ap (λ l. l ++ flat_map challenge_faults (challenges_of rest)) e
+    ∙ append_assoc before (flat_map challenge_faults a.challenges) (flat_map challenge_faults (challenges_of rest))
+    ∙ ap (λ l. before ++ l) (sym (flat_map-append challenge_faults a.challenges (challenges_of rest)))
+    ∙ h
+
+-- the picture of a legal history has no fault
+pub picture-no_faults : (B : Tables) (F : History) → Legal F → B ≡ picture F → status_faults B ≡ []
+picture-no_faults B F legal e = ap status_faults e ∙ no_faults F (clock F) legal.each

@@ -1,0 +1,13 @@
+use Rattle.std.proofs.Common.{◌++◌, ◌∷◌, [], ◌∙◌, sym, ap, append_assoc, subst}
+use Rattle.desk_laws.specs.Ordered.{Ascends}
+use Rattle.stored_rows.proofs.Ascending.{put-ascending}
+use Rattle.stored_rows.proofs.assembling.table_of_ascending.Goals as goal
+
+pub loop-row-preserved : goal.loop-row-preserved
+loop-row-preserved g c =
+    let rest = c.next.new.self.rest.items in
+    let all = ap (λ l. c.loop-row.table ++ l) (sym c.in-Some.ensures.steps.0) ∙ c.loop-row.invariant in
+    let up = subst (λ l. Ascends (λ r. g.R.Row.number r) 1 l) (sym all) c.requires in
+    ap (λ l. l ++ rest) (c.in_ok-put.ensures.done ∙ put-ascending (λ r. g.R.Row.number r) 1 c.loop-row.table c.in-Some.row rest up)
+    ∙ append_assoc c.loop-row.table (c.in-Some.row ∷ []) rest
+    ∙ all

@@ -1,0 +1,15 @@
+use Rattle.std.proofs.Common.{◌∷◌, [], ◌∙◌}
+use Rattle.std.specs.List.{list_all}
+use Rattle.stored_rows.specs.Tests.{are_given}
+use Rattle.stored_rows.proofs.soundness.keeps_counters.Goals as goal
+
+pub returns : goal.returns
+returns c =
+    c.all_hold.ensures
+    ∙ (λ i. list_all (λ b. b)
+    ((c.are_given.ensures ∙ (λ i. are_given (λ n. n.serial) (c.meta-last.ensures i).nonces (c.nonces.ensures i))) i
+    ∷ (c.are_given-2.ensures ∙ (λ i. are_given (λ a. a.number) (c.meta-last.ensures i).accounts (c.accounts.ensures i))) i
+    ∷ (c.are_given-3.ensures ∙ (λ i. are_given (λ a. a.number) (c.meta-last.ensures i).authorizations (c.authorizations.ensures i))) i
+    ∷ (c.are_all_challenges_given.ensures ∙ (λ i. list_all (λ a. are_given (λ h. h.number) (c.meta-last.ensures i).challenges a.challenges) (c.authorizations-2.ensures i))) i
+    ∷ (c.are_given-4.ensures ∙ (λ i. are_given (λ o. o.number) (c.meta-last.ensures i).orders (c.orders.ensures i))) i
+    ∷ []))

@@ -1,0 +1,33 @@
+//! Why rows do not become a book.
+use std::alloc::{AllocError, AllocFailed};
+
+/// Why rows did not become a book.
+#[derive(Clone, Copy, Debug, PartialEq, Eq)]
+pub enum RowsFault {
+    /// No book has these rows.
+    NotABook,
+    /// There was no memory for the book.
+    Memory,
+}
+
+impl From<AllocError> for RowsFault {
+    ghost use Rattle.std.specs.Prelude.{◌≡◌};
+    ghost use Rattle.stored_rows.specs.declared.rows_fault.RowsFault.TheVariants.{Memory};
+
+    ghost from_gives = { λ _ fault. fault ≡ Memory };
+
+    fn from(_refused: AllocError) -> RowsFault {
+        RowsFault::Memory
+    }
+}
+
+impl<T: Drop> From<AllocFailed<T>> for RowsFault {
+    ghost use Rattle.std.specs.Prelude.{◌≡◌};
+    ghost use Rattle.stored_rows.specs.declared.rows_fault.RowsFault.TheVariants.{Memory};
+
+    ghost from_gives = { λ _ fault. fault ≡ Memory };
+
+    fn from(_refused: AllocFailed<T>) -> RowsFault {
+        RowsFault::Memory
+    }
+}
