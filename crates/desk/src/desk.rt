@@ -8,7 +8,7 @@ ghost use Rattle.desk.specs.Answers.{Answers, Declines, AnswersAll, EndsRun, IsR
 
 use desk_book::Book;
 use desk_decisions::{CoreFault, decide};
-use desk_model::{Call, Policy, Reply};
+use desk_model::{Call, Clock, Policy, Reply};
 use std::alloc::Global;
 use std::fmt;
 use std::marker::Model;
@@ -82,9 +82,10 @@ impl Model for Desk {
 }
 
 impl Desk {
-    /// The desk that is made with a policy at a moment, in seconds since 1970.
-    pub fn make(alloc: Global, policy: Policy, at: u64) -> Desk
-        ensures { result ≡ picture ((record { date = at; entry = made policy }) ∷ []) }
+    /// The desk that is made with a policy at a moment.
+    pub fn make(alloc: Global, policy: Policy, at: Clock) -> Desk
+        ensures legal { Legal ((record { date = at; entry = made policy }) ∷ []) }
+        ensures picture { result ≡ picture ((record { date = at; entry = made policy }) ∷ []) }
     {
         Desk {
             alloc,

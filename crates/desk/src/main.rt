@@ -9,7 +9,7 @@ mod failing_streams;
 mod tests;
 
 use crate::desk::Desk;
-use desk_model::Policy;
+use desk_model::{Clock, Policy};
 use std::alloc::Global;
 use std::env::{self, Env};
 use std::io;
@@ -50,5 +50,5 @@ fn asks_for_batch(rt: &(impl Env + AllocGlobal)) -> io::Result<bool> {
 // The desk of the profile, made at 0, or `None` where there is no memory for it.
 fn new_desk(alloc: Global) -> Option<Desk> {
     let policy = Policy::new(alloc, "https://ca.example", 3600, 604800, 2592000).ok()??;
-    Some(Desk::make(alloc, policy, 0))
+    Some(Desk::make(alloc, policy, Clock::at(0)))
 }

@@ -1,13 +1,14 @@
 //! The book of a desk: its rows in memory.
 ghost use Rattle.std.specs.Prelude.{◌≡◌, ◌==◌, ◌∷◌, [], List, find, bytes_eq, OnOk, OnErr, option_copied};
 ghost use Rattle.desk_model.specs.declared.entry.Entry.TheVariants.{Made as made};
+ghost use Rattle.desk_model.specs.Legal.{Legal};
 ghost use Rattle.desk_model.specs.Tables.{Tables, picture};
 ghost use Rattle.desk_model.specs.Questions.{nonce_on, account_on, account_with_key, order_on, authorization_on, owner_on};
 ghost use Rattle.desk_model.specs.Change.{applied_one, applied};
 ghost use Rattle.desk_model.specs.Effect.{has_row};
 
 use crate::table::Table;
-use desk_model::{AccountRow, AuthorizationRow, Change, Meta, Nonce, OrderRow, Policy};
+use desk_model::{AccountRow, AuthorizationRow, Change, Clock, Meta, Nonce, OrderRow, Policy};
 use std::alloc::{AllocError, Global};
 use std::marker::Model;
 
@@ -30,9 +31,10 @@ impl Model for Book {
 }
 
 impl Book {
-    /// The book of a desk that is made at a moment, in seconds since 1970.
-    pub fn new(alloc: Global, policy: Policy, at: u64) -> Book
-        ensures { result ≡ picture ((record { date = at; entry = made policy }) ∷ []) }
+    /// The book of a desk that is made at a moment.
+    pub fn new(alloc: Global, policy: Policy, at: Clock) -> Book
+        ensures legal { Legal ((record { date = at; entry = made policy }) ∷ []) }
+        ensures picture { result ≡ picture ((record { date = at; entry = made policy }) ∷ []) }
     {
         Book {
             meta: Meta {

@@ -16,7 +16,7 @@ use crate::making::{Making, push_authorizations, push_places, statuses_of};
 use crate::moved::{put_accounts, put_authorizations, put_orders};
 use desk_book::{Book, derived_order};
 use desk_model::{
-    AccountRow, AccountStatus, AuthorizationRow, Change, Entry, Jwk, Meta, Nonce, OrderRow,
+    AccountRow, AccountStatus, AuthorizationRow, Change, Clock, Entry, Jwk, Meta, Nonce, OrderRow,
     OrderStatus, Sequence, Text, Wanted,
 };
 use std::alloc::{AllocError, Global};
@@ -32,12 +32,13 @@ pub struct Recording {
 impl Recording {
     /// Begins with the passing of time up to a moment.
     pub fn begin(alloc: Global, book: &Book, moment: u64) -> Result<Recording, AllocError>
+        requires { moment ≤ 250000000000 }
         ensures recorded { IfOk result (λ r. IsRecorded moment book.now [] r.changes.items r.meta) }
         ensures meta { IfOk result (λ r. r.meta ≡ record book.now.meta { clock = moment }) }
     {
         let changes = sweep_changes(alloc, book, moment)?;
         let mut meta = book.meta().clone()?;
-        meta.clock = moment;
+        meta.clock = Clock::at(moment);
         Ok(Recording { changes, meta })
     }
 
@@ -77,7 +78,7 @@ impl Recording {
         let nonce = Nonce {
             serial: self.meta.nonces,
             random,
-            issued: self.meta.clock,
+            issued: self.meta.clock.moment(),
         };
         self.push(Change::PutNonce(nonce))
     }
@@ -106,7 +107,7 @@ impl Recording {
             number: self.meta.accounts,
             key,
             contacts,
-            opened: self.meta.clock,
+            opened: self.meta.clock.moment(),
             ended: None,
             status: AccountStatus::Valid,
         };
@@ -130,7 +131,7 @@ impl Recording {
         ensures changes { OnOk result (self.new.changes.items ≡ self.old.changes.items ++ PutMeta self.old.meta ∷ book_moves self.old.meta.clock book.now entry.now) }
         ensures meta { OnOk result (self.new.meta ≡ self.old.meta) }
     {
-        let moment = self.meta.clock;
+        let moment = self.meta.clock.moment();
         self.changes.push(Change::PutMeta(self.meta.clone()?))?;
         put_accounts(&mut self.changes, book, entry, moment)?;
         put_authorizations(&mut self.changes, alloc, book, entry, moment)?;
@@ -144,7 +145,6 @@ impl Recording {
         account: u64,
         wanted: &[Wanted],
     ) -> Result<OrderRow, AllocError>
-        requires moment { self.old.meta.clock ≤ 250000000000 }
         requires orders { self.old.meta.orders < 2 ^ 62 }
         requires authorizations { self.old.meta.authorizations + length wanted.now ≤ 2 ^ 62 }
         requires challenges { self.old.meta.challenges + count_tokens wanted.now ≤ 2 ^ 62 }
@@ -166,7 +166,6 @@ impl Recording {
         account: u64,
         wanted: &[Wanted],
     ) -> Result<OrderRow, AllocError>
-        requires moment { self.old.meta.clock ≤ 250000000000 }
         requires orders { self.old.meta.orders < 2 ^ 62 }
         requires authorizations { self.old.meta.authorizations + length wanted.now ≤ 2 ^ 62 }
         requires challenges { self.old.meta.challenges + count_tokens wanted.now ≤ 2 ^ 62 }
@@ -193,13 +192,12 @@ impl Recording {
 
     /// What the authorizations of the next order have in common.
     fn next_making(&self, account: u64) -> Making
-        requires { self.now.meta.clock ≤ 250000000000 }
         ensures { result ≡ record { account = account; date = self.now.meta.clock; expires = self.now.meta.clock + self.now.meta.policy.authz_life } }
     {
         Making {
             account,
-            date: self.meta.clock,
-            expires: self.meta.clock + self.meta.policy.authz_life(),
+            date: self.meta.clock.moment(),
+            expires: self.meta.clock.moment() + self.meta.policy.authz_life(),
         }
     }
 
@@ -210,7 +208,6 @@ impl Recording {
         account: u64,
         rows: &[AuthorizationRow],
     ) -> Result<OrderRow, AllocError>
-        requires moment { self.now.meta.clock ≤ 250000000000 }
         requires orders { self.now.meta.orders < 2 ^ 62 }
         ensures { IfOk result (λ o. (n : ℕ) → Ascends (λ r. r.number) n rows.now → o ≡ restated_order self.now.meta.clock rows.now (bare_order self.now.meta account rows.now)) }
     {
@@ -219,8 +216,8 @@ impl Recording {
         let mut row = OrderRow {
             number: self.meta.orders + 1,
             account,
-            made: self.meta.clock,
-            expires: self.meta.clock + self.meta.policy.order_life(),
+            made: self.meta.clock.moment(),
+            expires: self.meta.clock.moment() + self.meta.policy.order_life(),
             listed: Sequence::new(listed),
             finalized: None,
             certified: None,
@@ -228,7 +225,7 @@ impl Recording {
             status: OrderStatus::Pending,
         };
         let statuses = statuses_of(alloc, rows)?;
-        row.status = derived_order(self.meta.clock, &row, &statuses);
+        row.status = derived_order(self.meta.clock.moment(), &row, &statuses);
         Ok(row)
     }
 }

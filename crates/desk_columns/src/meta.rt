@@ -9,13 +9,13 @@ ghost use Rattle.desk_columns.specs.Reading.{IsRead};
 use crate::columns::MetaColumns;
 use crate::numbers::{read_counter, read_moment, read_natural};
 use crate::table::Columns;
-use desk_model::{Meta, Policy};
+use desk_model::{Clock, Meta, Policy};
 use std::alloc::{AllocError, Global};
 
 // The clock, and the last numbers given.
 #[derive(Clone, Copy, Debug)]
 struct Counters {
-    clock: u64,
+    clock: Clock,
     nonces: u64,
     accounts: u64,
     orders: u64,
@@ -72,7 +72,7 @@ fn read_counters(columns: &MetaColumns) -> Option<Counters>
         (λ counters. AreCounters columns.now counters) }
 {
     Some(Counters {
-        clock: read_moment(columns.clock)?,
+        clock: Clock::new(read_moment(columns.clock)?)?,
         nonces: read_counter(columns.nonces)?,
         accounts: read_counter(columns.accounts)?,
         orders: read_counter(columns.orders)?,

@@ -52,6 +52,11 @@ MeetsAsk m B random (ask.NewNonce head) changes reply = Issues m B random (nonce
 MeetsAsk m B random (ask.Signed s) changes reply = MeetsSigned m B random s (open_nonce (swept m B) s.nonce) changes reply
 MeetsAsk m B random other changes reply = Settles m B (office_verdict (swept m B) other) changes reply
 
+-- any fault but that of the call's moment
+abbrev pub IsLater : CoreFault → Type 0
+IsLater fault.Moment = ⊥
+IsLater _ = Unit {0}
+
 -- want of memory, or of random bytes for the fresh nonce
 abbrev pub IsShort : List ℕ → CoreFault → Type 0
 IsShort random fault.Memory = Unit {0}

@@ -34,7 +34,7 @@ fn act_on_rows(
     ensures reply { IfOk result (λ r. IsShownWith entry shows → HasTexts (tables_with recording.old.meta.clock book.now entry)
         → r ≡ reply_of (tables_with recording.old.meta.clock book.now entry) shows) }
 {
-    let moment = recording.meta.clock;
+    let moment = recording.meta.clock.moment();
     record_moves(alloc, book, recording, &entry)?;
     let reply = show(alloc, book, &entry, moment, shows)?;
     Ok(reply)
@@ -96,7 +96,6 @@ fn act_on_order(
     account: u64,
     wanted: &[Wanted],
 ) -> Result<Reply, AllocError>
-    requires moment { recording.old.meta.clock ≤ 250000000000 }
     requires orders { recording.old.meta.orders < 2 ^ 62 }
     requires authorizations { recording.old.meta.authorizations + length wanted.now ≤ 2 ^ 62 }
     requires challenges { recording.old.meta.challenges + count_tokens wanted.now ≤ 2 ^ 62 }
@@ -121,7 +120,6 @@ fn act_on_accepted(
     entry: Option<Entry>,
     shows: Shows,
 ) -> Result<Reply, AllocError>
-    requires moment { recording.old.meta.clock ≤ 250000000000 }
     requires numbers { NumbersLeftFor recording.old.meta entry }
     ensures recorded { OnOk result (IsActable recording.old.meta (accepted entry shows) → (m : ℕ) (es : List EntryOf) → IsOrdered book.now → IsUntouched m book.now es
         → IsRecorded m book.now es recording.old.changes.items recording.old.meta
@@ -148,7 +146,6 @@ pub(crate) fn act(
     verdict: Verdict,
     index: bool,
 ) -> Result<Reply, AllocError>
-    requires moment { recording.old.meta.clock ≤ 250000000000 }
     requires numbers { NumbersLeft recording.old.meta verdict }
     ensures recorded { OnOk result (IsActable recording.old.meta verdict → (m : ℕ) (es : List EntryOf) → IsOrdered book.now → IsUntouched m book.now es
         → IsRecorded m book.now es recording.old.changes.items recording.old.meta

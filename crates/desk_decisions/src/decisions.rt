@@ -1,5 +1,5 @@
 //! The decision on a call: what changes in the book, and what is answered.
-ghost use Rattle.std.specs.Prelude.{◌≡◌, ◌<◌, ◌≤◌, ◌^◌, ◌++◌, ◌∷◌, [], true, false, length, take, drop, IfOk, IfErr, MatchResult};
+ghost use Rattle.std.specs.Prelude.{◌≡◌, ◌↔◌, ◌<◌, ◌≤◌, ◌^◌, ◌++◌, ◌∷◌, [], true, false, length, take, drop, IfOk, IfErr, MatchResult};
 ghost use Rattle.desk_model.specs.Decide.{entries_of, nonce_entries, verdict_reply};
 ghost use Rattle.desk_model.specs.Effect.{effects, swept};
 ghost use Rattle.desk_model.specs.Rules.{office_verdict, open_nonce, signed_verdict as verdict_of};
@@ -16,17 +16,17 @@ ghost use Rattle.desk_changes.specs.Acting.{HasTexts, IsActable, is_recording};
 ghost use Rattle.desk_decisions.specs.Decided.{IsDecision, IsFaultOf};
 ghost use Rattle.desk_parts.specs.IsPart.{IsPartFor};
 ghost use Rattle.desk_rules.specs.Needs.{NumbersLeft};
-ghost use Rattle.desk_decisions.specs.Outcomes.{IsAskFault, IsPassedFault, IsShort, IsSignedFault, MeetsAsk, MeetsSigned, Passes, Settles};
+ghost use Rattle.desk_decisions.specs.Outcomes.{IsAskFault, IsLater, IsPassedFault, IsShort, IsSignedFault, MeetsAsk, MeetsSigned, Passes, Settles};
 ghost use Rattle.desk_changes.specs.Recorded.{recorded_changes};
 ghost use Rattle.desk_decisions.specs.Room.{IsIssueFault};
 
 use crate::acts::act;
 use desk_book::Book;
 use desk_changes::Recording;
-use desk_model::{Ask, Call, Change, Reply, Sequence, Signed, Verdict};
+use desk_model::{Ask, Call, Change, LAST_MOMENT, Reply, Sequence, Signed, Verdict};
 use desk_replies::{nonce_reply, refusal_reply, show, with_nonce};
 use desk_rules::{
-    CoreFault, LAST_MOMENT, first_random, has_room, judge_office, judge_signed, open_nonce,
+    CoreFault, first_random, has_room, judge_office, judge_signed, open_nonce,
 };
 use std::alloc::{AllocError, Global};
 
@@ -48,6 +48,7 @@ fn issued(
     random: &[u8],
     reply: Reply,
 ) -> Result<Outcome, CoreFault>
+    requires { moment ≤ 250000000000 }
     ensures changes { IfOk result (λ o. o.changes.items ≡ recorded_changes moment book.now (issued_entry (take 16 random.now) ∷ [])) }
     ensures reply { IfOk result (λ o. o.reply ≡ with_nonce (fresh_nonce book.now random.now) reply) }
     ensures room { IfOk result (λ _. (book.now.meta.nonces < 2 ^ 62) × (16 ≤ length random.now)) }
@@ -126,7 +127,8 @@ fn signed(
     signed: &Signed,
 ) -> Result<Outcome, CoreFault>
     requires { moment ≤ 250000000000 }
-    ensures { IsOrdered book.now → (let found = open_nonce (swept moment book.now) signed.now.nonce in
+    ensures later { IfErr result (λ e. IsLater e) }
+    ensures meets { IsOrdered book.now → (let found = open_nonce (swept moment book.now) signed.now.nonce in
         MatchResult result
         (λ o. MeetsSigned moment book.now random.now signed.now found o.changes.items o.reply)
         (λ e. IsSignedFault moment book.now random.now signed.now found e)) }
@@ -231,7 +233,8 @@ fn decide_at(
     ask: &Ask,
 ) -> Result<Outcome, CoreFault>
     requires { moment ≤ 250000000000 }
-    ensures { IsOrdered book.now → MatchResult result
+    ensures later { IfErr result (λ e. IsLater e) }
+    ensures meets { IsOrdered book.now → MatchResult result
         (λ o. MeetsAsk moment book.now random.now ask.now o.changes.items o.reply)
         (λ e. IsAskFault moment book.now random.now ask.now e) }
 {
@@ -261,15 +264,16 @@ fn keep_form(call: &Call)
 /// `Moment`, `Full` and `ShortRandom` are the faults 24, 26 and 25 of the call, tested in this order; `Memory` comes
 /// where a growth was refused. The book stays as it was.
 pub fn decide(alloc: Global, book: &Book, call: &Call) -> Result<Outcome, CoreFault>
+    ensures late { (result ≡ Err CoreFault.Moment) ↔ (250000000000 < call.now.at) }
     ensures decided { IfOk result (λ o. (F : History) → Legal F → IsPartFor call.now (picture F) book.now
         → IsDecision F call.now o.changes.items o.reply) }
     ensures faulty { IfErr result (λ e. (F : History) → Legal F → IsPartFor call.now (picture F) book.now
         → IsFaultOf F call.now e) }
 {
-    keep_form(call);
-    let moment = call.at.max(book.meta().clock);
-    if moment > LAST_MOMENT {
+    if call.at > LAST_MOMENT {
         return Err(CoreFault::Moment);
     }
+    keep_form(call);
+    let moment = call.at.max(book.meta().clock.moment());
     decide_at(alloc, book, moment, call.random.as_slice(), &call.ask)
 }

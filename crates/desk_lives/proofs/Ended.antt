@@ -34,7 +34,7 @@ use Rattle.desk_laws.proofs.Step.{step, sweep}
 use Rattle.desk_laws.proofs.Finds.{found_moved}
 use Rattle.desk_lives.proofs.EndedRows.{IsStated, account_stays, authorization_stays, challenge_stays}
 use Rattle.desk_lives.proofs.EndedOrders.{order_stays}
-use Rattle.desk_lives.proofs.Extends.{begins, extends_beginning, histories_are_legal}
+use Rattle.desk_lives.proofs.Extends.{extends_earlier, histories_are_legal}
 
 -- ---- a challenge through its authorization
 
@@ -223,7 +223,7 @@ extended_stays (d ∷ more) F h = stays_trans (picture F) (picture (more ++ F)) 
 -- what has ended keeps its row over every life
 pub ended_stays : EndedStays
 ended_stays start later earlier life =
-    let p = extends_beginning (history start earlier) (history start (later ++ earlier)) (begins start later earlier) in
+    let p = extends_earlier start later earlier in
     let legal : Legal (history start (later ++ earlier)) = histories_are_legal start (later ++ earlier) life in
     subst (λ G. EndedRowsStay (picture (history start earlier)) (picture G)) p.is
     (extended_stays p.more (history start earlier) (subst EachFollows (sym p.is) legal.each))

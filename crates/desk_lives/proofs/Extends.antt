@@ -5,8 +5,7 @@ use Rattle.desk_model.specs.declared.entry.Entry.{Entry}
 use Rattle.desk_model.specs.declared.entry.Dated.{Dated}
 use Rattle.desk_model.specs.History.{record_all, moment_of, first, earlier}
 use Rattle.desk_model.specs.Decide.{decide, after}
-use Rattle.desk_model.specs.Run.{after_all, IsBeginning}
-use Rattle.desk_model.specs.Life.{Event, Replied, Faulted, Stopped, Reopened, history, IsLife, HistoriesAreLegal, HistoriesAreOfCalls, AcknowledgedStays, RepliesAreDecided}
+use Rattle.desk_model.specs.Life.{Event, Replied, Faulted, Stopped, Reopened, history, kept_calls, made_by, IsLife, HistoriesAreLegal, HistoriesAreOfCalls, AcknowledgedStays, RepliesAreDecided}
 use Rattle.desk_model.specs.declared.call.Call.{Call}
 use Rattle.desk_laws.proofs.Basics.{earlier-some}
 use Rattle.desk_lives.proofs.SoundCalls.{legal_after}
@@ -34,14 +33,18 @@ extends_record_all m (e ∷ es) F =
 pub extends_after : (F : History) (call : Call) → Extends F (after F call)
 extends_after F call = extends_record_all (moment_of call.at F) (decide F call).entries F
 
--- and some calls
-extends_all : (F : History) (calls : List Call) → Extends F (after_all F calls)
-extends_all F [] = extends_refl F
-extends_all F (c ∷ calls) = extends_trans F (after F c) _ (extends_after F c) (extends_all (after F c) calls)
+-- and so does an event
+extends_event : (start : History) (e : Event) (es : List Event) → Extends (history start es) (history start (e ∷ es))
+extends_event start (Replied c r) es = extends_after (history start es) c
+extends_event start (Faulted c) es = extends_refl (history start es)
+extends_event start (Stopped c true) es = extends_after (history start es) c
+extends_event start (Stopped c false) es = extends_refl (history start es)
+extends_event start Reopened es = extends_refl (history start es)
 
--- a history extends its beginnings
-pub extends_beginning : (F G : History) → IsBeginning F G → Extends F G
-extends_beginning F G b = let e = extends_all F b.calls in record { more = e.more; is = e.is ∙ b.reached }
+-- a history extends those before it
+pub extends_earlier : (start : History) (later earlier : List Event) → Extends (history start earlier) (history start (later ++ earlier))
+extends_earlier start [] es = extends_refl (history start es)
+extends_earlier start (e ∷ later) es = extends_trans _ _ _ (extends_earlier start later es) (extends_event start e (later ++ es))
 
 -- what came first stays first
 first_stays : {X : Type 0} (fact : Dated → Option X) (more F : List Dated) (x : X) → first fact F ≡ Some x → first fact (more ++ F) ≡ Some x
@@ -54,31 +57,28 @@ first-extends fact F G x p h = ap (first fact) (sym p.is) ∙ first_stays fact p
 
 -- ---- what holds over every life
 
--- one more call
-after_all-push : (F : History) (calls : List Call) (c : Call) → after_all F (calls ++ c ∷ []) ≡ after (after_all F calls) c
-after_all-push F [] c = refl
-after_all-push F (d ∷ calls) c = after_all-push (after F d) calls c
+-- the calls that a life keeps are those of its beginning and later ones
+kept_later : (later earlier : List Event) → (calls : List Call) × (kept_calls (later ++ earlier) ≡ calls ++ kept_calls earlier)
+kept_later [] es = ([], refl)
+kept_later (Replied c r ∷ later) es = let (cs, p) = kept_later later es in (c ∷ cs, ap (λ l. c ∷ l) p)
+kept_later (Faulted c ∷ later) es = kept_later later es
+kept_later (Stopped c true ∷ later) es = let (cs, p) = kept_later later es in (c ∷ cs, ap (λ l. c ∷ l) p)
+kept_later (Stopped c false ∷ later) es = kept_later later es
+kept_later (Reopened ∷ later) es = kept_later later es
 
--- a beginning of a history is one of the history after a call
-begins_call : (F G : History) (c : Call) → IsBeginning F G → IsBeginning F (after G c)
-begins_call F G c b = record { calls = b.calls ++ c ∷ []; reached = after_all-push F b.calls c ∙ ap (λ H. after H c) b.reached }
-
--- and of that after an event
-begins_event : (F : History) (start : History) (e : Event) (es : List Event) → IsBeginning F (history start es) → IsBeginning F (history start (e ∷ es))
-begins_event F start (Replied c r) es b = begins_call F (history start es) c b
-begins_event F start (Faulted c) es b = b
-begins_event F start (Stopped c true) es b = begins_call F (history start es) c b
-begins_event F start (Stopped c false) es b = b
-begins_event F start Reopened es b = b
-
--- what was recorded at some time stays a beginning
-pub begins : (start : History) (later earlier : List Event) → IsBeginning (history start earlier) (history start (later ++ earlier))
-begins start [] es = record { calls = []; reached = refl }
-begins start (e ∷ later) es = begins_event (history start es) start e (later ++ es) (begins start later es)
+-- the history after some events is made by the calls that they keep
+of_calls : (start : History) (life : List Event) → history start life ≡ made_by start (kept_calls life)
+of_calls start [] = refl
+of_calls start (Replied c r ∷ es) = ap (λ H. after H c) (of_calls start es)
+of_calls start (Faulted c ∷ es) = of_calls start es
+of_calls start (Stopped c true ∷ es) = ap (λ H. after H c) (of_calls start es)
+of_calls start (Stopped c false ∷ es) = of_calls start es
+of_calls start (Reopened ∷ es) = of_calls start es
 
 -- what was acknowledged stays
 pub acknowledged_stays : AcknowledgedStays
-acknowledged_stays start later es c r life = begins start later (Replied c r ∷ es)
+acknowledged_stays start later es c r life =
+    let (calls, p) = kept_later later (Replied c r ∷ es) in record { later = calls; first = p; whole = of_calls start (Replied c r ∷ es) }
 
 -- the life up to some time
 pub life_before : (start : History) (later earlier : List Event) → IsLife start (later ++ earlier) → IsLife start earlier
@@ -91,14 +91,7 @@ replies_are_decided start later es c r life = (life_before start later (Replied 
 
 -- each history is made by whole calls
 pub histories_are_of_calls : HistoriesAreOfCalls
-histories_are_of_calls start [] life = ([], tt, refl)
-histories_are_of_calls start (Replied c r ∷ es) life =
-    let (cs, p, q) = histories_are_of_calls start es life.1 in (c ∷ cs, (refl, p), ap (λ H. after H c) q)
-histories_are_of_calls start (Faulted c ∷ es) life = histories_are_of_calls start es life.1
-histories_are_of_calls start (Stopped c true ∷ es) life =
-    let (cs, p, q) = histories_are_of_calls start es life.1 in (c ∷ cs, (refl, p), ap (λ H. after H c) q)
-histories_are_of_calls start (Stopped c false ∷ es) life = histories_are_of_calls start es life.1
-histories_are_of_calls start (Reopened ∷ es) life = histories_are_of_calls start es life.1
+histories_are_of_calls start life is = of_calls start life
 
 -- each history is legal
 pub histories_are_legal : HistoriesAreLegal

@@ -21,7 +21,7 @@ use Rattle.desk_model.specs.declared.call.Signed.{Signed}
 use Rattle.desk_laws.proofs.AllowedFacts.{allowed}
 use Rattle.desk_laws.proofs.Finds.{found_passes}
 use Rattle.desk_lives.proofs.Sound.{open_serial}
-use Rattle.desk_lives.proofs.Extends.{Extends, extends_record_all, extends_beginning, begins, first-extends}
+use Rattle.desk_lives.proofs.Extends.{Extends, extends_record_all, extends_earlier, first-extends}
 
 -- the nonce was spent
 pub record IsSpent (serial : ℕ) (F : History) : Type 0 where
@@ -105,7 +105,7 @@ nonces_serve_once start later middle before first second reply other text life o
     let (u, reads_again, opens_again) = serial_in (tables_at G (moment_of second.at G)) text two.open_at in
     let same : t ≡ u = cc in
     let spent_one : IsSpent t.serial G =
-    spent_stays t.serial (after F first) G (extends_beginning (after F first) G (begins start middle (Replied first reply ∷ before)))
+    spent_stays t.serial (after F first) G (extends_earlier start middle (Replied first reply ∷ before))
     (call_spends F first text t.serial one opens) in
     spent_shut G (moment_of second.at G) u.serial (subst (λ (x : NonceText). IsSpent x.serial G) same spent_one)
     (open_serial (tables_at G (moment_of second.at G)) (Some text) u.serial opens_again)

@@ -9,7 +9,7 @@ use Rattle.desk_model.specs.Tables.{Tables, AccountRow, ChallengeRow, Authorizat
 use Rattle.desk_model.specs.Questions.{account_on, order_on, authorization_on, owner_on, challenge_of}
 use Rattle.desk_model.specs.Rules.{open_nonce}
 use Rattle.desk_model.specs.Decide.{decide, after}
-use Rattle.desk_model.specs.Run.{fault, IsFormedCall, IsBeginning}
+use Rattle.desk_model.specs.Run.{fault, IsFormedCall}
 use Rattle.desk_model.specs.declared.call.Call.{Call}
 use Rattle.desk_model.specs.declared.call.Ask.TheVariants as ask
 use Rattle.desk_model.specs.declared.call.Signed.{Signed}
@@ -65,22 +65,26 @@ abbrev pub IsLife : History → List Event → Type 0
 IsLife start [] = IsStart start
 IsLife start (e ∷ earlier) = MayHappen e (history start earlier) earlier × IsLife start earlier
 
--- the calls are those that were acknowledged and some of those at which the desk stopped, in order, the latest first
-abbrev pub IsChoice : List Event → List Call → Type 0
-IsChoice [] [] = Unit {0}
-IsChoice [] (c ∷ calls) = ⊥
-IsChoice (Replied call reply ∷ es) [] = ⊥
-IsChoice (Replied call reply ∷ es) (c ∷ calls) = (c ≡ call) × IsChoice es calls
-IsChoice (Faulted call ∷ es) calls = IsChoice es calls
-IsChoice (Stopped call true ∷ es) [] = ⊥
-IsChoice (Stopped call true ∷ es) (c ∷ calls) = (c ≡ call) × IsChoice es calls
-IsChoice (Stopped call false ∷ es) calls = IsChoice es calls
-IsChoice (Reopened ∷ es) calls = IsChoice es calls
+-- the calls that were acknowledged and those that a stop kept, the latest first
+abbrev pub kept_calls : List Event → List Call
+kept_calls [] = []
+kept_calls (Replied call reply ∷ earlier) = call ∷ kept_calls earlier
+kept_calls (Faulted call ∷ earlier) = kept_calls earlier
+kept_calls (Stopped call true ∷ earlier) = call ∷ kept_calls earlier
+kept_calls (Stopped call false ∷ earlier) = kept_calls earlier
+kept_calls (Reopened ∷ earlier) = kept_calls earlier
 
 -- the history after these calls, the latest first
 abbrev pub made_by : History → List Call → History
 made_by start [] = start
 made_by start (c ∷ calls) = after (made_by start calls) c
+
+-- the history is the making of the desk with the entries of these calls, each call's whole: they are the first ones
+-- of those that the life acknowledged or kept, and no other
+pub record IsBeginning (start : History) (life : List Event) (calls : List Call) (before : History) : Type 0 where
+  pub later : List Call
+  pub first : kept_calls life ≡ later ++ calls
+  pub whole : before ≡ made_by start calls
 
 -- the call is a signed request with this nonce text, which is open
 pub record Passed (F : History) (call : Call) (text : List ℕ) : Type 0 where
@@ -128,17 +132,14 @@ HistoriesAreLegal = (start : History) (life : List Event) → IsLife start life 
 
 -- each history is made by the acknowledged calls and some of the stopped ones, none in part
 abbrev pub HistoriesAreOfCalls : Type 0
-HistoriesAreOfCalls =
-    (start : History) (life : List Event)
-    → IsLife start life
-    → (calls : List Call) × IsChoice life calls × (history start life ≡ made_by start calls)
+HistoriesAreOfCalls = (start : History) (life : List Event) → IsLife start life → history start life ≡ made_by start (kept_calls life)
 
--- what was acknowledged stays
+-- what was acknowledged stays: the history after an acknowledged call, which ends with that call, is a beginning of each later one
 abbrev pub AcknowledgedStays : Type 0
 AcknowledgedStays =
     (start : History) (later earlier : List Event) (call : Call) (reply : Reply)
     → IsLife start (later ++ Replied call reply ∷ earlier)
-    → IsBeginning (history start (Replied call reply ∷ earlier)) (history start (later ++ Replied call reply ∷ earlier))
+    → IsBeginning start (later ++ Replied call reply ∷ earlier) (call ∷ kept_calls earlier) (history start (Replied call reply ∷ earlier))
 
 -- each acknowledged reply is the one decided
 abbrev pub RepliesAreDecided : Type 0

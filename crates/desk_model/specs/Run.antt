@@ -1,5 +1,5 @@
--- Runs of calls, the faults of a call, and beginnings of a history.
-use Rattle.std.specs.Prelude.{ℕ, ◌+◌, ◌*◌, ◌≡◌, List, [], ◌∷◌, length, not, nat_lt, Option, Some, None, Ok, Err, if◌then◌else◌}
+-- Runs of calls, and the faults of a call.
+use Rattle.std.specs.Prelude.{ℕ, ◌+◌, ◌*◌, List, [], ◌∷◌, length, not, nat_lt, Option, Some, None, Ok, Err, if◌then◌else◌}
 use Rattle.desk_model.specs.Entry.{Entry, issued, ordered, Wanted, new, History}
 use Rattle.desk_model.specs.Keys.{IsKeyText}
 use Rattle.desk_model.specs.Legal.{numbers_fit, last_moment}
@@ -62,15 +62,3 @@ unless_faulty (Some n) F ran = record { replies = []; history = F }
 abbrev pub run : History → List Call → Ran
 run F [] = record { replies = []; history = F }
 run F (call ∷ calls) = unless_faulty (fault F call) F (and_reply (decide F call).reply (run (after F call) calls))
-
--- ---- beginnings
-
--- the history after all of these calls
-abbrev pub after_all : History → List Call → History
-after_all F [] = F
-after_all F (call ∷ calls) = after_all (after F call) calls
-
--- the later history is the earlier one with the entries of some calls, each whole
-pub record IsBeginning (before later : History) : Type 0 where
-  pub calls : List Call
-  pub reached : after_all before calls ≡ later

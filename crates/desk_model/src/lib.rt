@@ -2,6 +2,7 @@
 #![tactic(auto)]
 
 mod call;
+mod clock;
 mod dns_name;
 mod document;
 mod entry;
@@ -17,6 +18,7 @@ mod text;
 mod verdict;
 
 pub use call::{Ask, BadKey, Call, FetchError, Finding, OrderProblem, Signed, Target};
+pub use clock::{Clock, LAST_MOMENT};
 pub use dns_name::{DnsName, is_well_formed};
 pub use document::Document;
 pub use entry::{Dated, Ending, Entry, Outcome, Wanted};

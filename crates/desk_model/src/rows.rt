@@ -2,6 +2,7 @@
 ghost use Rattle.std.specs.Prelude.{◌≡◌};
 
 use crate::call::OrderProblem;
+use crate::clock::Clock;
 use crate::dns_name::DnsName;
 use crate::jwk::Jwk;
 use crate::objects::{AccountEnd, AuthorizationEnd, Kind, Nonce, Report};
@@ -15,8 +16,8 @@ use std::alloc::AllocError;
 #[derive(Drop, Debug)]
 pub struct Meta {
     pub policy: Policy,
-    /// The latest recorded moment, in seconds since 1970.
-    pub clock: u64,
+    /// The latest recorded moment.
+    pub clock: Clock,
     pub nonces: u64,
     pub accounts: u64,
     pub orders: u64,

@@ -18,6 +18,6 @@ mod verdicts;
 
 pub use fault::CoreFault;
 pub use judging::judge_signed;
-pub use limits::{LAST_MOMENT, first_random, has_room};
+pub use limits::{first_random, has_room};
 pub use nonces::open_nonce;
 pub use offices::judge_office;

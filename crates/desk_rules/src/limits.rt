@@ -3,9 +3,6 @@ ghost use Rattle.std.specs.Prelude.{◌≡◌, ◌+◌, ◌*◌, ◌<◌, ◌≤
 
 use crate::fault::CoreFault;
 
-/// The last moment at which a call may be made, in seconds since 1970.
-pub const LAST_MOMENT: u64 = 250_000_000_000;
-
 /// The greatest number that an object may have.
 pub(crate) const LAST_NUMBER: u64 = 1 << 62;
 

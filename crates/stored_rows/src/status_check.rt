@@ -37,7 +37,7 @@ fn faults_by_kind(alloc: Global, book: &Book) -> Result<Vec<StatusFault>, AllocE
     let mut faults = Vec::new(alloc);
     push_accounts(&mut faults, book.accounts())?;
     push_orders(&mut faults, alloc, book)?;
-    push_authorizations(&mut faults, book.meta().clock, book.authorizations())?;
+    push_authorizations(&mut faults, book.meta().clock.moment(), book.authorizations())?;
     let mut challenges = challenges_by_number(alloc, book.authorizations())?;
     faults.append(&mut challenges)?;
     Ok(faults)
@@ -118,7 +118,7 @@ fn push_order(
     ensures { OnOk result (faults.new.items ≡ faults.old.items ++ order_faults book.now.meta.clock book.now.authorizations row.now) }
 {
     let statuses = listed_statuses(alloc, book, row.listed.as_slice())?;
-    let derived = derived_order(book.meta().clock, row, &statuses);
+    let derived = derived_order(book.meta().clock.moment(), row, &statuses);
     let fault = StatusFault::Order {
         number: row.number,
         stored: row.status,

@@ -1,5 +1,5 @@
 //! The passing of time: what is past its end at a moment (RFC 8555, 7.1.6).
-ghost use Rattle.std.specs.Prelude.{◌≡◌, ◌++◌, ℕ, map, IfOk, OnOk};
+ghost use Rattle.std.specs.Prelude.{◌≡◌, ◌≤◌, ◌++◌, ℕ, map, IfOk, OnOk};
 ghost use Rattle.std.specs.List.{list_any};
 ghost use Rattle.desk_model.specs.Lookup.{holds};
 ghost use Rattle.desk_model.specs.Derived.{authorization_numbered, numbers_of};
@@ -9,7 +9,7 @@ ghost use Rattle.desk_model.specs.Effect.{is_live, is_live_order, is_overdue, fa
 
 use desk_book::{Book, Table};
 use desk_model::{
-    AuthorizationRow, AuthzStatus, Change, Listed, Nonce, OrderRow, OrderStatus, Policy,
+    AuthorizationRow, AuthzStatus, Change, Clock, Listed, Nonce, OrderRow, OrderStatus, Policy,
 };
 use std::alloc::{AllocError, Global};
 
@@ -68,12 +68,17 @@ pub(crate) fn falls(moment: u64, rows: &Table<AuthorizationRow>, row: &OrderRow)
 }
 
 /// The changes that the passing of time makes, up to a moment.
+///
+/// # Errors
+///
+/// Where there is no memory for them.
 pub fn sweep_changes(alloc: Global, book: &Book, moment: u64) -> Result<Vec<Change>, AllocError>
+    requires { moment ≤ 250000000000 }
     ensures { IfOk result (λ v. v.items ≡ sweep_changes moment book.now) }
 {
     let mut changes = Vec::new(alloc);
     let mut meta = book.meta().clone()?;
-    meta.clock = moment;
+    meta.clock = Clock::at(moment);
     changes.push(Change::PutMeta(meta))?;
     remove_gone(&mut changes, book, moment)?;
     put_expired(&mut changes, book, moment)?;
