@@ -113,9 +113,11 @@ impl Desk {
         }
     }
 
-    /// The replies to calls made in turn, up to the first fault; want of memory is found before a call is made.
+    /// The replies to calls made in turn, up to the first fault, and that fault: it is the one that `answer` gives to the
+    /// next call. Want of memory is found before a call is made.
     pub fn run(&mut self, calls: &[Call]) -> (Vec<Reply>, Option<DeskFault>)
-        ensures { (F : History) → Legal F → self.old ≡ picture F → IsRun F calls.now result.0.items result.1 self.new }
+        ensures ended { EndsRun self.new calls.now (length result.0.items) result.1 }
+        ensures answered { (F : History) → Legal F → self.old ≡ picture F → IsRun F calls.now result.0.items result.1 self.new }
     {
         self.answer_all(calls)
     }

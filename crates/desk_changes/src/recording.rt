@@ -74,6 +74,16 @@ impl Recording {
             → IsRecorded m B es self.old.changes.items self.old.meta
             → IsRecorded m B (es ++ issued random ∷ []) self.new.changes.items self.new.meta) }
     {
+        self.push_nonce(random)
+    }
+
+    fn push_nonce(&mut self, random: [u8; 16]) -> Result<(), AllocError>
+        requires { self.old.meta.nonces < 2 ^ 62 }
+        ensures changes { OnOk result (self.new.changes.items ≡ self.old.changes.items
+            ++ PutMeta (record self.old.meta { nonces = self.old.meta.nonces + 1 })
+            ∷ PutNonce (record { serial = self.old.meta.nonces + 1; random = random; issued = self.old.meta.clock }) ∷ []) }
+        ensures meta { OnOk result (self.new.meta ≡ record self.old.meta { nonces = self.old.meta.nonces + 1 }) }
+    {
         self.meta.nonces += 1;
         let nonce = Nonce {
             serial: self.meta.nonces,
@@ -211,13 +221,14 @@ impl Recording {
         requires orders { self.now.meta.orders < 2 ^ 62 }
         ensures { IfOk result (λ o. (n : ℕ) → Ascends (λ r. r.number) n rows.now → o ≡ restated_order self.now.meta.clock rows.now (bare_order self.now.meta account rows.now)) }
     {
+        let moment = self.meta.clock.moment();
         let mut listed = Vec::new(alloc);
         push_places(&mut listed, rows, 1)?;
         let mut row = OrderRow {
             number: self.meta.orders + 1,
             account,
-            made: self.meta.clock.moment(),
-            expires: self.meta.clock.moment() + self.meta.policy.order_life(),
+            made: moment,
+            expires: moment + self.meta.policy.order_life(),
             listed: Sequence::new(listed),
             finalized: None,
             certified: None,
@@ -225,7 +236,7 @@ impl Recording {
             status: OrderStatus::Pending,
         };
         let statuses = statuses_of(alloc, rows)?;
-        row.status = derived_order(self.meta.clock.moment(), &row, &statuses);
+        row.status = derived_order(moment, &row, &statuses);
         Ok(row)
     }
 }

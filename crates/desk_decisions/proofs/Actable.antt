@@ -1,6 +1,8 @@
 -- A verdict shows what its entry made, or one object that it moved.
 use Rattle.std.proofs.Common.{ℕ, length, List, [], ◌∷◌, Bool, true, false, not, Option, Some, None, Result, Ok, Err, refl}
 use Rattle.std.specs.Prelude.{nat_le}
+use Rattle.desk_model.specs.declared.refusal.Refusal.{Refusal}
+use Rattle.desk_model.specs.declared.refusal.Refusal.TheVariants as refusal
 use Rattle.desk_model.specs.Account.{is_valid as is_valid_account}
 use Rattle.desk_model.specs.Contact.{contacts_fault}
 use Rattle.desk_model.specs.Legal.{has_length, is_pending_challenge, is_problem, is_processing_challenge}
@@ -39,19 +41,19 @@ use Rattle.desk_changes.specs.Acting.{IsActable}
 -- ---- steps of verdicts
 
 -- a test keeps the form of what comes after it
-check_actable : (M : Meta) (b : Bool) (n : ℕ) (v : Verdict) → IsActable M v → IsActable M (check b n v)
+check_actable : (M : Meta) (b : Bool) (n : Refusal) (v : Verdict) → IsActable M v → IsActable M (check b n v)
 unfolding check
 check_actable M true n v h = h
 check_actable M false n v h = tt
 
 -- so does a value that is there
-given_actable : {X : Type 0} (M : Meta) (o : Option X) (n : ℕ) (f : X → Verdict) → ((x : X) → IsActable M (f x)) → IsActable M (given o n f)
+given_actable : {X : Type 0} (M : Meta) (o : Option X) (n : Refusal) (f : X → Verdict) → ((x : X) → IsActable M (f x)) → IsActable M (given o n f)
 unfolding given
 given_actable M None n f h = tt
 given_actable M (Some x) n f h = h x
 
 -- and a fault that is not there
-fault_actable : (M : Meta) (o : Option ℕ) (v : Verdict) → IsActable M v → IsActable M (unless_fault o v)
+fault_actable : (M : Meta) (o : Option Refusal) (v : Verdict) → IsActable M v → IsActable M (unless_fault o v)
 unfolding unless_fault
 fault_actable M None v h = h
 fault_actable M (Some n) v h = tt
@@ -134,7 +136,7 @@ key_actable T r key p t = holder_actable T r p t (account_with_key T key)
 pub signed_actable : (T : Tables) (r : List ℕ) (s : Signed) → IsActable T.meta (signed_verdict T r s)
 signed_actable T r s = by s.key
   where
-    by : (k : Result (List ℕ) BadKey) → IsActable T.meta (elim k [ Err e ↦ refused 5 [] | Ok key ↦ key_verdict T r key s.payload s.target ])
+    by : (k : Result (List ℕ) BadKey) → IsActable T.meta (elim k [ Err e ↦ refused refusal.BadPublicKey [] | Ok key ↦ key_verdict T r key s.payload s.target ])
     by (Err e) = tt
     by (Ok key) = key_actable T r key s.payload s.target
 

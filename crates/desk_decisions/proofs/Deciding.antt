@@ -161,6 +161,7 @@ decides F call e es changes reply legal formed at is fits enough made replies =
     record {
       faultless = faultless F call at numbers bytes;
       replies = replies (subst EachFollows (sym grown) follows);
+      quiet = λ empty. let differ : e ∷ es ≡ [] = sym is ∙ empty in cc;
       news =
           subst (AreNews (picture F)) (sym made)
           (records_put_news F e es (moment_of call.at F) (moment_later F call) (subst EachFollows (sym grown) follows));
@@ -181,6 +182,7 @@ decides_none F call changes reply legal at is none said =
           faultless F call at (subst (λ G. IsTrue (numbers_fit G)) same legal.numbered)
           (subst (λ l. 16 * count_pieces l ≤ length call.random) (sym is) (omega arith));
       replies = said;
+      quiet = λ empty. none;
       news = subst (AreNews (picture F)) (sym none) tt;
       kept = subst (AreKept (picture F)) (sym none) tt;
       makes = ap (λ cs. applied cs (picture F)) none ∙ ap picture same;

@@ -1,6 +1,7 @@
 -- What is promised of each ask.
 use Rattle.std.proofs.Common.{◌≡◌, ℕ, ◌+◌, ◌*◌, ◌≤◌, max, true, false, List, [], ◌∷◌, ◌++◌, length, take, drop, Option, Some, None, refl, sym, ap, subst, ◌∙◌, arith, Result, Ok, Err, IfOk, IfErr, MatchResult}
 use Rattle.std.specs.Prelude.{IsTrue}
+use Rattle.desk_model.specs.declared.refusal.Refusal.TheVariants as refusal
 use Rattle.desk_model.specs.Entry.{History}
 use Rattle.desk_model.specs.History.{clock, moment_of, record_all}
 use Rattle.desk_model.specs.Legal.{Legal, EachFollows, last_moment, numbers_fit}
@@ -173,7 +174,7 @@ signed_decides F call s changes reply legal formed at asks h = by (open_nonce (s
     by : (o : Option ℕ) → open_nonce (swept (moment_of call.at F) (picture F)) s.nonce ≡ o →
         MeetsSigned (moment_of call.at F) (picture F) call.random s o changes reply → IsDecision F call changes reply
     by None e m =
-        issues F call (refusal_reply true 4 []) changes reply legal formed at (ap (λ (d : Decision). d.entries) (is None e)) (ap (λ (d : Decision). d.reply) (is None e)) m
+        issues F call (refusal_reply true refusal.BadNonce []) changes reply legal formed at (ap (λ (d : Decision). d.entries) (is None e)) (ap (λ (d : Decision). d.reply) (is None e)) m
     by (Some serial) e m = passes F call s serial changes reply legal formed at (is (Some serial) e) m
 
 -- ---- each ask

@@ -1,5 +1,6 @@
 -- What the code answers by a part of the rows it answers by all of them.
 use Rattle.std.proofs.Common.{◌≡◌, ℕ, List, [], ◌∷◌, take, drop, Option, Some, None, refl, sym, ap, subst, ◌∙◌, true, false}
+use Rattle.desk_model.specs.declared.refusal.Refusal.TheVariants as refusal
 use Rattle.desk_model.specs.Decide.{entries_of}
 use Rattle.desk_model.specs.Effect.{effects, swept}
 use Rattle.desk_model.specs.Rules.{office_verdict, open_nonce, signed_verdict}
@@ -80,7 +81,7 @@ passes_whole m k T random serial s changes reply ordered alike met =
 
 signed_whole : (m : ℕ) (k : Kept) (T : Tables) (random : List ℕ) (s : Signed) (changes : List Change) (reply : Reply) → IsOrdered (restricted k T) →
     PassesAs m s T (restricted k T) → (o : Option ℕ) → MeetsSigned m (restricted k T) random s o changes reply → MeetsSigned m T random s o changes reply
-signed_whole m k T random s changes reply ordered alike None met = issues_whole m k T random (refusal_reply true 4 []) changes reply alike.issues met
+signed_whole m k T random s changes reply ordered alike None met = issues_whole m k T random (refusal_reply true refusal.BadNonce []) changes reply alike.issues met
 signed_whole m k T random s changes reply ordered alike (Some serial) met = passes_whole m k T random serial s changes reply ordered alike met
 
 -- what the code answers to an ask

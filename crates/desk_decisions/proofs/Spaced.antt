@@ -1,6 +1,8 @@
 -- The tokens that verdicts take: one for each challenge of a new order, and none else.
 use Rattle.std.proofs.Common.{◌≡◌, ◌≤◌, ◌+◌, ◌*◌, ℕ, length, List, [], ◌∷◌, Bool, true, false, not, drop, Option, Some, None, Result, Ok, Err, refl}
 use Rattle.std.specs.Prelude.{nat_le}
+use Rattle.desk_model.specs.declared.refusal.Refusal.{Refusal}
+use Rattle.desk_model.specs.declared.refusal.Refusal.TheVariants as refusal
 use Rattle.desk_model.specs.Account.{is_valid as is_valid_account}
 use Rattle.desk_model.specs.Authorization.{kinds_of}
 use Rattle.desk_model.specs.Contact.{contacts_fault}
@@ -47,19 +49,19 @@ use Rattle.desk_rules.proofs.NamesWanted.{length-pieces}
 -- ---- steps of verdicts
 
 -- what holds of a refusal and of what comes after a test
-check_keeps : (P : Verdict → Type 0) (b : Bool) (n : ℕ) (v : Verdict) → P (refused n []) → P v → P (check b n v)
+check_keeps : (P : Verdict → Type 0) (b : Bool) (n : Refusal) (v : Verdict) → P (refused n []) → P v → P (check b n v)
 unfolding check
 check_keeps P true n v r h = h
 check_keeps P false n v r h = r
 
 -- of what comes after a value that is there
-given_keeps : {X : Type 0} (P : Verdict → Type 0) (o : Option X) (n : ℕ) (f : X → Verdict) → P (refused n []) → ((x : X) → P (f x)) → P (given o n f)
+given_keeps : {X : Type 0} (P : Verdict → Type 0) (o : Option X) (n : Refusal) (f : X → Verdict) → P (refused n []) → ((x : X) → P (f x)) → P (given o n f)
 unfolding given
 given_keeps P None n f r h = r
 given_keeps P (Some x) n f r h = h x
 
 -- of what comes after a fault that is not there
-fault_keeps : (P : Verdict → Type 0) (o : Option ℕ) (v : Verdict) → ((n : ℕ) → P (refused n [])) → P v → P (unless_fault o v)
+fault_keeps : (P : Verdict → Type 0) (o : Option Refusal) (v : Verdict) → ((n : Refusal) → P (refused n [])) → P v → P (unless_fault o v)
 unfolding unless_fault
 fault_keeps P None v r h = h
 fault_keeps P (Some n) v r h = r n
@@ -141,7 +143,7 @@ key_spaced T r key p t = holder_spaced T r p t (account_with_key T key)
 pub signed_spaced : (T : Tables) (r : List ℕ) (s : Signed) → IsSpaced (signed_verdict T r s)
 signed_spaced T r s = by s.key
   where
-    by : (k : Result (List ℕ) BadKey) → IsSpaced (elim k [ Err e ↦ refused 5 [] | Ok key ↦ key_verdict T r key s.payload s.target ])
+    by : (k : Result (List ℕ) BadKey) → IsSpaced (elim k [ Err e ↦ refused refusal.BadPublicKey [] | Ok key ↦ key_verdict T r key s.payload s.target ])
     by (Err e) = tt
     by (Ok key) = key_spaced T r key s.payload s.target
 

@@ -1,5 +1,5 @@
 -- What a decision promises, against the history of whose picture the book is a part.
-use Rattle.std.specs.Prelude.{◌≡◌, Some, None, List}
+use Rattle.std.specs.Prelude.{◌≡◌, Some, None, List, []}
 use Rattle.desk_model.specs.Entry.{History}
 use Rattle.desk_model.specs.Legal.{Legal}
 use Rattle.desk_model.specs.Tables.{picture}
@@ -9,16 +9,16 @@ use Rattle.desk_model.specs.Run.{fault}
 use Rattle.desk_model.specs.declared.call.Call.{Call}
 use Rattle.desk_model.specs.declared.reply.Reply.{Reply}
 use Rattle.desk_model.specs.declared.rows.Change.{Change}
-use Rattle.desk_laws.specs.News.{AreNews}
-use Rattle.desk_laws.specs.News.{AreKept}
+use Rattle.desk_laws.specs.News.{AreKept, AreNews}
 use Rattle.desk_rules.specs.declared.fault.CoreFault.{CoreFault}
 use Rattle.desk_rules.specs.declared.fault.CoreFault.TheVariants as core
 
 -- the call has no fault, the reply is the model's, and the changes put news alone, keep children and make the picture of the longer history,
--- which is legal
+-- which is legal; there is none where nothing is recorded
 pub record IsDecision (F : History) (call : Call) (changes : List Change) (reply : Reply) : Type 0 where
   pub faultless : fault F call ≡ None
   pub replies : reply ≡ (decide F call).reply
+  pub quiet : (decide F call).entries ≡ [] → changes ≡ []
   pub news : AreNews (picture F) changes
   pub kept : AreKept (picture F) changes
   pub makes : applied changes (picture F) ≡ picture (after F call)

@@ -13,6 +13,7 @@ use Rattle.desk_model.specs.declared.entry.Entry.TheVariants.{Issued as issued}
 use Rattle.desk_model.specs.declared.call.Ask.{Ask}
 use Rattle.desk_model.specs.declared.call.Ask.TheVariants as ask
 use Rattle.desk_model.specs.declared.call.Signed.{Signed}
+use Rattle.desk_model.specs.declared.refusal.Refusal.TheVariants as refusal
 use Rattle.desk_laws.specs.Ordered.{IsOrdered}
 use Rattle.desk_changes.specs.Acting.{HasTexts, IsActable}
 use Rattle.desk_rules.specs.Needs.{BytesLeft, NumbersLeft, NumbersSpent}
@@ -43,7 +44,7 @@ pub record Settles (m : ℕ) (B : Tables) (v : Verdict) (changes : List Change) 
   pub replies : IsOrdered B → IsActable B.meta v → HasTexts (effects m (swept m B) (entries_of v)) → reply ≡ verdict_reply false (effects m (swept m B) (entries_of v)) v
 
 abbrev pub MeetsSigned : ℕ → Tables → List ℕ → Signed → Option ℕ → List Change → Reply → Type 0
-MeetsSigned m B random s None changes reply = Issues m B random (refusal_reply true 4 []) changes reply
+MeetsSigned m B random s None changes reply = Issues m B random (refusal_reply true refusal.BadNonce []) changes reply
 MeetsSigned m B random s (Some serial) changes reply = Passes m B random serial (signed_verdict (swept m B) (drop 16 random) s) changes reply
 
 -- what is answered to an ask

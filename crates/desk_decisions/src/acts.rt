@@ -156,9 +156,9 @@ pub(crate) fn act(
 {
     match verdict {
         Verdict::Refused {
-            number,
+            refusal,
             subproblems,
-        } => Ok(refusal_reply(number, subproblems, index)),
+        } => Ok(refusal_reply(refusal, subproblems, index)),
         Verdict::Accepted { entry, shows } => {
             act_on_accepted(alloc, book, recording, entry, shows)
         }

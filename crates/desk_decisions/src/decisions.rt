@@ -23,15 +23,10 @@ ghost use Rattle.desk_decisions.specs.Room.{IsIssueFault};
 use crate::acts::act;
 use desk_book::Book;
 use desk_changes::Recording;
-use desk_model::{Ask, Call, Change, LAST_MOMENT, Reply, Sequence, Signed, Verdict};
+use desk_model::{Ask, Call, Change, LAST_MOMENT, Refusal, Reply, Sequence, Signed, Verdict};
 use desk_replies::{nonce_reply, refusal_reply, show, with_nonce};
-use desk_rules::{
-    CoreFault, first_random, has_room, judge_office, judge_signed, open_nonce,
-};
+use desk_rules::{CoreFault, first_random, has_room, judge_office, judge_signed, open_nonce};
 use std::alloc::{AllocError, Global};
-
-/// The nonce of the request is not open.
-const BAD_NONCE: u8 = 4;
 
 /// What a call does: the changes that it makes, none where nothing is recorded, and the reply.
 #[derive(Drop)]
@@ -136,7 +131,7 @@ fn signed(
     match open_nonce(book, moment, &signed.nonce) {
         Some(serial) => spent(alloc, book, moment, random, serial, signed),
         None => {
-            let refusal = refusal_reply(BAD_NONCE, Sequence::new(Vec::new(alloc)), true);
+            let refusal = refusal_reply(Refusal::BadNonce, Sequence::new(Vec::new(alloc)), true);
             issued(alloc, book, moment, random, refusal)
         }
     }
@@ -185,9 +180,9 @@ fn unrecorded(
 {
     match verdict {
         Verdict::Refused {
-            number,
+            refusal,
             subproblems,
-        } => Ok(refusal_reply(number, subproblems, false)),
+        } => Ok(refusal_reply(refusal, subproblems, false)),
         Verdict::Accepted { entry: _, shows } => {
             let reply = show(alloc, book, &None, moment, shows)?;
             Ok(reply)

@@ -2,6 +2,7 @@
 use Rattle.std.specs.Prelude.{◌≡◌, [], ◌∷◌, ◌++◌, codes, replicate, Some, None}
 use Rattle.desk_model.specs.Contact.{contact_fault, contacts_fault}
 use Rattle.desk_model.specs.declared.call.Target.TheVariants as to
+use Rattle.desk_model.specs.declared.refusal.Refusal.TheVariants as refusal
 use Rattle.desk_examples.specs.Computed.{Gives, refuses, plain, renewed, Json, located}
 use Rattle.desk_examples.specs.Entries.{issued, spent, contacts_changed, History, opened}
 use Rattle.desk_examples.specs.Calls.{on, zeros, new_desk, account_desk, request, nonce_two, first_key}
@@ -9,23 +10,23 @@ use Rattle.desk_examples.specs.Texts.{unsupported_contact, invalid_contact, no_a
 
 -- nothing stands behind the scheme
 abbrev pub EmptyAddress : Type 0
-EmptyAddress = contact_fault (codes "mailto:") ≡ Some 9
+EmptyAddress = contact_fault (codes "mailto:") ≡ Some refusal.InvalidContact
 
 -- two addresses
 abbrev pub TwoAddresses : Type 0
-TwoAddresses = contact_fault (codes "mailto:a@b,c@d") ≡ Some 9
+TwoAddresses = contact_fault (codes "mailto:a@b,c@d") ≡ Some refusal.InvalidContact
 
 -- header fields
 abbrev pub HeaderFields : Type 0
-HeaderFields = contact_fault (codes "mailto:a@b?x=1") ≡ Some 9
+HeaderFields = contact_fault (codes "mailto:a@b?x=1") ≡ Some refusal.InvalidContact
 
 -- no scheme at all
 abbrev pub NoScheme : Type 0
-NoScheme = contact_fault (codes "abc") ≡ Some 9
+NoScheme = contact_fault (codes "abc") ≡ Some refusal.InvalidContact
 
 -- another scheme
 abbrev pub Telephone : Type 0
-Telephone = contact_fault (codes "tel:+1") ≡ Some 8
+Telephone = contact_fault (codes "tel:+1") ≡ Some refusal.UnsupportedContact
 
 -- a scheme is read in any case
 abbrev pub UpperCaseScheme : Type 0
@@ -37,7 +38,7 @@ LongestContact = contact_fault (codes "mailto:" ++ replicate 313 97) ≡ None
 
 -- and one more
 abbrev pub TooLongContact : Type 0
-TooLongContact = contact_fault (codes "mailto:" ++ replicate 314 97) ≡ Some 9
+TooLongContact = contact_fault (codes "mailto:" ++ replicate 314 97) ≡ Some refusal.InvalidContact
 
 -- ten contacts
 abbrev pub TenContacts : Type 0
@@ -45,11 +46,11 @@ TenContacts = contacts_fault (replicate 10 (codes "mailto:a@b")) ≡ None
 
 -- and one more: counted before they are looked at
 abbrev pub ElevenContacts : Type 0
-ElevenContacts = contacts_fault (replicate 11 (codes "tel:+1")) ≡ Some 9
+ElevenContacts = contacts_fault (replicate 11 (codes "tel:+1")) ≡ Some refusal.InvalidContact
 
 -- the first fault answers
 abbrev pub FirstFault : Type 0
-FirstFault = contacts_fault (codes "mailto:a@b" ∷ codes "tel:+1" ∷ codes "abc" ∷ []) ≡ Some 8
+FirstFault = contacts_fault (codes "mailto:a@b" ∷ codes "tel:+1" ∷ codes "abc" ∷ []) ≡ Some refusal.UnsupportedContact
 
 -- a desk with one nonce
 abbrev pub nonce_desk : History

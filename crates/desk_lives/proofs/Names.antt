@@ -3,6 +3,8 @@ use Rattle.std.proofs.Common.{◌≡◌, ◌≤◌, ◌*◌, ℕ, suc, zero, Lis
 use Rattle.std.specs.Prelude.{◌&&◌, ◌||◌, ◌==◌, nat_eq, is_none, codes, option_and_then, if◌then◌else◌}
 use Rattle.std.specs.List.{filter, list_any, list_all, starts_with}
 use Rattle.std.proofs.lemmas.Bool.{eq-eqb, and_from, and_parts, leb-true, le-leb}
+use Rattle.desk_model.specs.declared.refusal.Refusal.{Refusal}
+use Rattle.desk_model.specs.declared.refusal.Refusal.TheVariants as refusal
 use Rattle.desk_model.specs.BaseName.{is_base_name}
 use Rattle.desk_model.specs.Name.{Name, same_name}
 use Rattle.desk_model.specs.Names.{ascii_form, name_of, name_with}
@@ -64,7 +66,7 @@ identifier_named : (i : Identifier) → fault_of i ≡ None → (name : Name) ×
 identifier_named i h = by (is_dns i) (name_of i.value) h
   where
     by : (b : Bool) (o : Option Name) →
-        cond {A = Option ℕ} b (cond {A = Option ℕ} (is_none o) (Some 11) None) (Some 10) ≡ None → (name : Name) × (o ≡ Some name)
+        cond {A = Option Refusal} b (cond {A = Option Refusal} (is_none o) (Some refusal.RejectedIdentifier) None) (Some refusal.UnsupportedIdentifier) ≡ None → (name : Name) × (o ≡ Some name)
     by true (Some name) k = (name, refl)
     by true None k = cc
     by false o k = cc
@@ -77,7 +79,7 @@ length-names_in (i ∷ ids) h =
     let named = identifier_named i parts.0 in
     length-and_name (name_of i.value) named.0 (names_in ids) named.1 ∙ ap suc (length-names_in ids parts.1)
   where
-    faultless : (o : Option ℕ) → and_subproblem o i (subproblems ids) ≡ [] → (o ≡ None) × (subproblems ids ≡ [])
+    faultless : (o : Option Refusal) → and_subproblem o i (subproblems ids) ≡ [] → (o ≡ None) × (subproblems ids ≡ [])
     faultless None e = (refl, e)
     faultless (Some n) e = cc
 

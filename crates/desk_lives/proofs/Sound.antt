@@ -2,6 +2,8 @@
 use Rattle.std.proofs.Common.{◌≡◌, ◌≤◌, ◌*◌, ℕ, List, [], ◌∷◌, length, Option, Some, None, Ok, Err, refl, Bool, true, false, cond, not}
 use Rattle.std.specs.Prelude.{IsTrue, nat_le, ◌==◌, is_some, bytes_eq, option_and_then, Result}
 use Rattle.std.proofs.lemmas.Bool.{and_from}
+use Rattle.desk_model.specs.declared.refusal.Refusal.{Refusal}
+use Rattle.desk_model.specs.declared.refusal.Refusal.TheVariants as refusal
 use Rattle.desk_model.specs.Keys.{IsKeyText}
 use Rattle.desk_model.specs.declared.entry.Entry.{Entry}
 use Rattle.desk_model.specs.declared.entry.Outcome.{Outcome}
@@ -74,11 +76,11 @@ one_sound : {r : List ℕ} {T : Tables} (e : Entry) (what : Shows) → IsLater e
 one_sound e what later formed may = record { records = λ _. record { later = later; formed = formed; allowed = may } }
 
 -- a refusal
-refused_sound : {r : List ℕ} {T : Tables} (n : ℕ) (ss : List Subproblem) → IsSound r T (refused n ss)
+refused_sound : {r : List ℕ} {T : Tables} (n : Refusal) (ss : List Subproblem) → IsSound r T (refused n ss)
 refused_sound n ss = record { records = tt }
 
 -- a test
-check_sound : (r : List ℕ) (T : Tables) (b : Bool) (n : ℕ) (v : Verdict) → (b ≡ true → IsSound r T v) → IsSound r T (check b n v)
+check_sound : (r : List ℕ) (T : Tables) (b : Bool) (n : Refusal) (v : Verdict) → (b ≡ true → IsSound r T v) → IsSound r T (check b n v)
 unfolding check
 check_sound r T true n v h = h refl
 check_sound r T false n v h = refused_sound n []
@@ -90,7 +92,7 @@ choose_sound r T true v w h k = h refl
 choose_sound r T false v w h k = k
 
 -- a value that is there
-given_sound : {X : Type 0} (r : List ℕ) (T : Tables) (o : Option X) (n : ℕ) (f : X → Verdict) →
+given_sound : {X : Type 0} (r : List ℕ) (T : Tables) (o : Option X) (n : Refusal) (f : X → Verdict) →
     ((x : X) → o ≡ Some x → IsSound r T (f x)) →
     IsSound r T (given o n f)
 unfolding given
@@ -98,7 +100,7 @@ given_sound r T None n f h = refused_sound n []
 given_sound r T (Some x) n f h = h x refl
 
 -- no fault
-fault_sound : (r : List ℕ) (T : Tables) (o : Option ℕ) (v : Verdict) → (o ≡ None → IsSound r T v) → IsSound r T (unless_fault o v)
+fault_sound : (r : List ℕ) (T : Tables) (o : Option Refusal) (v : Verdict) → (o ≡ None → IsSound r T v) → IsSound r T (unless_fault o v)
 unfolding unless_fault
 fault_sound r T None v h = h refl
 fault_sound r T (Some n) v h = refused_sound n []
@@ -108,15 +110,15 @@ fault_sound r T (Some n) v h = refused_sound n []
 -- an account of another key is opened
 open_sound : (r : List ℕ) (T : Tables) (key : List ℕ) (p : NewAccount) → IsKeyText key → account_with_key T key ≡ None → IsSound r T (open_account T key p)
 open_sound r T key p formed unknown =
-    check_sound r T (not p.only_existing) 6 _ (λ _. fault_sound r T (contacts_fault p.contacts) _
+    check_sound r T (not p.only_existing) refusal.AccountDoesNotExist _ (λ _. fault_sound r T (contacts_fault p.contacts) _
     (λ pass. one_sound _ _ tt formed (rw (unknown, pass) refl)))
 
 -- newAccount
 new_account_sound : (r : List ℕ) (T : Tables) (key : List ℕ) (o : Option AccountRow) (p : Option NewAccount) → IsKeyText key →
     account_with_key T key ≡ o →
     IsSound r T (new_account_verdict T key o p)
-new_account_sound r T key (Some a) p formed is = check_sound r T _ 7 _ (λ _. given_sound r T p 1 _ (λ _ _. none_sound _))
-new_account_sound r T key None p formed is = given_sound r T p 1 _ (λ x _. open_sound r T key x formed is)
+new_account_sound r T key (Some a) p formed is = check_sound r T _ refusal.Unauthorized _ (λ _. given_sound r T p 1 _ (λ _ _. none_sound _))
+new_account_sound r T key None p formed is = given_sound r T p refusal.Malformed _ (λ x _. open_sound r T key x formed is)
 
 -- a change of an account that is valid
 account_sound : (r : List ℕ) (T : Tables) (n : ℕ) (a : AccountRow) (p : AccountChange) → account_on T n ≡ Some a → is_valid_account a.status ≡ true →
@@ -147,7 +149,7 @@ order_sound r T n a ids [] found valid fits is =
 new_order_sound : (r : List ℕ) (T : Tables) (n : ℕ) (a : AccountRow) (ids : List Identifier) → account_on T n ≡ Some a → is_valid_account a.status ≡ true →
     IsSound r T (new_order_verdict T r n ids)
 new_order_sound r T n a ids found valid =
-    check_sound r T _ 1 _ (λ fits. order_sound r T n a ids (subproblems ids) found valid fits refl)
+    check_sound r T _ refusal.Malformed _ (λ fits. order_sound r T n a ids (subproblems ids) found valid fits refl)
 
 -- a CSR has its length
 csr_length : (o : Option (List ℕ)) (csr : List ℕ) → option_and_then if_fits o ≡ Some csr → has_length 1 8192 csr ≡ true
@@ -161,7 +163,7 @@ csr_length (Some x) csr h = by (has_length 1 8192 x) refl h
 -- an order that is ready is finalized
 finalize_sound : (r : List ℕ) (T : Tables) (n : ℕ) (o : OrderRow) (text : List ℕ) → order_on T n ≡ Some o → IsSound r T (finalize_verdict n o text)
 finalize_sound r T n o text found =
-    check_sound r T (is_ready o.status) 12 _ (λ ready. given_sound r T (csr_in text) 13 _
+    check_sound r T (is_ready o.status) refusal.OrderNotReady _ (λ ready. given_sound r T (csr_in text) refusal.BadCsr _
     (λ csr fits. one_sound _ _ tt tt (rw found (and_from _ _ ready (csr_length (from_base64url text) csr fits)))))
 
 -- ---- authorizations and challenges
@@ -195,9 +197,9 @@ own_found account n (Some y) x h = by (account y == n) h
 target_sound : (r : List ℕ) (T : Tables) (n : ℕ) (a : AccountRow) (p : List ℕ) (t : Target) → account_on T n ≡ Some a → is_valid_account a.status ≡ true →
     IsSound r T (target_verdict T r n p t)
 target_sound r T n a p to.NewAccount found valid = none_sound _
-target_sound r T n a p to.NewOrder found valid = given_sound r T _ 1 _ (λ ids _. new_order_sound r T n a ids found valid)
+target_sound r T n a p to.NewOrder found valid = given_sound r T _ refusal.Malformed _ (λ ids _. new_order_sound r T n a ids found valid)
 target_sound r T n a p (to.Account k) found valid =
-    check_sound r T _ 2 _ (λ _. given_sound r T _ 1 _ (λ x _. account_sound r T n a x found valid))
+    check_sound r T _ refusal.NotFound _ (λ _. given_sound r T _ 1 _ (λ x _. account_sound r T n a x found valid))
 target_sound r T n a p (to.Orders k) found valid = check_sound r T _ 2 _ (λ _. check_sound r T _ 1 _ (λ _. none_sound _))
 target_sound r T n a p (to.Order k) found valid = given_sound r T _ 2 _ (λ o _. check_sound r T _ 1 _ (λ _. none_sound _))
 target_sound r T n a p (to.Finalize k) found valid =
@@ -218,7 +220,7 @@ key_number T key a in_order found =
 -- a request of a key that has an account
 holder_sound : (r : List ℕ) (T : Tables) (key p : List ℕ) (t : Target) → IsOrdered T → IsSound r T (holder_verdict T r p t (account_with_key T key))
 holder_sound r T key p t in_order =
-    given_sound r T _ 6 _ (λ a is. check_sound r T _ 7 _ (λ valid. target_sound r T a.number a p t (key_number T key a in_order is) valid))
+    given_sound r T _ refusal.AccountDoesNotExist _ (λ a is. check_sound r T _ refusal.Unauthorized _ (λ valid. target_sound r T a.number a p t (key_number T key a in_order is) valid))
 
 -- a request of a key
 key_sound : (r : List ℕ) (T : Tables) (key p : List ℕ) (t : Target) → IsOrdered T → IsKeyText key → IsSound r T (key_verdict T r key p t)
@@ -230,7 +232,7 @@ pub signed_sound : (r : List ℕ) (T : Tables) (s : Signed) → IsOrdered T → 
 signed_sound r T s in_order formed = by s.key formed
   where
     by : (k : Result (List ℕ) BadKey) → elim k as (λ _. Type 0) [ Err e ↦ Unit {0} | Ok key ↦ IsKeyText key ] →
-        IsSound r T (elim k [ Err e ↦ refused 5 [] | Ok key ↦ key_verdict T r key s.payload s.target ])
+        IsSound r T (elim k [ Err e ↦ refused refusal.BadPublicKey [] | Ok key ↦ key_verdict T r key s.payload s.target ])
     by (Err e) h = refused_sound 5 []
     by (Ok key) h = key_sound r T key s.payload s.target in_order h
 
@@ -241,43 +243,43 @@ outcome_sound : (r : List ℕ) (T : Tables) (n : ℕ) (a : AuthorizationRow) (c 
     IsSound r T (outcome_verdict n a c outcome)
 outcome_sound r T n a c outcome found =
     choose_sound r T _ _ _ (λ _. none_sound _)
-    (check_sound r T (stands_open (λ c. is_processing_challenge c.status) a n) 14 _ (λ waits. one_sound _ _ tt tt (rw found waits)))
+    (check_sound r T (stands_open (λ c. is_processing_challenge c.status) a n) refusal.Conflict _ (λ waits. one_sound _ _ tt tt (rw found waits)))
 
 -- a report
 report_sound : (r : List ℕ) (T : Tables) (n : ℕ) (finding : Finding) → IsSound r T (report_verdict T n finding)
 report_sound r T n finding =
-    given_sound r T _ 2 _ (λ a is. given_sound r T _ 2 _ (λ c _. given_sound r T _ 1 _ (λ o _. outcome_sound r T n a c o is)))
+    given_sound r T _ refusal.NotFound _ (λ a is. given_sound r T _ refusal.NotFound _ (λ c _. given_sound r T _ 1 _ (λ o _. outcome_sound r T n a c o is)))
 
 -- a certificate
 certify_sound : (r : List ℕ) (T : Tables) (n : ℕ) (bytes : List ℕ) (o : OrderRow) → order_on T n ≡ Some o → IsSound r T (certify_verdict n bytes o)
 certify_sound r T n bytes o found =
-    check_sound r T (nat_le 1 (length bytes)) 1 _ (λ low. check_sound r T (nat_le (length bytes) 65536) 16 _
+    check_sound r T (nat_le 1 (length bytes)) refusal.Malformed _ (λ low. check_sound r T (nat_le (length bytes) 65536) refusal.TooLarge _
     (λ high. choose_sound r T _ _ _ (λ _. none_sound _)
     (check_sound r T (is_processing o.status) 14 _ (λ waits. one_sound _ _ tt tt (rw found (and_from _ _ waits (and_from _ _ low high)))))))
 
 -- a failure
 fail_sound : (r : List ℕ) (T : Tables) (n : ℕ) (problem : OrderProblem) (o : OrderRow) → order_on T n ≡ Some o → IsSound r T (fail_verdict n problem o)
 fail_sound r T n problem o found =
-    check_sound r T (is_problem problem) 1 _ (λ formed. choose_sound r T _ _ _ (λ _. none_sound _)
-    (check_sound r T (is_processing o.status) 14 _ (λ waits. one_sound _ _ tt tt (rw found (and_from _ _ waits formed)))))
+    check_sound r T (is_problem problem) refusal.Malformed _ (λ formed. choose_sound r T _ _ _ (λ _. none_sound _)
+    (check_sound r T (is_processing o.status) refusal.Conflict _ (λ waits. one_sound _ _ tt tt (rw found (and_from _ _ waits formed)))))
 
 -- the operator takes back an authorization
 revoke_authorization_sound : (r : List ℕ) (T : Tables) (n : ℕ) (a : AuthorizationRow) → authorization_on T n ≡ Some a →
     IsSound r T (revoke_authorization n a)
 revoke_authorization_sound r T n a found =
-    choose_sound r T _ _ _ (λ _. none_sound _) (check_sound r T (is_endable a) 14 _ (λ live. one_sound _ _ tt tt (rw found live)))
+    choose_sound r T _ _ _ (λ _. none_sound _) (check_sound r T (is_endable a) refusal.Conflict _ (λ live. one_sound _ _ tt tt (rw found live)))
 
 -- the operator ends an account
 revoke_account_sound : (r : List ℕ) (T : Tables) (n : ℕ) (a : AccountRow) → account_on T n ≡ Some a → IsSound r T (revoke_account n a)
 revoke_account_sound r T n a found =
     choose_sound r T _ _ _ (λ _. none_sound _)
-    (check_sound r T (is_valid_account a.status) 14 _ (λ valid. one_sound _ _ tt tt (rw found valid)))
+    (check_sound r T (is_valid_account a.status) refusal.Conflict _ (λ valid. one_sound _ _ tt tt (rw found valid)))
 
 -- an ask that carries no nonce
 pub office_sound : (r : List ℕ) (T : Tables) (a : Ask) → IsSound r T (office_verdict T a)
 office_sound r T ask.Directory = none_sound _
-office_sound r T (ask.NewNonce head) = refused_sound 2 []
-office_sound r T (ask.Signed s) = refused_sound 2 []
+office_sound r T (ask.NewNonce head) = refused_sound refusal.NotFound []
+office_sound r T (ask.Signed s) = refused_sound refusal.NotFound []
 office_sound r T (ask.Report n finding) = report_sound r T n finding
 office_sound r T (ask.Certify n bytes) = given_sound r T _ 2 _ (λ o is. certify_sound r T n bytes o is)
 office_sound r T (ask.FailOrder n problem) = given_sound r T _ 2 _ (λ o is. fail_sound r T n problem o is)

@@ -10,6 +10,7 @@ use Rattle.desk_model.specs.declared.call.Call.{Call}
 use Rattle.desk_model.specs.declared.call.Ask.{Ask}
 use Rattle.desk_model.specs.declared.call.Ask.TheVariants as ask
 use Rattle.desk_model.specs.declared.call.Signed.{Signed}
+use Rattle.desk_model.specs.declared.refusal.Refusal.TheVariants as refusal
 
 pub record Decision : Type 0 where
   pub reply : Reply
@@ -21,12 +22,12 @@ listed_entry (Some e) = e ∷ []
 
 -- the entries that a verdict records
 abbrev pub entries_of : Verdict → List Entry
-entries_of (refused number subproblems) = []
+entries_of (refused why subproblems) = []
 entries_of (accepted entry what) = listed_entry entry
 
 -- the reply of a verdict, by the tables after its entries
 abbrev pub verdict_reply : (index : Bool) → Tables → Verdict → Reply
-verdict_reply index T (refused number subproblems) = refusal_reply index number subproblems
+verdict_reply index T (refused why subproblems) = refusal_reply index why subproblems
 verdict_reply index T (accepted entry what) = reply_of T what
 
 -- the tables after these entries, recorded at m
@@ -52,7 +53,7 @@ passed_decision F m random serial v =
 -- after its nonce was spent and a fresh one issued (RFC 8555, 6.5)
 abbrev pub signed_decision : History → ℕ → List ℕ → Signed → Option ℕ → Decision
 signed_decision F m random s None =
-    record { reply = with_nonce (fresh_nonce (tables_at F m) random) (refusal_reply true 4 []); entries = issued (take 16 random) ∷ [] }
+    record { reply = with_nonce (fresh_nonce (tables_at F m) random) (refusal_reply true refusal.BadNonce []); entries = issued (take 16 random) ∷ [] }
 signed_decision F m random s (Some serial) =
     passed_decision F m random serial (signed_verdict (tables_after m (nonce_entries serial random) F) (drop 16 random) s)
 

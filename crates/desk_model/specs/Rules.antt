@@ -16,6 +16,8 @@ use Rattle.desk_model.specs.Questions.{nonce_on, account_on, account_with_key, o
 use Rattle.desk_model.specs.Payload.{NewAccount, new_account, AccountChange, account_change, AuthorizationChange, authorization_change, ChallengeChange, challenge_change, Identifier, new_order, finalize}
 use Rattle.desk_model.specs.Payload as payload
 use Rattle.desk_model.specs.Document.{expected}
+use Rattle.desk_model.specs.declared.refusal.Refusal.{Refusal}
+use Rattle.desk_model.specs.declared.refusal.Refusal.TheVariants as refusal
 use Rattle.desk_model.specs.Verdict.{Verdict, refused, answers, records, check, given, unless_fault, choose}
 use Rattle.desk_model.specs.declared.verdict.Shows.TheVariants as show
 use Rattle.desk_model.specs.declared.reply.Subproblem.{Subproblem}
@@ -35,18 +37,18 @@ use Rattle.desk_model.specs.declared.call.FetchError.TheVariants as fetch
 -- an account is opened, or refused: only an existing one was asked for, or a contact is at fault
 abbrev pub open_account : Tables → List ℕ → NewAccount → Verdict
 open_account T key p =
-    check (not p.only_existing) 6
+    check (not p.only_existing) refusal.AccountDoesNotExist
     (unless_fault (contacts_fault p.contacts)
     (records (opened key p.contacts) (show.OpenedAccount (T.meta.accounts + 1))))
 
 -- of the payload of a known key only the form is looked at (7.3.1)
 abbrev pub known_account_verdict : AccountRow → Option NewAccount → Verdict
-known_account_verdict a payload = check (is_valid_account a.status) 7 (given payload 1 (λ p. answers (show.KnownAccount a.number)))
+known_account_verdict a payload = check (is_valid_account a.status) refusal.Unauthorized (given payload refusal.Malformed (λ p. answers (show.KnownAccount a.number)))
 
 -- newAccount (7.3)
 abbrev pub new_account_verdict : Tables → List ℕ → Option AccountRow → Option NewAccount → Verdict
 new_account_verdict T key (Some a) payload = known_account_verdict a payload
-new_account_verdict T key None payload = given payload 1 (open_account T key)
+new_account_verdict T key None payload = given payload refusal.Malformed (open_account T key)
 
 -- POST to an account (7.3.2, 7.3.6)
 abbrev pub account_verdict : ℕ → AccountChange → Verdict
@@ -62,12 +64,12 @@ abbrev pub is_dns : Identifier → Bool
 is_dns i = bytes_eq i.kind (codes "dns")
 
 -- why an identifier is refused, if it is: its type is not dns, or its value is no name
-abbrev pub fault_of : Identifier → Option ℕ
-fault_of i = if is_dns i then (if is_none (name_of i.value) then Some 11 else None) else Some 10
+abbrev pub fault_of : Identifier → Option Refusal
+fault_of i = if is_dns i then (if is_none (name_of i.value) then Some refusal.RejectedIdentifier else None) else Some refusal.UnsupportedIdentifier
 
-abbrev pub and_subproblem : Option ℕ → Identifier → List Subproblem → List Subproblem
+abbrev pub and_subproblem : Option Refusal → Identifier → List Subproblem → List Subproblem
 and_subproblem None i rest = rest
-and_subproblem (Some n) i rest = (record { number = n; kind = i.kind; value = i.value }) ∷ rest
+and_subproblem (Some why) i rest = (record { refusal = why; kind = i.kind; value = i.value }) ∷ rest
 
 -- each faulty identifier, in order
 abbrev pub subproblems : List Identifier → List Subproblem
@@ -99,11 +101,11 @@ wanted (n ∷ ns) random = new n (pieces (length (kinds_of n)) random) ∷ wante
 
 -- refused by the first faulty identifier, with all of them listed; else an authorization is made for each name
 abbrev pub order_of : Tables → List ℕ → ℕ → List Identifier → List Subproblem → Verdict
-order_of T random n ids (s ∷ ss) = refused s.number (s ∷ ss)
+order_of T random n ids (s ∷ ss) = refused s.refusal (s ∷ ss)
 order_of T random n ids [] = records (ordered n (wanted (kept (names_in ids)) random)) (show.MadeOrder (T.meta.orders + 1))
 
 abbrev pub new_order_verdict : Tables → List ℕ → ℕ → List Identifier → Verdict
-new_order_verdict T random n ids = check (has_length 1 50 ids) 1 (order_of T random n ids (subproblems ids))
+new_order_verdict T random n ids = check (has_length 1 50 ids) refusal.Malformed (order_of T random n ids (subproblems ids))
 
 abbrev pub if_fits : List ℕ → Option (List ℕ)
 if_fits csr = if has_length 1 8192 csr then Some csr else None
@@ -114,11 +116,11 @@ csr_in text = option_and_then if_fits (from_base64url text)
 
 abbrev pub finalize_verdict : ℕ → OrderRow → List ℕ → Verdict
 finalize_verdict n o text =
-    check (is_ready o.status) 12 (given (csr_in text) 13 (λ csr. records (finalized n csr) (show.FinalizedOrder n)))
+    check (is_ready o.status) refusal.OrderNotReady (given (csr_in text) refusal.BadCsr (λ csr. records (finalized n csr) (show.FinalizedOrder n)))
 
 -- the bytes of a valid order (7.4.2)
 abbrev pub certificate_verdict : ℕ → OrderRow → Verdict
-certificate_verdict n o = given o.certified 2 (λ k. answers (show.Certificate n))
+certificate_verdict n o = given o.certified refusal.NotFound (λ k. answers (show.Certificate n))
 
 -- ---- authorizations and challenges (RFC 8555, 7.5)
 
@@ -156,21 +158,21 @@ own account n (Some x) = if account x == n then Some x else None
 -- the object is there and the account's own, the payload has its form, and the rules of the target, for account n
 abbrev pub target_verdict : Tables → List ℕ → ℕ → List ℕ → Target → Verdict
 target_verdict T random n p to.NewAccount = answers (show.KnownAccount n)
-target_verdict T random n p to.NewOrder = given (new_order p) 1 (new_order_verdict T random n)
-target_verdict T random n p (to.Account k) = check (k == n) 2 (given (account_change p) 1 (account_verdict n))
-target_verdict T random n p (to.Orders k) = check (k == n) 2 (check (nothing p) 1 (answers (show.Orders n)))
-target_verdict T random n p (to.Order k) = given (own (λ o. o.account) n (order_on T k)) 2 (λ o. check (nothing p) 1 (answers (show.Order k)))
-target_verdict T random n p (to.Finalize k) = given (own (λ o. o.account) n (order_on T k)) 2 (λ o. given (finalize p) 1 (finalize_verdict k o))
-target_verdict T random n p (to.Cert k) = given (own (λ o. o.account) n (order_on T k)) 2 (λ o. check (nothing p) 1 (certificate_verdict k o))
+target_verdict T random n p to.NewOrder = given (new_order p) refusal.Malformed (new_order_verdict T random n)
+target_verdict T random n p (to.Account k) = check (k == n) refusal.NotFound (given (account_change p) refusal.Malformed (account_verdict n))
+target_verdict T random n p (to.Orders k) = check (k == n) refusal.NotFound (check (nothing p) refusal.Malformed (answers (show.Orders n)))
+target_verdict T random n p (to.Order k) = given (own (λ o. o.account) n (order_on T k)) refusal.NotFound (λ o. check (nothing p) refusal.Malformed (answers (show.Order k)))
+target_verdict T random n p (to.Finalize k) = given (own (λ o. o.account) n (order_on T k)) refusal.NotFound (λ o. given (finalize p) refusal.Malformed (finalize_verdict k o))
+target_verdict T random n p (to.Cert k) = given (own (λ o. o.account) n (order_on T k)) refusal.NotFound (λ o. check (nothing p) refusal.Malformed (certificate_verdict k o))
 target_verdict T random n p (to.Authz k) =
-    given (own (λ a. a.account) n (authorization_on T k)) 2 (λ a. given (authorization_change p) 1 (authorization_verdict k a))
+    given (own (λ a. a.account) n (authorization_on T k)) refusal.NotFound (λ a. given (authorization_change p) refusal.Malformed (authorization_verdict k a))
 target_verdict T random n p (to.Chall k) =
-    given (own (λ a. a.account) n (owner_on T k)) 2 (λ a. given (challenge_change p) 1 (challenge_verdict k a))
+    given (own (λ a. a.account) n (owner_on T k)) refusal.NotFound (λ a. given (challenge_change p) refusal.Malformed (challenge_verdict k a))
 
 -- the key has an account, and it is valid (6.2)
 abbrev pub holder_verdict : Tables → List ℕ → List ℕ → Target → Option AccountRow → Verdict
 holder_verdict T random p target account =
-    given account 6 (λ a. check (is_valid_account a.status) 7 (target_verdict T random a.number p target))
+    given account refusal.AccountDoesNotExist (λ a. check (is_valid_account a.status) refusal.Unauthorized (target_verdict T random a.number p target))
 
 abbrev pub key_verdict : Tables → List ℕ → List ℕ → List ℕ → Target → Verdict
 key_verdict T random key p to.NewAccount = new_account_verdict T key (account_with_key T key) (new_account p)
@@ -179,7 +181,7 @@ key_verdict T random key p target = holder_verdict T random p target (account_wi
 -- a request that has passed the test of its nonce, by the tables after its nonce was spent and a fresh one issued;
 -- the random bytes are those behind the fresh nonce's
 abbrev pub signed_verdict : Tables → List ℕ → Signed → Verdict
-signed_verdict T random s = elim s.key [ Err e ↦ refused 5 [] | Ok key ↦ key_verdict T random key s.payload s.target ]
+signed_verdict T random s = elim s.key [ Err e ↦ refused refusal.BadPublicKey [] | Ok key ↦ key_verdict T random key s.payload s.target ]
 
 -- the row is that of the nonce which the text spells
 abbrev pub if_spelled : NonceText → Option Nonce → Option ℕ
@@ -220,31 +222,31 @@ abbrev pub outcome_verdict : ℕ → AuthorizationRow → ChallengeRow → Outco
 outcome_verdict n a c outcome =
     choose (holds (λ r. same_outcome r.outcome outcome) c.reported)
     (answers (show.Challenge n))
-    (check (stands_open (λ c. is_processing_challenge c.status) a n) 14 (records (reported n outcome) (show.Challenge n)))
+    (check (stands_open (λ c. is_processing_challenge c.status) a n) refusal.Conflict (records (reported n outcome) (show.Challenge n)))
 
 abbrev pub finding_verdict : Tables → ℕ → Finding → AuthorizationRow → ChallengeRow → Verdict
-finding_verdict T n finding a c = given (outcome_of c.kind (expected T a c) finding) 1 (outcome_verdict n a c)
+finding_verdict T n finding a c = given (outcome_of c.kind (expected T a c) finding) refusal.Malformed (outcome_verdict n a c)
 
 abbrev pub report_verdict : Tables → ℕ → Finding → Verdict
-report_verdict T n finding = given (owner_on T n) 2 (λ a. given (challenge_of n a) 2 (finding_verdict T n finding a))
+report_verdict T n finding = given (owner_on T n) refusal.NotFound (λ a. given (challenge_of n a) refusal.NotFound (finding_verdict T n finding a))
 
 abbrev pub certify_verdict : ℕ → List ℕ → OrderRow → Verdict
 certify_verdict n bytes o =
-    check (nat_le 1 (length bytes)) 1
-    (check (nat_le (length bytes) 65536) 16
+    check (nat_le 1 (length bytes)) refusal.Malformed
+    (check (nat_le (length bytes) 65536) refusal.TooLarge
     (choose (holds (λ k. bytes_eq k.bytes bytes) o.certified)
     (answers (show.Order n))
-    (check (is_processing o.status) 14 (records (certified n bytes) (show.Order n)))))
+    (check (is_processing o.status) refusal.Conflict (records (certified n bytes) (show.Order n)))))
 
 abbrev pub same_problem : OrderProblem → OrderProblem → Bool
 same_problem a b = bytes_eq a.kind b.kind && bytes_eq a.detail b.detail
 
 abbrev pub fail_verdict : ℕ → OrderProblem → OrderRow → Verdict
 fail_verdict n problem o =
-    check (is_problem problem) 1
+    check (is_problem problem) refusal.Malformed
     (choose (holds (λ f. same_problem f.problem problem) o.failed)
     (answers (show.Order n))
-    (check (is_processing o.status) 14 (records (failed n problem) (show.Order n))))
+    (check (is_processing o.status) refusal.Conflict (records (failed n problem) (show.Order n))))
 
 abbrev pub is_revoked_status : AuthzStatus → Bool
 is_revoked_status authz.Revoked = true
@@ -253,7 +255,7 @@ is_revoked_status _ = false
 abbrev pub revoke_authorization : ℕ → AuthorizationRow → Verdict
 revoke_authorization n a =
     choose (is_revoked_status a.status) (answers (show.Authorization n))
-    (check (is_endable a) 14 (records (authorization_ended n revoked) (show.Authorization n)))
+    (check (is_endable a) refusal.Conflict (records (authorization_ended n revoked) (show.Authorization n)))
 
 abbrev pub is_revoked : Ending → Bool
 is_revoked deactivated = false
@@ -262,18 +264,18 @@ is_revoked revoked = true
 abbrev pub revoke_account : ℕ → AccountRow → Verdict
 revoke_account n a =
     choose (holds (λ e. is_revoked e.ending) a.ended) (answers (show.Account n))
-    (check (is_valid_account a.status) 14 (records (account_ended n revoked) (show.Account n)))
+    (check (is_valid_account a.status) refusal.Conflict (records (account_ended n revoked) (show.Account n)))
 
 -- the asks that carry no nonce; newNonce and signed requests are not among them
 abbrev pub office_verdict : Tables → Ask → Verdict
 office_verdict T ask.Directory = answers show.Directory
-office_verdict T (ask.NewNonce head) = refused 2 []
-office_verdict T (ask.Signed s) = refused 2 []
+office_verdict T (ask.NewNonce head) = refused refusal.NotFound []
+office_verdict T (ask.Signed s) = refused refusal.NotFound []
 office_verdict T (ask.Report n finding) = report_verdict T n finding
-office_verdict T (ask.Certify n bytes) = given (order_on T n) 2 (certify_verdict n bytes)
-office_verdict T (ask.FailOrder n problem) = given (order_on T n) 2 (fail_verdict n problem)
-office_verdict T (ask.RevokeAuthz n) = given (authorization_on T n) 2 (revoke_authorization n)
-office_verdict T (ask.RevokeAccount n) = given (account_on T n) 2 (revoke_account n)
+office_verdict T (ask.Certify n bytes) = given (order_on T n) refusal.NotFound (certify_verdict n bytes)
+office_verdict T (ask.FailOrder n problem) = given (order_on T n) refusal.NotFound (fail_verdict n problem)
+office_verdict T (ask.RevokeAuthz n) = given (authorization_on T n) refusal.NotFound (revoke_authorization n)
+office_verdict T (ask.RevokeAccount n) = given (account_on T n) refusal.NotFound (revoke_account n)
 office_verdict T ask.ChallengeWork = answers show.ChallengeWork
 office_verdict T ask.OrderWork = answers show.OrderWork
-office_verdict T (ask.KeyOf n) = given (account_on T n) 2 (λ a. answers (show.Key n))
+office_verdict T (ask.KeyOf n) = given (account_on T n) refusal.NotFound (λ a. answers (show.Key n))

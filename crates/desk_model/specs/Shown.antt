@@ -1,6 +1,7 @@
 -- Replies: what each shows, by the tables after its entries.
 use Rattle.std.specs.Prelude.{ℕ, ◌+◌, List, take, Bool, Option, Some, None, if◌then◌else◌}
 use Rattle.serde_json.specs.Data.{Data}
+use Rattle.desk_model.specs.declared.refusal.Refusal.{Refusal}
 use Rattle.desk_model.specs.Tokens.{nonce_text}
 use Rattle.desk_model.specs.Order.{DatedBytes}
 use Rattle.desk_model.specs.Tables.{Tables, AccountRow, ChallengeRow, AuthorizationRow, OrderRow}
@@ -30,10 +31,10 @@ below up r = record r { up = Some up }
 abbrev pub with_nonce : List ℕ → Reply → Reply
 with_nonce text r = record r { nonce = Some text }
 
--- the refusal of a number; index: whether the reply has the link to the directory
-abbrev pub refusal_reply : Bool → ℕ → List Subproblem → Reply
-refusal_reply index n subproblems =
-    plain (refusal_of n).status (body.Problem (record { number = n; subproblems = subproblems; allow = allow.No; index = index }))
+-- a refusal; index: whether the reply has the link to the directory
+abbrev pub refusal_reply : Bool → Refusal → List Subproblem → Reply
+refusal_reply index why subproblems =
+    plain (refusal_of why).status (body.Problem (record { refusal = why; subproblems = subproblems; allow = allow.No; index = index }))
 
 -- the reply to newNonce (RFC 8555, 7.2)
 abbrev pub nonce_reply : Bool → Reply

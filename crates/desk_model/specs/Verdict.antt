@@ -1,6 +1,7 @@
 -- What becomes of a request: the first test that fails refuses it, else something is recorded and shown.
-use Rattle.std.specs.Prelude.{ℕ, [], Bool, false, true, Option, Some, None}
+use Rattle.std.specs.Prelude.{[], Bool, false, true, Option, Some, None}
 use Rattle.desk_model.specs.Entry.{Entry}
+use Rattle.desk_model.specs.declared.refusal.Refusal.{Refusal}
 pub use Rattle.desk_model.specs.declared.verdict.Verdict.{Verdict}
 pub use Rattle.desk_model.specs.declared.verdict.Verdict.TheVariants.{Refused as refused, Accepted as accepted}
 pub use Rattle.desk_model.specs.declared.verdict.Shows.{Shows}
@@ -12,20 +13,20 @@ answers what = accepted None what
 abbrev pub records : Entry → Shows → Verdict
 records entry what = accepted (Some entry) what
 
--- the test, or the refusal of this number
-unfoldable pub check : Bool → ℕ → Verdict → Verdict
-check true number v = v
-check false number v = refused number []
+-- the test, or this refusal
+unfoldable pub check : Bool → Refusal → Verdict → Verdict
+check true why v = v
+check false why v = refused why []
 
--- the value that is there, or the refusal of this number
-unfoldable pub given : {X : Type 0} → Option X → ℕ → (X → Verdict) → Verdict
-given None number v = refused number []
-given (Some x) number v = v x
+-- the value that is there, or this refusal
+unfoldable pub given : {X : Type 0} → Option X → Refusal → (X → Verdict) → Verdict
+given None why v = refused why []
+given (Some x) why v = v x
 
--- no fault, or the refusal of its number
-unfoldable pub unless_fault : Option ℕ → Verdict → Verdict
+-- no fault, or the refusal that it is
+unfoldable pub unless_fault : Option Refusal → Verdict → Verdict
 unless_fault None v = v
-unless_fault (Some number) v = refused number []
+unless_fault (Some why) v = refused why []
 
 -- one of two
 unfoldable pub choose : Bool → Verdict → Verdict → Verdict

@@ -10,6 +10,7 @@ mod jwk;
 mod objects;
 mod payload;
 mod policy;
+mod refusal;
 mod reply;
 mod rows;
 mod sequence;
@@ -29,6 +30,7 @@ pub use objects::{
 };
 pub use payload::{AccountChange, AuthorizationChange, ChallengeChange, Identifier, NewAccount};
 pub use policy::Policy;
+pub use refusal::Refusal;
 pub use reply::{Allow, Body, Problem, Reply, Subproblem};
 pub use rows::{
     AccountRow, AuthorizationRow, ChallengeRow, Change, DatedBytes, DatedProblem, Listed, Meta,

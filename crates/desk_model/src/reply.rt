@@ -1,5 +1,6 @@
 //! What the desk answers.
 use crate::document::Document;
+use crate::refusal::Refusal;
 use crate::sequence::Sequence;
 use crate::text::Text;
 
@@ -24,10 +25,10 @@ pub enum Body {
     Certificate(Sequence<u8>),
 }
 
-/// A refusal by its number (RFC 8555, 6.7), with what its text needs of the request.
+/// A refusal (RFC 8555, 6.7), with what its text needs of the request.
 #[derive(Drop, Debug)]
 pub struct Problem {
-    pub number: u8,
+    pub refusal: Refusal,
     pub subproblems: Sequence<Subproblem>,
     /// The methods that the path serves, where the refusal is of the method.
     pub allow: Allow,
@@ -38,7 +39,7 @@ pub struct Problem {
 /// The refusal of one identifier, with its type and value as received (RFC 8555, 6.7.1).
 #[derive(Drop, Debug)]
 pub struct Subproblem {
-    pub number: u8,
+    pub refusal: Refusal,
     pub kind: Text,
     pub value: Text,
 }

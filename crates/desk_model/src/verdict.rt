@@ -1,5 +1,6 @@
 //! What becomes of a request.
 use crate::entry::Entry;
+use crate::refusal::Refusal;
 use crate::reply::Subproblem;
 use crate::sequence::Sequence;
 
@@ -7,7 +8,7 @@ use crate::sequence::Sequence;
 #[derive(Drop, Debug)]
 pub enum Verdict {
     Refused {
-        number: u8,
+        refusal: Refusal,
         subproblems: Sequence<Subproblem>,
     },
     Accepted {

@@ -1,6 +1,7 @@
 -- A part that keeps what a request names gives the same verdict.
 use Rattle.std.proofs.Common.{◌≡◌, ℕ, List, [], Option, Some, None, refl, ap, ◌∙◌, true, false, Bool, Result, Ok, Err}
 use Rattle.std.specs.Prelude.{◌==◌, bytes_eq, option_and_then}
+use Rattle.desk_model.specs.declared.refusal.Refusal.TheVariants as refusal
 use Rattle.desk_model.specs.Account.{is_valid as is_valid_account}
 use Rattle.desk_model.specs.Document.{expected, expected_by}
 use Rattle.desk_model.specs.Effect.{has_row}
@@ -74,22 +75,22 @@ target_same k S r n p to.NewOrder o a c = refl
 target_same k S r n p (to.Account j) o a c = refl
 target_same k S r n p (to.Orders j) o a c = refl
 target_same k S r n p (to.Order j) o a c =
-    ap (λ x. given (own (λ (y : OrderRow). y.account) n x) 2 (λ y. check (nothing p) 1 (answers (show.Order j)))) (order_same k S j (o j (same_number j)))
+    ap (λ x. given (own (λ (y : OrderRow). y.account) n x) refusal.NotFound (λ y. check (nothing p) refusal.Malformed (answers (show.Order j)))) (order_same k S j (o j (same_number j)))
 target_same k S r n p (to.Finalize j) o a c =
-    ap (λ x. given (own (λ (y : OrderRow). y.account) n x) 2 (λ y. given (finalize p) 1 (finalize_verdict j y))) (order_same k S j (o j (same_number j)))
+    ap (λ x. given (own (λ (y : OrderRow). y.account) n x) refusal.NotFound (λ y. given (finalize p) refusal.Malformed (finalize_verdict j y))) (order_same k S j (o j (same_number j)))
 target_same k S r n p (to.Cert j) o a c =
-    ap (λ x. given (own (λ (y : OrderRow). y.account) n x) 2 (λ y. check (nothing p) 1 (certificate_verdict j y))) (order_same k S j (o j (same_number j)))
+    ap (λ x. given (own (λ (y : OrderRow). y.account) n x) refusal.NotFound (λ y. check (nothing p) refusal.Malformed (certificate_verdict j y))) (order_same k S j (o j (same_number j)))
 target_same k S r n p (to.Authz j) o a c =
-    ap (λ x. given (own (λ (y : AuthorizationRow). y.account) n x) 2 (λ y. given (authorization_change p) 1 (authorization_verdict j y))) (authorization_same k S j (a j (same_number j)))
+    ap (λ x. given (own (λ (y : AuthorizationRow). y.account) n x) refusal.NotFound (λ y. given (authorization_change p) refusal.Malformed (authorization_verdict j y))) (authorization_same k S j (a j (same_number j)))
 target_same k S r n p (to.Chall j) o a c =
-    ap (λ x. given (own (λ (y : AuthorizationRow). y.account) n x) 2 (λ y. given (challenge_change p) 1 (challenge_verdict j y))) (owner_same k S j c)
+    ap (λ x. given (own (λ (y : AuthorizationRow). y.account) n x) refusal.NotFound (λ y. given (challenge_change p) refusal.Malformed (challenge_verdict j y))) (owner_same k S j c)
 
 holder_same : (k : Kept) (S : Tables) (r p : List ℕ) (t : Target) (x : Option AccountRow) →
     ((n : ℕ) → target_verdict (restricted k S) r n p t ≡ target_verdict S r n p t) →
     holder_verdict (restricted k S) r p t x ≡ holder_verdict S r p t x
 unfolding given
 holder_same k S r p t None h = refl
-holder_same k S r p t (Some a) h = ap (check (is_valid_account a.status) 7) (h a.number)
+holder_same k S r p t (Some a) h = ap (check (is_valid_account a.status) refusal.Unauthorized) (h a.number)
 
 new_account_same : (k : Kept) (S : Tables) (key p : List ℕ) (x : Option AccountRow) →
     new_account_verdict (restricted k S) key x (new_account p) ≡ new_account_verdict S key x (new_account p)
@@ -112,7 +113,7 @@ keyed_same k S r key p t h o a c = rest t (λ n. target_same k S r n p t o a c)
 
 -- the verdict by the request's key
 abbrev pub verdict_by : Tables → List ℕ → Signed → Result (List ℕ) BadKey → Verdict
-verdict_by T r s key = elim key [ Err e ↦ refused 5 [] | Ok mine ↦ key_verdict T r mine s.payload s.target ]
+verdict_by T r s key = elim key [ Err e ↦ refused refusal.BadPublicKey [] | Ok mine ↦ key_verdict T r mine s.payload s.target ]
 
 abbrev pub is_key : Result (List ℕ) BadKey → List ℕ → Bool
 is_key key text = elim key [ Err e ↦ false | Ok mine ↦ bytes_eq text mine ]
@@ -136,17 +137,17 @@ pub report_same : (k : Kept) (S : Tables) (n : ℕ) (finding : Finding) → Keep
     report_verdict (restricted k S) n finding ≡ report_verdict S n finding
 unfolding given
 report_same k S n finding h =
-    ap (λ x. given x 2 (λ a. given (challenge_of n a) 2 (finding_verdict (restricted k S) n finding a))) (owner_same k S n h.owner)
+    ap (λ x. given x refusal.NotFound (λ a. given (challenge_of n a) refusal.NotFound (finding_verdict (restricted k S) n finding a))) (owner_same k S n h.owner)
     ∙ by (owner_on S n) refl
   where
     in_row : (a : AuthorizationRow) → k.accounts a.account ≡ true → (c : Option ChallengeRow) →
-        given c 2 (finding_verdict (restricted k S) n finding a) ≡ given c 2 (finding_verdict S n finding a)
+        given c refusal.NotFound (finding_verdict (restricted k S) n finding a) ≡ given c refusal.NotFound (finding_verdict S n finding a)
     in_row a own None = refl
-    in_row a own (Some c) = ap (λ x. given (outcome_of c.kind x finding) 1 (outcome_verdict n a c)) (expected_same k S a c own)
+    in_row a own (Some c) = ap (λ x. given (outcome_of c.kind x finding) refusal.Malformed (outcome_verdict n a c)) (expected_same k S a c own)
 
     by : (x : Option AuthorizationRow) → owner_on S n ≡ x →
-        given x 2 (λ a. given (challenge_of n a) 2 (finding_verdict (restricted k S) n finding a))
-        ≡ given x 2 (λ a. given (challenge_of n a) 2 (finding_verdict S n finding a))
+        given x refusal.NotFound (λ a. given (challenge_of n a) refusal.NotFound (finding_verdict (restricted k S) n finding a))
+        ≡ given x refusal.NotFound (λ a. given (challenge_of n a) refusal.NotFound (finding_verdict S n finding a))
     by None e = refl
     by (Some a) e = in_row a (found_each _ (has_row n) S.authorizations a h.holder e (found_passes (has_row n) S.authorizations a e)) (challenge_of n a)
 
@@ -155,10 +156,10 @@ office_same k S ask.Directory h = refl
 office_same k S (ask.NewNonce head) h = refl
 office_same k S (ask.Signed s) h = refl
 office_same k S (ask.Report n finding) h = report_same k S n finding h
-office_same k S (ask.Certify n bytes) h = ap (λ x. given x 2 (certify_verdict n bytes)) (order_same k S n (h.order n (same_number n)))
-office_same k S (ask.FailOrder n problem) h = ap (λ x. given x 2 (fail_verdict n problem)) (order_same k S n (h.order n (same_number n)))
-office_same k S (ask.RevokeAuthz n) h = ap (λ x. given x 2 (revoke_authorization n)) (authorization_same k S n (h.authorization n (same_number n)))
-office_same k S (ask.RevokeAccount n) h = ap (λ x. given x 2 (revoke_account n)) (account_same k S n (h.account n (same_number n)))
+office_same k S (ask.Certify n bytes) h = ap (λ x. given x refusal.NotFound (certify_verdict n bytes)) (order_same k S n (h.order n (same_number n)))
+office_same k S (ask.FailOrder n problem) h = ap (λ x. given x refusal.NotFound (fail_verdict n problem)) (order_same k S n (h.order n (same_number n)))
+office_same k S (ask.RevokeAuthz n) h = ap (λ x. given x refusal.NotFound (revoke_authorization n)) (authorization_same k S n (h.authorization n (same_number n)))
+office_same k S (ask.RevokeAccount n) h = ap (λ x. given x refusal.NotFound (revoke_account n)) (account_same k S n (h.account n (same_number n)))
 office_same k S ask.ChallengeWork h = refl
 office_same k S ask.OrderWork h = refl
-office_same k S (ask.KeyOf n) h = ap (λ x. given x 2 (λ (y : AccountRow). answers (show.Key n))) (account_same k S n (h.account n (same_number n)))
+office_same k S (ask.KeyOf n) h = ap (λ x. given x refusal.NotFound (λ (y : AccountRow). answers (show.Key n))) (account_same k S n (h.account n (same_number n)))

@@ -3,6 +3,8 @@ use Rattle.std.proofs.Common.{◌≡◌, ℕ, ◌+◌, List, [], ◌∷◌, leng
 use Rattle.std.specs.Prelude.{◌==◌, ◌&&◌, nat_le, bytes_eq}
 use Rattle.std.specs.List.{list_any}
 use Rattle.std.proofs.lemmas.Bool.{and_from, eqb-true}
+use Rattle.desk_model.specs.declared.refusal.Refusal.TheVariants as refusal
+use Rattle.desk_model.specs.declared.refusal.Refusal.{Refusal}
 use Rattle.desk_model.specs.Account.{is_valid as is_valid_account}
 use Rattle.desk_model.specs.Contact.{contacts_fault}
 use Rattle.desk_model.specs.Document.{expected}
@@ -58,17 +60,17 @@ use Rattle.desk_parts.proofs.Replies.{account_shown, authorization_shown, certif
 -- ---- steps of verdicts
 
 -- what holds of a refusal and of what comes after a test that passed
-check_keeps : (P : Verdict → Type 0) (b : Bool) (n : ℕ) (v : Verdict) → P (refused n []) → (b ≡ true → P v) → P (check b n v)
+check_keeps : (P : Verdict → Type 0) (b : Bool) (n : Refusal) (v : Verdict) → P (refused n []) → (b ≡ true → P v) → P (check b n v)
 unfolding check
 check_keeps P true n v r h = h refl
 check_keeps P false n v r h = r
 
-given_keeps : {X : Type 0} (P : Verdict → Type 0) (o : Option X) (n : ℕ) (f : X → Verdict) → P (refused n []) → ((x : X) → o ≡ Some x → P (f x)) → P (given o n f)
+given_keeps : {X : Type 0} (P : Verdict → Type 0) (o : Option X) (n : Refusal) (f : X → Verdict) → P (refused n []) → ((x : X) → o ≡ Some x → P (f x)) → P (given o n f)
 unfolding given
 given_keeps P None n f r h = r
 given_keeps P (Some x) n f r h = h x refl
 
-fault_keeps : (P : Verdict → Type 0) (o : Option ℕ) (v : Verdict) → ((n : ℕ) → P (refused n [])) → P v → P (unless_fault o v)
+fault_keeps : (P : Verdict → Type 0) (o : Option Refusal) (v : Verdict) → ((n : Refusal) → P (refused n [])) → P v → P (unless_fault o v)
 unfolding unless_fault
 fault_keeps P None v r h = h
 fault_keeps P (Some n) v r h = r n
@@ -156,8 +158,8 @@ report_answered : (k : Kept) (T : Tables) (m : ℕ) (n : ℕ) (finding : Finding
 report_answered k T m n finding ready =
     let S : Tables = swept m T in
     let owner = (swept_names k T m (ask.Report n finding) ready.named).owner in
-    given_keeps (IsAnswered k m S) (owner_on S n) 2 _ tt (λ a found.
-    given_keeps (IsAnswered k m S) (challenge_of n a) 2 _ tt (λ c there.
+    given_keeps (IsAnswered k m S) (owner_on S n) refusal.NotFound _ tt (λ a found.
+    given_keeps (IsAnswered k m S) (challenge_of n a) refusal.NotFound _ tt (λ c there.
     given_keeps (IsAnswered k m S) (outcome_of c.kind (expected S a c) finding) 1 _ tt (λ o is.
     choose_keeps (IsAnswered k m S) (holds (λ r. same_outcome r.outcome o) c.reported) _ _ (challenge_shown k S n owner)
     (check_keeps (IsAnswered k m S) (stands_open (λ c. is_processing_challenge c.status) a n) 14 _ tt (λ stands. (
@@ -170,8 +172,8 @@ certify_answered : (k : Kept) (T : Tables) (m : ℕ) (n : ℕ) (bytes : List ℕ
 certify_answered k T m n bytes ready o =
     let S : Tables = swept m T in
     let kept : k.orders n ≡ true = ready.named.order n (same_number n) in
-    check_keeps (IsAnswered k m S) (nat_le 1 (length bytes)) 1 _ tt (λ some.
-    check_keeps (IsAnswered k m S) (nat_le (length bytes) 65536) 16 _ tt (λ few.
+    check_keeps (IsAnswered k m S) (nat_le 1 (length bytes)) refusal.Malformed _ tt (λ some.
+    check_keeps (IsAnswered k m S) (nat_le (length bytes) 65536) refusal.TooLarge _ tt (λ few.
     choose_keeps (IsAnswered k m S) (holds (λ x. bytes_eq x.bytes bytes) o.certified) _ _ (order_shown k S n kept (swept_closed k T m ready.closed).listed)
     (check_keeps (IsAnswered k m S) (is_processing o.status) 14 _ tt (λ ready_for. (
       covered k T m (ask.Certify n bytes) (certified n bytes) ready (certified_named T m (ask.Certify n bytes) n bytes (same_number n)),
@@ -183,9 +185,9 @@ fail_answered : (k : Kept) (T : Tables) (m : ℕ) (n : ℕ) (problem : OrderProb
 fail_answered k T m n problem ready o =
     let S : Tables = swept m T in
     let kept : k.orders n ≡ true = ready.named.order n (same_number n) in
-    check_keeps (IsAnswered k m S) (is_problem problem) 1 _ tt (λ formed.
+    check_keeps (IsAnswered k m S) (is_problem problem) refusal.Malformed _ tt (λ formed.
     choose_keeps (IsAnswered k m S) (holds (λ f. same_problem f.problem problem) o.failed) _ _ (order_shown k S n kept (swept_closed k T m ready.closed).listed)
-    (check_keeps (IsAnswered k m S) (is_processing o.status) 14 _ tt (λ ready_for. (
+    (check_keeps (IsAnswered k m S) (is_processing o.status) refusal.Conflict _ tt (λ ready_for. (
       covered k T m (ask.FailOrder n problem) (failed n problem) ready (failed_named T m (ask.FailOrder n problem) n problem (same_number n)),
       order_shown k (effect m S (failed n problem)) n kept (listed_then k T m (ask.FailOrder n problem) (failed n problem) ready),
     ))))
@@ -196,7 +198,7 @@ revoke_authorization_answered k T m n ready r =
     let S : Tables = swept m T in
     let kept : k.authorizations n ≡ true = ready.named.authorization n (same_number n) in
     choose_keeps (IsAnswered k m S) (is_revoked_status r.status) _ _ (authorization_shown k S n kept)
-    (check_keeps (IsAnswered k m S) (is_endable r) 14 _ tt (λ stands. (
+    (check_keeps (IsAnswered k m S) (is_endable r) refusal.Conflict _ tt (λ stands. (
       covered k T m (ask.RevokeAuthz n) (authorization_ended n revoked) ready (authorization_named T m (ask.RevokeAuthz n) n revoked (same_number n)),
       authorization_shown k (effect m S (authorization_ended n revoked)) n kept,
     )))
@@ -210,7 +212,7 @@ revoke_account_answered k T m n ready x found =
     let here : (x.number == n) ≡ true = found_passes (λ y. y.number == n) T.accounts x found in
     let number : x.number ≡ n = eqb-true x.number n here in
     choose_keeps (IsAnswered k m S) (holds (λ e. is_revoked e.ending) x.ended) _ _ (account_shown k S n kept)
-    (check_keeps (IsAnswered k m S) (is_valid_account x.status) 14 _ tt (λ stands. (
+    (check_keeps (IsAnswered k m S) (is_valid_account x.status) refusal.Conflict _ tt (λ stands. (
       covered k T m (ask.RevokeAccount n) (account_ended n revoked) ready (ended_named T m (ask.RevokeAccount n) n revoked (same_number n)
           (λ r h. owned_by T (ask.RevokeAccount n) x refl here
           (found_each (λ y. (p : AccountRow → Bool) → p y ≡ true → list_any p T.accounts ≡ true) (λ y. y.number == n) T.accounts x (each_member T.accounts) found)
@@ -247,7 +249,7 @@ sent s t = ask.Signed (record s { target = t })
 open_answered : (k : Kept) (T : Tables) (m : ℕ) (a : Ask) (key : List ℕ) (p : NewAccount) → IsReady k T m a → IsAnswered k m (swept m T) (open_account (swept m T) key p)
 open_answered k T m a key p ready =
     let S : Tables = swept m T in
-    check_keeps (IsAnswered k m S) (not p.only_existing) 6 _ tt (λ new_too.
+    check_keeps (IsAnswered k m S) (not p.only_existing) refusal.AccountDoesNotExist _ tt (λ new_too.
     fault_keeps (IsAnswered k m S) (contacts_fault p.contacts) _ (λ n. tt) (
       covered k T m a (opened key p.contacts) ready (opened_named T m a key p.contacts),
       opened_shown k (effect m S (opened key p.contacts)) (T.meta.accounts + 1) (ready.closed.new_accounts (T.meta.accounts + 1) (omega arith)),
@@ -257,10 +259,10 @@ new_account_answered : (k : Kept) (T : Tables) (m : ℕ) (a : Ask) (key : List �
     (x : Option AccountRow) → ((y : AccountRow) → x ≡ Some y → k.accounts y.number ≡ true) →
     IsAnswered k m (swept m T) (new_account_verdict (swept m T) key x p)
 new_account_answered k T m a key p ready (Some y) h =
-    check_keeps (IsAnswered k m (swept m T)) (is_valid_account y.status) 7 _ tt (λ valid.
+    check_keeps (IsAnswered k m (swept m T)) (is_valid_account y.status) refusal.Unauthorized _ tt (λ valid.
     given_keeps (IsAnswered k m (swept m T)) p 1 _ tt (λ q is. known_shown k (swept m T) y.number (h y refl)))
 new_account_answered k T m a key p ready None h =
-    given_keeps (IsAnswered k m (swept m T)) p 1 _ tt (λ q is. open_answered k T m a key q ready)
+    given_keeps (IsAnswered k m (swept m T)) p refusal.Malformed _ tt (λ q is. open_answered k T m a key q ready)
 
 account_answered : (k : Kept) (T : Tables) (m : ℕ) (s : Signed) (j : ℕ) (x : AccountRow) (p : AccountChange) → IsReady k T m (sent s (to.Account j)) →
     k.accounts x.number ≡ true → is_named_account (sent s (to.Account j)) x ≡ true → ((q : AccountRow → Bool) → q x ≡ true → list_any q T.accounts ≡ true) →
@@ -291,8 +293,8 @@ new_order_answered k T m a r n ids ready [] =
 finalize_answered : (k : Kept) (T : Tables) (m : ℕ) (s : Signed) (j : ℕ) (o : OrderRow) (text : List ℕ) → IsReady k T m (sent s (to.Finalize j)) →
     IsAnswered k m (swept m T) (finalize_verdict j o text)
 finalize_answered k T m s j o text ready =
-    check_keeps (IsAnswered k m (swept m T)) (is_ready o.status) 12 _ tt (λ stands.
-    given_keeps (IsAnswered k m (swept m T)) (csr_in text) 13 _ tt (λ csr is. (
+    check_keeps (IsAnswered k m (swept m T)) (is_ready o.status) refusal.OrderNotReady _ tt (λ stands.
+    given_keeps (IsAnswered k m (swept m T)) (csr_in text) refusal.BadCsr _ tt (λ csr is. (
       covered k T m (sent s (to.Finalize j)) (finalized j csr) ready (finalized_named T m (sent s (to.Finalize j)) j csr (same_number j)),
       finalized_shown k (effect m (swept m T) (finalized j csr)) j (ready.named.order j (same_number j)) (listed_then k T m (sent s (to.Finalize j)) (finalized j csr) ready),
     )))
@@ -325,8 +327,8 @@ target_answered : (k : Kept) (T : Tables) (m : ℕ) (s : Signed) (r : List ℕ) 
     IsAnswered k m (swept m T) (target_verdict (swept m T) r x.number p t)
 target_answered k T m s r x p to.NewAccount ready kept named member owned = known_shown k (swept m T) x.number kept
 target_answered k T m s r x p to.NewOrder ready kept named member owned =
-    given_keeps (IsAnswered k m (swept m T)) (new_order p) 1 _ tt (λ ids is.
-    check_keeps (IsAnswered k m (swept m T)) (has_length 1 50 ids) 1 _ tt (λ few. new_order_answered k T m (sent s to.NewOrder) r x.number ids ready (subproblems ids)))
+    given_keeps (IsAnswered k m (swept m T)) (new_order p) refusal.Malformed _ tt (λ ids is.
+    check_keeps (IsAnswered k m (swept m T)) (has_length 1 50 ids) refusal.Malformed _ tt (λ few. new_order_answered k T m (sent s to.NewOrder) r x.number ids ready (subproblems ids)))
 target_answered k T m s r x p (to.Account j) ready kept named member owned =
     check_keeps (IsAnswered k m (swept m T)) (j == x.number) 2 _ tt (λ here.
     given_keeps (IsAnswered k m (swept m T)) (account_change p) 1 _ tt (λ q is. account_answered k T m s j x q ready kept named member here))

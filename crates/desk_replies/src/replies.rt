@@ -6,21 +6,22 @@ ghost use Rattle.desk_model.specs.declared.reply.Body.TheVariants.{Empty};
 ghost use Rattle.desk_model.specs.Tables.{Tables};
 
 use crate::documents::{account_document, account_url};
-use desk_model::{AccountRow, Allow, Body, Policy, Problem, Reply, Sequence, Subproblem, Text};
-use refusals::refusal_status;
+use desk_model::{
+    AccountRow, Allow, Body, Policy, Problem, Refusal, Reply, Sequence, Subproblem, Text,
+};
 use std::alloc::{AllocError, Global};
 
-/// The refusal of a number; `index` says whether the reply has the link to the directory.
-pub fn refusal_reply(number: u8, subproblems: Sequence<Subproblem>, index: bool) -> Reply
-    ensures { result ≡ refusal_reply index number subproblems }
+/// A refusal; `index` says whether the reply has the link to the directory.
+pub fn refusal_reply(refusal: Refusal, subproblems: Sequence<Subproblem>, index: bool) -> Reply
+    ensures { result ≡ refusal_reply index refusal subproblems }
 {
     Reply {
-        status: refusal_status(number),
+        status: refusal.status(),
         location: None,
         up: None,
         nonce: None,
         body: Body::Problem(Problem {
-            number,
+            refusal,
             subproblems,
             allow: Allow::No,
             index,

@@ -1,5 +1,6 @@
 -- Verdicts on signed requests, by the key of the request.
 use Rattle.std.proofs.Common.{◌≡◌, ℕ, List, true, Option, Some, None, Result, Ok, MatchResult, sym, ap, ◌∙◌}
+use Rattle.desk_model.specs.declared.refusal.Refusal.TheVariants as refusal
 use Rattle.desk_model.specs.Account.{is_valid}
 use Rattle.desk_model.specs.Payload.{new_account}
 use Rattle.desk_model.specs.Questions.{account_with_key}
@@ -21,8 +22,8 @@ pub holder-found : (T : Tables) (r p : List ℕ) (target : Target) (a : AccountR
     holder_verdict T r p target o ≡ target_verdict T r a.number p target
 unfolding check given
 holder-found T r p target a o is valid =
-    ap (λ q. given q 6 (λ (x : AccountRow). check (is_valid x.status) 7 (target_verdict T r x.number p target))) is
-    ∙ ap (λ b. check b 7 (target_verdict T r a.number p target)) valid
+    ap (λ q. given q refusal.AccountDoesNotExist (λ (x : AccountRow). check (is_valid x.status) refusal.Unauthorized (target_verdict T r x.number p target))) is
+    ∙ ap (λ b. check b refusal.Unauthorized (target_verdict T r a.number p target)) valid
 
 -- a request with an accepted key
 signed-key : (T : Tables) (r : List ℕ) (s : Signed) (key p : List ℕ) (t : Target) → s.key ≡ Ok key → p ≡ s.payload → s.target ≡ t →

@@ -1,5 +1,6 @@
 -- Verdicts that need no numbers and no random bytes.
 use Rattle.std.proofs.Common.{◌≡◌, ℕ, List, Bool, true, false, Option, Some, None, drop, sym, ap, subst, ◌∙◌}
+use Rattle.desk_model.specs.declared.refusal.Refusal.{Refusal}
 use Rattle.desk_model.specs.Rules.{account_verdict, authorization_verdict, certificate_verdict, challenge_verdict, finalize_verdict, target_verdict}
 use Rattle.desk_model.specs.Tables.{Tables}
 use Rattle.desk_model.specs.declared.rows.AuthorizationRow.{AuthorizationRow}
@@ -21,17 +22,17 @@ use Rattle.desk_rules.specs.Needs.{NumbersLeft, BytesLeft}
 abbrev pub Spares : Verdict → Type 0
 Spares v = (M : Meta) (random : List ℕ) → NumbersLeft M v × BytesLeft random v
 
-check-spares : (b : Bool) (number : ℕ) (v : Verdict) → Spares v → Spares (check b number v)
+check-spares : (b : Bool) (number : Refusal) (v : Verdict) → Spares v → Spares (check b number v)
 unfolding check
 check-spares true number v h = h
 check-spares false number v h = λ M random. (tt, tt)
 
-given-spares : {X : Type 0} (o : Option X) (number : ℕ) (v : X → Verdict) → ((x : X) → Spares (v x)) → Spares (given o number v)
+given-spares : {X : Type 0} (o : Option X) (number : Refusal) (v : X → Verdict) → ((x : X) → Spares (v x)) → Spares (given o number v)
 unfolding given
 given-spares None number v h = λ M random. (tt, tt)
 given-spares (Some x) number v h = h x
 
-unless_fault-spares : (o : Option ℕ) (v : Verdict) → Spares v → Spares (unless_fault o v)
+unless_fault-spares : (o : Option Refusal) (v : Verdict) → Spares v → Spares (unless_fault o v)
 unfolding unless_fault
 unless_fault-spares None v h = h
 unless_fault-spares (Some number) v h = λ M random. (tt, tt)

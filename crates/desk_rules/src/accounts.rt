@@ -15,19 +15,10 @@ use crate::payload::new_account;
 use crate::verdicts::{answers, records, refused};
 use desk_book::Book;
 use desk_model::{
-    AccountChange, AccountRow, AccountStatus, Ending, Entry, Jwk, NewAccount, Sequence, Shows,
-    Text, Verdict,
+    AccountChange, AccountRow, AccountStatus, Ending, Entry, Jwk, NewAccount, Refusal, Sequence,
+    Shows, Text, Verdict,
 };
 use std::alloc::{AllocError, Global};
-
-/// The key has an account that is not valid.
-const UNAUTHORIZED: u8 = 7;
-
-/// The payload has not the form that the route reads.
-const MALFORMED: u8 = 1;
-
-/// No account has the key.
-const NO_ACCOUNT: u8 = 6;
 
 /// A newAccount request whose key is accepted (RFC 8555, 7.3, 7.3.1).
 #[tactic(auto, unfolding(desk_model::specs::Verdict::check, desk_model::specs::Verdict::given))]
@@ -44,7 +35,7 @@ pub(crate) fn new_account_verdict(
         Some(row) => Ok(known_account_verdict(alloc, row, payload)?),
         None => match new_account(alloc, payload)? {
             Some(asked) => open_account(alloc, book, key, asked),
-            None => Ok(refused(alloc, MALFORMED)),
+            None => Ok(refused(alloc, Refusal::Malformed)),
         },
     }
 }
@@ -59,10 +50,10 @@ fn known_account_verdict(
     ensures { IfOk result (λ v. (v ≡ known_account_verdict row.now (new_account payload.now)) × ((meta : MetaRow) (random : List ℕ) → NumbersLeft meta v × BytesLeft random v)) }
 {
     if row.status != AccountStatus::Valid {
-        return Ok(refused(alloc, UNAUTHORIZED));
+        return Ok(refused(alloc, Refusal::Unauthorized));
     }
     if new_account(alloc, payload)?.is_none() {
-        return Ok(refused(alloc, MALFORMED));
+        return Ok(refused(alloc, Refusal::Malformed));
     }
     Ok(Verdict::Accepted {
         entry: None,
@@ -83,7 +74,7 @@ fn open_account(
         (λ e. IsNeedFault book.now.meta random (open_account book.now key.now asked) e) }
 {
     if asked.only_existing {
-        return Ok(refused(alloc, NO_ACCOUNT));
+        return Ok(refused(alloc, Refusal::AccountDoesNotExist));
     }
     if let Some(fault) = contacts_fault(asked.contacts.as_slice()) {
         return Ok(refused(alloc, fault));

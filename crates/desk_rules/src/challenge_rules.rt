@@ -11,14 +11,11 @@ use crate::verdicts::{answers, records, refused};
 use desk_book::Book;
 use desk_model::{
     AuthorizationRow, AuthzStatus, ChallengeChange, ChallengeRow, ChallengeStatus, Entry,
-    FetchError, Finding, Kind, Outcome, Shows, Verdict,
+    FetchError, Finding, Kind, Outcome, Refusal, Shows, Verdict,
 };
 use keys::{dns_matches, expected_text, http_matches};
 use std::alloc::{AllocError, Global};
 use swept_rows::challenge_of;
-
-/// The challenge does not wait for a report.
-const NOT_WAITING: u8 = 14;
 
 /// Whether a challenge of the authorization waits for its client's answer.
 fn has_pending(row: &AuthorizationRow, number: u64) -> bool
@@ -138,5 +135,5 @@ pub(crate) fn outcome_verdict(
     if is_pending(status) && has_processing(row, number) {
         return records(Entry::Reported(number, outcome), Shows::Challenge(number));
     }
-    refused(alloc, NOT_WAITING)
+    refused(alloc, Refusal::Conflict)
 }

@@ -3,25 +3,19 @@ ghost use Rattle.std.specs.Prelude.{◌≡◌, ◌==◌, ◌&&◌, ◌||◌, not
 ghost use Rattle.std.specs.List.{list_any};
 ghost use Rattle.desk_model.specs.Contact.{lowered, parts_fault, contact_fault, first_fault, contacts_fault};
 
-use desk_model::Text;
-
-/// A contact that the desk does not accept.
-pub(crate) const INVALID_CONTACT: u8 = 9;
-
-/// A contact of a scheme that the desk does not know.
-pub(crate) const UNSUPPORTED_CONTACT: u8 = 8;
+use desk_model::{Refusal, Text};
 
 /// The refusal of a list of contacts, where it has one: too many, or the first that is at fault.
-pub(crate) fn contacts_fault(contacts: &[Text]) -> Option<u8>
+pub(crate) fn contacts_fault(contacts: &[Text]) -> Option<Refusal>
     ensures { result ≡ contacts_fault contacts.now }
 {
     if contacts.len() > 10 {
-        return Some(INVALID_CONTACT);
+        return Some(Refusal::InvalidContact);
     }
     first_fault(contacts)
 }
 
-fn first_fault(contacts: &[Text]) -> Option<u8>
+fn first_fault(contacts: &[Text]) -> Option<Refusal>
     ensures { result ≡ first_fault contacts.now }
 {
     for contact in contacts {
@@ -32,15 +26,15 @@ fn first_fault(contacts: &[Text]) -> Option<u8>
     None
 }
 
-fn contact_fault(contact: &[u8]) -> Option<u8>
+fn contact_fault(contact: &[u8]) -> Option<Refusal>
     ensures { result ≡ contact_fault contact.now }
 {
     if contact.len() > 320 {
-        return Some(INVALID_CONTACT);
+        return Some(Refusal::InvalidContact);
     }
     match colon_of(contact) {
         Some(colon) => parts_fault(&contact[..colon], &contact[colon + 1..]),
-        None => Some(INVALID_CONTACT),
+        None => Some(Refusal::InvalidContact),
     }
 }
 
@@ -51,14 +45,14 @@ fn colon_of(contact: &[u8]) -> Option<usize>
     contact.iter().position(|byte| *byte == b':')
 }
 
-fn parts_fault(scheme: &[u8], address: &[u8]) -> Option<u8>
+fn parts_fault(scheme: &[u8], address: &[u8]) -> Option<Refusal>
     ensures { result ≡ parts_fault scheme.now address.now }
 {
     if !is_mailto(scheme) {
-        return Some(UNSUPPORTED_CONTACT);
+        return Some(Refusal::UnsupportedContact);
     }
     if address.is_empty() || has_many_or_fields(address) {
-        return Some(INVALID_CONTACT);
+        return Some(Refusal::InvalidContact);
     }
     None
 }

@@ -17,20 +17,8 @@ use crate::targets::{
 };
 use crate::verdicts::{answers, refused};
 use desk_book::Book;
-use desk_model::{Jwk, Shows, Signed, Target, Verdict};
+use desk_model::{Jwk, Refusal, Shows, Signed, Target, Verdict};
 use std::alloc::Global;
-
-/// The payload has not the form that the route reads.
-const MALFORMED: u8 = 1;
-
-/// The key of the request is of no kind that the desk accepts.
-const BAD_KEY: u8 = 5;
-
-/// No account has the key.
-const NO_ACCOUNT: u8 = 6;
-
-/// The key has an account that is not valid.
-const UNAUTHORIZED: u8 = 7;
 
 /// A request for a new order (RFC 8555, 7.4).
 #[tactic(auto, unfolding(desk_model::specs::Verdict::given))]
@@ -41,14 +29,14 @@ fn new_order_target(
     sender: u64,
     payload: &str,
 ) -> Result<Verdict, CoreFault>
-    ensures { let asked = given (new_order payload.now) 1 (new_order_verdict book.now (drop 16 random.now) sender) in
+    ensures { let asked = given (new_order payload.now) Refusal.Malformed (new_order_verdict book.now (drop 16 random.now) sender) in
         MatchResult result (λ v. (v ≡ asked) × NumbersLeft book.now.meta v × BytesLeft random.now v) (λ e. IsNeedFault book.now.meta random.now asked e) }
 {
     match new_order(alloc, payload)? {
         Some(identifiers) => {
             new_order_verdict(alloc, book, random, sender, identifiers.as_slice())
         }
-        None => Ok(refused(alloc, MALFORMED)),
+        None => Ok(refused(alloc, Refusal::Malformed)),
     }
 }
 
@@ -101,10 +89,10 @@ fn holder_verdict(
         MatchResult result (λ v. (v ≡ asked) × NumbersLeft book.now.meta v × BytesLeft random.now v) (λ e. IsNeedFault book.now.meta random.now asked e) }
 {
     let Some(row) = book.account_with_key(key.canonical()) else {
-        return Ok(refused(alloc, NO_ACCOUNT));
+        return Ok(refused(alloc, Refusal::AccountDoesNotExist));
     };
     if !is_valid(row) {
-        return Ok(refused(alloc, UNAUTHORIZED));
+        return Ok(refused(alloc, Refusal::Unauthorized));
     }
     target_verdict(alloc, book, moment, random, row.number, payload, target)
 }
@@ -127,7 +115,7 @@ pub fn judge_signed(
         MatchResult result (λ v. (v ≡ asked) × NumbersLeft book.now.meta v × BytesLeft random.now v) (λ e. IsNeedFault book.now.meta random.now asked e) }
 {
     let Ok(key) = &signed.key else {
-        return Ok(refused(alloc, BAD_KEY));
+        return Ok(refused(alloc, Refusal::BadPublicKey));
     };
     let payload = signed.payload.as_str();
     match signed.target {

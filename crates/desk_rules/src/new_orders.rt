@@ -15,18 +15,11 @@ use crate::fault::CoreFault;
 use crate::limits::{first_piece, has_room, has_room_for, has_tokens, later_random};
 use crate::verdicts::{records, refused};
 use desk_book::Book;
-use desk_model::{DnsName, Entry, Identifier, Meta, Sequence, Shows, Subproblem, Verdict, Wanted};
+use desk_model::{
+    DnsName, Entry, Identifier, Meta, Refusal, Sequence, Shows, Subproblem, Verdict, Wanted,
+};
 use identifiers::{NameFault, read_name};
 use std::alloc::{AllocError, Global};
-
-/// The payload has no identifier, or too many.
-const MALFORMED: u8 = 1;
-
-/// The type of an identifier is not dns.
-const UNSUPPORTED_IDENTIFIER: u8 = 10;
-
-/// The value of an identifier is no name that the desk accepts.
-const REJECTED_IDENTIFIER: u8 = 11;
 
 /// The name that a text stands for, `None` where it stands for none.
 fn name_of(alloc: Global, text: &str) -> Result<Option<DnsName>, AllocError>
@@ -46,15 +39,15 @@ fn is_dns(identifier: &Identifier) -> bool
 }
 
 /// Why an identifier is refused, if it is.
-fn fault_of(alloc: Global, identifier: &Identifier) -> Result<Option<u8>, AllocError>
+fn fault_of(alloc: Global, identifier: &Identifier) -> Result<Option<Refusal>, AllocError>
     ensures { IfOk result (λ o. o ≡ fault_of identifier.now) }
 {
     if !is_dns(identifier) {
-        return Ok(Some(UNSUPPORTED_IDENTIFIER));
+        return Ok(Some(Refusal::UnsupportedIdentifier));
     }
     match name_of(alloc, identifier.value.as_str())? {
         Some(_) => Ok(None),
-        None => Ok(Some(REJECTED_IDENTIFIER)),
+        None => Ok(Some(Refusal::RejectedIdentifier)),
     }
 }
 
@@ -64,9 +57,9 @@ fn subproblems(alloc: Global, identifiers: &[Identifier]) -> Result<Vec<Subprobl
 {
     let mut found = Vec::new(alloc);
     for identifier in identifiers {
-        if let Some(number) = fault_of(alloc, identifier)? {
+        if let Some(refusal) = fault_of(alloc, identifier)? {
             found.push(Subproblem {
-                number,
+                refusal,
                 kind: identifier.kind.clone()?,
                 value: identifier.value.clone()?,
             })?;
@@ -216,12 +209,12 @@ pub(crate) fn new_order_verdict(
         MatchResult result (λ v. (v ≡ asked) × NumbersLeft book.now.meta v × BytesLeft random.now v) (λ e. IsNeedFault book.now.meta random.now asked e) }
 {
     if identifiers.is_empty() || identifiers.len() > 50 {
-        return Ok(refused(alloc, MALFORMED));
+        return Ok(refused(alloc, Refusal::Malformed));
     }
     let faulty = subproblems(alloc, identifiers)?;
     if let Some(first) = faulty.first() {
         return Ok(Verdict::Refused {
-            number: first.number,
+            refusal: first.refusal,
             subproblems: Sequence::new(faulty),
         });
     }

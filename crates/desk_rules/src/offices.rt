@@ -15,22 +15,10 @@ use crate::verdicts::{answers, records, refused};
 use desk_book::Book;
 use desk_model::{
     AccountRow, AccountStatus, Ask, AuthorizationRow, AuthzStatus, Ending, Entry, Finding,
-    OrderProblem, OrderRow, OrderStatus, Sequence, Shows, Verdict,
+    OrderProblem, OrderRow, OrderStatus, Refusal, Sequence, Shows, Verdict,
 };
 use std::alloc::{AllocError, Global};
 use swept_rows::{authorization_at, challenge_of, order_at, owner_at};
-
-/// What is handed in has not the form that the desk takes.
-const MALFORMED: u8 = 1;
-
-/// There is no such object.
-const NOT_FOUND: u8 = 2;
-
-/// The object does not wait for this.
-const NOT_WAITING: u8 = 14;
-
-/// The certificate is too large.
-const TOO_LARGE: u8 = 16;
 
 /// What the validator found for a challenge (RFC 8555, 8).
 #[tactic(auto, unfolding(desk_model::specs::Verdict::given))]
@@ -44,15 +32,15 @@ fn report_verdict(
     ensures { IfOk result (λ v. v ≡ report_verdict (swept moment book.now) number finding.now) }
 {
     let Some((row, status)) = owner_at(book, moment, number) else {
-        return Ok(refused(alloc, NOT_FOUND));
+        return Ok(refused(alloc, Refusal::NotFound));
     };
     let Some(challenge) = challenge_of(row, number) else {
-        return Ok(refused(alloc, NOT_FOUND));
+        return Ok(refused(alloc, Refusal::NotFound));
     };
     let wanted = expected(alloc, book, row, challenge)?;
     match outcome_of(challenge.kind, wanted.as_str(), finding) {
         Some(outcome) => Ok(outcome_verdict(alloc, number, row, status, challenge, outcome)),
-        None => Ok(refused(alloc, MALFORMED)),
+        None => Ok(refused(alloc, Refusal::Malformed)),
     }
 }
 
@@ -93,16 +81,16 @@ fn certify_verdict(
 {
     let certificate = bytes.as_slice();
     if certificate.is_empty() {
-        return Ok(refused(alloc, MALFORMED));
+        return Ok(refused(alloc, Refusal::Malformed));
     }
     if certificate.len() > 65536 {
-        return Ok(refused(alloc, TOO_LARGE));
+        return Ok(refused(alloc, Refusal::TooLarge));
     }
     if has_certificate(row, certificate) {
         return Ok(answers(Shows::Order(number)));
     }
     if !is_processing(status) {
-        return Ok(refused(alloc, NOT_WAITING));
+        return Ok(refused(alloc, Refusal::Conflict));
     }
     let entry = Entry::Certified(number, bytes.clone()?);
     Ok(records(entry, Shows::Order(number)))
@@ -163,13 +151,13 @@ fn fail_verdict(
     ensures { IfOk result (λ v. v ≡ fail_verdict number problem.now (record row.now { status = status })) }
 {
     if !is_problem(problem) {
-        return Ok(refused(alloc, MALFORMED));
+        return Ok(refused(alloc, Refusal::Malformed));
     }
     if has_failed_for(row, problem) {
         return Ok(answers(Shows::Order(number)));
     }
     if !is_processing(status) {
-        return Ok(refused(alloc, NOT_WAITING));
+        return Ok(refused(alloc, Refusal::Conflict));
     }
     let entry = Entry::Failed(number, problem.clone()?);
     Ok(records(entry, Shows::Order(number)))
@@ -190,7 +178,7 @@ fn revoke_authorization(
         return answers(shows);
     }
     if !is_endable(status) {
-        return refused(alloc, NOT_WAITING);
+        return refused(alloc, Refusal::Conflict);
     }
     records(Entry::AuthorizationEnded(number, Ending::Revoked), shows)
 }
@@ -220,7 +208,7 @@ fn revoke_account(alloc: Global, number: u64, row: &AccountRow) -> Verdict
         return answers(Shows::Account(number));
     }
     if row.status != AccountStatus::Valid {
-        return refused(alloc, NOT_WAITING);
+        return refused(alloc, Refusal::Conflict);
     }
     records(
         Entry::AccountEnded(number, Ending::Revoked),
@@ -237,11 +225,11 @@ fn certify(
     number: u64,
     bytes: &Sequence<u8>,
 ) -> Result<Verdict, AllocError>
-    ensures { IfOk result (λ v. v ≡ given (order_on (swept moment book.now) number) 2 (certify_verdict number bytes.now)) }
+    ensures { IfOk result (λ v. v ≡ given (order_on (swept moment book.now) number) Refusal.NotFound (certify_verdict number bytes.now)) }
 {
     match order_at(book, moment, number) {
         Some((row, status)) => certify_verdict(alloc, number, bytes, row, status),
-        None => Ok(refused(alloc, NOT_FOUND)),
+        None => Ok(refused(alloc, Refusal::NotFound)),
     }
 }
 
@@ -254,33 +242,33 @@ fn fail_order(
     number: u64,
     problem: &OrderProblem,
 ) -> Result<Verdict, AllocError>
-    ensures { IfOk result (λ v. v ≡ given (order_on (swept moment book.now) number) 2 (fail_verdict number problem.now)) }
+    ensures { IfOk result (λ v. v ≡ given (order_on (swept moment book.now) number) Refusal.NotFound (fail_verdict number problem.now)) }
 {
     match order_at(book, moment, number) {
         Some((row, status)) => fail_verdict(alloc, number, problem, row, status),
-        None => Ok(refused(alloc, NOT_FOUND)),
+        None => Ok(refused(alloc, Refusal::NotFound)),
     }
 }
 
 /// The operator takes back the authorization of a number.
 #[tactic(auto, unfolding(desk_model::specs::Verdict::given))]
 fn revoke_authorization_of(alloc: Global, book: &Book, moment: u64, number: u64) -> Verdict
-    ensures { result ≡ given (authorization_on (swept moment book.now) number) 2 (revoke_authorization number) }
+    ensures { result ≡ given (authorization_on (swept moment book.now) number) Refusal.NotFound (revoke_authorization number) }
 {
     match authorization_at(book, moment, number) {
         Some((row, status)) => revoke_authorization(alloc, number, row, status),
-        None => refused(alloc, NOT_FOUND),
+        None => refused(alloc, Refusal::NotFound),
     }
 }
 
 /// The operator ends the account of a number.
 #[tactic(auto, unfolding(desk_model::specs::Verdict::given))]
 fn revoke_account_of(alloc: Global, book: &Book, number: u64) -> Verdict
-    ensures { result ≡ given (account_on book.now number) 2 (revoke_account number) }
+    ensures { result ≡ given (account_on book.now number) Refusal.NotFound (revoke_account number) }
 {
     match book.account(number) {
         Some(row) => revoke_account(alloc, number, row),
-        None => refused(alloc, NOT_FOUND),
+        None => refused(alloc, Refusal::NotFound),
     }
 }
 
@@ -290,7 +278,7 @@ fn key_verdict(alloc: Global, book: &Book, number: u64) -> Verdict
     ensures { result ≡ office_verdict book.now (KeyOf number) }
 {
     if book.account(number).is_none() {
-        return refused(alloc, NOT_FOUND);
+        return refused(alloc, Refusal::NotFound);
     }
     answers(Shows::Key(number))
 }
@@ -307,7 +295,7 @@ pub fn judge_office(
 {
     match ask {
         Ask::Directory => Ok(answers(Shows::Directory)),
-        Ask::NewNonce { head: _ } | Ask::Signed(_) => Ok(refused(alloc, NOT_FOUND)),
+        Ask::NewNonce { head: _ } | Ask::Signed(_) => Ok(refused(alloc, Refusal::NotFound)),
         Ask::Report { challenge, finding } => {
             report_verdict(alloc, book, moment, *challenge, finding)
         }

@@ -10,17 +10,8 @@ ghost use Rattle.desk_model.specs.declared.verdict.Shows.TheVariants.{FinalizedO
 use crate::verdicts::{answers, records, refused};
 use base64::DecodeAllocError;
 use base64::engine::general_purpose::URL_SAFE_NO_PAD;
-use desk_model::{Entry, OrderRow, OrderStatus, Sequence, Shows, Verdict};
+use desk_model::{Entry, OrderRow, OrderStatus, Refusal, Sequence, Shows, Verdict};
 use std::alloc::{AllocError, Global};
-
-/// There is no certificate.
-const NOT_FOUND: u8 = 2;
-
-/// The order is not ready.
-const NOT_READY: u8 = 12;
-
-/// The CSR is at fault.
-const BAD_CSR: u8 = 13;
 
 /// The bytes that a text spells in the URL-safe alphabet without padding, read strictly.
 #[tactic(auto, unfolding(desk_model::specs::Tokens::from_base64url))]
@@ -68,14 +59,14 @@ pub(crate) fn finalize_verdict(
     status: OrderStatus,
     text: &str,
 ) -> Result<Verdict, AllocError>
-    ensures { IfOk result (λ v. v ≡ check (is_ready status) 12 (given (csr_in text.now) 13 (λ csr. recording (finalized number csr) (FinalizedOrder number)))) }
+    ensures { IfOk result (λ v. v ≡ check (is_ready status) Refusal.OrderNotReady (given (csr_in text.now) Refusal.BadCsr (λ csr. recording (finalized number csr) (FinalizedOrder number)))) }
 {
     if !is_ready(status) {
-        return Ok(refused(alloc, NOT_READY));
+        return Ok(refused(alloc, Refusal::OrderNotReady));
     }
     match csr_in(alloc, text)? {
         Some(csr) => Ok(records(Entry::Finalized(number, csr), Shows::FinalizedOrder(number))),
-        None => Ok(refused(alloc, BAD_CSR)),
+        None => Ok(refused(alloc, Refusal::BadCsr)),
     }
 }
 
@@ -85,7 +76,7 @@ pub(crate) fn certificate_verdict(alloc: Global, number: u64, row: &OrderRow) ->
     ensures { result ≡ certificate_verdict number row.now }
 {
     if row.certified.is_none() {
-        return refused(alloc, NOT_FOUND);
+        return refused(alloc, Refusal::NotFound);
     }
     answers(Shows::Certificate(number))
 }

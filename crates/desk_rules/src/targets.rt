@@ -15,17 +15,11 @@ use crate::payload::{account_change, authorization_change, challenge_change, fin
 use crate::verdicts::{answers, refused};
 use desk_book::Book;
 use desk_model::{
-    AccountStatus, AuthorizationRow, AuthzStatus, OrderRow, OrderStatus, Shows, Signed, Target,
-    Verdict,
+    AccountStatus, AuthorizationRow, AuthzStatus, OrderRow, OrderStatus, Refusal, Shows, Signed,
+    Target, Verdict,
 };
 use std::alloc::{AllocError, Global};
 use swept_rows::{authorization_at, order_at, owner_at};
-
-/// The payload has not the form that the route reads.
-const MALFORMED: u8 = 1;
-
-/// There is no such object, or it is not the account's own.
-const NOT_FOUND: u8 = 2;
 
 /// Whether a payload is that of a route that only reads (RFC 8555, 6.3).
 fn is_nothing(payload: &str) -> bool
@@ -76,27 +70,27 @@ pub(crate) fn account_target(
     number: u64,
     payload: &str,
 ) -> Result<Verdict, AllocError>
-    ensures { IfOk result (λ v. v ≡ check (number == sender) 2 (given (account_change payload.now) 1 (account_verdict sender))) }
+    ensures { IfOk result (λ v. v ≡ check (number == sender) Refusal.NotFound (given (account_change payload.now) Refusal.Malformed (account_verdict sender))) }
 {
     if number != sender {
-        return Ok(refused(alloc, NOT_FOUND));
+        return Ok(refused(alloc, Refusal::NotFound));
     }
     match account_change(alloc, payload)? {
         Some(change) => Ok(account_verdict(alloc, sender, change)),
-        None => Ok(refused(alloc, MALFORMED)),
+        None => Ok(refused(alloc, Refusal::Malformed)),
     }
 }
 
 /// A request for the orders of an account.
 #[tactic(auto, unfolding(desk_model::specs::Verdict::check))]
 pub(crate) fn orders_target(alloc: Global, sender: u64, number: u64, payload: &str) -> Verdict
-    ensures { result ≡ check (number == sender) 2 (check (nothing payload.now) 1 (answers (show.Orders sender))) }
+    ensures { result ≡ check (number == sender) Refusal.NotFound (check (nothing payload.now) Refusal.Malformed (answers (show.Orders sender))) }
 {
     if number != sender {
-        return refused(alloc, NOT_FOUND);
+        return refused(alloc, Refusal::NotFound);
     }
     if !is_nothing(payload) {
-        return refused(alloc, MALFORMED);
+        return refused(alloc, Refusal::Malformed);
     }
     answers(Shows::Orders(sender))
 }
@@ -111,13 +105,13 @@ pub(crate) fn order_target(
     number: u64,
     payload: &str,
 ) -> Verdict
-    ensures { result ≡ given (own (λ o. o.account) sender (order_on (swept moment book.now) number)) 2 (λ o. check (nothing payload.now) 1 (answers (show.Order number))) }
+    ensures { result ≡ given (own (λ o. o.account) sender (order_on (swept moment book.now) number)) Refusal.NotFound (λ o. check (nothing payload.now) Refusal.Malformed (answers (show.Order number))) }
 {
     if own_order(book, moment, sender, number).is_none() {
-        return refused(alloc, NOT_FOUND);
+        return refused(alloc, Refusal::NotFound);
     }
     if !is_nothing(payload) {
-        return refused(alloc, MALFORMED);
+        return refused(alloc, Refusal::Malformed);
     }
     answers(Shows::Order(number))
 }
@@ -132,14 +126,14 @@ pub(crate) fn finalize_target(
     number: u64,
     payload: &str,
 ) -> Result<Verdict, AllocError>
-    ensures { IfOk result (λ v. v ≡ given (own (λ o. o.account) sender (order_on (swept moment book.now) number)) 2 (λ o. given (finalize payload.now) 1 (finalize_verdict number o))) }
+    ensures { IfOk result (λ v. v ≡ given (own (λ o. o.account) sender (order_on (swept moment book.now) number)) Refusal.NotFound (λ o. given (finalize payload.now) Refusal.Malformed (finalize_verdict number o))) }
 {
     let Some((_row, status)) = own_order(book, moment, sender, number) else {
-        return Ok(refused(alloc, NOT_FOUND));
+        return Ok(refused(alloc, Refusal::NotFound));
     };
     match finalize(alloc, payload)? {
         Some(text) => finalize_verdict(alloc, number, status, text.as_str()),
-        None => Ok(refused(alloc, MALFORMED)),
+        None => Ok(refused(alloc, Refusal::Malformed)),
     }
 }
 
@@ -153,13 +147,13 @@ pub(crate) fn certificate_target(
     number: u64,
     payload: &str,
 ) -> Verdict
-    ensures { result ≡ given (own (λ o. o.account) sender (order_on (swept moment book.now) number)) 2 (λ o. check (nothing payload.now) 1 (certificate_verdict number o)) }
+    ensures { result ≡ given (own (λ o. o.account) sender (order_on (swept moment book.now) number)) Refusal.NotFound (λ o. check (nothing payload.now) Refusal.Malformed (certificate_verdict number o)) }
 {
     let Some((row, _status)) = own_order(book, moment, sender, number) else {
-        return refused(alloc, NOT_FOUND);
+        return refused(alloc, Refusal::NotFound);
     };
     if !is_nothing(payload) {
-        return refused(alloc, MALFORMED);
+        return refused(alloc, Refusal::Malformed);
     }
     certificate_verdict(alloc, number, row)
 }
@@ -174,15 +168,15 @@ pub(crate) fn authorization_target(
     number: u64,
     payload: &str,
 ) -> Result<Verdict, AllocError>
-    ensures { IfOk result (λ v. v ≡ given (own (λ a. a.account) sender (authorization_on (swept moment book.now) number)) 2 (λ a. given (authorization_change payload.now) 1 (authorization_verdict number a))) }
+    ensures { IfOk result (λ v. v ≡ given (own (λ a. a.account) sender (authorization_on (swept moment book.now) number)) Refusal.NotFound (λ a. given (authorization_change payload.now) Refusal.Malformed (authorization_verdict number a))) }
 {
     let Some((row, status)) = own_authorization(sender, authorization_at(book, moment, number))
     else {
-        return Ok(refused(alloc, NOT_FOUND));
+        return Ok(refused(alloc, Refusal::NotFound));
     };
     match authorization_change(alloc, payload)? {
         Some(change) => Ok(authorization_verdict(number, row, status, change)),
-        None => Ok(refused(alloc, MALFORMED)),
+        None => Ok(refused(alloc, Refusal::Malformed)),
     }
 }
 
@@ -196,13 +190,13 @@ pub(crate) fn challenge_target(
     number: u64,
     payload: &str,
 ) -> Result<Verdict, AllocError>
-    ensures { IfOk result (λ v. v ≡ given (own (λ a. a.account) sender (owner_on (swept moment book.now) number)) 2 (λ a. given (challenge_change payload.now) 1 (challenge_verdict number a))) }
+    ensures { IfOk result (λ v. v ≡ given (own (λ a. a.account) sender (owner_on (swept moment book.now) number)) Refusal.NotFound (λ a. given (challenge_change payload.now) Refusal.Malformed (challenge_verdict number a))) }
 {
     let Some((row, status)) = own_authorization(sender, owner_at(book, moment, number)) else {
-        return Ok(refused(alloc, NOT_FOUND));
+        return Ok(refused(alloc, Refusal::NotFound));
     };
     match challenge_change(alloc, payload)? {
         Some(change) => Ok(challenge_verdict(number, row, status, change)),
-        None => Ok(refused(alloc, MALFORMED)),
+        None => Ok(refused(alloc, Refusal::Malformed)),
     }
 }

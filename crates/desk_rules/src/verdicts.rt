@@ -3,15 +3,15 @@ ghost use Rattle.std.specs.Prelude.{◌≡◌, []};
 ghost use Rattle.desk_model.specs.Verdict.{answers, records};
 ghost use Rattle.desk_model.specs.declared.verdict.Verdict.TheVariants.{Refused as refused};
 
-use desk_model::{Entry, Sequence, Shows, Verdict};
+use desk_model::{Entry, Refusal, Sequence, Shows, Verdict};
 use std::alloc::Global;
 
-/// A refusal by its number.
-pub(crate) fn refused(alloc: Global, number: u8) -> Verdict
-    ensures { result ≡ refused number [] }
+/// A refusal.
+pub(crate) fn refused(alloc: Global, refusal: Refusal) -> Verdict
+    ensures { result ≡ refused refusal [] }
 {
     Verdict::Refused {
-        number,
+        refusal,
         subproblems: Sequence::new(Vec::new(alloc)),
     }
 }

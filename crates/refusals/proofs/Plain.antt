@@ -5,37 +5,38 @@ use Rattle.serde_json.specs.Data.{string, unsigned}
 use Rattle.serde_json.specs.Data as json
 use Rattle.serde_json.specs.View.{items_of}
 use Rattle.serde_json.specs.Written.{has_float, items_have_float}
+use Rattle.desk_model.specs.declared.refusal.Refusal.{Refusal}
 use Rattle.desk_model.specs.Json.{document}
 use Rattle.desk_model.specs.Refusals.{refusal_of, error_type, problem_document, subproblem_document, subproblem_members}
 use Rattle.desk_model.specs.declared.reply.Problem.{Problem}
 use Rattle.desk_model.specs.declared.reply.Subproblem.{Subproblem}
 use Rattle.refusals.specs.Problems.{joint_document, lone_document}
 
--- a document of a refusal by its number and its subproblems
-abbrev shaped : ℕ → List Subproblem → json.Data
-shaped number subproblems =
+-- a document of a refusal by its why and its subproblems
+abbrev shaped : Refusal → List Subproblem → json.Data
+shaped why subproblems =
     document (
-    (codes "detail", string (refusal_of number).detail)
-    ∷ (codes "status", json.number (unsigned (refusal_of number).status))
+    (codes "detail", string (refusal_of why).detail)
+    ∷ (codes "status", json.number (unsigned (refusal_of why).status))
     ∷ (subproblem_members subproblems
-    ++ (codes "type", string (error_type (refusal_of number).name))
+    ++ (codes "type", string (error_type (refusal_of why).error_type))
     ∷ [])
     )
 
 -- with subproblems, it lists them
-joint : (number : ℕ) (subproblems : List Subproblem) → (subproblems ≡ [] → ⊥) → joint_document number subproblems ≡ shaped number subproblems
-joint number [] some = absurd (some refl)
-joint number (s ∷ rest) some = refl
+joint : (why : Refusal) (subproblems : List Subproblem) → (subproblems ≡ [] → ⊥) → joint_document why subproblems ≡ shaped why subproblems
+joint why [] some = absurd (some refl)
+joint why (s ∷ rest) some = refl
 
-pub joint-problem : (p : Problem) → (p.subproblems ≡ [] → ⊥) → joint_document p.number p.subproblems ≡ problem_document p
-joint-problem p some = joint p.number p.subproblems some
+pub joint-problem : (p : Problem) → (p.subproblems ≡ [] → ⊥) → joint_document p.refusal p.subproblems ≡ problem_document p
+joint-problem p some = joint p.refusal p.subproblems some
 
 -- without, it has no such member
-lone : (number : ℕ) (subproblems : List Subproblem) → subproblems ≡ [] → lone_document number ≡ shaped number subproblems
-lone number subproblems none = rw none refl
+lone : (why : Refusal) (subproblems : List Subproblem) → subproblems ≡ [] → lone_document why ≡ shaped why subproblems
+lone why subproblems none = rw none refl
 
-pub lone-problem : (p : Problem) → p.subproblems ≡ [] → lone_document p.number ≡ problem_document p
-lone-problem p none = lone p.number p.subproblems none
+pub lone-problem : (p : Problem) → p.subproblems ≡ [] → lone_document p.refusal ≡ problem_document p
+lone-problem p none = lone p.refusal p.subproblems none
 
 -- no document of a refused identifier holds a float
 subproblems_plain : (subproblems : List Subproblem) → items_have_float (items_of (map subproblem_document subproblems)) ≡ false
@@ -43,9 +44,9 @@ subproblems_plain [] = refl
 subproblems_plain (s ∷ rest) = subproblems_plain rest
 
 -- nor does the document of a refusal
-plain : (number : ℕ) (subproblems : List Subproblem) → has_float (shaped number subproblems) ≡ false
-plain number [] = refl
-plain number (s ∷ rest) = ap (λ b. b || false) (subproblems_plain rest)
+plain : (why : Refusal) (subproblems : List Subproblem) → has_float (shaped why subproblems) ≡ false
+plain why [] = refl
+plain why (s ∷ rest) = ap (λ b. b || false) (subproblems_plain rest)
 
 pub problem_plain : (p : Problem) → has_float (problem_document p) ≡ false
-problem_plain p = plain p.number p.subproblems
+problem_plain p = plain p.refusal p.subproblems

@@ -5,8 +5,7 @@ ghost use Rattle.desk_model.specs.Json.{list};
 ghost use Rattle.desk_model.specs.Refusals.{refusal_of, error_type, problem_document, subproblem_document};
 ghost use Rattle.refusals.specs.Problems.{joint_document, lone_document};
 
-use crate::refusal::{refusal_detail, refusal_name, refusal_status};
-use desk_model::{Document, Problem, Subproblem};
+use desk_model::{Document, Problem, Refusal, Subproblem};
 use serde_json::{Value, json};
 use std::alloc::{AllocError, Global};
 
@@ -28,30 +27,34 @@ fn problem_value(alloc: Global, problem: &Problem) -> Result<Value, AllocError>
 {
     let subproblems = problem.subproblems.as_slice();
     if subproblems.is_empty() {
-        lone_problem(alloc, problem.number)
+        lone_problem(alloc, problem.refusal)
     } else {
-        joint_problem(alloc, problem.number, subproblems)
+        joint_problem(alloc, problem.refusal, subproblems)
     }
 }
 
 // The document of a refusal without refused identifiers.
-fn lone_problem(alloc: Global, number: u8) -> Result<Value, AllocError>
-    ensures { IfOk result (λ v. view v ≡ lone_document number) }
+fn lone_problem(alloc: Global, refusal: Refusal) -> Result<Value, AllocError>
+    ensures { IfOk result (λ v. view v ≡ lone_document refusal) }
 {
-    let detail = refusal_detail(number);
-    let status = refusal_status(number);
-    let kind = error_type(alloc, number)?;
+    let detail = refusal.detail();
+    let status = refusal.status();
+    let kind = error_type(alloc, refusal)?;
     json!(in alloc; {"detail": detail, "status": status, "type": kind})
 }
 
 // The document of a refusal with refused identifiers (RFC 8555, 6.7.1).
-fn joint_problem(alloc: Global, number: u8, subproblems: &[Subproblem]) -> Result<Value, AllocError>
-    ensures { IfOk result (λ v. view v ≡ joint_document number subproblems.now) }
+fn joint_problem(
+    alloc: Global,
+    refusal: Refusal,
+    subproblems: &[Subproblem],
+) -> Result<Value, AllocError>
+    ensures { IfOk result (λ v. view v ≡ joint_document refusal subproblems.now) }
 {
-    let detail = refusal_detail(number);
-    let status = refusal_status(number);
+    let detail = refusal.detail();
+    let status = refusal.status();
     let subproblems = subproblem_list(alloc, subproblems)?;
-    let kind = error_type(alloc, number)?;
+    let kind = error_type(alloc, refusal)?;
     json!(in alloc; {"detail": detail, "status": status, "subproblems": subproblems, "type": kind})
 }
 
@@ -70,16 +73,16 @@ fn subproblem_list(alloc: Global, subproblems: &[Subproblem]) -> Result<Value, A
 fn subproblem_document(alloc: Global, subproblem: &Subproblem) -> Result<Value, AllocError>
     ensures { IfOk result (λ v. view v ≡ subproblem_document subproblem.now) }
 {
-    let detail = refusal_detail(subproblem.number);
+    let detail = subproblem.refusal.detail();
     let kind = subproblem.kind.as_str();
     let value = subproblem.value.as_str();
-    let error = error_type(alloc, subproblem.number)?;
+    let error = error_type(alloc, subproblem.refusal)?;
     json!(in alloc; {"detail": detail, "identifier": {"type": kind, "value": value}, "type": error})
 }
 
 // The error type of a refusal (RFC 8555, 6.7).
-fn error_type(alloc: Global, number: u8) -> Result<String, AllocError>
-    ensures { IfOk result (λ s. string_bytes s ≡ error_type (refusal_of number).name) }
+fn error_type(alloc: Global, refusal: Refusal) -> Result<String, AllocError>
+    ensures { IfOk result (λ s. string_bytes s ≡ error_type refusal) }
 {
-    format!(in alloc; "urn:ietf:params:acme:error:{}", refusal_name(number))
+    format!(in alloc; "urn:ietf:params:acme:error:{}", refusal.error_type())
 }

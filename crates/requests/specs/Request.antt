@@ -1,6 +1,8 @@
 -- What a request asks, by its method, its path and its body.
 use Rattle.std.specs.Prelude.{◌≡◌, ℕ, Bool, true, false, ◌&&◌, List, [], codes, bytes_eq, Option, Some, None, option_map}
+use Rattle.desk_model.specs.declared.refusal.Refusal.{Refusal}
 use Rattle.desk_model.specs.Refusals.{refusal_of}
+use Rattle.desk_model.specs.declared.refusal.Refusal.TheVariants as refusal
 use Rattle.desk_model.specs.declared.call.Ask.{Ask}
 use Rattle.desk_model.specs.declared.call.Ask.TheVariants as ask
 use Rattle.desk_model.specs.declared.call.Signed.{Signed}
@@ -56,14 +58,14 @@ IsAskOf (resource.Office o) method text asked = asked ≡ office_ask o text
 -- ---- requests
 
 -- the reply to a request that is no call: nothing is recorded, and there is no nonce
-abbrev pub refused_request : ℕ → Allow → Bool → Reply
-refused_request number methods index =
+abbrev pub refused_request : Refusal → Allow → Bool → Reply
+refused_request why methods index =
     record {
-      status = (refusal_of number).status;
+      status = (refusal_of why).status;
       location = None;
       up = None;
       nonce = None;
-      body = body.Problem (record { number = number; subproblems = []; allow = methods; index = index });
+      body = body.Problem (record { refusal = why; subproblems = []; allow = methods; index = index });
     }
 
 -- a method and a path of visible characters
@@ -74,10 +76,10 @@ are_visible method path = is_visible method && is_visible path
 pub data IsRequest (method path text : List ℕ) : Request → Type 0 where
   asked : (r : Resource) (what : Ask) → are_visible method path ≡ true → IsResourceAt path r → serves (methods_of r) method ≡ true
       → IsAskOf r method text (Some what) → IsRequest method path text (request.Asks what)
-  ill_formed : are_visible method path ≡ false → IsRequest method path text (request.Refused (refused_request 1 allow.No true))
+  ill_formed : are_visible method path ≡ false → IsRequest method path text (request.Refused (refused_request refusal.Malformed allow.No true))
   not_here : are_visible method path ≡ true → ((r : Resource) → IsResourceAt path r → ⊥)
-      → IsRequest method path text (request.Refused (refused_request 2 allow.No (has_index path)))
+      → IsRequest method path text (request.Refused (refused_request refusal.NotFound allow.No (has_index path)))
   not_served : (r : Resource) → are_visible method path ≡ true → IsResourceAt path r → serves (methods_of r) method ≡ false
-      → IsRequest method path text (request.Refused (refused_request 3 (methods_of r) (has_index path)))
+      → IsRequest method path text (request.Refused (refused_request refusal.MethodNotAllowed (methods_of r) (has_index path)))
   unread : (r : Resource) → are_visible method path ≡ true → IsResourceAt path r → serves (methods_of r) method ≡ true
-      → IsAskOf r method text None → IsRequest method path text (request.Refused (refused_request 1 allow.No (has_index path)))
+      → IsAskOf r method text None → IsRequest method path text (request.Refused (refused_request refusal.Malformed allow.No (has_index path)))

@@ -7,8 +7,7 @@ use crate::offices::{finding, order_problem};
 use crate::routes::{
     OfficeResource, Resource, has_index, is_visible, methods_of, resource_at, serves,
 };
-use desk_model::{Allow, Ask, Body, Problem, Reply, Sequence, Target};
-use refusals::refusal_status;
+use desk_model::{Allow, Ask, Body, Problem, Refusal, Reply, Sequence, Target};
 use std::alloc::{AllocError, Global};
 
 /// What a request asks, or the refusal of one that is no call.
@@ -32,19 +31,19 @@ pub fn read_request(
     ensures { IfOk result (λ r. IsRequest method.now path.now body.now r) }
 {
     if !are_visible(method, path) {
-        return Ok(refused(alloc, 1, Allow::No, true));
+        return Ok(refused(alloc, Refusal::Malformed, Allow::No, true));
     }
     let index = has_index(path);
     let Some(resource) = resource_at(path) else {
-        return Ok(refused(alloc, 2, Allow::No, index));
+        return Ok(refused(alloc, Refusal::NotFound, Allow::No, index));
     };
     let methods = methods_of(resource);
     if !serves(methods, method) {
-        return Ok(refused(alloc, 3, methods, index));
+        return Ok(refused(alloc, Refusal::MethodNotAllowed, methods, index));
     }
     match ask_of(alloc, resource, method, body)? {
         Some(ask) => Ok(Request::Asks(ask)),
-        None => Ok(refused(alloc, 1, Allow::No, index)),
+        None => Ok(refused(alloc, Refusal::Malformed, Allow::No, index)),
     }
 }
 
@@ -135,16 +134,16 @@ fn fail_ask(alloc: Global, order: u64, body: &str) -> Result<Option<Ask>, AllocE
 }
 
 // The refusal of a request that is no call.
-fn refused(alloc: Global, number: u8, allow: Allow, index: bool) -> Request
-    ensures { result ≡ Request.Refused (refused_request number allow index) }
+fn refused(alloc: Global, refusal: Refusal, allow: Allow, index: bool) -> Request
+    ensures { result ≡ Request.Refused (refused_request refusal allow index) }
 {
     Request::Refused(Reply {
-        status: refusal_status(number),
+        status: refusal.status(),
         location: None,
         up: None,
         nonce: None,
         body: Body::Problem(Problem {
-            number,
+            refusal,
             subproblems: Sequence::new(Vec::new(alloc)),
             allow,
             index,

@@ -37,7 +37,11 @@ fn faults_by_kind(alloc: Global, book: &Book) -> Result<Vec<StatusFault>, AllocE
     let mut faults = Vec::new(alloc);
     push_accounts(&mut faults, book.accounts())?;
     push_orders(&mut faults, alloc, book)?;
-    push_authorizations(&mut faults, book.meta().clock.moment(), book.authorizations())?;
+    push_authorizations(
+        &mut faults,
+        book.meta().clock.moment(),
+        book.authorizations(),
+    )?;
     let mut challenges = challenges_by_number(alloc, book.authorizations())?;
     faults.append(&mut challenges)?;
     Ok(faults)

@@ -14,5 +14,5 @@ pub returns-else-is_empty : goal.returns-else-is_empty
 returns-else-is_empty c =
     let some : c.args.problem.now.subproblems ≡ [] → ⊥ = grind (arith, common_steps) in
     IfOk-weaker c.joint_problem.result _ _
-    (λ v h. h ∙ ap (λ l. joint_document c.args.problem.now.number l) c.as_slice-subproblems.ensures ∙ joint-problem c.args.problem.now some)
+    (λ v h. h ∙ ap (λ l. joint_document c.args.problem.now.refusal l) c.as_slice-subproblems.ensures ∙ joint-problem c.args.problem.now some)
     c.joint_problem.ensures
