@@ -230,7 +230,7 @@ orders_end (e ∷ F) h = each-append _ (orders F) (ordered_now e F) (orders_end 
     more _ xs = tt
 
 -- what holds of each item holds of those that are left
-each-filter : {X : Type 0} (P : X → Type 0) (test : X → Bool) (xs : List X) → EachOf P xs → EachOf P (filter test xs)
+pub each-filter : {X : Type 0} (P : X → Type 0) (test : X → Bool) (xs : List X) → EachOf P xs → EachOf P (filter test xs)
 each-filter P test [] h = tt
 each-filter P test (x ∷ xs) h = by (test x) (each-filter P test xs h.1)
   where

@@ -39,7 +39,7 @@ still_kept number P x rows xs above h =
     (each_both (λ y. number x < number y) (λ y. IfSome (find (λ z. number z == number y) rows) (λ z. P z y)) xs above h)
 
 -- what holds of two lists, one behind the other
-each_parts : {X : Type 0} (P : X → Type 0) (xs ys : List X) → EachOf P (xs ++ ys) → EachOf P xs × EachOf P ys
+pub each_parts : {X : Type 0} (P : X → Type 0) (xs ys : List X) → EachOf P (xs ++ ys) → EachOf P xs × EachOf P ys
 each_parts P [] ys h = (tt, h)
 each_parts P (x ∷ xs) ys h = let rest = each_parts P xs ys h.1 in ((h.0, rest.0), rest.1)
 

@@ -1,9 +1,12 @@
 pub mod AllowedFacts
 pub mod Basics
+pub mod Beginnings
 pub mod Chain
+pub mod Dates
 pub mod Differing
 pub mod Faults
 pub mod Finds
+pub mod Forms
 pub mod Fresh
 pub mod Keeps
 pub mod KeptInOrder
@@ -17,6 +20,7 @@ pub mod Plain
 pub mod PutsDiffer
 pub mod ReadRows
 pub mod Recorded
+pub mod References
 pub mod RowFacts
 pub mod RowLists
 pub mod Step

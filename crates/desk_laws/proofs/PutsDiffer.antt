@@ -117,12 +117,12 @@ challenge_numbers e m (c ∷ cs) = λ i. challenge_number e m c i ∷ challenge_
 -- ---- the changes of an entry
 
 -- what holds of each change of an entry
-each_change : (P : Change → Type 0) (T : Tables) (m : ℕ) (e : Entry) → P (PutMeta (effect m T e).meta) → ((n : ℕ) → P (RemoveNonce n)) →
+pub each_change : (P : Change → Type 0) (T : Tables) (m : ℕ) (e : Entry) → P (PutMeta (effect m T e).meta) → EachOf (λ n. P (RemoveNonce n)) (spent_by e) →
     EachOf (λ x. P (PutNonce x)) (nonces_put T e m) → EachOf (λ x. P (PutAccount x)) (accounts_put T e m) →
     EachOf (λ x. P (PutAuthorization x)) (authorizations_put T e m) → EachOf (λ x. P (PutOrder x)) (orders_put T e m) → EachOf P (changes m T e)
 each_change P T m e meta removed nonces accounts authorizations orders = (
   meta,
-  each-append P (map RemoveNonce (spent_by e)) _ (each-map P RemoveNonce (spent_by e) (each_all _ (spent_by e) removed))
+  each-append P (map RemoveNonce (spent_by e)) _ (each-map P RemoveNonce (spent_by e) removed)
       (each-append P (map PutNonce (nonces_put T e m)) _ (each-map P PutNonce (nonces_put T e m) nonces)
       (each-append P (map PutAccount (accounts_put T e m)) _ (each-map P PutAccount (accounts_put T e m) accounts)
       (each-append P (map PutAuthorization (authorizations_put T e m)) _ (each-map P PutAuthorization (authorizations_put T e m) authorizations)
@@ -171,13 +171,13 @@ orders_differ T m e h =
 -- what an entry puts differs from what stands there
 pub puts_differ : (T : Tables) (m : ℕ) (e : Entry) → IsOrdered T → EachOf (IsNews T) (changes m T e)
 puts_differ T m e h =
-    each_change (IsNews T) T m e tt (λ n. tt) (nonces_differ T m e T.nonces h.nonces.1) (accounts_differ T m e h) (authorizations_differ T m e h)
+    each_change (IsNews T) T m e tt (each_all _ (spent_by e) (λ n. tt)) (nonces_differ T m e T.nonces h.nonces.1) (accounts_differ T m e h) (authorizations_differ T m e h)
     (orders_differ T m e h)
 
 -- what an entry puts keeps the children of what stands there
 pub puts_keep_children : (T : Tables) (m : ℕ) (e : Entry) → IsOrdered T → EachOf (KeepsChildren T) (changes m T e)
 puts_keep_children T m e h =
-    each_change (KeepsChildren T) T m e tt (λ n. tt) (each_all _ (nonces_put T e m) (λ x. tt)) (each_all _ (accounts_put T e m) (λ x. tt))
+    each_change (KeepsChildren T) T m e tt (each_all _ (spent_by e) (λ n. tt)) (each_all _ (nonces_put T e m) (λ x. tt)) (each_all _ (accounts_put T e m) (λ x. tt))
     (each_put (λ a. a.number) (touches_authorization e) authorization_differs
     (λ r. restated_authorization m (noted_authorization e m r)) T.meta.authorizations T.authorizations _ _
     (λ x d.
@@ -194,12 +194,12 @@ puts_keep_children T m e h =
 -- ---- the changes of a sweep
 
 -- what holds of each change of a sweep
-each_sweep : (P : Change → Type 0) (T : Tables) (m : ℕ) → P (PutMeta (swept m T).meta) → ((n : ℕ) → P (RemoveNonce n)) →
+pub each_sweep : (P : Change → Type 0) (T : Tables) (m : ℕ) → P (PutMeta (swept m T).meta) → EachOf (λ n. P (RemoveNonce n)) (nonces_gone m T) →
     EachOf (λ x. P (PutAuthorization x)) (authorizations_expired m T) → EachOf (λ x. P (PutOrder x)) (orders_fallen m T) →
     EachOf P (sweep_changes m T)
 each_sweep P T m meta removed authorizations orders = (
   meta,
-  each-append P (map RemoveNonce (nonces_gone m T)) _ (each-map P RemoveNonce (nonces_gone m T) (each_all _ (nonces_gone m T) removed))
+  each-append P (map RemoveNonce (nonces_gone m T)) _ (each-map P RemoveNonce (nonces_gone m T) removed)
       (each-append P (map PutAuthorization (authorizations_expired m T)) _ (each-map P PutAuthorization (authorizations_expired m T) authorizations)
       (each-map P PutOrder (orders_fallen m T) orders)),
 )
@@ -235,12 +235,12 @@ fallen_differ T m h =
 
 -- what a sweep puts differs from what stands there
 pub swept_puts_differ : (T : Tables) (m : ℕ) → IsOrdered T → EachOf (IsNews T) (sweep_changes m T)
-swept_puts_differ T m h = each_sweep (IsNews T) T m tt (λ n. tt) (expired_differ T m h) (fallen_differ T m h)
+swept_puts_differ T m h = each_sweep (IsNews T) T m tt (each_all _ (nonces_gone m T) (λ n. tt)) (expired_differ T m h) (fallen_differ T m h)
 
 -- what a sweep puts keeps the children of what stands there
 pub swept_puts_keep_children : (T : Tables) (m : ℕ) → IsOrdered T → EachOf (KeepsChildren T) (sweep_changes m T)
 swept_puts_keep_children T m h =
-    each_sweep (KeepsChildren T) T m tt (λ n. tt)
+    each_sweep (KeepsChildren T) T m tt (each_all _ (nonces_gone m T) (λ n. tt))
     (each_moved (λ a. a.number) (is_overdue m) (λ (r : AuthorizationRow). record r { status = authz.Expired }) T.authorizations _
     (λ x picked. of_standing (λ a. a.number) T.authorizations x (record x { status = authz.Expired }) _ refl refl)
     T.authorizations (ascends_found (λ a. a.number) 1 T.authorizations h.authorizations.0))

@@ -72,7 +72,7 @@ putting_orders (x ∷ xs) T = putting_orders xs (applied_one (PutOrder x) T)
 -- ---- tables in order
 
 -- numbers that count up are below their end
-numbered_below : {X : Type 0} (number : X → ℕ) (n k : ℕ) (xs : List X) → k ≡ n + length xs → IsNumbered number n xs → Below number k xs
+pub numbered_below : {X : Type 0} (number : X → ℕ) (n k : ℕ) (xs : List X) → k ≡ n + length xs → IsNumbered number n xs → Below number k xs
 numbered_below number n k [] e h = tt
 numbered_below number n k (x ∷ xs) e h = ((let same : number x ≡ n = h.0 in omega arith), numbered_below number (n + 1) k xs (omega arith) h.1)
 

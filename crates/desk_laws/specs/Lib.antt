@@ -1,4 +1,5 @@
 pub mod ChangeLaws
+pub mod DateLaws
 pub mod Distinct
 pub mod Given
 pub mod Later

@@ -2,6 +2,7 @@
 #![tactic(auto)]
 
 ghost use Rattle.desk_laws.specs.ChangeLaws.{TablesAreOrdered, ChallengesAreOrdered, SweepKeepsChildren, EntryKeepsChildren, SweepIsMade, EffectIsMade, PicturesAreMade, SweepPutsDiffer, EntryPutsDiffer, RecordsPutNews, RecordsKeepChildren};
+ghost use Rattle.desk_laws.specs.DateLaws.{ClockIsInTime, NoDateIsLater};
 ghost use Rattle.desk_laws.specs.LegalLaws.{OnlyGivenAreNamed, ReportedOnce, ProvedByReports, KeysDiffer, NumbersFitCounters, CountersFitNumbers, TermsAreInLimits, AllEndInTime, KeysAreFormed, NamesAreFormed};
 ghost use Rattle.desk_laws.specs.PartLaws.{FindsAreLocal, FiltersAreLocal, MayFollowIsLocal, PartsAreSwept, PartsHaveEffect, PartsHaveEffects, SweepChangesAreLocal, ChangesAreLocal, PartsRecord};
 ghost use Rattle.desk_laws.specs.TableLaws.{TablesAreSwept, EntryHasEffect, EntriesHaveEffects, PicturesGrow, TablesHaveNoFaults, TablesSayWhatMayFollow, LegalGrows};
@@ -66,4 +67,6 @@ pub fn legal_histories_keep()
     ensures ends { AllEndInTime }
     ensures keys { KeysAreFormed }
     ensures names { NamesAreFormed }
+    ensures dates { NoDateIsLater }
+    ensures clock { ClockIsInTime }
 {}

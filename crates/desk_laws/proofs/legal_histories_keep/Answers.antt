@@ -1,3 +1,4 @@
+use Rattle.desk_laws.proofs.Dates.{clock_in_time, no_date_later}
 use Rattle.desk_laws.proofs.Keeps.{reported_once, row_keys_differ, counters_fit, numbers_fit_counters, terms_in_limits, all_end, row_keys_formed, row_names_formed}
 use Rattle.desk_laws.proofs.Numbers.{all_named}
 use Rattle.desk_laws.proofs.RowFacts.{proved_by}
@@ -32,3 +33,9 @@ returns-clause-keys c = row_keys_formed
 
 pub returns-clause-names : goal.returns-clause-names
 returns-clause-names c = row_names_formed
+
+pub returns-clause-dates : goal.returns-clause-dates
+returns-clause-dates c = no_date_later
+
+pub returns-clause-clock : goal.returns-clause-clock
+returns-clause-clock c = clock_in_time
