@@ -1,0 +1,4 @@
+pub mod Books
+pub mod Columns
+pub mod Records
+pub mod Rows

@@ -1,0 +1,3 @@
+pub mod InLimits
+pub mod Laws
+pub mod Told
