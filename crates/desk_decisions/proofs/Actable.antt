@@ -68,12 +68,12 @@ choose_actable M false v w h k = k
 
 -- an account that is opened
 open_actable : (T : Tables) (key : List ℕ) (p : NewAccount) → IsActable T.meta (open_account T key p)
-open_actable T key p = check_actable T.meta (not p.only_existing) 6 _ (fault_actable T.meta (contacts_fault p.contacts) _ refl)
+open_actable T key p = check_actable T.meta (not p.only_existing) refusal.AccountDoesNotExist _ (fault_actable T.meta (contacts_fault p.contacts) _ refl)
 
 -- newAccount
 new_account_actable : (T : Tables) (key : List ℕ) (o : Option AccountRow) (p : Option NewAccount) → IsActable T.meta (new_account_verdict T key o p)
-new_account_actable T key (Some a) p = check_actable T.meta (is_valid_account a.status) 7 _ (given_actable T.meta p 1 _ (λ _. tt))
-new_account_actable T key None p = given_actable T.meta p 1 _ (open_actable T key)
+new_account_actable T key (Some a) p = check_actable T.meta (is_valid_account a.status) refusal.Unauthorized _ (given_actable T.meta p refusal.Malformed _ (λ _. tt))
+new_account_actable T key None p = given_actable T.meta p refusal.Malformed _ (open_actable T key)
 
 -- a change of an account
 account_actable : (M : Meta) (n : ℕ) (p : AccountChange) → IsActable M (account_verdict n p)
@@ -91,11 +91,11 @@ order_actable T r n ids [] = refl
 
 -- newOrder
 new_order_actable : (T : Tables) (r : List ℕ) (n : ℕ) (ids : List Identifier) → IsActable T.meta (new_order_verdict T r n ids)
-new_order_actable T r n ids = check_actable T.meta (has_length 1 50 ids) 1 _ (order_actable T r n ids (subproblems ids))
+new_order_actable T r n ids = check_actable T.meta (has_length 1 50 ids) refusal.Malformed _ (order_actable T r n ids (subproblems ids))
 
 -- an order that is finalized
 finalize_actable : (M : Meta) (n : ℕ) (o : OrderRow) (text : List ℕ) → IsActable M (finalize_verdict n o text)
-finalize_actable M n o text = check_actable M (is_ready o.status) 12 _ (given_actable M (csr_in text) 13 _ (λ _. tt))
+finalize_actable M n o text = check_actable M (is_ready o.status) refusal.OrderNotReady _ (given_actable M (csr_in text) refusal.BadCsr _ (λ _. tt))
 
 -- ---- authorizations and challenges
 
@@ -114,18 +114,18 @@ challenge_actable M n a chall_change.Answer = choose_actable M (stands_open (λ 
 -- a request of an account
 target_actable : (T : Tables) (r : List ℕ) (n : ℕ) (p : List ℕ) (t : Target) → IsActable T.meta (target_verdict T r n p t)
 target_actable T r n p to.NewAccount = tt
-target_actable T r n p to.NewOrder = given_actable T.meta _ 1 _ (new_order_actable T r n)
-target_actable T r n p (to.Account k) = check_actable T.meta _ 2 _ (given_actable T.meta _ 1 _ (account_actable T.meta n))
-target_actable T r n p (to.Orders k) = check_actable T.meta _ 2 _ (check_actable T.meta _ 1 _ tt)
-target_actable T r n p (to.Order k) = given_actable T.meta _ 2 _ (λ o. check_actable T.meta _ 1 _ tt)
-target_actable T r n p (to.Finalize k) = given_actable T.meta _ 2 _ (λ o. given_actable T.meta _ 1 _ (finalize_actable T.meta k o))
-target_actable T r n p (to.Cert k) = given_actable T.meta _ 2 _ (λ o. check_actable T.meta _ 1 _ (given_actable T.meta _ 2 _ (λ _. tt)))
-target_actable T r n p (to.Authz k) = given_actable T.meta _ 2 _ (λ a. given_actable T.meta _ 1 _ (authorization_actable T.meta k a))
-target_actable T r n p (to.Chall k) = given_actable T.meta _ 2 _ (λ a. given_actable T.meta _ 1 _ (challenge_actable T.meta k a))
+target_actable T r n p to.NewOrder = given_actable T.meta _ refusal.Malformed _ (new_order_actable T r n)
+target_actable T r n p (to.Account k) = check_actable T.meta _ refusal.NotFound _ (given_actable T.meta _ refusal.Malformed _ (account_actable T.meta n))
+target_actable T r n p (to.Orders k) = check_actable T.meta _ refusal.NotFound _ (check_actable T.meta _ refusal.Malformed _ tt)
+target_actable T r n p (to.Order k) = given_actable T.meta _ refusal.NotFound _ (λ o. check_actable T.meta _ refusal.Malformed _ tt)
+target_actable T r n p (to.Finalize k) = given_actable T.meta _ refusal.NotFound _ (λ o. given_actable T.meta _ refusal.Malformed _ (finalize_actable T.meta k o))
+target_actable T r n p (to.Cert k) = given_actable T.meta _ refusal.NotFound _ (λ o. check_actable T.meta _ refusal.Malformed _ (given_actable T.meta _ refusal.NotFound _ (λ _. tt)))
+target_actable T r n p (to.Authz k) = given_actable T.meta _ refusal.NotFound _ (λ a. given_actable T.meta _ refusal.Malformed _ (authorization_actable T.meta k a))
+target_actable T r n p (to.Chall k) = given_actable T.meta _ refusal.NotFound _ (λ a. given_actable T.meta _ refusal.Malformed _ (challenge_actable T.meta k a))
 
 -- a request of a key that has an account
 holder_actable : (T : Tables) (r p : List ℕ) (t : Target) (o : Option AccountRow) → IsActable T.meta (holder_verdict T r p t o)
-holder_actable T r p t o = given_actable T.meta o 6 _ (λ a. check_actable T.meta _ 7 _ (target_actable T r a.number p t))
+holder_actable T r p t o = given_actable T.meta o refusal.AccountDoesNotExist _ (λ a. check_actable T.meta _ refusal.Unauthorized _ (target_actable T r a.number p t))
 
 -- a request of a key
 key_actable : (T : Tables) (r key p : List ℕ) (t : Target) → IsActable T.meta (key_verdict T r key p t)
@@ -145,31 +145,31 @@ signed_actable T r s = by s.key
 -- a report on a challenge
 outcome_actable : (M : Meta) (n : ℕ) (a : AuthorizationRow) (c : ChallengeRow) (outcome : Outcome) → IsActable M (outcome_verdict n a c outcome)
 outcome_actable M n a c outcome =
-    choose_actable M _ _ _ tt (check_actable M (stands_open (λ c. is_processing_challenge c.status) a n) 14 _ tt)
+    choose_actable M _ _ _ tt (check_actable M (stands_open (λ c. is_processing_challenge c.status) a n) refusal.Conflict _ tt)
 
 -- a report
 report_actable : (T : Tables) (n : ℕ) (finding : Finding) → IsActable T.meta (report_verdict T n finding)
 report_actable T n finding =
-    given_actable T.meta _ 2 _ (λ a. given_actable T.meta _ 2 _ (λ c. given_actable T.meta _ 1 _ (outcome_actable T.meta n a c)))
+    given_actable T.meta _ refusal.NotFound _ (λ a. given_actable T.meta _ refusal.NotFound _ (λ c. given_actable T.meta _ refusal.Malformed _ (outcome_actable T.meta n a c)))
 
 -- a certificate
 certify_actable : (M : Meta) (n : ℕ) (bytes : List ℕ) (o : OrderRow) → IsActable M (certify_verdict n bytes o)
 certify_actable M n bytes o =
-    check_actable M (nat_le 1 (length bytes)) 1 _
-    (check_actable M (nat_le (length bytes) 65536) 16 _ (choose_actable M _ _ _ tt (check_actable M (is_processing o.status) 14 _ tt)))
+    check_actable M (nat_le 1 (length bytes)) refusal.Malformed _
+    (check_actable M (nat_le (length bytes) 65536) refusal.TooLarge _ (choose_actable M _ _ _ tt (check_actable M (is_processing o.status) refusal.Conflict _ tt)))
 
 -- a failure
 fail_actable : (M : Meta) (n : ℕ) (problem : OrderProblem) (o : OrderRow) → IsActable M (fail_verdict n problem o)
 fail_actable M n problem o =
-    check_actable M (is_problem problem) 1 _ (choose_actable M _ _ _ tt (check_actable M (is_processing o.status) 14 _ tt))
+    check_actable M (is_problem problem) refusal.Malformed _ (choose_actable M _ _ _ tt (check_actable M (is_processing o.status) refusal.Conflict _ tt))
 
 -- the operator takes back an authorization
 revoke_authorization_actable : (M : Meta) (n : ℕ) (a : AuthorizationRow) → IsActable M (revoke_authorization n a)
-revoke_authorization_actable M n a = choose_actable M _ _ _ tt (check_actable M (is_endable a) 14 _ tt)
+revoke_authorization_actable M n a = choose_actable M _ _ _ tt (check_actable M (is_endable a) refusal.Conflict _ tt)
 
 -- the operator ends an account
 revoke_account_actable : (M : Meta) (n : ℕ) (a : AccountRow) → IsActable M (revoke_account n a)
-revoke_account_actable M n a = choose_actable M _ _ _ tt (check_actable M (is_valid_account a.status) 14 _ tt)
+revoke_account_actable M n a = choose_actable M _ _ _ tt (check_actable M (is_valid_account a.status) refusal.Conflict _ tt)
 
 -- an ask that carries no nonce
 pub office_actable : (T : Tables) (a : Ask) → IsActable T.meta (office_verdict T a)
@@ -177,10 +177,10 @@ office_actable T ask.Directory = tt
 office_actable T (ask.NewNonce head) = tt
 office_actable T (ask.Signed s) = tt
 office_actable T (ask.Report n finding) = report_actable T n finding
-office_actable T (ask.Certify n bytes) = given_actable T.meta _ 2 _ (certify_actable T.meta n bytes)
-office_actable T (ask.FailOrder n problem) = given_actable T.meta _ 2 _ (fail_actable T.meta n problem)
-office_actable T (ask.RevokeAuthz n) = given_actable T.meta _ 2 _ (revoke_authorization_actable T.meta n)
-office_actable T (ask.RevokeAccount n) = given_actable T.meta _ 2 _ (revoke_account_actable T.meta n)
+office_actable T (ask.Certify n bytes) = given_actable T.meta _ refusal.NotFound _ (certify_actable T.meta n bytes)
+office_actable T (ask.FailOrder n problem) = given_actable T.meta _ refusal.NotFound _ (fail_actable T.meta n problem)
+office_actable T (ask.RevokeAuthz n) = given_actable T.meta _ refusal.NotFound _ (revoke_authorization_actable T.meta n)
+office_actable T (ask.RevokeAccount n) = given_actable T.meta _ refusal.NotFound _ (revoke_account_actable T.meta n)
 office_actable T ask.ChallengeWork = tt
 office_actable T ask.OrderWork = tt
-office_actable T (ask.KeyOf n) = given_actable T.meta _ 2 _ (λ _. tt)
+office_actable T (ask.KeyOf n) = given_actable T.meta _ refusal.NotFound _ (λ _. tt)

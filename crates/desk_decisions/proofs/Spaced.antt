@@ -76,12 +76,12 @@ choose_keeps P false v w h k = k
 
 -- an account that is opened
 open_spaced : (T : Tables) (key : List ℕ) (p : NewAccount) → IsSpaced (open_account T key p)
-open_spaced T key p = check_keeps IsSpaced (not p.only_existing) 6 _ tt (fault_keeps IsSpaced (contacts_fault p.contacts) _ (λ _. tt) tt)
+open_spaced T key p = check_keeps IsSpaced (not p.only_existing) refusal.AccountDoesNotExist _ tt (fault_keeps IsSpaced (contacts_fault p.contacts) _ (λ _. tt) tt)
 
 -- newAccount
 new_account_spaced : (T : Tables) (key : List ℕ) (o : Option AccountRow) (p : Option NewAccount) → IsSpaced (new_account_verdict T key o p)
-new_account_spaced T key (Some a) p = check_keeps IsSpaced (is_valid_account a.status) 7 _ tt (given_keeps IsSpaced p 1 _ tt (λ _. tt))
-new_account_spaced T key None p = given_keeps IsSpaced p 1 _ tt (open_spaced T key)
+new_account_spaced T key (Some a) p = check_keeps IsSpaced (is_valid_account a.status) refusal.Unauthorized _ tt (given_keeps IsSpaced p refusal.Malformed _ tt (λ _. tt))
+new_account_spaced T key None p = given_keeps IsSpaced p refusal.Malformed _ tt (open_spaced T key)
 
 -- a change of an account
 account_spaced : (n : ℕ) (p : AccountChange) → IsSpaced (account_verdict n p)
@@ -102,11 +102,11 @@ order_spaced T r n ids [] = wanted_spaced (kept (names_in ids)) r
 
 -- newOrder
 new_order_spaced : (T : Tables) (r : List ℕ) (n : ℕ) (ids : List Identifier) → IsSpaced (new_order_verdict T r n ids)
-new_order_spaced T r n ids = check_keeps IsSpaced (has_length 1 50 ids) 1 _ tt (order_spaced T r n ids (subproblems ids))
+new_order_spaced T r n ids = check_keeps IsSpaced (has_length 1 50 ids) refusal.Malformed _ tt (order_spaced T r n ids (subproblems ids))
 
 -- an order that is finalized
 finalize_spaced : (n : ℕ) (o : OrderRow) (text : List ℕ) → IsSpaced (finalize_verdict n o text)
-finalize_spaced n o text = check_keeps IsSpaced (is_ready o.status) 12 _ tt (given_keeps IsSpaced (csr_in text) 13 _ tt (λ _. tt))
+finalize_spaced n o text = check_keeps IsSpaced (is_ready o.status) refusal.OrderNotReady _ tt (given_keeps IsSpaced (csr_in text) refusal.BadCsr _ tt (λ _. tt))
 
 -- an authorization that is ended
 authorization_spaced : (n : ℕ) (a : AuthorizationRow) (p : AuthorizationChange) → IsSpaced (authorization_verdict n a p)
@@ -121,18 +121,18 @@ challenge_spaced n a chall_change.Answer = choose_keeps IsSpaced (stands_open (�
 -- a request of an account
 target_spaced : (T : Tables) (r : List ℕ) (n : ℕ) (p : List ℕ) (t : Target) → IsSpaced (target_verdict T r n p t)
 target_spaced T r n p to.NewAccount = tt
-target_spaced T r n p to.NewOrder = given_keeps IsSpaced _ 1 _ tt (new_order_spaced T r n)
-target_spaced T r n p (to.Account k) = check_keeps IsSpaced _ 2 _ tt (given_keeps IsSpaced _ 1 _ tt (account_spaced n))
-target_spaced T r n p (to.Orders k) = check_keeps IsSpaced _ 2 _ tt (check_keeps IsSpaced _ 1 _ tt tt)
-target_spaced T r n p (to.Order k) = given_keeps IsSpaced _ 2 _ tt (λ o. check_keeps IsSpaced _ 1 _ tt tt)
-target_spaced T r n p (to.Finalize k) = given_keeps IsSpaced _ 2 _ tt (λ o. given_keeps IsSpaced _ 1 _ tt (finalize_spaced k o))
-target_spaced T r n p (to.Cert k) = given_keeps IsSpaced _ 2 _ tt (λ o. check_keeps IsSpaced _ 1 _ tt (given_keeps IsSpaced _ 2 _ tt (λ _. tt)))
-target_spaced T r n p (to.Authz k) = given_keeps IsSpaced _ 2 _ tt (λ a. given_keeps IsSpaced _ 1 _ tt (authorization_spaced k a))
-target_spaced T r n p (to.Chall k) = given_keeps IsSpaced _ 2 _ tt (λ a. given_keeps IsSpaced _ 1 _ tt (challenge_spaced k a))
+target_spaced T r n p to.NewOrder = given_keeps IsSpaced _ refusal.Malformed _ tt (new_order_spaced T r n)
+target_spaced T r n p (to.Account k) = check_keeps IsSpaced _ refusal.NotFound _ tt (given_keeps IsSpaced _ refusal.Malformed _ tt (account_spaced n))
+target_spaced T r n p (to.Orders k) = check_keeps IsSpaced _ refusal.NotFound _ tt (check_keeps IsSpaced _ refusal.Malformed _ tt tt)
+target_spaced T r n p (to.Order k) = given_keeps IsSpaced _ refusal.NotFound _ tt (λ o. check_keeps IsSpaced _ refusal.Malformed _ tt tt)
+target_spaced T r n p (to.Finalize k) = given_keeps IsSpaced _ refusal.NotFound _ tt (λ o. given_keeps IsSpaced _ refusal.Malformed _ tt (finalize_spaced k o))
+target_spaced T r n p (to.Cert k) = given_keeps IsSpaced _ refusal.NotFound _ tt (λ o. check_keeps IsSpaced _ refusal.Malformed _ tt (given_keeps IsSpaced _ refusal.NotFound _ tt (λ _. tt)))
+target_spaced T r n p (to.Authz k) = given_keeps IsSpaced _ refusal.NotFound _ tt (λ a. given_keeps IsSpaced _ refusal.Malformed _ tt (authorization_spaced k a))
+target_spaced T r n p (to.Chall k) = given_keeps IsSpaced _ refusal.NotFound _ tt (λ a. given_keeps IsSpaced _ refusal.Malformed _ tt (challenge_spaced k a))
 
 -- a request of a key that has an account
 holder_spaced : (T : Tables) (r p : List ℕ) (t : Target) (o : Option AccountRow) → IsSpaced (holder_verdict T r p t o)
-holder_spaced T r p t o = given_keeps IsSpaced o 6 _ tt (λ a. check_keeps IsSpaced _ 7 _ tt (target_spaced T r a.number p t))
+holder_spaced T r p t o = given_keeps IsSpaced o refusal.AccountDoesNotExist _ tt (λ a. check_keeps IsSpaced _ refusal.Unauthorized _ tt (target_spaced T r a.number p t))
 
 -- a request of a key
 key_spaced : (T : Tables) (r key p : List ℕ) (t : Target) → IsSpaced (key_verdict T r key p t)
@@ -157,31 +157,31 @@ IsQuiet (accepted entry what) = MakesNone entry
 -- a report on a challenge
 outcome_quiet : (n : ℕ) (a : AuthorizationRow) (c : ChallengeRow) (outcome : Outcome) → IsQuiet (outcome_verdict n a c outcome)
 outcome_quiet n a c outcome =
-    choose_keeps IsQuiet _ _ _ tt (check_keeps IsQuiet (stands_open (λ c. is_processing_challenge c.status) a n) 14 _ tt tt)
+    choose_keeps IsQuiet _ _ _ tt (check_keeps IsQuiet (stands_open (λ c. is_processing_challenge c.status) a n) refusal.Conflict _ tt tt)
 
 -- a report
 report_quiet : (T : Tables) (n : ℕ) (finding : Finding) → IsQuiet (report_verdict T n finding)
 report_quiet T n finding =
-    given_keeps IsQuiet _ 2 _ tt (λ a. given_keeps IsQuiet _ 2 _ tt (λ c. given_keeps IsQuiet _ 1 _ tt (outcome_quiet n a c)))
+    given_keeps IsQuiet _ refusal.NotFound _ tt (λ a. given_keeps IsQuiet _ refusal.NotFound _ tt (λ c. given_keeps IsQuiet _ refusal.Malformed _ tt (outcome_quiet n a c)))
 
 -- a certificate
 certify_quiet : (n : ℕ) (bytes : List ℕ) (o : OrderRow) → IsQuiet (certify_verdict n bytes o)
 certify_quiet n bytes o =
-    check_keeps IsQuiet (nat_le 1 (length bytes)) 1 _ tt
-    (check_keeps IsQuiet (nat_le (length bytes) 65536) 16 _ tt (choose_keeps IsQuiet _ _ _ tt (check_keeps IsQuiet (is_processing o.status) 14 _ tt tt)))
+    check_keeps IsQuiet (nat_le 1 (length bytes)) refusal.Malformed _ tt
+    (check_keeps IsQuiet (nat_le (length bytes) 65536) refusal.TooLarge _ tt (choose_keeps IsQuiet _ _ _ tt (check_keeps IsQuiet (is_processing o.status) refusal.Conflict _ tt tt)))
 
 -- a failure
 fail_quiet : (n : ℕ) (problem : OrderProblem) (o : OrderRow) → IsQuiet (fail_verdict n problem o)
 fail_quiet n problem o =
-    check_keeps IsQuiet (is_problem problem) 1 _ tt (choose_keeps IsQuiet _ _ _ tt (check_keeps IsQuiet (is_processing o.status) 14 _ tt tt))
+    check_keeps IsQuiet (is_problem problem) refusal.Malformed _ tt (choose_keeps IsQuiet _ _ _ tt (check_keeps IsQuiet (is_processing o.status) refusal.Conflict _ tt tt))
 
 -- the operator takes back an authorization
 revoke_authorization_quiet : (n : ℕ) (a : AuthorizationRow) → IsQuiet (revoke_authorization n a)
-revoke_authorization_quiet n a = choose_keeps IsQuiet _ _ _ tt (check_keeps IsQuiet (is_endable a) 14 _ tt tt)
+revoke_authorization_quiet n a = choose_keeps IsQuiet _ _ _ tt (check_keeps IsQuiet (is_endable a) refusal.Conflict _ tt tt)
 
 -- the operator ends an account
 revoke_account_quiet : (n : ℕ) (a : AccountRow) → IsQuiet (revoke_account n a)
-revoke_account_quiet n a = choose_keeps IsQuiet _ _ _ tt (check_keeps IsQuiet (is_valid_account a.status) 14 _ tt tt)
+revoke_account_quiet n a = choose_keeps IsQuiet _ _ _ tt (check_keeps IsQuiet (is_valid_account a.status) refusal.Conflict _ tt tt)
 
 -- an ask that carries no nonce
 pub office_quiet : (T : Tables) (a : Ask) → IsQuiet (office_verdict T a)
@@ -189,13 +189,13 @@ office_quiet T ask.Directory = tt
 office_quiet T (ask.NewNonce head) = tt
 office_quiet T (ask.Signed s) = tt
 office_quiet T (ask.Report n finding) = report_quiet T n finding
-office_quiet T (ask.Certify n bytes) = given_keeps IsQuiet _ 2 _ tt (certify_quiet n bytes)
-office_quiet T (ask.FailOrder n problem) = given_keeps IsQuiet _ 2 _ tt (fail_quiet n problem)
-office_quiet T (ask.RevokeAuthz n) = given_keeps IsQuiet _ 2 _ tt (revoke_authorization_quiet n)
-office_quiet T (ask.RevokeAccount n) = given_keeps IsQuiet _ 2 _ tt (revoke_account_quiet n)
+office_quiet T (ask.Certify n bytes) = given_keeps IsQuiet _ refusal.NotFound _ tt (certify_quiet n bytes)
+office_quiet T (ask.FailOrder n problem) = given_keeps IsQuiet _ refusal.NotFound _ tt (fail_quiet n problem)
+office_quiet T (ask.RevokeAuthz n) = given_keeps IsQuiet _ refusal.NotFound _ tt (revoke_authorization_quiet n)
+office_quiet T (ask.RevokeAccount n) = given_keeps IsQuiet _ refusal.NotFound _ tt (revoke_account_quiet n)
 office_quiet T ask.ChallengeWork = tt
 office_quiet T ask.OrderWork = tt
-office_quiet T (ask.KeyOf n) = given_keeps IsQuiet _ 2 _ tt (λ _. tt)
+office_quiet T (ask.KeyOf n) = given_keeps IsQuiet _ refusal.NotFound _ tt (λ _. tt)
 
 -- such a verdict takes no tokens
 quiet_spaced : (v : Verdict) → IsQuiet v → IsSpaced v

@@ -117,7 +117,7 @@ open_sound r T key p formed unknown =
 new_account_sound : (r : List ℕ) (T : Tables) (key : List ℕ) (o : Option AccountRow) (p : Option NewAccount) → IsKeyText key →
     account_with_key T key ≡ o →
     IsSound r T (new_account_verdict T key o p)
-new_account_sound r T key (Some a) p formed is = check_sound r T _ refusal.Unauthorized _ (λ _. given_sound r T p 1 _ (λ _ _. none_sound _))
+new_account_sound r T key (Some a) p formed is = check_sound r T _ refusal.Unauthorized _ (λ _. given_sound r T p refusal.Malformed _ (λ _ _. none_sound _))
 new_account_sound r T key None p formed is = given_sound r T p refusal.Malformed _ (λ x _. open_sound r T key x formed is)
 
 -- a change of an account that is valid
@@ -199,17 +199,17 @@ target_sound : (r : List ℕ) (T : Tables) (n : ℕ) (a : AccountRow) (p : List 
 target_sound r T n a p to.NewAccount found valid = none_sound _
 target_sound r T n a p to.NewOrder found valid = given_sound r T _ refusal.Malformed _ (λ ids _. new_order_sound r T n a ids found valid)
 target_sound r T n a p (to.Account k) found valid =
-    check_sound r T _ refusal.NotFound _ (λ _. given_sound r T _ 1 _ (λ x _. account_sound r T n a x found valid))
-target_sound r T n a p (to.Orders k) found valid = check_sound r T _ 2 _ (λ _. check_sound r T _ 1 _ (λ _. none_sound _))
-target_sound r T n a p (to.Order k) found valid = given_sound r T _ 2 _ (λ o _. check_sound r T _ 1 _ (λ _. none_sound _))
+    check_sound r T _ refusal.NotFound _ (λ _. given_sound r T _ refusal.Malformed _ (λ x _. account_sound r T n a x found valid))
+target_sound r T n a p (to.Orders k) found valid = check_sound r T _ refusal.NotFound _ (λ _. check_sound r T _ refusal.Malformed _ (λ _. none_sound _))
+target_sound r T n a p (to.Order k) found valid = given_sound r T _ refusal.NotFound _ (λ o _. check_sound r T _ refusal.Malformed _ (λ _. none_sound _))
 target_sound r T n a p (to.Finalize k) found valid =
-    given_sound r T _ 2 _ (λ o is. given_sound r T _ 1 _ (λ text _. finalize_sound r T k o text (own_found _ n _ o is)))
+    given_sound r T _ refusal.NotFound _ (λ o is. given_sound r T _ refusal.Malformed _ (λ text _. finalize_sound r T k o text (own_found _ n _ o is)))
 target_sound r T n a p (to.Cert k) found valid =
-    given_sound r T _ 2 _ (λ o _. check_sound r T _ 1 _ (λ _. given_sound r T _ 2 _ (λ _ _. none_sound _)))
+    given_sound r T _ refusal.NotFound _ (λ o _. check_sound r T _ refusal.Malformed _ (λ _. given_sound r T _ refusal.NotFound _ (λ _ _. none_sound _)))
 target_sound r T n a p (to.Authz k) found valid =
-    given_sound r T _ 2 _ (λ x is. given_sound r T _ 1 _ (λ q _. authorization_sound r T k x q (own_found _ n _ x is)))
+    given_sound r T _ refusal.NotFound _ (λ x is. given_sound r T _ refusal.Malformed _ (λ q _. authorization_sound r T k x q (own_found _ n _ x is)))
 target_sound r T n a p (to.Chall k) found valid =
-    given_sound r T _ 2 _ (λ x is. given_sound r T _ 1 _ (λ q _. challenge_sound r T k x q (own_found _ n _ x is)))
+    given_sound r T _ refusal.NotFound _ (λ x is. given_sound r T _ refusal.Malformed _ (λ q _. challenge_sound r T k x q (own_found _ n _ x is)))
 
 -- an account that is found by its key is found by its number
 pub key_number : (T : Tables) (key : List ℕ) (a : AccountRow) → IsOrdered T → account_with_key T key ≡ Some a → account_on T a.number ≡ Some a
@@ -233,7 +233,7 @@ signed_sound r T s in_order formed = by s.key formed
   where
     by : (k : Result (List ℕ) BadKey) → elim k as (λ _. Type 0) [ Err e ↦ Unit {0} | Ok key ↦ IsKeyText key ] →
         IsSound r T (elim k [ Err e ↦ refused refusal.BadPublicKey [] | Ok key ↦ key_verdict T r key s.payload s.target ])
-    by (Err e) h = refused_sound 5 []
+    by (Err e) h = refused_sound refusal.BadPublicKey []
     by (Ok key) h = key_sound r T key s.payload s.target in_order h
 
 -- ---- the other asks
@@ -248,14 +248,14 @@ outcome_sound r T n a c outcome found =
 -- a report
 report_sound : (r : List ℕ) (T : Tables) (n : ℕ) (finding : Finding) → IsSound r T (report_verdict T n finding)
 report_sound r T n finding =
-    given_sound r T _ refusal.NotFound _ (λ a is. given_sound r T _ refusal.NotFound _ (λ c _. given_sound r T _ 1 _ (λ o _. outcome_sound r T n a c o is)))
+    given_sound r T _ refusal.NotFound _ (λ a is. given_sound r T _ refusal.NotFound _ (λ c _. given_sound r T _ refusal.Malformed _ (λ o _. outcome_sound r T n a c o is)))
 
 -- a certificate
 certify_sound : (r : List ℕ) (T : Tables) (n : ℕ) (bytes : List ℕ) (o : OrderRow) → order_on T n ≡ Some o → IsSound r T (certify_verdict n bytes o)
 certify_sound r T n bytes o found =
     check_sound r T (nat_le 1 (length bytes)) refusal.Malformed _ (λ low. check_sound r T (nat_le (length bytes) 65536) refusal.TooLarge _
     (λ high. choose_sound r T _ _ _ (λ _. none_sound _)
-    (check_sound r T (is_processing o.status) 14 _ (λ waits. one_sound _ _ tt tt (rw found (and_from _ _ waits (and_from _ _ low high)))))))
+    (check_sound r T (is_processing o.status) refusal.Conflict _ (λ waits. one_sound _ _ tt tt (rw found (and_from _ _ waits (and_from _ _ low high)))))))
 
 -- a failure
 fail_sound : (r : List ℕ) (T : Tables) (n : ℕ) (problem : OrderProblem) (o : OrderRow) → order_on T n ≡ Some o → IsSound r T (fail_verdict n problem o)
@@ -281,13 +281,13 @@ office_sound r T ask.Directory = none_sound _
 office_sound r T (ask.NewNonce head) = refused_sound refusal.NotFound []
 office_sound r T (ask.Signed s) = refused_sound refusal.NotFound []
 office_sound r T (ask.Report n finding) = report_sound r T n finding
-office_sound r T (ask.Certify n bytes) = given_sound r T _ 2 _ (λ o is. certify_sound r T n bytes o is)
-office_sound r T (ask.FailOrder n problem) = given_sound r T _ 2 _ (λ o is. fail_sound r T n problem o is)
-office_sound r T (ask.RevokeAuthz n) = given_sound r T _ 2 _ (λ a is. revoke_authorization_sound r T n a is)
-office_sound r T (ask.RevokeAccount n) = given_sound r T _ 2 _ (λ a is. revoke_account_sound r T n a is)
+office_sound r T (ask.Certify n bytes) = given_sound r T _ refusal.NotFound _ (λ o is. certify_sound r T n bytes o is)
+office_sound r T (ask.FailOrder n problem) = given_sound r T _ refusal.NotFound _ (λ o is. fail_sound r T n problem o is)
+office_sound r T (ask.RevokeAuthz n) = given_sound r T _ refusal.NotFound _ (λ a is. revoke_authorization_sound r T n a is)
+office_sound r T (ask.RevokeAccount n) = given_sound r T _ refusal.NotFound _ (λ a is. revoke_account_sound r T n a is)
 office_sound r T ask.ChallengeWork = none_sound _
 office_sound r T ask.OrderWork = none_sound _
-office_sound r T (ask.KeyOf n) = given_sound r T _ 2 _ (λ _ _. none_sound _)
+office_sound r T (ask.KeyOf n) = given_sound r T _ refusal.NotFound _ (λ _ _. none_sound _)
 
 -- ---- nonces
 

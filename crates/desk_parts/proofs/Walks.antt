@@ -160,9 +160,9 @@ report_answered k T m n finding ready =
     let owner = (swept_names k T m (ask.Report n finding) ready.named).owner in
     given_keeps (IsAnswered k m S) (owner_on S n) refusal.NotFound _ tt (λ a found.
     given_keeps (IsAnswered k m S) (challenge_of n a) refusal.NotFound _ tt (λ c there.
-    given_keeps (IsAnswered k m S) (outcome_of c.kind (expected S a c) finding) 1 _ tt (λ o is.
+    given_keeps (IsAnswered k m S) (outcome_of c.kind (expected S a c) finding) refusal.Malformed _ tt (λ o is.
     choose_keeps (IsAnswered k m S) (holds (λ r. same_outcome r.outcome o) c.reported) _ _ (challenge_shown k S n owner)
-    (check_keeps (IsAnswered k m S) (stands_open (λ c. is_processing_challenge c.status) a n) 14 _ tt (λ stands. (
+    (check_keeps (IsAnswered k m S) (stands_open (λ c. is_processing_challenge c.status) a n) refusal.Conflict _ tt (λ stands. (
       covered k T m (ask.Report n finding) (reported n o) ready (reported_named T m (ask.Report n finding) n o (λ r h. h)),
       challenge_shown k (effect m S (reported n o)) n (owner_after k S m (reported n o) n (swept_closed k T m ready.closed) owner),
     ))))))
@@ -175,7 +175,7 @@ certify_answered k T m n bytes ready o =
     check_keeps (IsAnswered k m S) (nat_le 1 (length bytes)) refusal.Malformed _ tt (λ some.
     check_keeps (IsAnswered k m S) (nat_le (length bytes) 65536) refusal.TooLarge _ tt (λ few.
     choose_keeps (IsAnswered k m S) (holds (λ x. bytes_eq x.bytes bytes) o.certified) _ _ (order_shown k S n kept (swept_closed k T m ready.closed).listed)
-    (check_keeps (IsAnswered k m S) (is_processing o.status) 14 _ tt (λ ready_for. (
+    (check_keeps (IsAnswered k m S) (is_processing o.status) refusal.Conflict _ tt (λ ready_for. (
       covered k T m (ask.Certify n bytes) (certified n bytes) ready (certified_named T m (ask.Certify n bytes) n bytes (same_number n)),
       order_shown k (effect m S (certified n bytes)) n kept (listed_then k T m (ask.Certify n bytes) (certified n bytes) ready),
     )))))
@@ -231,14 +231,14 @@ office_answered k T m ask.Directory w ready = refl
 office_answered k T m (ask.NewNonce head) w ready = tt
 office_answered k T m (ask.Signed s) w ready = tt
 office_answered k T m (ask.Report n finding) w ready = report_answered k T m n finding ready
-office_answered k T m (ask.Certify n bytes) w ready = given_keeps (IsAnswered k m (swept m T)) (order_on (swept m T) n) 2 _ tt (λ o found. certify_answered k T m n bytes ready o)
-office_answered k T m (ask.FailOrder n problem) w ready = given_keeps (IsAnswered k m (swept m T)) (order_on (swept m T) n) 2 _ tt (λ o found. fail_answered k T m n problem ready o)
-office_answered k T m (ask.RevokeAuthz n) w ready = given_keeps (IsAnswered k m (swept m T)) (authorization_on (swept m T) n) 2 _ tt (λ r found. revoke_authorization_answered k T m n ready r)
-office_answered k T m (ask.RevokeAccount n) w ready = given_keeps (IsAnswered k m (swept m T)) (account_on (swept m T) n) 2 _ tt (λ x found. revoke_account_answered k T m n ready x found)
+office_answered k T m (ask.Certify n bytes) w ready = given_keeps (IsAnswered k m (swept m T)) (order_on (swept m T) n) refusal.NotFound _ tt (λ o found. certify_answered k T m n bytes ready o)
+office_answered k T m (ask.FailOrder n problem) w ready = given_keeps (IsAnswered k m (swept m T)) (order_on (swept m T) n) refusal.NotFound _ tt (λ o found. fail_answered k T m n problem ready o)
+office_answered k T m (ask.RevokeAuthz n) w ready = given_keeps (IsAnswered k m (swept m T)) (authorization_on (swept m T) n) refusal.NotFound _ tt (λ r found. revoke_authorization_answered k T m n ready r)
+office_answered k T m (ask.RevokeAccount n) w ready = given_keeps (IsAnswered k m (swept m T)) (account_on (swept m T) n) refusal.NotFound _ tt (λ x found. revoke_account_answered k T m n ready x found)
 office_answered k T m ask.ChallengeWork w ready = absurd w
 office_answered k T m ask.OrderWork w ready = absurd w
 office_answered k T m (ask.KeyOf n) w ready =
-    given_keeps (IsAnswered k m (swept m T)) (account_on (swept m T) n) 2 _ tt (λ x found. key_shown k (swept m T) n (ready.named.account n (same_number n)))
+    given_keeps (IsAnswered k m (swept m T)) (account_on (swept m T) n) refusal.NotFound _ tt (λ x found. key_shown k (swept m T) n (ready.named.account n (same_number n)))
 
 -- ---- signed requests
 
@@ -260,7 +260,7 @@ new_account_answered : (k : Kept) (T : Tables) (m : ℕ) (a : Ask) (key : List �
     IsAnswered k m (swept m T) (new_account_verdict (swept m T) key x p)
 new_account_answered k T m a key p ready (Some y) h =
     check_keeps (IsAnswered k m (swept m T)) (is_valid_account y.status) refusal.Unauthorized _ tt (λ valid.
-    given_keeps (IsAnswered k m (swept m T)) p 1 _ tt (λ q is. known_shown k (swept m T) y.number (h y refl)))
+    given_keeps (IsAnswered k m (swept m T)) p refusal.Malformed _ tt (λ q is. known_shown k (swept m T) y.number (h y refl)))
 new_account_answered k T m a key p ready None h =
     given_keeps (IsAnswered k m (swept m T)) p refusal.Malformed _ tt (λ q is. open_answered k T m a key q ready)
 
@@ -330,29 +330,29 @@ target_answered k T m s r x p to.NewOrder ready kept named member owned =
     given_keeps (IsAnswered k m (swept m T)) (new_order p) refusal.Malformed _ tt (λ ids is.
     check_keeps (IsAnswered k m (swept m T)) (has_length 1 50 ids) refusal.Malformed _ tt (λ few. new_order_answered k T m (sent s to.NewOrder) r x.number ids ready (subproblems ids)))
 target_answered k T m s r x p (to.Account j) ready kept named member owned =
-    check_keeps (IsAnswered k m (swept m T)) (j == x.number) 2 _ tt (λ here.
-    given_keeps (IsAnswered k m (swept m T)) (account_change p) 1 _ tt (λ q is. account_answered k T m s j x q ready kept named member here))
+    check_keeps (IsAnswered k m (swept m T)) (j == x.number) refusal.NotFound _ tt (λ here.
+    given_keeps (IsAnswered k m (swept m T)) (account_change p) refusal.Malformed _ tt (λ q is. account_answered k T m s j x q ready kept named member here))
 target_answered k T m s r x p (to.Orders j) ready kept named member owned =
-    check_keeps (IsAnswered k m (swept m T)) (j == x.number) 2 _ tt (λ here.
-    check_keeps (IsAnswered k m (swept m T)) (nothing p) 1 _ tt (λ none.
+    check_keeps (IsAnswered k m (swept m T)) (j == x.number) refusal.NotFound _ tt (λ here.
+    check_keeps (IsAnswered k m (swept m T)) (nothing p) refusal.Malformed _ tt (λ none.
     orders_shown k (swept m T) x.number (each _ _ (swept m T).orders (λ o f h. f refl h) owned)))
 target_answered k T m s r x p (to.Order j) ready kept named member owned =
-    given_keeps (IsAnswered k m (swept m T)) (own (λ (y : OrderRow). y.account) x.number (order_on (swept m T) j)) 2 _ tt (λ o is.
-    check_keeps (IsAnswered k m (swept m T)) (nothing p) 1 _ tt (λ none.
+    given_keeps (IsAnswered k m (swept m T)) (own (λ (y : OrderRow). y.account) x.number (order_on (swept m T) j)) refusal.NotFound _ tt (λ o is.
+    check_keeps (IsAnswered k m (swept m T)) (nothing p) refusal.Malformed _ tt (λ none.
     order_shown k (swept m T) j (ready.named.order j (same_number j)) (swept_closed k T m ready.closed).listed))
 target_answered k T m s r x p (to.Finalize j) ready kept named member owned =
-    given_keeps (IsAnswered k m (swept m T)) (own (λ (y : OrderRow). y.account) x.number (order_on (swept m T) j)) 2 _ tt (λ o is.
-    given_keeps (IsAnswered k m (swept m T)) (finalize p) 1 _ tt (λ q says. finalize_answered k T m s j o q ready))
+    given_keeps (IsAnswered k m (swept m T)) (own (λ (y : OrderRow). y.account) x.number (order_on (swept m T) j)) refusal.NotFound _ tt (λ o is.
+    given_keeps (IsAnswered k m (swept m T)) (finalize p) refusal.Malformed _ tt (λ q says. finalize_answered k T m s j o q ready))
 target_answered k T m s r x p (to.Cert j) ready kept named member owned =
-    given_keeps (IsAnswered k m (swept m T)) (own (λ (y : OrderRow). y.account) x.number (order_on (swept m T) j)) 2 _ tt (λ o is.
-    check_keeps (IsAnswered k m (swept m T)) (nothing p) 1 _ tt (λ none.
-    given_keeps (IsAnswered k m (swept m T)) o.certified 2 _ tt (λ c there. certificate_shown k (swept m T) j (ready.named.order j (same_number j)))))
+    given_keeps (IsAnswered k m (swept m T)) (own (λ (y : OrderRow). y.account) x.number (order_on (swept m T) j)) refusal.NotFound _ tt (λ o is.
+    check_keeps (IsAnswered k m (swept m T)) (nothing p) refusal.Malformed _ tt (λ none.
+    given_keeps (IsAnswered k m (swept m T)) o.certified refusal.NotFound _ tt (λ c there. certificate_shown k (swept m T) j (ready.named.order j (same_number j)))))
 target_answered k T m s r x p (to.Authz j) ready kept named member owned =
-    given_keeps (IsAnswered k m (swept m T)) (own (λ (y : AuthorizationRow). y.account) x.number (authorization_on (swept m T) j)) 2 _ tt (λ a is.
-    given_keeps (IsAnswered k m (swept m T)) (authorization_change p) 1 _ tt (λ q says. authorization_answered k T m s j a q ready))
+    given_keeps (IsAnswered k m (swept m T)) (own (λ (y : AuthorizationRow). y.account) x.number (authorization_on (swept m T) j)) refusal.NotFound _ tt (λ a is.
+    given_keeps (IsAnswered k m (swept m T)) (authorization_change p) refusal.Malformed _ tt (λ q says. authorization_answered k T m s j a q ready))
 target_answered k T m s r x p (to.Chall j) ready kept named member owned =
-    given_keeps (IsAnswered k m (swept m T)) (own (λ (y : AuthorizationRow). y.account) x.number (owner_on (swept m T) j)) 2 _ tt (λ a is.
-    given_keeps (IsAnswered k m (swept m T)) (challenge_change p) 1 _ tt (λ q says. challenge_answered k T m s j a q ready))
+    given_keeps (IsAnswered k m (swept m T)) (own (λ (y : AuthorizationRow). y.account) x.number (owner_on (swept m T) j)) refusal.NotFound _ tt (λ a is.
+    given_keeps (IsAnswered k m (swept m T)) (challenge_change p) refusal.Malformed _ tt (λ q says. challenge_answered k T m s j a q ready))
 
 -- by the key
 keyed_answered : (k : Kept) (T : Tables) (m : ℕ) (s : Signed) (r key : List ℕ) (t : Target) → IsReady k T m (sent s t) →
@@ -367,9 +367,9 @@ keyed_answered k T m s r key t ready named kept = rest t ready named
     rest : (u : Target) → IsReady k T m (sent s u) → ((x : AccountRow) → bytes_eq x.key key ≡ true → is_named_account (sent s u) x ≡ true) →
         IsAnswered k m (swept m T) (holder_verdict (swept m T) r s.payload u (account_with_key (swept m T) key))
     rest u ready named =
-        given_keeps (IsAnswered k m (swept m T)) (account_with_key T key) 6 _ tt (λ x found.
+        given_keeps (IsAnswered k m (swept m T)) (account_with_key T key) refusal.AccountDoesNotExist _ tt (λ x found.
         let is : bytes_eq x.key key ≡ true = found_passes (λ a. bytes_eq a.key key) T.accounts x found in
-        check_keeps (IsAnswered k m (swept m T)) (is_valid_account x.status) 7 _ tt (λ valid.
+        check_keeps (IsAnswered k m (swept m T)) (is_valid_account x.status) refusal.Unauthorized _ tt (λ valid.
         target_answered k T m s r x s.payload u ready
         (found_each _ (λ a. bytes_eq a.key key) T.accounts x kept found is)
         (named x is)
