@@ -1,47 +1,59 @@
 # The commands of the repository; README.md says what they need.
 SHELL := /bin/bash
 SOURCES := crates.txt $(shell find crates -name out -prune -o -type f -print)
+HAS_RT := command -v rt >/dev/null || { echo 'desk: rt is not on PATH; the kit has it at /usr/local/bin/rt' >&2; exit 1; }
 
-.PHONY: all bench first planted test
+.PHONY: all bench edits first planted test try
 
 all: bin/desk
 
 bin/desk: $(SOURCES)
-	@command -v rt >/dev/null || { echo 'desk: rt is not on PATH; the kit has it at /usr/local/bin/rt' >&2; exit 1; }
+	@$(HAS_RT)
 	@echo 'Proving and building the program desk, with the crates below it (minutes at the first time).'
-	cd crates/desk_app && rt run -- batch </dev/null
+	cd crates/desk && rt run -- batch </dev/null
 	@mkdir -p bin
-	@cp crates/desk_app/out/desk_app $@
+	@cp crates/desk/out/desk $@
 	@touch $@
 	@echo 'The program is bin/desk.'
+
+try:
+	@$(HAS_RT)
+	@echo 'Answering examples/first.jsonl by the program as it is, WITHOUT PROOF:'
+	@cd crates/desk && rt try -- batch < ../../examples/first.jsonl
 
 first: bin/desk
 	@echo 'Answering examples/first.jsonl over a new desk in memory:'
 	@bin/desk batch < examples/first.jsonl
 
-# The gate leaves the program that it proved, built and ran in crates/desk_app/out.
-test:
-	@command -v rt >/dev/null || { echo 'desk: rt is not on PATH; the kit has it at /usr/local/bin/rt' >&2; exit 1; }
+edits:
+	@echo 'Looking whether each edit that the prover must refuse still applies.'
+	@python3 scripts/edits.py check
+
+# The gate leaves the program that it proved, built and ran in crates/desk/out.
+test: edits
+	@$(HAS_RT)
 	@echo 'Running the merge gate: every proof from nothing, the edits that must fail, every test.'
 	rt ci
 	@mkdir -p bin
-	@cp crates/desk_app/out/desk_app bin/desk
+	@cp crates/desk/out/desk bin/desk
 	@set -o pipefail; for calls in examples/*.jsonl; do \
 		echo "Comparing the replies to $$calls."; \
 		bin/desk batch < $$calls | diff $${calls%.jsonl}.expected - || exit 1; \
 	done
+	@for calls in examples/ends/*.jsonl; do \
+		echo "Comparing what ends the batch $$calls."; \
+		bin/desk batch < $$calls > bin/output 2> bin/errors; [ $$? = 1 ] || exit 1; \
+		diff $${calls%.jsonl}.expected bin/output && diff $${calls%.jsonl}.errors bin/errors || exit 1; \
+	done; rm -f bin/output bin/errors
 	@echo 'The replies are the expected ones.'
+
+planted:
+	@$(HAS_RT)
+	@echo 'Trying the planted edits$(if $(CRATE), of $(CRATE)), crates side by side; the prover must refuse each.'
+	@python3 scripts/edits.py try $(CRATE)
 
 bench: bin/desk
 	@echo 'Timing calls on desks of 100, 1,000 and 10,000 orders (minutes); the figures go to docs/PERFORMANCE.md.'
 	@python3 bench/bench.py > docs/PERFORMANCE.md.new
 	@mv docs/PERFORMANCE.md.new docs/PERFORMANCE.md
 	@cat docs/PERFORMANCE.md
-
-planted:
-	@echo 'Trying the bugs of planted/ one at a time (an hour and more); the prover must refuse each.'
-	@copy=$$(mktemp -d) && trap 'rm -rf '$$copy EXIT && cp -a HANDLES crates.txt crates $$copy && \
-		for crate in planted/*; do \
-			rm -rf $$copy/crates/$${crate#planted/}/must-fail && cp -a $$crate $$copy/crates/$${crate#planted/}/must-fail; \
-		done && \
-		cd $$copy && for crate in $(notdir $(wildcard planted/*)); do rt must-fail $$crate || exit 1; done

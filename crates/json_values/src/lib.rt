@@ -2,8 +2,6 @@
 #![tactic(auto)]
 
 mod lists;
-#[cfg(test)]
-mod tests;
 mod values;
 
 pub use lists::texts_in;

@@ -2,13 +2,9 @@
 #![tactic(auto)]
 
 mod envelopes;
-#[cfg(test)]
-mod line_tests;
 mod lines;
 mod offices;
 mod request;
-#[cfg(test)]
-mod request_tests;
 mod routes;
 
 pub use lines::{LineFault, LineRequest, read_line, reply_line};
