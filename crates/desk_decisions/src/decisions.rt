@@ -11,7 +11,8 @@ ghost use Rattle.desk_model.specs.declared.entry.Entry.TheVariants.{Issued as is
 ghost use Rattle.desk_model.specs.Entry.{History};
 ghost use Rattle.desk_model.specs.Legal.{Legal};
 ghost use Rattle.desk_model.specs.Tables.{picture};
-ghost use Rattle.desk_model.specs.Run.{IsFormedCall};
+ghost use Rattle.desk_model.specs.Run.{IsFormedCall, IsFormedSigned};
+ghost use Rattle.desk_model.specs.Texts.{IsTextProblem};
 ghost use Rattle.desk_changes.specs.Acting.{HasTexts, IsActable, is_recording};
 ghost use Rattle.desk_decisions.specs.Decided.{IsDecision, IsFaultOf};
 ghost use Rattle.desk_parts.specs.IsPart.{IsPartFor};
@@ -23,7 +24,7 @@ ghost use Rattle.desk_decisions.specs.Room.{IsIssueFault};
 use crate::acts::act;
 use desk_book::Book;
 use desk_changes::Recording;
-use desk_model::{Ask, Call, Change, LAST_MOMENT, Refusal, Reply, Sequence, Signed, Verdict};
+use desk_model::{Ask, Call, Change, LAST_MOMENT, OrderProblem, Refusal, Reply, Sequence, Signed, Verdict};
 use desk_replies::{nonce_reply, refusal_reply, show, with_nonce};
 use desk_rules::{CoreFault, first_random, has_room, judge_office, judge_signed, open_nonce};
 use std::alloc::{AllocError, Global};
@@ -240,14 +241,32 @@ fn decide_at(
     }
 }
 
-/// What the types of a call keep: an accepted key has its canonical text.
+/// What the type of a problem keeps: its texts are UTF-8.
+fn keep_problem(problem: &OrderProblem)
+    ensures { IsTextProblem problem.now }
+{
+    let _kind = problem.kind.as_str();
+    let _detail = problem.detail.as_str();
+}
+
+/// What the types of a request keep: an accepted key has its canonical text, and the payload is UTF-8.
+fn keep_request(request: &Signed)
+    ensures { IsFormedSigned request.now }
+{
+    let _payload = request.payload.as_str();
+    if let Ok(key) = &request.key {
+        let _text = key.canonical();
+    }
+}
+
+/// What the types of a call keep.
 fn keep_form(call: &Call)
     ensures { IsFormedCall call.now }
 {
-    if let Ask::Signed(request) = &call.ask {
-        if let Ok(key) = &request.key {
-            let _text = key.canonical();
-        }
+    match &call.ask {
+        Ask::Signed(request) => keep_request(request),
+        Ask::FailOrder { problem, .. } => keep_problem(problem),
+        _ => (),
     }
 }
 

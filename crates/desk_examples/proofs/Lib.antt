@@ -6,6 +6,7 @@ pub mod Endings
 pub mod Fifty
 pub mod FiftyNames
 pub mod Following
+pub mod Formed
 pub mod Hashing
 pub mod Keys
 pub mod Large

@@ -7,6 +7,7 @@ pub mod Endings
 pub mod Entries
 pub mod Fifty
 pub mod Following
+pub mod Formed
 pub mod Keys
 pub mod Large
 pub mod Many

@@ -1,5 +1,6 @@
 //! What may be recorded, and the rows that are kept of it.
 ghost use Rattle.desk_examples.specs.Following.{MadeFirst, MadeTwice, MadeWithoutLife, MadeForever, MadeOverHttp, MadeOverFtp, MadeOnScheme, MadeOnLongBase, MadeOnTooLongBase, MadeOnSlash, MadeOnSpace, Issues, IssuesTooShort, Spends, SpendsTooLate, SpendsTwice, SpendsUnknown, Opens, OpensTwice, OpensWithBadContact, ChangesContacts, ChangesToBadContact, ChangesEnded, ChangesUnknown, EndsAccount, EndsAccountTwice, EndsUnknownAccount, Orders, OrdersFifty, OrdersFiftyOne, OrdersNothing, OrdersTwice, OrdersWildcard, OrdersWithoutToken, OrdersShortToken, OrdersNoName, OrdersForEnded, OrdersForUnknown, AnswersPending, AnswersTooLate, AnswersUnknown, AnswersTwice, AnswersProved, Reports, ReportsTooLate, ReportsUnanswered, ReportsTwice, ReportsDeactivated, EndsPending, EndsValid, EndsTooLate, EndsFailed, EndsUnknown, Finalizing, FinalizingTooLate, FinalizingTooMuch, FinalizingNothing, FinalizingPending, FinalizingUnknown, FinalizingTwice, Certifying, CertifyingTooLate, CertifyingTooMuch, CertifyingNothing, CertifyingReady, CertifyingFallen, CertifyingTwice, Failing, FailingInside, FailingByDns, FailingWithoutDetail, FailingAtLength, FailingReady, FailingTwice};
+ghost use Rattle.desk_examples.specs.Formed.{ChangesToText, ChangesToLatin, OpensWithLatin, FailsByLatin};
 ghost use Rattle.desk_examples.specs.Rows.{FirstRows, AuthorizationRows, OrderRows, NonceGone, EndRow, FirstEndRow, LateEndRow, NoFaults, OrderFault, AllFaults};
 
 /// Which entries may follow a history, and where each of their conditions fails.
@@ -78,6 +79,14 @@ pub fn entries_follow()
     ensures failing_at_length { FailingAtLength }
     ensures failing_ready { FailingReady }
     ensures failing_twice { FailingTwice }
+{}
+
+/// What an entry may keep as text (RFC 8555, 5).
+pub fn entries_are_formed()
+    ensures changes_to_text { ChangesToText }
+    ensures changes_to_latin { ChangesToLatin }
+    ensures opens_with_latin { OpensWithLatin }
+    ensures fails_by_latin { FailsByLatin }
 {}
 
 /// The rows that a desk keeps of its history, and which stored statuses are faults (RFC 8555, 7.1.6).

@@ -260,7 +260,7 @@ keys_formed (e ∷ F) h = each-append _ (accounts F) _ (keys_formed F h.1) (one 
     one d k = by d.entry k.formed
       where
         by : (entry : Entry) → IsFormed entry → EachOf (λ a. IsKeyText a.key) (opened_by entry d.date (length (accounts F) + 1))
-        by (opened key cs) formed = (formed, tt)
+        by (opened key cs) formed = (formed.0, tt)
         by _ formed = tt
 
 -- well-formed names give well-formed authorizations

@@ -1,4 +1,5 @@
 pub mod AllowedFacts
+pub mod AsciiTexts
 pub mod Basics
 pub mod Beginnings
 pub mod Chain

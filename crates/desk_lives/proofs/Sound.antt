@@ -1,5 +1,5 @@
 -- What a verdict records may be recorded by the tables that it was given by.
-use Rattle.std.proofs.Common.{◌≡◌, ◌≤◌, ◌*◌, ℕ, List, [], ◌∷◌, length, Option, Some, None, Ok, Err, refl, Bool, true, false, cond, not}
+use Rattle.std.proofs.Common.{◌≡◌, ◌≤◌, ◌*◌, ℕ, List, [], ◌∷◌, length, Option, Some, None, Ok, Err, IsUtf8, IfSome, refl, subst, Bool, true, false, cond, not}
 use Rattle.std.specs.Prelude.{IsTrue, nat_le, ◌==◌, is_some, bytes_eq, option_and_then, Result}
 use Rattle.std.proofs.lemmas.Bool.{and_from}
 use Rattle.desk_model.specs.declared.refusal.Refusal.{Refusal}
@@ -29,7 +29,8 @@ use Rattle.desk_model.specs.declared.payload.Identifier.{Identifier}
 use Rattle.desk_model.specs.declared.payload.AccountChange.TheVariants as change
 use Rattle.desk_model.specs.declared.payload.AuthorizationChange.TheVariants as authz_change
 use Rattle.desk_model.specs.declared.payload.ChallengeChange.TheVariants as chall_change
-use Rattle.desk_model.specs.Run.{pieces_of, IsFormedSigned}
+use Rattle.desk_model.specs.Run.{pieces_of, IsFormedAsk, IsFormedKey, IsFormedSigned}
+use Rattle.desk_model.specs.Texts.{IsTextProblem}
 use Rattle.desk_model.specs.Verdict.{answers, records, check, given, unless_fault, choose}
 use Rattle.desk_model.specs.declared.verdict.Verdict.{Verdict}
 use Rattle.desk_model.specs.declared.verdict.Shows.{Shows}
@@ -48,6 +49,7 @@ use Rattle.desk_laws.specs.Ordered.{IsOrdered}
 use Rattle.desk_laws.proofs.RowLists.{ascends_found}
 use Rattle.desk_laws.proofs.Finds.{each_found}
 use Rattle.desk_lives.proofs.Names.{wanted_fits}
+use Rattle.desk_lives.proofs.PayloadTexts.{AsksWithTexts, ChangesToTexts, account_change_texts, new_account_texts}
 
 -- the entry may be recorded by these tables
 pub record MayRecord (T : Tables) (e : Entry) : Type 0 where
@@ -108,26 +110,29 @@ fault_sound r T (Some n) v h = refused_sound n []
 -- ---- accounts
 
 -- an account of another key is opened
-open_sound : (r : List ℕ) (T : Tables) (key : List ℕ) (p : NewAccount) → IsKeyText key → account_with_key T key ≡ None → IsSound r T (open_account T key p)
-open_sound r T key p formed unknown =
+open_sound : (r : List ℕ) (T : Tables) (key : List ℕ) (p : NewAccount) → IsKeyText key → AsksWithTexts p → account_with_key T key ≡ None →
+    IsSound r T (open_account T key p)
+open_sound r T key p formed texts unknown =
     check_sound r T (not p.only_existing) refusal.AccountDoesNotExist _ (λ _. fault_sound r T (contacts_fault p.contacts) _
-    (λ pass. one_sound _ _ tt formed (rw (unknown, pass) refl)))
+    (λ pass. one_sound _ _ tt (formed, texts) (rw (unknown, pass) refl)))
 
 -- newAccount
 new_account_sound : (r : List ℕ) (T : Tables) (key : List ℕ) (o : Option AccountRow) (p : Option NewAccount) → IsKeyText key →
-    account_with_key T key ≡ o →
+    IfSome p AsksWithTexts → account_with_key T key ≡ o →
     IsSound r T (new_account_verdict T key o p)
-new_account_sound r T key (Some a) p formed is = check_sound r T _ refusal.Unauthorized _ (λ _. given_sound r T p refusal.Malformed _ (λ _ _. none_sound _))
-new_account_sound r T key None p formed is = given_sound r T p refusal.Malformed _ (λ x _. open_sound r T key x formed is)
+new_account_sound r T key (Some a) p formed texts is = check_sound r T _ refusal.Unauthorized _ (λ _. given_sound r T p refusal.Malformed _ (λ _ _. none_sound _))
+new_account_sound r T key None p formed texts is =
+    given_sound r T p refusal.Malformed _ (λ x asked. open_sound r T key x formed (subst (λ o. IfSome o AsksWithTexts) asked texts) is)
 
 -- a change of an account that is valid
-account_sound : (r : List ℕ) (T : Tables) (n : ℕ) (a : AccountRow) (p : AccountChange) → account_on T n ≡ Some a → is_valid_account a.status ≡ true →
+account_sound : (r : List ℕ) (T : Tables) (n : ℕ) (a : AccountRow) (p : AccountChange) → ChangesToTexts p → account_on T n ≡ Some a →
+    is_valid_account a.status ≡ true →
     IsSound r T (account_verdict n p)
-account_sound r T n a change.Read found valid = none_sound _
-account_sound r T n a change.Deactivate found valid = one_sound _ _ tt tt (rw found valid)
-account_sound r T n a (change.Update None) found valid = none_sound _
-account_sound r T n a (change.Update (Some contacts)) found valid =
-    fault_sound r T (contacts_fault contacts) _ (λ pass. one_sound _ _ tt tt (rw (found, pass) (and_from _ _ valid refl)))
+account_sound r T n a change.Read texts found valid = none_sound _
+account_sound r T n a change.Deactivate texts found valid = one_sound _ _ tt tt (rw found valid)
+account_sound r T n a (change.Update None) texts found valid = none_sound _
+account_sound r T n a (change.Update (Some contacts)) texts found valid =
+    fault_sound r T (contacts_fault contacts) _ (λ pass. one_sound _ _ tt texts (rw (found, pass) (and_from _ _ valid refl)))
 
 -- ---- orders
 
@@ -194,21 +199,23 @@ own_found account n (Some y) x h = by (account y == n) h
     by false e = cc
 
 -- a request of an account that is valid
-target_sound : (r : List ℕ) (T : Tables) (n : ℕ) (a : AccountRow) (p : List ℕ) (t : Target) → account_on T n ≡ Some a → is_valid_account a.status ≡ true →
+target_sound : (r : List ℕ) (T : Tables) (n : ℕ) (a : AccountRow) (p : List ℕ) (t : Target) → IsUtf8 p → account_on T n ≡ Some a →
+    is_valid_account a.status ≡ true →
     IsSound r T (target_verdict T r n p t)
-target_sound r T n a p to.NewAccount found valid = none_sound _
-target_sound r T n a p to.NewOrder found valid = given_sound r T _ refusal.Malformed _ (λ ids _. new_order_sound r T n a ids found valid)
-target_sound r T n a p (to.Account k) found valid =
-    check_sound r T _ refusal.NotFound _ (λ _. given_sound r T _ refusal.Malformed _ (λ x _. account_sound r T n a x found valid))
-target_sound r T n a p (to.Orders k) found valid = check_sound r T _ refusal.NotFound _ (λ _. check_sound r T _ refusal.Malformed _ (λ _. none_sound _))
-target_sound r T n a p (to.Order k) found valid = given_sound r T _ refusal.NotFound _ (λ o _. check_sound r T _ refusal.Malformed _ (λ _. none_sound _))
-target_sound r T n a p (to.Finalize k) found valid =
+target_sound r T n a p to.NewAccount text found valid = none_sound _
+target_sound r T n a p to.NewOrder text found valid = given_sound r T _ refusal.Malformed _ (λ ids _. new_order_sound r T n a ids found valid)
+target_sound r T n a p (to.Account k) text found valid =
+    check_sound r T _ refusal.NotFound _ (λ _. given_sound r T _ refusal.Malformed _
+    (λ x asked. account_sound r T n a x (subst (λ o. IfSome o ChangesToTexts) asked (account_change_texts p text)) found valid))
+target_sound r T n a p (to.Orders k) text found valid = check_sound r T _ refusal.NotFound _ (λ _. check_sound r T _ refusal.Malformed _ (λ _. none_sound _))
+target_sound r T n a p (to.Order k) text found valid = given_sound r T _ refusal.NotFound _ (λ o _. check_sound r T _ refusal.Malformed _ (λ _. none_sound _))
+target_sound r T n a p (to.Finalize k) text found valid =
     given_sound r T _ refusal.NotFound _ (λ o is. given_sound r T _ refusal.Malformed _ (λ text _. finalize_sound r T k o text (own_found _ n _ o is)))
-target_sound r T n a p (to.Cert k) found valid =
+target_sound r T n a p (to.Cert k) text found valid =
     given_sound r T _ refusal.NotFound _ (λ o _. check_sound r T _ refusal.Malformed _ (λ _. given_sound r T _ refusal.NotFound _ (λ _ _. none_sound _)))
-target_sound r T n a p (to.Authz k) found valid =
+target_sound r T n a p (to.Authz k) text found valid =
     given_sound r T _ refusal.NotFound _ (λ x is. given_sound r T _ refusal.Malformed _ (λ q _. authorization_sound r T k x q (own_found _ n _ x is)))
-target_sound r T n a p (to.Chall k) found valid =
+target_sound r T n a p (to.Chall k) text found valid =
     given_sound r T _ refusal.NotFound _ (λ x is. given_sound r T _ refusal.Malformed _ (λ q _. challenge_sound r T k x q (own_found _ n _ x is)))
 
 -- an account that is found by its key is found by its number
@@ -218,23 +225,24 @@ key_number T key a in_order found =
     (ascends_found (λ (x : AccountRow). x.number) 1 T.accounts in_order.accounts.0) found
 
 -- a request of a key that has an account
-holder_sound : (r : List ℕ) (T : Tables) (key p : List ℕ) (t : Target) → IsOrdered T → IsSound r T (holder_verdict T r p t (account_with_key T key))
-holder_sound r T key p t in_order =
-    given_sound r T _ refusal.AccountDoesNotExist _ (λ a is. check_sound r T _ refusal.Unauthorized _ (λ valid. target_sound r T a.number a p t (key_number T key a in_order is) valid))
+holder_sound : (r : List ℕ) (T : Tables) (key p : List ℕ) (t : Target) → IsOrdered T → IsUtf8 p → IsSound r T (holder_verdict T r p t (account_with_key T key))
+holder_sound r T key p t in_order text =
+    given_sound r T _ refusal.AccountDoesNotExist _ (λ a is. check_sound r T _ refusal.Unauthorized _ (λ valid. target_sound r T a.number a p t text (key_number T key a in_order is) valid))
 
 -- a request of a key
-key_sound : (r : List ℕ) (T : Tables) (key p : List ℕ) (t : Target) → IsOrdered T → IsKeyText key → IsSound r T (key_verdict T r key p t)
-key_sound r T key p to.NewAccount in_order formed = new_account_sound r T key (account_with_key T key) _ formed refl
-key_sound r T key p t in_order formed = holder_sound r T key p t in_order
+key_sound : (r : List ℕ) (T : Tables) (key p : List ℕ) (t : Target) → IsOrdered T → IsKeyText key → IsUtf8 p → IsSound r T (key_verdict T r key p t)
+key_sound r T key p to.NewAccount in_order formed text =
+    new_account_sound r T key (account_with_key T key) _ formed (new_account_texts p text) refl
+key_sound r T key p t in_order formed text = holder_sound r T key p t in_order text
 
 -- a signed request
 pub signed_sound : (r : List ℕ) (T : Tables) (s : Signed) → IsOrdered T → IsFormedSigned s → IsSound r T (signed_verdict T r s)
-signed_sound r T s in_order formed = by s.key formed
+signed_sound r T s in_order formed = by s.key formed.key
   where
-    by : (k : Result (List ℕ) BadKey) → elim k as (λ _. Type 0) [ Err e ↦ Unit {0} | Ok key ↦ IsKeyText key ] →
+    by : (k : Result (List ℕ) BadKey) → IsFormedKey k →
         IsSound r T (elim k [ Err e ↦ refused refusal.BadPublicKey [] | Ok key ↦ key_verdict T r key s.payload s.target ])
     by (Err e) h = refused_sound refusal.BadPublicKey []
-    by (Ok key) h = key_sound r T key s.payload s.target in_order h
+    by (Ok key) h = key_sound r T key s.payload s.target in_order h formed.payload
 
 -- ---- the other asks
 
@@ -258,10 +266,11 @@ certify_sound r T n bytes o found =
     (check_sound r T (is_processing o.status) refusal.Conflict _ (λ waits. one_sound _ _ tt tt (rw found (and_from _ _ waits (and_from _ _ low high)))))))
 
 -- a failure
-fail_sound : (r : List ℕ) (T : Tables) (n : ℕ) (problem : OrderProblem) (o : OrderRow) → order_on T n ≡ Some o → IsSound r T (fail_verdict n problem o)
-fail_sound r T n problem o found =
+fail_sound : (r : List ℕ) (T : Tables) (n : ℕ) (problem : OrderProblem) (o : OrderRow) → IsTextProblem problem → order_on T n ≡ Some o →
+    IsSound r T (fail_verdict n problem o)
+fail_sound r T n problem o texts found =
     check_sound r T (is_problem problem) refusal.Malformed _ (λ formed. choose_sound r T _ _ _ (λ _. none_sound _)
-    (check_sound r T (is_processing o.status) refusal.Conflict _ (λ waits. one_sound _ _ tt tt (rw found (and_from _ _ waits formed)))))
+    (check_sound r T (is_processing o.status) refusal.Conflict _ (λ waits. one_sound _ _ tt texts (rw found (and_from _ _ waits formed)))))
 
 -- the operator takes back an authorization
 revoke_authorization_sound : (r : List ℕ) (T : Tables) (n : ℕ) (a : AuthorizationRow) → authorization_on T n ≡ Some a →
@@ -276,18 +285,18 @@ revoke_account_sound r T n a found =
     (check_sound r T (is_valid_account a.status) refusal.Conflict _ (λ valid. one_sound _ _ tt tt (rw found valid)))
 
 -- an ask that carries no nonce
-pub office_sound : (r : List ℕ) (T : Tables) (a : Ask) → IsSound r T (office_verdict T a)
-office_sound r T ask.Directory = none_sound _
-office_sound r T (ask.NewNonce head) = refused_sound refusal.NotFound []
-office_sound r T (ask.Signed s) = refused_sound refusal.NotFound []
-office_sound r T (ask.Report n finding) = report_sound r T n finding
-office_sound r T (ask.Certify n bytes) = given_sound r T _ refusal.NotFound _ (λ o is. certify_sound r T n bytes o is)
-office_sound r T (ask.FailOrder n problem) = given_sound r T _ refusal.NotFound _ (λ o is. fail_sound r T n problem o is)
-office_sound r T (ask.RevokeAuthz n) = given_sound r T _ refusal.NotFound _ (λ a is. revoke_authorization_sound r T n a is)
-office_sound r T (ask.RevokeAccount n) = given_sound r T _ refusal.NotFound _ (λ a is. revoke_account_sound r T n a is)
-office_sound r T ask.ChallengeWork = none_sound _
-office_sound r T ask.OrderWork = none_sound _
-office_sound r T (ask.KeyOf n) = given_sound r T _ refusal.NotFound _ (λ _ _. none_sound _)
+pub office_sound : (r : List ℕ) (T : Tables) (a : Ask) → IsFormedAsk a → IsSound r T (office_verdict T a)
+office_sound r T ask.Directory formed = none_sound _
+office_sound r T (ask.NewNonce head) formed = refused_sound refusal.NotFound []
+office_sound r T (ask.Signed s) formed = refused_sound refusal.NotFound []
+office_sound r T (ask.Report n finding) formed = report_sound r T n finding
+office_sound r T (ask.Certify n bytes) formed = given_sound r T _ refusal.NotFound _ (λ o is. certify_sound r T n bytes o is)
+office_sound r T (ask.FailOrder n problem) formed = given_sound r T _ refusal.NotFound _ (λ o is. fail_sound r T n problem o formed is)
+office_sound r T (ask.RevokeAuthz n) formed = given_sound r T _ refusal.NotFound _ (λ a is. revoke_authorization_sound r T n a is)
+office_sound r T (ask.RevokeAccount n) formed = given_sound r T _ refusal.NotFound _ (λ a is. revoke_account_sound r T n a is)
+office_sound r T ask.ChallengeWork formed = none_sound _
+office_sound r T ask.OrderWork formed = none_sound _
+office_sound r T (ask.KeyOf n) formed = given_sound r T _ refusal.NotFound _ (λ _ _. none_sound _)
 
 -- ---- nonces
 

@@ -98,23 +98,23 @@ signed_follows F m random s (Some serial) now formed is enough =
     (tables_ordered (record_all m (nonce_entries serial random) F) m) formed) enough
 
 -- an ask that carries no nonce
-office_follows : (F : History) (m : ℕ) (random : List ℕ) (a : Ask) → IsMoment F m →
+office_follows : (F : History) (m : ℕ) (random : List ℕ) (a : Ask) → IsMoment F m → IsFormedAsk a →
     DecisionFollows F m random (office_decision F m (office_verdict (tables_at F m) a))
-office_follows F m random a now enough = verdict_follows F m random _ now (office_sound random (tables_at F m) a) enough
+office_follows F m random a now formed enough = verdict_follows F m random _ now (office_sound random (tables_at F m) a formed) enough
 
 -- each ask
 ask_follows : (F : History) (m : ℕ) (random : List ℕ) (a : Ask) → IsMoment F m → IsFormedAsk a → DecisionFollows F m random (decide_at F m random a)
 ask_follows F m random (ask.NewNonce head) now formed enough = issued_follows F m random now (omega arith)
 ask_follows F m random (ask.Signed s) now formed enough = signed_follows F m random s (open_nonce (tables_at F m) s.nonce) now formed refl enough
-ask_follows F m random ask.Directory now formed enough = office_follows F m random ask.Directory now enough
-ask_follows F m random (ask.Report n finding) now formed enough = office_follows F m random (ask.Report n finding) now enough
-ask_follows F m random (ask.Certify n bytes) now formed enough = office_follows F m random (ask.Certify n bytes) now enough
-ask_follows F m random (ask.FailOrder n problem) now formed enough = office_follows F m random (ask.FailOrder n problem) now enough
-ask_follows F m random (ask.RevokeAuthz n) now formed enough = office_follows F m random (ask.RevokeAuthz n) now enough
-ask_follows F m random (ask.RevokeAccount n) now formed enough = office_follows F m random (ask.RevokeAccount n) now enough
-ask_follows F m random ask.ChallengeWork now formed enough = office_follows F m random ask.ChallengeWork now enough
-ask_follows F m random ask.OrderWork now formed enough = office_follows F m random ask.OrderWork now enough
-ask_follows F m random (ask.KeyOf n) now formed enough = office_follows F m random (ask.KeyOf n) now enough
+ask_follows F m random ask.Directory now formed enough = office_follows F m random ask.Directory now formed enough
+ask_follows F m random (ask.Report n finding) now formed enough = office_follows F m random (ask.Report n finding) now formed enough
+ask_follows F m random (ask.Certify n bytes) now formed enough = office_follows F m random (ask.Certify n bytes) now formed enough
+ask_follows F m random (ask.FailOrder n problem) now formed enough = office_follows F m random (ask.FailOrder n problem) now formed enough
+ask_follows F m random (ask.RevokeAuthz n) now formed enough = office_follows F m random (ask.RevokeAuthz n) now formed enough
+ask_follows F m random (ask.RevokeAccount n) now formed enough = office_follows F m random (ask.RevokeAccount n) now formed enough
+ask_follows F m random ask.ChallengeWork now formed enough = office_follows F m random ask.ChallengeWork now formed enough
+ask_follows F m random ask.OrderWork now formed enough = office_follows F m random ask.OrderWork now formed enough
+ask_follows F m random (ask.KeyOf n) now formed enough = office_follows F m random (ask.KeyOf n) now formed enough
 
 -- each entry of a call may follow those before it, whatever numbers it gives
 pub call_follows : (F : History) (call : Call) → Legal F → IsFormedCall call → call.at ≤ last_moment →

@@ -12,6 +12,7 @@ use Rattle.desk_model.specs.Order.{orders, order_by_number, order_status, is_rea
 use Rattle.desk_model.specs.BaseName.{is_base_name}
 use Rattle.desk_model.specs.Keys.{IsKeyText}
 use Rattle.desk_model.specs.Terms.{are_terms}
+use Rattle.desk_model.specs.Texts.{AreTexts, IsTextProblem}
 use Rattle.desk_model.specs.Contact.{contacts_pass}
 use Rattle.desk_model.specs.declared.status.ChallengeStatus.{ChallengeStatus}
 use Rattle.desk_model.specs.declared.status.ChallengeStatus.TheVariants as chall
@@ -83,9 +84,11 @@ numbers_fit F =
 abbrev pub last_moment : ℕ
 last_moment = 250000000000
 
--- the key of a new account is one that the desk accepts
+-- the key of a new account is one that the desk accepts, and what is recorded as text is UTF-8
 abbrev pub IsFormed : Entry → Type 0
-IsFormed (opened key contacts) = IsKeyText key
+IsFormed (opened key contacts) = IsKeyText key × AreTexts contacts
+IsFormed (contacts_changed account contacts) = AreTexts contacts
+IsFormed (failed order problem) = IsTextProblem problem
 IsFormed _ = Unit {0}
 
 -- the entry may follow the history

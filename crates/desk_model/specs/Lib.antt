@@ -32,6 +32,7 @@ pub mod Run
 pub mod Shown
 pub mod Tables
 pub mod Terms
+pub mod Texts
 pub mod Tokens
 pub mod Touched
 pub mod Verdict

@@ -1,9 +1,11 @@
 -- Runs of calls, and the faults of a call.
-use Rattle.std.specs.Prelude.{ℕ, ◌+◌, ◌*◌, List, [], ◌∷◌, length, not, nat_lt, Option, Some, None, Ok, Err, if◌then◌else◌}
+use Rattle.std.specs.Prelude.{ℕ, ◌+◌, ◌*◌, ◌≡◌, List, [], ◌∷◌, length, not, nat_lt, Option, Some, None, Result, Ok, Err, IsUtf8, if◌then◌else◌}
 use Rattle.desk_model.specs.Entry.{Entry, issued, ordered, Wanted, new, History}
 use Rattle.desk_model.specs.Keys.{IsKeyText}
 use Rattle.desk_model.specs.Legal.{numbers_fit, last_moment}
+use Rattle.desk_model.specs.Texts.{IsTextProblem}
 use Rattle.desk_model.specs.Decide.{decide, after}
+use Rattle.desk_model.specs.declared.call.BadKey.{BadKey}
 use Rattle.desk_model.specs.declared.call.Call.{Call}
 use Rattle.desk_model.specs.declared.call.Ask.{Ask}
 use Rattle.desk_model.specs.declared.call.Ask.TheVariants as ask
@@ -34,12 +36,20 @@ fault F call =
     else (if nat_lt (length call.random) (16 * count_pieces (decide F call).entries) then Some 25
     else None))
 
--- what the types of a call's parts keep: a key that was accepted has its canonical text
-abbrev pub IsFormedSigned : Signed → Type 0
-IsFormedSigned s = elim s.key [ Err e ↦ Unit {0} | Ok key ↦ IsKeyText key ]
+-- a key that was accepted has its canonical text
+abbrev pub IsFormedKey : Result (List ℕ) BadKey → Type 0
+IsFormedKey (Ok key) = IsKeyText key
+IsFormedKey (Err e) = Unit {0}
 
+-- what the types of a request's parts keep: its payload is UTF-8, too
+pub record IsFormedSigned (s : Signed) : Type 0 where
+  pub key : IsFormedKey s.key
+  pub payload : IsUtf8 s.payload
+
+-- what the types of a call's parts keep
 abbrev pub IsFormedAsk : Ask → Type 0
 IsFormedAsk (ask.Signed s) = IsFormedSigned s
+IsFormedAsk (ask.FailOrder order problem) = IsTextProblem problem
 IsFormedAsk _ = Unit {0}
 
 abbrev pub IsFormedCall : Call → Type 0
