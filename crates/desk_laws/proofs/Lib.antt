@@ -26,3 +26,4 @@ pub mod RowFacts
 pub mod RowLists
 pub mod Step
 pub mod SweptParts
+pub mod TextFacts

@@ -10,6 +10,7 @@ use Rattle.desk_model.specs.Legal.{EachFollows, Legal, numbers_fit}
 use Rattle.desk_model.specs.Lookup.{holds}
 use Rattle.desk_model.specs.Tables.{Tables, tables_at}
 use Rattle.desk_model.specs.Terms.{are_terms}
+use Rattle.desk_model.specs.Texts.{HoldTexts}
 use Rattle.desk_model.specs.Kept.{EachOf}
 use Rattle.desk_model.specs.declared.entry.Dated.{Dated}
 use Rattle.desk_model.specs.declared.objects.Authorization.{Authorization}
@@ -80,3 +81,7 @@ KeysAreFormed = (F : History) → EachFollows F → (t : ℕ) → EachOf (λ a. 
 -- the name of each authorization is well formed
 abbrev pub NamesAreFormed : Type 0
 NamesAreFormed = (F : History) → EachFollows F → (t : ℕ) → EachOf (λ a. IsTrue (is_base_name a.name.base)) (tables_at F t).authorizations
+
+-- each text that the rows hold is UTF-8
+abbrev pub TextsAreUtf8 : Type 0
+TextsAreUtf8 = (F : History) → EachFollows F → (t : ℕ) → HoldTexts (tables_at F t)

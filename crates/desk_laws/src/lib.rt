@@ -3,7 +3,7 @@
 
 ghost use Rattle.desk_laws.specs.ChangeLaws.{TablesAreOrdered, ChallengesAreOrdered, SweepKeepsChildren, EntryKeepsChildren, SweepIsMade, EffectIsMade, PicturesAreMade, SweepPutsDiffer, EntryPutsDiffer, RecordsPutNews, RecordsKeepChildren};
 ghost use Rattle.desk_laws.specs.DateLaws.{ClockIsInTime, NoDateIsLater};
-ghost use Rattle.desk_laws.specs.LegalLaws.{OnlyGivenAreNamed, ReportedOnce, ProvedByReports, KeysDiffer, NumbersFitCounters, CountersFitNumbers, TermsAreInLimits, AllEndInTime, KeysAreFormed, NamesAreFormed};
+ghost use Rattle.desk_laws.specs.LegalLaws.{OnlyGivenAreNamed, ReportedOnce, ProvedByReports, KeysDiffer, NumbersFitCounters, CountersFitNumbers, TermsAreInLimits, AllEndInTime, KeysAreFormed, NamesAreFormed, TextsAreUtf8};
 ghost use Rattle.desk_laws.specs.PartLaws.{FindsAreLocal, FiltersAreLocal, MayFollowIsLocal, PartsAreSwept, PartsHaveEffect, PartsHaveEffects, SweepChangesAreLocal, ChangesAreLocal, PartsRecord};
 ghost use Rattle.desk_laws.specs.TableLaws.{TablesAreSwept, EntryHasEffect, EntriesHaveEffects, PicturesGrow, TablesHaveNoFaults, TablesSayWhatMayFollow, LegalGrows};
 
@@ -69,4 +69,5 @@ pub fn legal_histories_keep()
     ensures names { NamesAreFormed }
     ensures dates { NoDateIsLater }
     ensures clock { ClockIsInTime }
+    ensures texts { TextsAreUtf8 }
 {}

@@ -2,6 +2,7 @@ use Rattle.desk_laws.proofs.Dates.{clock_in_time, no_date_later}
 use Rattle.desk_laws.proofs.Keeps.{reported_once, row_keys_differ, counters_fit, numbers_fit_counters, terms_in_limits, all_end, row_keys_formed, row_names_formed}
 use Rattle.desk_laws.proofs.Numbers.{all_named}
 use Rattle.desk_laws.proofs.RowFacts.{proved_by}
+use Rattle.desk_laws.proofs.TextFacts.{hold_texts}
 use Rattle.desk_laws.proofs.legal_histories_keep.Goals as goal
 
 pub returns-clause-named : goal.returns-clause-named
@@ -39,3 +40,6 @@ returns-clause-dates c = no_date_later
 
 pub returns-clause-clock : goal.returns-clause-clock
 returns-clause-clock c = clock_in_time
+
+pub returns-clause-texts : goal.returns-clause-texts
+returns-clause-texts c = hold_texts
