@@ -6,3 +6,4 @@ pub mod RowsApart
 pub mod SpellingApart
 pub mod StringLists
 pub mod TableRows
+pub mod Utf8Columns

@@ -5,3 +5,4 @@ pub mod MetaParts
 pub mod ProblemParts
 pub mod Reading
 pub mod Spelling
+pub mod TextColumns

@@ -28,7 +28,7 @@ pub use columns::{
     OrderColumns, StoredRows,
 };
 pub use flat_rows::{FlatRows, Owned};
-pub use laws::columns_tell_rows_apart;
+pub use laws::{columns_tell_rows_apart, texts_are_written};
 pub use listed::read_listed;
 pub use meta::read_meta;
 pub use nonce::read_nonce;
