@@ -161,6 +161,7 @@ decides F call e es changes reply legal formed at is fits enough made replies =
     record {
       faultless = faultless F call at numbers bytes;
       replies = replies (subst EachFollows (sym grown) follows);
+      recorded = made ∙ ap (recorded_changes (moment_of call.at F) (picture F)) (sym is);
       quiet = λ empty. let differ : e ∷ es ≡ [] = sym is ∙ empty in cc;
       news =
           subst (AreNews (picture F)) (sym made)
@@ -182,6 +183,7 @@ decides_none F call changes reply legal at is none said =
           faultless F call at (subst (λ G. IsTrue (numbers_fit G)) same legal.numbered)
           (subst (λ l. 16 * count_pieces l ≤ length call.random) (sym is) (omega arith));
       replies = said;
+      recorded = none ∙ ap (recorded_changes (moment_of call.at F) (picture F)) (sym is);
       quiet = λ empty. none;
       news = subst (AreNews (picture F)) (sym none) tt;
       kept = subst (AreKept (picture F)) (sym none) tt;

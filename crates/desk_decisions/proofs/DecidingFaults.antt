@@ -24,7 +24,6 @@ use Rattle.desk_model.specs.declared.entry.Entry.{Entry}
 use Rattle.desk_model.specs.declared.entry.Entry.TheVariants.{Issued as issued}
 use Rattle.desk_laws.proofs.Recorded.{tables_ordered}
 use Rattle.desk_laws.specs.Ordered.{IsOrdered}
-use Rattle.desk_lives.proofs.SoundCalls.{clock_in_time}
 use Rattle.desk_decisions.specs.Decided.{IsFaultOf}
 use Rattle.desk_rules.specs.Needs.{NumbersSpent}
 use Rattle.desk_decisions.specs.Outcomes.{IsPassedFault, IsSignedFault, IsAskFault}
@@ -67,17 +66,10 @@ is_short F call es at is fits short =
     (cond ((ap (λ l. nat_lt (length call.random) (16 * count_pieces l)) is ∙ less (length call.random) (16 * count_pieces es) short) i) (Some 25) None))
 
 -- a moment above the last
-is_late : (F : History) (call : Call) → last_moment < call.at → fault F call ≡ Some 24
+pub is_late : (F : History) (call : Call) → last_moment < call.at → fault F call ≡ Some 24
 is_late F call late =
     ap (λ b. cond b (Some 24) (cond (not (numbers_fit (after F call))) (Some 26) (cond (nat_lt (length call.random) (16 * count_pieces (decide F call).entries)) (Some 25) None)))
     (less last_moment call.at late)
-
--- a legal history's clock is not above it, so the call's own moment is
-pub acts_late : (F : History) (call : Call) (B : Tables) (m : ℕ) → Legal F → IsPartFor call (picture F) B → m ≡ max call.at B.meta.clock → last_moment < m → fault F call ≡ Some 24
-acts_late F call B m legal part acts late =
-    let in_time : clock F ≤ last_moment = clock_in_time F legal.each in
-    let is : m ≡ max call.at (clock F) = acts ∙ ap (λ (T : Tables). max call.at T.meta.clock) part.cut in
-    is_late F call (omega arith)
 
 -- a nonce that is issued and nothing else
 issue_faults : (F : History) (call : Call) (e : CoreFault) → Legal F → call.at ≤ last_moment → (decide F call).entries ≡ issued (take 16 call.random) ∷ [] →

@@ -1,6 +1,7 @@
 -- What a decision promises, against the history of whose picture the book is a part.
 use Rattle.std.specs.Prelude.{◌≡◌, Some, None, List, []}
 use Rattle.desk_model.specs.Entry.{History}
+use Rattle.desk_model.specs.History.{moment_of}
 use Rattle.desk_model.specs.Legal.{Legal}
 use Rattle.desk_model.specs.Tables.{picture}
 use Rattle.desk_model.specs.Change.{applied}
@@ -9,15 +10,17 @@ use Rattle.desk_model.specs.Run.{fault}
 use Rattle.desk_model.specs.declared.call.Call.{Call}
 use Rattle.desk_model.specs.declared.reply.Reply.{Reply}
 use Rattle.desk_model.specs.declared.rows.Change.{Change}
+use Rattle.desk_changes.specs.Recorded.{recorded_changes}
 use Rattle.desk_laws.specs.News.{AreKept, AreNews}
 use Rattle.desk_rules.specs.declared.fault.CoreFault.{CoreFault}
 use Rattle.desk_rules.specs.declared.fault.CoreFault.TheVariants as core
 
--- the call has no fault, the reply is the model's, and the changes put news alone, keep children and make the picture of the longer history,
--- which is legal; there is none where nothing is recorded
+-- the call has no fault, and the reply is the model's; the changes are those of the recorded entries, none where nothing is recorded: they put
+-- news alone, keep children and make the picture of the longer history, which is legal
 pub record IsDecision (F : History) (call : Call) (changes : List Change) (reply : Reply) : Type 0 where
   pub faultless : fault F call ≡ None
   pub replies : reply ≡ (decide F call).reply
+  pub recorded : changes ≡ recorded_changes (moment_of call.at F) (picture F) (decide F call).entries
   pub quiet : (decide F call).entries ≡ [] → changes ≡ []
   pub news : AreNews (picture F) changes
   pub kept : AreKept (picture F) changes

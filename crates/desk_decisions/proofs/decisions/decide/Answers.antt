@@ -1,28 +1,33 @@
-use Rattle.std.proofs.Common.{◌∙◌, ap, max, arith}
+use Rattle.std.proofs.Common.{◌≡◌, ◌∙◌, ap, max, arith}
 use Rattle.desk_model.specs.declared.rows.Meta.{Meta}
 use Rattle.desk_decisions.proofs.DecidingAsks.{code_decides, ok_part, err_part}
+use Rattle.desk_decisions.proofs.Faults.{late_only}
 use Rattle.desk_decisions.specs.Outcomes.{MeetsAsk, IsAskFault}
-use Rattle.desk_decisions.proofs.DecidingFaults.{acts_late, code_fails}
+use Rattle.desk_decisions.proofs.DecidingFaults.{code_fails, is_late}
 use Rattle.desk_decisions.proofs.decisions.decide.Goals as goal
 
-pub returns-then-moment-gt-LAST_MOMENT-clause-faulty : goal.returns-then-moment-gt-LAST_MOMENT-clause-faulty
-returns-then-moment-gt-LAST_MOMENT-clause-faulty c =
-    λ F legal same.
-    acts_late F c.args.call.now c.args.book.now c.max-moment.result legal same
-    (c.max-moment.ensures ∙ ap (λ (x : Meta). max c.args.call.now.at x.clock) c.meta.ensures) (omega arith)
+pub returns-then-at-gt-LAST_MOMENT-clause-faulty : goal.returns-then-at-gt-LAST_MOMENT-clause-faulty
+returns-then-at-gt-LAST_MOMENT-clause-faulty c = λ F legal part. is_late F c.args.call.now (omega arith)
+
+pub returns-clause-late : goal.returns-clause-late
+returns-clause-late c = late_only c.decide_at.result c.args.call.now.at c.decide_at.ensures.later (omega arith)
 
 pub returns-clause-decided : goal.returns-clause-decided
 returns-clause-decided c =
+    let acts : c.max-moment.result ≡ max c.args.call.now.at c.args.book.now.meta.clock =
+    c.max-moment.ensures ∙ ap (max c.args.call.now.at) (c.moment.ensures.same ∙ ap (λ (x : Meta). x.clock) c.meta.ensures) in
     ok_part (λ o. MeetsAsk c.max-moment.result c.args.book.now c.as_slice.result.now c.args.call.now.ask o.changes.items o.reply) (λ e. IsAskFault c.max-moment.result c.args.book.now c.as_slice.result.now c.args.call.now.ask e)
-    c.decide_at.result c.decide_at.ensures
-    (λ o meets F legal same.
-    code_decides F c.args.call.now c.args.book.now c.max-moment.result c.as_slice.result.now o.changes.items o.reply legal same c.keep_form.ensures (omega (arith, c.max-moment.ensures))
-    (c.max-moment.ensures ∙ ap (λ (x : Meta). max c.args.call.now.at x.clock) c.meta.ensures) c.as_slice.ensures meets)
+    c.decide_at.result c.decide_at.ensures.meets
+    (λ o meets F legal part.
+    code_decides F c.args.call.now c.args.book.now c.max-moment.result c.as_slice.result.now o.changes.items o.reply legal part c.keep_form.ensures (omega arith)
+    acts c.as_slice.ensures meets)
 
 pub returns-clause-faulty : goal.returns-clause-faulty
 returns-clause-faulty c =
+    let acts : c.max-moment.result ≡ max c.args.call.now.at c.args.book.now.meta.clock =
+    c.max-moment.ensures ∙ ap (max c.args.call.now.at) (c.moment.ensures.same ∙ ap (λ (x : Meta). x.clock) c.meta.ensures) in
     err_part (λ o. MeetsAsk c.max-moment.result c.args.book.now c.as_slice.result.now c.args.call.now.ask o.changes.items o.reply) (λ e. IsAskFault c.max-moment.result c.args.book.now c.as_slice.result.now c.args.call.now.ask e)
-    c.decide_at.result c.decide_at.ensures
-    (λ e fails F legal same.
-    code_fails F c.args.call.now c.args.book.now c.max-moment.result c.as_slice.result.now e legal same (omega (arith, c.max-moment.ensures))
-    (c.max-moment.ensures ∙ ap (λ (x : Meta). max c.args.call.now.at x.clock) c.meta.ensures) c.as_slice.ensures fails)
+    c.decide_at.result c.decide_at.ensures.meets
+    (λ e fails F legal part.
+    code_fails F c.args.call.now c.args.book.now c.max-moment.result c.as_slice.result.now e legal part (omega arith)
+    acts c.as_slice.ensures fails)
