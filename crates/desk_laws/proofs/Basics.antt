@@ -1,9 +1,9 @@
 -- Small lemmas on options and lists.
-use Rattle.std.proofs.Common.{◌≡◌, ◌<◌, ◌≢◌, ℕ, ◌+◌, List, [], ◌∷◌, ◌++◌, length, map, Option, Some, None, refl, ap, ◌∙◌, subst, true, false, Bool, cond, arith}
+use Rattle.std.proofs.Common.{◌≡◌, ◌<◌, ◌≢◌, ℕ, ◌+◌, List, [], ◌∷◌, ◌++◌, length, map, Option, Some, None, refl, sym, ap, ◌∙◌, subst, true, false, Bool, cond, arith}
 use Rattle.std.specs.Prelude.{◌==◌, ◌&&◌, ◌||◌, find}
 use Rattle.std.specs.List.{list_any, list_all}
 use Rattle.std.specs.Option.{option_map}
-use Rattle.std.proofs.lemmas.Bool.{ne_eqb}
+use Rattle.std.proofs.lemmas.Bool.{eqb-true, eq-eqb, ne_eqb}
 use Rattle.desk_model.specs.History.{earlier}
 use Rattle.desk_model.specs.Kept.{EachOf}
 
@@ -138,3 +138,14 @@ more_differs a b lt = ne_eqb a b (apart a b lt)
   where
     apart : (a b : ℕ) → b < a → a ≢ b
     apart a b lt = omega arith
+
+-- numbers compare alike from either side
+pub eq_turn : (a b : ℕ) → (a == b) ≡ (b == a)
+eq_turn a b = by (a == b) refl
+  where
+    apart : (a == b) ≡ false → b ≢ a
+    apart e same = let is : (a == b) ≡ true = eq-eqb a b (sym same) in cc
+
+    by : (c : Bool) → (a == b) ≡ c → c ≡ (b == a)
+    by true e = sym (eq-eqb b a (sym (eqb-true a b e)))
+    by false e = sym (ne_eqb b a (apart e))

@@ -1,5 +1,5 @@
 -- What every legal history keeps.
-use Rattle.std.proofs.Common.{◌≡◌, ◌≢◌, ◌≤◌, ℕ, ◌+◌, ◌^◌, List, [], ◌∷◌, ◌++◌, length, map, filter, Option, Some, None, refl, ap, ◌∙◌, subst, true, false, Bool, cond, arith}
+use Rattle.std.proofs.Common.{◌≡◌, ◌≢◌, ◌≤◌, ℕ, ◌+◌, ◌^◌, List, [], ◌∷◌, length, map, filter, Option, Some, None, refl, ap, ◌∙◌, subst, true, false, Bool, cond, arith}
 use Rattle.std.specs.Prelude.{◌==◌, ◌&&◌, nat_le, IsTrue, find, is_none, is_some, bytes_eq}
 use Rattle.std.specs.List.{list_all}
 use Rattle.std.proofs.lemmas.Bool.{leb-true, le-leb, eqb-true, and_parts, and_from}
@@ -28,6 +28,7 @@ use Rattle.desk_model.specs.declared.objects.Report.{Report}
 use Rattle.desk_laws.specs.Distinct.{Distinct}
 use Rattle.desk_laws.specs.LegalLaws.{CountersFit, EndsInTime, last_end, reports_on}
 use Rattle.desk_laws.proofs.Basics.{each, each-append, each-map}
+use Rattle.desk_laws.proofs.Distinctness.{distinct-append, distinct-map}
 use Rattle.desk_laws.proofs.Numbers.{first_no, made_now, ordered_now}
 use Rattle.desk_laws.proofs.RowFacts.{processing_unreported}
 
@@ -65,17 +66,6 @@ reported_once (e ∷ F) h n = by (reports_on n e) refl (reported_once F h.1 n)
     by false p ih = ih
 
 -- ---- keys
-
--- lists that share no value
-distinct-append : {X Y : Type 0} (value : X → Y) (xs ys : List X) → Distinct value xs → Distinct value ys →
-    EachOf (λ x. EachOf (λ y. value x ≢ value y) ys) xs → Distinct value (xs ++ ys)
-distinct-append value [] ys h k g = k
-distinct-append value (x ∷ xs) ys h k g = (each-append _ xs ys h.0 g.0, distinct-append value xs ys h.1 k g.1)
-
--- values of mapped items
-distinct-map : {X Y Z : Type 0} (value : Y → Z) (f : X → Y) (xs : List X) → Distinct (λ x. value (f x)) xs → Distinct value (map f xs)
-distinct-map value f [] h = tt
-distinct-map value f (x ∷ xs) h = (each-map _ f xs h.0, distinct-map value f xs h.1)
 
 -- where none is found by a key, each has another
 none_found : (key : List ℕ) (xs : List Account) → is_none (find (λ a. bytes_eq a.key key) xs) ≡ true → EachOf (λ a. a.key ≢ key) xs

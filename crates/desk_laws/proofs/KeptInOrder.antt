@@ -1,14 +1,13 @@
 -- Change after change, what is put has the children of what stands there by then.
-use Rattle.std.proofs.Common.{◌≡◌, ◌≢◌, ◌≤◌, ◌<◌, ℕ, ◌+◌, List, [], ◌∷◌, ◌++◌, map, Some, None, refl, sym, ap, subst, ◌∙◌, true, false, Bool, cond, not, arith}
-use Rattle.std.specs.Prelude.{IfSome, find, nat_lt, ◌==◌, ◌&&◌}
-use Rattle.std.proofs.lemmas.Bool.{eqb-true}
+use Rattle.std.proofs.Common.{◌≡◌, ◌≤◌, ◌<◌, ℕ, ◌+◌, List, [], ◌∷◌, ◌++◌, map, refl, sym, subst, ◌∙◌, arith}
+use Rattle.std.specs.Prelude.{IfSome, find, ◌==◌}
 use Rattle.desk_model.specs.Entry.{History}
 use Rattle.desk_model.specs.History.{clock, record_all}
 use Rattle.desk_model.specs.Legal.{EachFollows}
 use Rattle.desk_model.specs.Tables.{Tables, tables_at, picture}
 use Rattle.desk_model.specs.Derived.{restated_authorization, restated_order}
-use Rattle.desk_model.specs.Effect.{noted_account, noted_authorization, noted_order, touches_account, touches_authorization, touches_order, authorizations_after, new_authorizations, effect, swept, is_overdue, falls}
-use Rattle.desk_model.specs.Change.{put, remove, moved_rows, account_differs, authorization_differs, order_differs, applied, applied_one, spent_by, nonces_put, accounts_put, authorizations_put, orders_put, changes, nonces_gone, authorizations_expired, orders_fallen, sweep_changes, all_changes}
+use Rattle.desk_model.specs.Effect.{noted_authorization, noted_order, touches_authorization, touches_order, authorizations_after, new_authorizations, effect, swept, is_overdue, falls}
+use Rattle.desk_model.specs.Change.{put, authorization_differs, order_differs, applied, applied_one, spent_by, nonces_put, accounts_put, authorizations_put, orders_put, changes, nonces_gone, authorizations_expired, orders_fallen, sweep_changes, all_changes}
 use Rattle.desk_model.specs.Kept.{EachOf}
 use Rattle.desk_model.specs.declared.entry.Entry.{Entry}
 use Rattle.desk_model.specs.declared.objects.Nonce.{Nonce}
@@ -20,12 +19,12 @@ use Rattle.desk_model.specs.declared.rows.OrderRow.{OrderRow}
 use Rattle.desk_model.specs.declared.status.AuthzStatus.TheVariants as authz
 use Rattle.desk_model.specs.declared.status.OrderStatus.TheVariants as order
 use Rattle.desk_laws.specs.News.{AreKept, KeepsChildren}
-use Rattle.desk_laws.specs.Ordered.{Ascends, Below, IsTable, IsOrdered}
-use Rattle.desk_laws.proofs.Basics.{less_differs, each_both, each}
+use Rattle.desk_laws.specs.Ordered.{Ascends, IsOrdered}
+use Rattle.desk_laws.proofs.Basics.{each_both, each}
 use Rattle.desk_laws.proofs.NewsInOrder.{find_put, put_up}
 use Rattle.desk_laws.proofs.PutsDiffer.{puts_keep_children, swept_puts_keep_children}
-use Rattle.desk_laws.proofs.Recorded.{below_filter, below_map, tables_ordered, changes_make, sweep_makes, issued_up, opened_up, ordered_up, made_up}
-use Rattle.desk_laws.proofs.RowLists.{puts, removes, Above, ascends_above, ascends_from, ascends_map, ascends_filter}
+use Rattle.desk_laws.proofs.Recorded.{tables_ordered, changes_make, sweep_makes, ordered_up, made_up}
+use Rattle.desk_laws.proofs.RowLists.{puts, removes, Above, ascends_above, ascends_map, ascends_filter}
 use Rattle.desk_laws.proofs.Step.{follows_before, step, sweep}
 
 -- ---- one table
@@ -44,7 +43,7 @@ each_parts P [] ys h = (tt, h)
 each_parts P (x ∷ xs) ys h = let rest = each_parts P xs ys h.1 in ((h.0, rest.0), rest.1)
 
 -- what holds of moved items
-each_of_map : {X Y : Type 0} (P : Y → Type 0) (f : X → Y) (xs : List X) → EachOf P (map f xs) → EachOf (λ x. P (f x)) xs
+pub each_of_map : {X Y : Type 0} (P : Y → Type 0) (f : X → Y) (xs : List X) → EachOf P (map f xs) → EachOf (λ x. P (f x)) xs
 each_of_map P f [] h = tt
 each_of_map P f (x ∷ xs) h = (h.0, each_of_map P f xs h.1)
 
@@ -149,7 +148,7 @@ entries_kept F m (e ∷ es) h =
     (subst (λ T. AreKept T (all_changes m (effect m (tables_at F m) e) es)) (sym made)
     (subst (λ T. AreKept (tables_at G m) (all_changes m T es)) (sym one) (entries_kept G m es h)))
 
--- what a call records puts news alone
+-- what a call records keeps all children
 pub records_keep : (F : History) (e : Entry) (es : List Entry) (m : ℕ) → clock F ≤ m → EachFollows (record_all m (e ∷ es) F) →
     AreKept (picture F) (sweep_changes m (picture F) ++ all_changes m (swept m (picture F)) (e ∷ es))
 records_keep F e es m le h =

@@ -5,6 +5,7 @@ pub mod Beginnings
 pub mod Chain
 pub mod Dates
 pub mod Differing
+pub mod Distinctness
 pub mod Faults
 pub mod Finds
 pub mod Forms
