@@ -15,6 +15,7 @@ pub mod KeptInOrder
 pub mod Local
 pub mod Maps
 pub mod MovedRows
+pub mod NewChildren
 pub mod NewsInOrder
 pub mod Numbers
 pub mod OrderFacts

@@ -10,7 +10,7 @@ use Rattle.desk_model.specs.Tables.{Tables, tables_at, picture}
 use Rattle.desk_model.specs.Kept.{EachOf}
 use Rattle.desk_model.specs.declared.entry.Entry.{Entry}
 use Rattle.desk_model.specs.declared.rows.AuthorizationRow.{AuthorizationRow}
-use Rattle.desk_laws.specs.News.{AreKept, AreNews, IsNews, KeepsChildren}
+use Rattle.desk_laws.specs.News.{AreKept, AreNewChildren, AreNews, IsNews, KeepsChildren}
 use Rattle.desk_laws.specs.Ordered.{Ascends, IsOrdered}
 
 -- the tables of a history stand by number
@@ -63,3 +63,9 @@ abbrev pub RecordsKeepChildren : Type 0
 RecordsKeepChildren =
     (F : History) (e : Entry) (es : List Entry) (m : ℕ) → clock F ≤ m → EachFollows (record_all m (e ∷ es) F) →
     AreKept (picture F) (sweep_changes m (picture F) ++ all_changes m (swept m (picture F)) (e ∷ es))
+
+-- and the challenges of each new authorization are in no row yet
+abbrev pub RecordsBringNewChildren : Type 0
+RecordsBringNewChildren =
+    (F : History) (e : Entry) (es : List Entry) (m : ℕ) → clock F ≤ m → EachFollows (record_all m (e ∷ es) F) →
+    AreNewChildren (picture F) (sweep_changes m (picture F) ++ all_changes m (swept m (picture F)) (e ∷ es))

@@ -1,9 +1,12 @@
 -- What a change puts, beside the row that stands in its place.
-use Rattle.std.specs.Prelude.{◌==◌, ◌≡◌, ◌≢◌, List, [], ◌∷◌, Some, IfSome, find, map}
+use Rattle.std.specs.Prelude.{◌==◌, ◌≡◌, ◌≢◌, List, [], ◌∷◌, Some, None, IfSome, find, map}
 use Rattle.desk_model.specs.Tables.{Tables}
 use Rattle.desk_model.specs.Change.{applied_one}
+use Rattle.desk_model.specs.Kept.{EachOf}
+use Rattle.desk_model.specs.Questions.{authorization_on, owner_on}
 use Rattle.desk_model.specs.declared.rows.Change.{Change}
 use Rattle.desk_model.specs.declared.rows.Change.TheVariants.{PutNonce, PutAccount, PutAuthorization, PutOrder}
+use Rattle.desk_laws.specs.Distinct.{Distinct}
 
 -- a row that is put is not the one that stands in its place; the one row of a desk's own is always put
 abbrev pub IsNews : Tables → Change → Type 0
@@ -20,6 +23,13 @@ KeepsChildren T (PutAuthorization x) =
 KeepsChildren T (PutOrder x) = IfSome (find (λ o. o.number == x.number) T.orders) (λ o. o.listed ≡ x.listed)
 KeepsChildren T _ = Unit {0}
 
+-- the row's challenges differ in number, and where it is new no authorization has one of them yet; what an order lists stands
+-- under the order's own number, so that a new order's places stand nowhere and nothing is left to say
+abbrev pub BringsNewChildren : Tables → Change → Type 0
+BringsNewChildren T (PutAuthorization x) =
+    Distinct (λ c. c.number) x.challenges × (authorization_on T x.number ≡ None → EachOf (λ c. owner_on T c.number ≡ None) x.challenges)
+BringsNewChildren T _ = Unit {0}
+
 -- one after the other: each row that is put differs from the one that the changes before it left in its place
 abbrev pub AreNews : Tables → List Change → Type 0
 AreNews T [] = Unit {0}
@@ -29,3 +39,8 @@ AreNews T (c ∷ cs) = IsNews T c × AreNews (applied_one c T) cs
 abbrev pub AreKept : Tables → List Change → Type 0
 AreKept T [] = Unit {0}
 AreKept T (c ∷ cs) = KeepsChildren T c × AreKept (applied_one c T) cs
+
+-- and so: the challenges of each authorization that is new are new to what the changes before it left
+abbrev pub AreNewChildren : Tables → List Change → Type 0
+AreNewChildren T [] = Unit {0}
+AreNewChildren T (c ∷ cs) = BringsNewChildren T c × AreNewChildren (applied_one c T) cs

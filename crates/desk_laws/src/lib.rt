@@ -1,7 +1,7 @@
 //! The laws that tie the tables of a desk to its history.
 #![tactic(auto)]
 
-ghost use Rattle.desk_laws.specs.ChangeLaws.{TablesAreOrdered, ChallengesAreOrdered, SweepKeepsChildren, EntryKeepsChildren, SweepIsMade, EffectIsMade, PicturesAreMade, SweepPutsDiffer, EntryPutsDiffer, RecordsPutNews, RecordsKeepChildren};
+ghost use Rattle.desk_laws.specs.ChangeLaws.{TablesAreOrdered, ChallengesAreOrdered, SweepKeepsChildren, EntryKeepsChildren, SweepIsMade, EffectIsMade, PicturesAreMade, SweepPutsDiffer, EntryPutsDiffer, RecordsPutNews, RecordsKeepChildren, RecordsBringNewChildren};
 ghost use Rattle.desk_laws.specs.DateLaws.{ClockIsInTime, NoDateIsLater};
 ghost use Rattle.desk_laws.specs.LegalLaws.{OnlyGivenAreNamed, ReportedOnce, ProvedByReports, KeysDiffer, NumbersFitCounters, CountersFitNumbers, TermsAreInLimits, AllEndInTime, KeysAreFormed, NamesAreFormed, TextsAreUtf8};
 ghost use Rattle.desk_laws.specs.PartLaws.{FindsAreLocal, FiltersAreLocal, MayFollowIsLocal, PartsAreSwept, PartsHaveEffect, PartsHaveEffects, SweepChangesAreLocal, ChangesAreLocal, PartsRecord};
@@ -26,8 +26,8 @@ pub fn rows_say_what_may_follow()
     ensures legal { LegalGrows }
 {}
 
-/// What is recorded, as changes of rows, makes the picture of the longer history, puts no row that stands already, and keeps
-/// the children of each row that it replaces.
+/// What is recorded, as changes of rows, makes the picture of the longer history, puts no row that stands already, keeps the
+/// children of each row that it replaces, and brings with each new row children that stand nowhere yet.
 pub fn changes_make_pictures()
     ensures ordered { TablesAreOrdered }
     ensures challenges { ChallengesAreOrdered }
@@ -40,6 +40,7 @@ pub fn changes_make_pictures()
     ensures sweep_children { SweepKeepsChildren }
     ensures entry_children { EntryKeepsChildren }
     ensures kept { RecordsKeepChildren }
+    ensures fresh { RecordsBringNewChildren }
 {}
 
 /// A part of the tables answers, moves and records as the whole, where it has what is looked for.

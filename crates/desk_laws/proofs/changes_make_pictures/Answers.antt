@@ -1,5 +1,6 @@
 use Rattle.desk_laws.proofs.PutsDiffer.{swept_puts_differ, puts_differ, swept_puts_keep_children, puts_keep_children}
 use Rattle.desk_laws.proofs.KeptInOrder.{records_keep}
+use Rattle.desk_laws.proofs.NewChildren.{records_bring_new_children}
 use Rattle.desk_laws.proofs.NewsInOrder.{records_put_news}
 use Rattle.desk_laws.proofs.Recorded.{tables_ordered, challenges_ordered, sweep_makes, changes_make, recorded}
 use Rattle.desk_laws.proofs.changes_make_pictures.Goals as goal
@@ -36,3 +37,6 @@ returns-clause-entry_children c = puts_keep_children
 
 pub returns-clause-kept : goal.returns-clause-kept
 returns-clause-kept c = records_keep
+
+pub returns-clause-fresh : goal.returns-clause-fresh
+returns-clause-fresh c = records_bring_new_children
