@@ -23,8 +23,9 @@ use Rattle.desk_model.specs.declared.entry.Entry.TheVariants.{Issued as issued, 
 use Rattle.desk_model.specs.declared.verdict.Verdict.{Verdict}
 use Rattle.desk_model.specs.declared.verdict.Verdict.TheVariants.{Refused as refused, Accepted as accepted}
 use Rattle.desk_laws.specs.News.{AreNews}
-use Rattle.desk_laws.specs.News.{AreKept}
+use Rattle.desk_laws.specs.News.{AreKept, AreNewChildren}
 use Rattle.desk_laws.proofs.KeptInOrder.{records_keep}
+use Rattle.desk_laws.proofs.NewChildren.{records_bring_new_children}
 use Rattle.desk_laws.proofs.NewsInOrder.{records_put_news}
 use Rattle.desk_laws.proofs.Recorded.{recorded}
 use Rattle.desk_laws.proofs.Step.{steps, sweep}
@@ -169,6 +170,9 @@ decides F call e es changes reply legal formed at is fits enough made replies =
       kept =
           subst (AreKept (picture F)) (sym made)
           (records_keep F e es (moment_of call.at F) (moment_later F call) (subst EachFollows (sym grown) follows));
+      fresh =
+          subst (AreNewChildren (picture F)) (sym made)
+          (records_bring_new_children F e es (moment_of call.at F) (moment_later F call) (subst EachFollows (sym grown) follows));
       makes = makes;
       stays_legal = legal_by_numbers F call legal follows numbers;
     }
@@ -187,6 +191,7 @@ decides_none F call changes reply legal at is none said =
       quiet = λ empty. none;
       news = subst (AreNews (picture F)) (sym none) tt;
       kept = subst (AreKept (picture F)) (sym none) tt;
+      fresh = subst (AreNewChildren (picture F)) (sym none) tt;
       makes = ap (λ cs. applied cs (picture F)) none ∙ ap picture same;
       stays_legal = subst Legal same legal;
     }

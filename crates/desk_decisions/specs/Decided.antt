@@ -11,12 +11,12 @@ use Rattle.desk_model.specs.declared.call.Call.{Call}
 use Rattle.desk_model.specs.declared.reply.Reply.{Reply}
 use Rattle.desk_model.specs.declared.rows.Change.{Change}
 use Rattle.desk_changes.specs.Recorded.{recorded_changes}
-use Rattle.desk_laws.specs.News.{AreKept, AreNews}
+use Rattle.desk_laws.specs.News.{AreKept, AreNewChildren, AreNews}
 use Rattle.desk_rules.specs.declared.fault.CoreFault.{CoreFault}
 use Rattle.desk_rules.specs.declared.fault.CoreFault.TheVariants as core
 
 -- the call has no fault, and the reply is the model's; the changes are those of the recorded entries, none where nothing is recorded: they put
--- news alone, keep children and make the picture of the longer history, which is legal
+-- news alone, keep children, bring new ones that stand nowhere yet, and make the picture of the longer history, which is legal
 pub record IsDecision (F : History) (call : Call) (changes : List Change) (reply : Reply) : Type 0 where
   pub faultless : fault F call ≡ None
   pub replies : reply ≡ (decide F call).reply
@@ -24,6 +24,7 @@ pub record IsDecision (F : History) (call : Call) (changes : List Change) (reply
   pub quiet : (decide F call).entries ≡ [] → changes ≡ []
   pub news : AreNews (picture F) changes
   pub kept : AreKept (picture F) changes
+  pub fresh : AreNewChildren (picture F) changes
   pub makes : applied changes (picture F) ≡ picture (after F call)
   pub stays_legal : Legal (after F call)
 

@@ -82,7 +82,7 @@ fn subproblem_document(alloc: Global, subproblem: &Subproblem) -> Result<Value, 
 
 // The error type of a refusal (RFC 8555, 6.7).
 fn error_type(alloc: Global, refusal: Refusal) -> Result<String, AllocError>
-    ensures { IfOk result (λ s. string_bytes s ≡ error_type refusal) }
+    ensures { IfOk result (λ s. string_bytes s ≡ error_type (refusal_of refusal).error_type) }
 {
     format!(in alloc; "urn:ietf:params:acme:error:{}", refusal.error_type())
 }

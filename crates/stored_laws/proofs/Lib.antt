@@ -1,4 +1,5 @@
 pub mod Books
 pub mod Columns
+pub mod FlatTexts
 pub mod Records
 pub mod Rows

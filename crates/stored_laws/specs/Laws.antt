@@ -2,6 +2,7 @@
 use Rattle.std.specs.Prelude.{ℕ, ◌≤◌, List, ◌∷◌, ◌++◌}
 use Rattle.desk_columns.specs.Columns.{rows_columns}
 use Rattle.desk_columns.specs.Limits.{AreStored}
+use Rattle.desk_columns.specs.TextColumns.{ColumnsAreTexts}
 use Rattle.desk_columns.specs.declared.columns.StoredRows.{StoredRows}
 use Rattle.desk_model.specs.Change.{all_changes, sweep_changes}
 use Rattle.desk_model.specs.Effect.{swept}
@@ -53,3 +54,7 @@ abbrev pub PicturesAreTold : Type 0
 PicturesAreTold =
     (F : History) → Legal F → (stored : StoredRows) → AreReorderedColumns stored (rows_columns (flat (picture F))) →
     IsOnlyBookOf stored (picture F)
+
+-- each TEXT column of a desk's rows is UTF-8, at each moment
+abbrev pub TablesAreTexts : Type 0
+TablesAreTexts = (F : History) → EachFollows F → (t : ℕ) → ColumnsAreTexts (rows_columns (flat (tables_at F t)))

@@ -1,5 +1,6 @@
 use Rattle.stored_laws.proofs.Books.{tables_book}
 use Rattle.stored_laws.proofs.Columns.{book_told, picture_told}
+use Rattle.stored_laws.proofs.FlatTexts.{tables_are_texts}
 use Rattle.stored_laws.proofs.Records.{records_in_limits}
 use Rattle.stored_laws.proofs.Rows.{flat_stored, parts_in_limits, picture_stored, tables_in_limits}
 use Rattle.stored_laws.proofs.pictures_are_books.Goals as goal
@@ -21,6 +22,9 @@ returns-clause-picture c = picture_stored
 
 pub returns-clause-records : goal.returns-clause-records
 returns-clause-records c = records_in_limits
+
+pub returns-clause-texts : goal.returns-clause-texts
+returns-clause-texts c = tables_are_texts
 
 pub returns-clause-told : goal.returns-clause-told
 returns-clause-told c = book_told

@@ -13,8 +13,8 @@ returns c =
     let row : OrderRow = record {
       number = c.args.self.now.meta.orders + 1;
       account = c.args.account;
-      made = c.moment.result;
-      expires = c.moment.result + c.order_life.result;
+      made = c.moment-moment.result;
+      expires = c.moment-moment.result + c.order_life.result;
       listed = c.new.result;
       finalized = None;
       certified = None;
@@ -22,8 +22,8 @@ returns c =
       status = order.Pending;
     } in
     let is : row ≡ bare_order c.args.self.now.meta c.args.account c.args.rows.now =
-    λ i. record row { made = c.moment.ensures.same i; expires = c.moment.ensures.same i + c.order_life.ensures.life i; listed = listed i } in
-    stated_as c.moment.result c.args.rows.now row (bare_order c.args.self.now.meta c.args.account c.args.rows.now) c.derived_order-row.result is
+    λ i. record row { made = c.moment-moment.ensures.same i; expires = c.moment-moment.ensures.same i + c.order_life.ensures.life i; listed = listed i } in
+    stated_as c.moment-moment.result c.args.rows.now row (bare_order c.args.self.now.meta c.args.account c.args.rows.now) c.derived_order-row.result is
     (c.derived_order-row.ensures c.args.rows.now
     (ap (λ l. stored_statuses c.args.rows.now (numbers_of l)) listed ∙ made_statuses n 1 c.args.rows.now up ∙ sym c.in_ok-statuses.ensures ∙ sym c.deref.ensures.value))
-    ∙ ap (λ m. restated_order m c.args.rows.now (bare_order c.args.self.now.meta c.args.account c.args.rows.now)) c.moment.ensures.same
+    ∙ ap (λ m. restated_order m c.args.rows.now (bare_order c.args.self.now.meta c.args.account c.args.rows.now)) c.moment-moment.ensures.same

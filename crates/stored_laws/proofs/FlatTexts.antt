@@ -1,0 +1,24 @@
+-- The rows of tables that hold texts hold them table by table, and so do their columns.
+use Rattle.std.proofs.Common.{map}
+use Rattle.desk_model.specs.Texts.{HoldTexts}
+use Rattle.desk_laws.proofs.Basics.{each-map}
+use Rattle.desk_columns.specs.TextColumns.{RowsHoldTexts}
+use Rattle.desk_columns.proofs.Utf8Columns.{texts_are_written}
+use Rattle.desk_laws.proofs.TextFacts.{hold_texts}
+use Rattle.desk_model.specs.Tables.{Tables, tables_at}
+use Rattle.stored_laws.specs.Laws.{TablesAreTexts}
+use Rattle.stored_rows.specs.Flat.{flat, without_challenges, without_listed}
+
+-- as the tables hold them
+flat_holds : (T : Tables) → HoldTexts T → RowsHoldTexts (flat T)
+flat_holds T h =
+    record {
+      metas = (h.meta, tt);
+      accounts = h.accounts;
+      orders = each-map _ without_listed T.orders h.orders;
+      authorizations = each-map _ without_challenges T.authorizations h.authorizations;
+    }
+
+-- so the columns of a history's tables are texts
+pub tables_are_texts : TablesAreTexts
+tables_are_texts F follows t = texts_are_written.rows (flat (tables_at F t)) (flat_holds (tables_at F t) (hold_texts F follows t))
