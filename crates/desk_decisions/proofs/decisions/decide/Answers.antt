@@ -6,8 +6,8 @@ use Rattle.desk_decisions.specs.Outcomes.{MeetsAsk, IsAskFault}
 use Rattle.desk_decisions.proofs.DecidingFaults.{code_fails, is_late}
 use Rattle.desk_decisions.proofs.decisions.decide.Goals as goal
 
-pub returns-then-at-gt-LAST_MOMENT-clause-faulty : goal.returns-then-at-gt-LAST_MOMENT-clause-faulty
-returns-then-at-gt-LAST_MOMENT-clause-faulty c = λ F legal part. is_late F c.args.call.now (omega arith)
+pub returns-then-call-gt-LAST_MOMENT-clause-faulty : goal.returns-then-call-gt-LAST_MOMENT-clause-faulty
+returns-then-call-gt-LAST_MOMENT-clause-faulty c = λ F legal part. is_late F c.args.call.now (omega arith)
 
 pub returns-clause-late : goal.returns-clause-late
 returns-clause-late c = late_only c.decide_at.result c.args.call.now.at c.decide_at.ensures.later (omega arith)
