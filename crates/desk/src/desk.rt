@@ -98,6 +98,7 @@ impl Desk {
     /// # Errors
     ///
     /// The fault of the call, or `Memory`; the desk is then as it was.
+    #[tactic(auto, using(desk_parts::proofs::Enough::same_part))]
     pub fn answer(&mut self, call: &Call) -> Result<Reply, DeskFault>
         ensures { MatchResult result
             (λ reply. Answers self.old call.now reply self.new)
