@@ -22,11 +22,13 @@ use Rattle.desk_parts.proofs.Lists.{each_member, filtered_each, found_passes, or
 -- ---- lists
 
 -- what is found and passes is found among what passes
-some_filter : {X : Type 0} (p test : X → Bool) (xs : List X) → IsSome (find p xs) → ((x : X) → find p xs ≡ Some x → test x ≡ true) → IsSome (find p (filter test xs))
+some_filter : {X : Type 0} (p test : X → Bool) (xs : List X) → IsSome (find p xs) →
+    ((x : X) → find p xs ≡ Some x → test x ≡ true) → IsSome (find p (filter test xs))
 some_filter p test [] h f = h
 some_filter p test (x ∷ xs) h f = by (p x) refl (test x) refl h f (some_filter p test xs)
   where
-    by : (b : Bool) → p x ≡ b → (c : Bool) → test x ≡ c → IsSome (cond b (Some x) (find p xs)) → ((y : _) → cond b (Some x) (find p xs) ≡ Some y → test y ≡ true) →
+    by : (b : Bool) → p x ≡ b → (c : Bool) → test x ≡ c → IsSome (cond b (Some x) (find p xs)) →
+        ((y : _) → cond b (Some x) (find p xs) ≡ Some y → test y ≡ true) →
         (IsSome (find p xs) → ((y : _) → find p xs ≡ Some y → test y ≡ true) → IsSome (find p (filter test xs))) →
         IsSome (find p (cond c (x ∷ filter test xs) (filter test xs)))
     by true e true r k g ih = ap (λ b. is_some (cond b (Some x) (find p (filter test xs)))) e
@@ -34,6 +36,7 @@ some_filter p test (x ∷ xs) h f = by (p x) refl (test x) refl h f (some_filter
     by false e true r k g ih = ap (λ b. is_some (cond b (Some x) (find p (filter test xs)))) e ∙ ih k g
     by false e false r k g ih = ih k g
 
+-- values that stand once do so among the items that pass
 distinct_filter : {X Y : Type 0} (value : X → Y) (p : X → Bool) (xs : List X) → Distinct value xs → Distinct value (filter p xs)
 distinct_filter value p [] h = tt
 distinct_filter value p (x ∷ xs) h = by (p x) (distinct_filter value p xs h.1)
@@ -42,6 +45,7 @@ distinct_filter value p (x ∷ xs) h = by (p x) (distinct_filter value p xs h.1)
     by true k = (filtered_each _ p xs (each _ _ xs (λ y f yes. f) h.0), k)
     by false k = k
 
+-- what holds of the parts of all items holds of the parts of those that pass
 flat_filtered : {X Y : Type 0} (P : Y → Type 0) (f : X → List Y) (p : X → Bool) (xs : List X) → EachOf P (flat_map f xs) → EachOf P (flat_map f (filter p xs))
 flat_filtered P f p [] h = tt
 flat_filtered P f p (x ∷ xs) h = by (p x) (flat_filtered P f p xs (back (f x) h))
@@ -58,7 +62,9 @@ flat_filtered P f p (x ∷ xs) h = by (p x) (flat_filtered P f p xs (back (f x) 
     by true k = each-append P (f x) (flat_map f (filter p xs)) (front (f x) h) k
     by false k = k
 
-distinct_flat : {X Y Z : Type 0} (value : Y → Z) (f : X → List Y) (p : X → Bool) (xs : List X) → Distinct value (flat_map f xs) → Distinct value (flat_map f (filter p xs))
+-- values that stand once in the parts of all items do so in those of the items that pass
+distinct_flat : {X Y Z : Type 0} (value : Y → Z) (f : X → List Y) (p : X → Bool) (xs : List X) → Distinct value (flat_map f xs) →
+    Distinct value (flat_map f (filter p xs))
 distinct_flat value f p [] h = tt
 distinct_flat value f p (x ∷ xs) h = by (p x) (distinct_flat value f p xs (back (f x) h))
   where
@@ -66,7 +72,8 @@ distinct_flat value f p (x ∷ xs) h = by (p x) (distinct_flat value f p xs (bac
     back [] k = k
     back (y ∷ ys) k = back ys k.1
 
-    front : (ys : List _) (y : _) → EachOf (λ z. value y ≢ value z) (ys ++ flat_map f xs) → EachOf (λ z. value y ≢ value z) ys × EachOf (λ z. value y ≢ value z) (flat_map f xs)
+    front : (ys : List _) (y : _) → EachOf (λ z. value y ≢ value z) (ys ++ flat_map f xs) →
+        EachOf (λ z. value y ≢ value z) ys × EachOf (λ z. value y ≢ value z) (flat_map f xs)
     front [] y k = (tt, k)
     front (z ∷ ys) y k = let rest = front ys y k.1 in ((k.0, rest.0), rest.1)
 
@@ -83,12 +90,14 @@ distinct_flat value f p (x ∷ xs) h = by (p x) (distinct_flat value f p xs (bac
 -- ---- references
 
 -- the account of a row that is touched is touched
-holder_found : (T : Tables) (m : ℕ) (a : Ask) (n : ℕ) → IsSome (account_on T n) → ((x : AccountRow) → (n == x.number) ≡ true → is_touched_account T m a x ≡ true) →
+holder_found : (T : Tables) (m : ℕ) (a : Ask) (n : ℕ) → IsSome (account_on T n) →
+    ((x : AccountRow) → (n == x.number) ≡ true → is_touched_account T m a x ≡ true) →
     IsSome (account_on (touched_rows T m a) n)
 holder_found T m a n there touches =
     some_filter (λ x. x.number == n) (is_touched_account T m a) T.accounts there
     (λ x found. touches x (turned x.number n (found_passes (λ x. x.number == n) T.accounts x found)))
 
+-- each reference of a touched row is found among the touched rows
 rows_refer : (T : Tables) (m : ℕ) (a : Ask) → HaveReferences T → HaveReferences (touched_rows T m a)
 rows_refer T m a h =
     record {
@@ -114,6 +123,7 @@ rows_refer T m a h =
 
 -- ---- books
 
+-- the touched rows of a book are a book
 rows_book : (T : Tables) (m : ℕ) (a : Ask) → IsBook T → IsBook (touched_rows T m a)
 rows_book T m a b =
     record {
@@ -141,6 +151,7 @@ rows_book T m a b =
       };
     }
 
+-- so is the desk's own row alone
 meta_book : (T : Tables) → IsBook (only_meta T)
 meta_book T =
     record {
@@ -152,6 +163,7 @@ meta_book T =
       };
     }
 
+-- so is what any call touches
 pub touched_book : (T : Tables) (call : Call) → IsBook T → IsBook (touched T call)
 touched_book T call b = by call.ask
   where

@@ -1,4 +1,4 @@
-//! What an ask names, as numbers.
+//! What an ask names, by numbers.
 ghost use Rattle.std.specs.Prelude.{◌≡◌, ◌∷◌, [], IfOk};
 ghost use Rattle.desk_model.specs.Tokens.{nonce_in};
 ghost use Rattle.desk_parts.specs.Loaded.{account_numbers as account_numbers_of, authorization_numbers as authorization_numbers_of, challenge_numbers as challenge_numbers_of, of_text, order_numbers as order_numbers_of, serials as serials_of, target_accounts, target_authorization_numbers, target_challenge_numbers, target_order_numbers};
@@ -8,6 +8,7 @@ use desk_model::{Ask, Target};
 use keys::read_nonce;
 use std::alloc::{AllocError, Global};
 
+/// A list of one number.
 fn one(alloc: Global, number: u64) -> Result<Vec<u64>, AllocError>
     ensures { IfOk result (λ v. v.items ≡ number ∷ []) }
 {
@@ -16,6 +17,7 @@ fn one(alloc: Global, number: u64) -> Result<Vec<u64>, AllocError>
     Ok(numbers)
 }
 
+/// The serial in the text of a nonce.
 fn serials_in(alloc: Global, text: &str) -> Result<Vec<u64>, AllocError>
     ensures { IfOk result (λ v. v.items ≡ of_text (nonce_in text.now)) }
 {
@@ -25,6 +27,7 @@ fn serials_in(alloc: Global, text: &str) -> Result<Vec<u64>, AllocError>
     }
 }
 
+/// The serial of the nonce that a request carries.
 pub(crate) fn serials(alloc: Global, ask: &Ask) -> Result<Vec<u64>, AllocError>
     ensures { IfOk result (λ v. v.items ≡ serials_of ask.now) }
 {
@@ -37,6 +40,7 @@ pub(crate) fn serials(alloc: Global, ask: &Ask) -> Result<Vec<u64>, AllocError>
     }
 }
 
+/// The account that a target names.
 fn accounts_at(alloc: Global, target: &Target) -> Result<Vec<u64>, AllocError>
     ensures { IfOk result (λ v. v.items ≡ target_accounts target.now) }
 {
@@ -47,6 +51,7 @@ fn accounts_at(alloc: Global, target: &Target) -> Result<Vec<u64>, AllocError>
     }
 }
 
+/// The account that an ask names by its number.
 pub(crate) fn account_numbers(alloc: Global, ask: &Ask) -> Result<Vec<u64>, AllocError>
     ensures { IfOk result (λ v. v.items ≡ account_numbers_of ask.now) }
 {
@@ -58,6 +63,7 @@ pub(crate) fn account_numbers(alloc: Global, ask: &Ask) -> Result<Vec<u64>, Allo
     }
 }
 
+/// The order that a target names.
 fn orders_at(alloc: Global, target: &Target) -> Result<Vec<u64>, AllocError>
     ensures { IfOk result (λ v. v.items ≡ target_order_numbers target.now) }
 {
@@ -69,6 +75,7 @@ fn orders_at(alloc: Global, target: &Target) -> Result<Vec<u64>, AllocError>
     }
 }
 
+/// The order that an ask names.
 pub(crate) fn order_numbers(alloc: Global, ask: &Ask) -> Result<Vec<u64>, AllocError>
     ensures { IfOk result (λ v. v.items ≡ order_numbers_of ask.now) }
 {
@@ -80,6 +87,7 @@ pub(crate) fn order_numbers(alloc: Global, ask: &Ask) -> Result<Vec<u64>, AllocE
     }
 }
 
+/// The authorization that a target names.
 fn authorizations_at(alloc: Global, target: &Target) -> Result<Vec<u64>, AllocError>
     ensures { IfOk result (λ v. v.items ≡ target_authorization_numbers target.now) }
 {
@@ -89,6 +97,7 @@ fn authorizations_at(alloc: Global, target: &Target) -> Result<Vec<u64>, AllocEr
     }
 }
 
+/// The authorization that an ask names.
 pub(crate) fn authorization_numbers(alloc: Global, ask: &Ask) -> Result<Vec<u64>, AllocError>
     ensures { IfOk result (λ v. v.items ≡ authorization_numbers_of ask.now) }
 {
@@ -99,6 +108,7 @@ pub(crate) fn authorization_numbers(alloc: Global, ask: &Ask) -> Result<Vec<u64>
     }
 }
 
+/// The challenge that a target names.
 fn challenges_at(alloc: Global, target: &Target) -> Result<Vec<u64>, AllocError>
     ensures { IfOk result (λ v. v.items ≡ target_challenge_numbers target.now) }
 {
@@ -108,6 +118,7 @@ fn challenges_at(alloc: Global, target: &Target) -> Result<Vec<u64>, AllocError>
     }
 }
 
+/// The challenge that an ask names.
 pub(crate) fn challenge_numbers(alloc: Global, ask: &Ask) -> Result<Vec<u64>, AllocError>
     ensures { IfOk result (λ v. v.items ≡ challenge_numbers_of ask.now) }
 {

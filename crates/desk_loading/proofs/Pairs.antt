@@ -1,0 +1,72 @@
+-- Look-ups of numbers, row by row.
+use Rattle.std.proofs.Common.{◌≡◌, ℕ, List, [], ◌∷◌, ◌++◌, map, filter, refl, ap, ◌∙◌, true, false, Bool, cond}
+use Rattle.std.specs.Prelude.{◌==◌}
+use Rattle.std.specs.List.{flat_map}
+use Rattle.std.proofs.lemmas.List.{map-append}
+use Rattle.std.proofs.lemmas.List.Elements.{filter-append}
+use Rattle.desk_model.specs.Tables.{Tables}
+use Rattle.desk_model.specs.declared.rows.AuthorizationRow.{AuthorizationRow}
+use Rattle.desk_model.specs.declared.rows.OrderRow.{OrderRow}
+use Rattle.desk_parts.specs.LookUps.{listed_by, orders_listing, owners_of}
+
+-- what is picked of the items of all rows is what is picked of each row's
+picked-flat_map : {X Y Z : Type 0} (value : Y → Z) (test : Y → Bool) (items : X → List Y) (xs : List X) →
+    map value (filter test (flat_map items xs)) ≡ flat_map (λ x. map value (filter test (items x))) xs
+picked-flat_map value test items [] = refl
+picked-flat_map value test items (x ∷ xs) =
+    ap (map value) (filter-append test (items x) (flat_map items xs))
+    ∙ map-append value (filter test (items x)) (filter test (flat_map items xs))
+    ∙ ap (λ l. map value (filter test (items x)) ++ l) (picked-flat_map value test items xs)
+
+-- items that are made of others, and picked by what they are made of
+picked-map : {X Y Z : Type 0} (value : Y → Z) (test : Y → Bool) (make : X → Y) (xs : List X) →
+    map value (filter test (map make xs)) ≡ map (λ x. value (make x)) (filter (λ x. test (make x)) xs)
+picked-map value test make [] = refl
+picked-map value test make (x ∷ xs) = by (test (make x)) (picked-map value test make xs)
+  where
+    by : (b : Bool) → map value (filter test (map make xs)) ≡ map (λ x. value (make x)) (filter (λ x. test (make x)) xs) →
+        map value (cond b (make x ∷ filter test (map make xs)) (filter test (map make xs)))
+        ≡ map (λ x. value (make x)) (cond b (x ∷ filter (λ x. test (make x)) xs) (filter (λ x. test (make x)) xs))
+    by true h = ap (λ l. value (make x) ∷ l) h
+    by false h = h
+
+-- with lists that are the same for each item
+flat_map-same : {X Y : Type 0} (f g : X → List Y) → ((x : X) → f x ≡ g x) → (xs : List X) → flat_map f xs ≡ flat_map g xs
+flat_map-same f g same [] = refl
+flat_map-same f g same (x ∷ xs) = λ i. same x i ++ flat_map-same f g same xs i
+
+-- all, or nothing
+picked-all : {X Y : Type 0} (value : X → Y) (b : Bool) (xs : List X) → map value (filter (λ x. b) xs) ≡ cond b (map value xs) []
+picked-all value true [] = refl
+picked-all value true (x ∷ xs) = ap (λ l. value x ∷ l) (picked-all value true xs)
+picked-all value false [] = refl
+picked-all value false (x ∷ xs) = picked-all value false xs
+
+-- what is made of what is made
+map-map : {X Y Z : Type 0} (g : Y → Z) (f : X → Y) (xs : List X) → map g (map f xs) ≡ map (λ x. g (f x)) xs
+map-map g f [] = refl
+map-map g f (x ∷ xs) = ap (λ l. g (f x) ∷ l) (map-map g f xs)
+
+-- the orders that list an authorization, one for each place
+pub orders_listing_rows : (T : Tables) (n : ℕ) → orders_listing T n ≡ flat_map (λ o. map (λ l. o.number) (filter (λ l. l.authorization == n) o.listed)) T.orders
+orders_listing_rows T n =
+    picked-flat_map (λ (p : ℕ × ℕ). p.0) (λ (p : ℕ × ℕ). p.1 == n) (λ o. map (λ j. (o.number, j)) (map (λ l. l.authorization) o.listed)) T.orders
+    ∙ flat_map-same _ _ (λ (o : OrderRow).
+    ap (λ (ps : List (ℕ × ℕ)). map (λ (p : ℕ × ℕ). p.0) (filter (λ (p : ℕ × ℕ). p.1 == n) ps)) (map-map (λ j. (o.number, j)) (λ l. l.authorization) o.listed)
+    ∙ picked-map (λ (p : ℕ × ℕ). p.0) (λ (p : ℕ × ℕ). p.1 == n) (λ l. (o.number, l.authorization)) o.listed) T.orders
+
+-- the authorizations that the order of a number lists
+pub listed_by_rows : (T : Tables) (n : ℕ) → listed_by T n ≡ flat_map (λ o. cond (o.number == n) (map (λ l. l.authorization) o.listed) []) T.orders
+listed_by_rows T n =
+    picked-flat_map (λ (p : ℕ × ℕ). p.1) (λ (p : ℕ × ℕ). p.0 == n) (λ o. map (λ j. (o.number, j)) (map (λ l. l.authorization) o.listed)) T.orders
+    ∙ flat_map-same _ _ (λ (o : OrderRow).
+    ap (λ (ps : List (ℕ × ℕ)). map (λ (p : ℕ × ℕ). p.1) (filter (λ (p : ℕ × ℕ). p.0 == n) ps)) (map-map (λ j. (o.number, j)) (λ l. l.authorization) o.listed)
+    ∙ picked-map (λ (p : ℕ × ℕ). p.1) (λ (p : ℕ × ℕ). p.0 == n) (λ l. (o.number, l.authorization)) o.listed
+    ∙ picked-all (λ l. l.authorization) (o.number == n) o.listed) T.orders
+
+-- the authorization of a challenge, once for each challenge of the number
+pub owners_of_rows : (T : Tables) (n : ℕ) → owners_of T n ≡ flat_map (λ r. map (λ c. r.number) (filter (λ c. c.number == n) r.challenges)) T.authorizations
+owners_of_rows T n =
+    picked-flat_map (λ (p : ℕ × ℕ). p.1) (λ (p : ℕ × ℕ). p.0 == n) (λ r. map (λ c. (c.number, r.number)) r.challenges) T.authorizations
+    ∙ flat_map-same _ _ (λ (r : AuthorizationRow).
+    picked-map (λ (p : ℕ × ℕ). p.1) (λ (p : ℕ × ℕ). p.0 == n) (λ c. (c.number, r.number)) r.challenges) T.authorizations

@@ -1,0 +1,33 @@
+use Rattle.std.proofs.Common.{◌≡◌, Bool, true, false, sym, refl, ap, ◌∙◌, List, [], ◌∷◌, ◌++◌, filter, cond, append_assoc}
+use Rattle.desk_loading.proofs.book_source.rows_where.Goals as goal
+
+-- a row that passes goes to the end of those before
+row_kept : {X : Type 0} (test : X → Bool) (x copy : X) (rows pushed before rest all : List X) → test x ≡ true → copy ≡ x →
+    pushed ≡ rows ++ copy ∷ [] →
+    before ≡ x ∷ rest →
+    rows ++ filter test before ≡ all →
+    pushed ++ filter test rest ≡ all
+row_kept test x copy rows pushed before rest all passes same is next h =
+    ap (λ l. l ++ filter test rest) (is ∙ ap (λ y. rows ++ y ∷ []) same)
+    ∙ append_assoc rows (x ∷ []) (filter test rest)
+    ∙ ap (λ b. rows ++ cond b (x ∷ filter test rest) (filter test rest)) (sym passes)
+    ∙ ap (λ l. rows ++ filter test l) (sym next)
+    ∙ h
+
+-- one that does not is left out
+row_left : {X : Type 0} (test : X → Bool) (x : X) (rows before rest all : List X) → test x ≡ false → before ≡ x ∷ rest →
+    rows ++ filter test before ≡ all →
+    rows ++ filter test rest ≡ all
+row_left test x rows before rest all fails next h =
+    ap (λ b. rows ++ cond b (x ∷ filter test rest) (filter test rest)) (sym fails) ∙ ap (λ l. rows ++ filter test l) (sym next) ∙ h
+
+pub loop-row-preserved-in_ok-push : goal.loop-row-preserved-in_ok-push
+loop-row-preserved-in_ok-push g c test is =
+    let said = is c.in-Some.row.now true (record { shown = c.in-Some.row; shows = refl; says = record { met = c.if-passes.ensures } }) in
+    row_kept test c.in-Some.row.now _ _ _ _ _ _ (sym said) (g.met.R.Row.clones _ _ c.in_ok-clone.ensures.cases) c.in_ok-push.ensures.items
+    c.in-Some.ensures.steps (c.loop-row.invariant test is)
+
+pub loop-row-preserved : goal.loop-row-preserved
+loop-row-preserved g c test is =
+    let said = is c.in-Some.row.now false (record { shown = c.in-Some.row; shows = refl; says = record { met = c.if-passes.ensures } }) in
+    row_left test c.in-Some.row.now _ _ _ _ (sym said) c.in-Some.ensures.steps (c.loop-row.invariant test is)

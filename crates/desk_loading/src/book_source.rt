@@ -1,0 +1,270 @@
+//! A book in memory as a source of rows.
+ghost use Rattle.std.specs.Prelude.{◌≡◌, ◌==◌, ◌&&◌, ◌++◌, Bool, List, nat_lt, map, filter, [], if◌then◌else◌, IfOk, OnOk};
+ghost use Rattle.std.specs.Fn.{FnReturnsAt};
+ghost use Rattle.std.specs.List.{flat_map};
+ghost use Rattle.desk_model.specs.Derived.{authz_code, order_code};
+ghost use Rattle.desk_parts.specs.LookUps.{listed_by as listed_in, orders_listing as listing_in, owners_of as owners_in};
+
+use crate::fault::LoadFault;
+use crate::look_ups::LookUps;
+use desk_book::{Book, Row, Table};
+use desk_model::{
+    AccountRow, AuthorizationRow, AuthzStatus, Jwk, Listed, Meta, Nonce, OrderRow, OrderStatus,
+};
+use std::alloc::{AllocError, Global};
+
+// ---- rows
+
+/// Copies of the rows that pass a test.
+fn rows_where<R: Row + Drop, F: Fn(&R) -> bool>(
+    alloc: Global,
+    table: &Table<R>,
+    passes: F,
+) -> Result<Vec<R>, AllocError>
+    requires { F.IsAlwaysCallable passes }
+    ensures { IfOk result (λ rows. (test : R → Bool) → ((row : R) (yes : Bool) → FnReturnsAt F.Fn passes row yes → yes ≡ test row)
+        → rows.items ≡ filter test table.now) }
+{
+    let mut rows = Vec::new(alloc);
+    for row in table.iter() {
+        if passes(row) {
+            rows.push(row.clone()?)?;
+        }
+    }
+    Ok(rows)
+}
+
+/// Copies of all rows.
+fn all_rows<R: Row + Drop>(alloc: Global, table: &Table<R>) -> Result<Vec<R>, AllocError>
+    ensures { IfOk result (λ rows. rows.items ≡ table.now) }
+{
+    let mut rows = Vec::new(alloc);
+    for row in table.iter() {
+        rows.push(row.clone()?)?;
+    }
+    Ok(rows)
+}
+
+/// Whether an order of a stored status is past its end.
+fn is_past_order(row: &OrderRow, status: OrderStatus, moment: u64) -> bool
+    ensures { result ≡ ((order_code row.now.status == order_code status) && nat_lt row.now.expires moment) }
+{
+    row.status == status && row.expires < moment
+}
+
+/// Whether an authorization of a stored status is past its end.
+fn is_past_authorization(row: &AuthorizationRow, status: AuthzStatus, moment: u64) -> bool
+    ensures { result ≡ ((authz_code row.now.status == authz_code status) && nat_lt row.now.expires moment) }
+{
+    row.status == status && row.expires < moment
+}
+
+// ---- numbers
+
+/// Adds the number of an order once for each place where it lists an authorization.
+fn push_listing(
+    numbers: &mut Vec<u64>,
+    order: &OrderRow,
+    authorization: u64,
+) -> Result<(), AllocError>
+    ensures { OnOk result (numbers.new.items ≡ numbers.old.items
+        ++ map (λ l. order.now.number) (filter (λ l. l.authorization == authorization) order.now.listed)) }
+{
+    for listed in order.listed.as_slice() {
+        if listed.authorization == authorization {
+            numbers.push(order.number)?;
+        }
+    }
+    Ok(())
+}
+
+/// Adds the authorizations of these places.
+fn push_authorizations(numbers: &mut Vec<u64>, places: &[Listed]) -> Result<(), AllocError>
+    ensures { OnOk result (numbers.new.items ≡ numbers.old.items ++ map (λ l. l.authorization) places.now) }
+{
+    for listed in places {
+        numbers.push(listed.authorization)?;
+    }
+    Ok(())
+}
+
+/// Adds the authorizations that an order lists, where it has this number.
+fn push_listed(numbers: &mut Vec<u64>, order: &OrderRow, number: u64) -> Result<(), AllocError>
+    ensures { OnOk result (numbers.new.items ≡ numbers.old.items
+        ++ (if order.now.number == number then map (λ l. l.authorization) order.now.listed else [])) }
+{
+    if order.number == number {
+        return push_authorizations(numbers, order.listed.as_slice());
+    }
+    Ok(())
+}
+
+/// Adds the number of an authorization once for each of its challenges with this number.
+fn push_owner(
+    numbers: &mut Vec<u64>,
+    authorization: &AuthorizationRow,
+    challenge: u64,
+) -> Result<(), AllocError>
+    ensures { OnOk result (numbers.new.items ≡ numbers.old.items
+        ++ map (λ c. authorization.now.number) (filter (λ c. c.number == challenge) authorization.now.challenges)) }
+{
+    for row in authorization.challenges.as_slice() {
+        if row.number == challenge {
+            numbers.push(authorization.number)?;
+        }
+    }
+    Ok(())
+}
+
+/// The orders that list an authorization.
+#[tactic(auto, using(crate::proofs::Pairs::orders_listing_rows))]
+fn orders_listing(alloc: Global, book: &Book, authorization: u64) -> Result<Vec<u64>, AllocError>
+    ensures { IfOk result (λ numbers. numbers.items ≡ listing_in book.now authorization) }
+{
+    let mut numbers = Vec::new(alloc);
+    for order in book.orders().iter() {
+        push_listing(&mut numbers, order, authorization)?;
+    }
+    Ok(numbers)
+}
+
+/// The authorizations that an order lists.
+#[tactic(auto, using(crate::proofs::Pairs::listed_by_rows))]
+fn listed_by(alloc: Global, book: &Book, number: u64) -> Result<Vec<u64>, AllocError>
+    ensures { IfOk result (λ numbers. numbers.items ≡ listed_in book.now number) }
+{
+    let mut numbers = Vec::new(alloc);
+    for order in book.orders().iter() {
+        push_listed(&mut numbers, order, number)?;
+    }
+    Ok(numbers)
+}
+
+/// The authorization of a challenge.
+#[tactic(auto, using(crate::proofs::Pairs::owners_of_rows))]
+fn owners_of(alloc: Global, book: &Book, challenge: u64) -> Result<Vec<u64>, AllocError>
+    ensures { IfOk result (λ numbers. numbers.items ≡ owners_in book.now challenge) }
+{
+    let mut numbers = Vec::new(alloc);
+    for authorization in book.authorizations().iter() {
+        push_owner(&mut numbers, authorization, challenge)?;
+    }
+    Ok(numbers)
+}
+
+// ---- the source
+
+impl LookUps for Book {
+    ghost use Rattle.std.specs.Prelude.{◌≡◌};
+
+    ghost Content = { ⊥ };
+
+    ghost sight = { record { is_honest = λ _. Unit {0}; holds = λ book T. book ≡ T; leaves = λ _ _. ⊥ } };
+
+    fn meta_row(&mut self, _alloc: Global) -> Result<Meta, LoadFault> {
+        Ok(self.meta().clone()?)
+    }
+
+    fn all_nonces(&mut self, alloc: Global) -> Result<Vec<Nonce>, LoadFault> {
+        Ok(all_rows(alloc, self.nonces())?)
+    }
+
+    fn all_accounts(&mut self, alloc: Global) -> Result<Vec<AccountRow>, LoadFault> {
+        Ok(all_rows(alloc, self.accounts())?)
+    }
+
+    fn all_orders(&mut self, alloc: Global) -> Result<Vec<OrderRow>, LoadFault> {
+        Ok(all_rows(alloc, self.orders())?)
+    }
+
+    fn all_authorizations(&mut self, alloc: Global) -> Result<Vec<AuthorizationRow>, LoadFault> {
+        Ok(all_rows(alloc, self.authorizations())?)
+    }
+
+    fn nonces_numbered(&mut self, alloc: Global, serial: u64) -> Result<Vec<Nonce>, LoadFault> {
+        Ok(rows_where(alloc, self.nonces(), |row| { row.serial == serial })?)
+    }
+
+    fn nonces_before(&mut self, alloc: Global, moment: u64) -> Result<Vec<Nonce>, LoadFault> {
+        Ok(rows_where(alloc, self.nonces(), |row| { row.issued < moment })?)
+    }
+
+    fn accounts_numbered(
+        &mut self,
+        alloc: Global,
+        number: u64,
+    ) -> Result<Vec<AccountRow>, LoadFault> {
+        Ok(rows_where(alloc, self.accounts(), |row| { row.number == number })?)
+    }
+
+    fn accounts_with_key(
+        &mut self,
+        alloc: Global,
+        key: &Jwk,
+    ) -> Result<Vec<AccountRow>, LoadFault> {
+        let text = key.canonical();
+        Ok(rows_where(alloc, self.accounts(), |row| {
+            row.key.canonical() == text
+        })?)
+    }
+
+    fn orders_numbered(&mut self, alloc: Global, number: u64) -> Result<Vec<OrderRow>, LoadFault> {
+        Ok(rows_where(alloc, self.orders(), |row| { row.number == number })?)
+    }
+
+    fn orders_of(&mut self, alloc: Global, account: u64) -> Result<Vec<OrderRow>, LoadFault> {
+        Ok(rows_where(alloc, self.orders(), |row| { row.account == account })?)
+    }
+
+    fn orders_past(
+        &mut self,
+        alloc: Global,
+        status: OrderStatus,
+        moment: u64,
+    ) -> Result<Vec<OrderRow>, LoadFault> {
+        Ok(rows_where(alloc, self.orders(), |row| {
+            is_past_order(row, status, moment)
+        })?)
+    }
+
+    fn authorizations_numbered(
+        &mut self,
+        alloc: Global,
+        number: u64,
+    ) -> Result<Vec<AuthorizationRow>, LoadFault> {
+        Ok(rows_where(alloc, self.authorizations(), |row| { row.number == number })?)
+    }
+
+    fn authorizations_of(
+        &mut self,
+        alloc: Global,
+        account: u64,
+    ) -> Result<Vec<AuthorizationRow>, LoadFault> {
+        Ok(rows_where(alloc, self.authorizations(), |row| {
+            row.account == account
+        })?)
+    }
+
+    fn authorizations_past(
+        &mut self,
+        alloc: Global,
+        status: AuthzStatus,
+        moment: u64,
+    ) -> Result<Vec<AuthorizationRow>, LoadFault> {
+        Ok(rows_where(alloc, self.authorizations(), |row| {
+            is_past_authorization(row, status, moment)
+        })?)
+    }
+
+    fn orders_listing(&mut self, alloc: Global, authorization: u64) -> Result<Vec<u64>, LoadFault> {
+        Ok(orders_listing(alloc, self, authorization)?)
+    }
+
+    fn listed_by(&mut self, alloc: Global, order: u64) -> Result<Vec<u64>, LoadFault> {
+        Ok(listed_by(alloc, self, order)?)
+    }
+
+    fn owners_of(&mut self, alloc: Global, challenge: u64) -> Result<Vec<u64>, LoadFault> {
+        Ok(owners_of(alloc, self, challenge)?)
+    }
+}

@@ -1,0 +1,145 @@
+use crate::touched_book;
+use desk_book::{Book, Table};
+use desk_model::{
+    AccountRow, AccountStatus, Ask, AuthorizationRow, AuthzStatus, Call, ChallengeRow,
+    ChallengeStatus, DnsName, Jwk, Kind, Listed, Meta, OrderRow, OrderStatus, Policy, Sequence,
+    Signed, Target, Text,
+};
+use std::alloc::Global;
+use std::process::Abort;
+use std::test::Fail;
+
+const KEY: &str = r#"{"crv":"P-256","kty":"EC","x":"AQ","y":"Ag"}"#;
+
+const ORDERS: u64 = 1000;
+
+fn key(rt: &impl Abort, alloc: Global) -> Result<Jwk, Fail> {
+    Ok(Jwk::from_canonical(String::from_str(alloc, KEY)?).expect(rt, "a key"))
+}
+
+fn account(rt: &impl Abort, alloc: Global) -> Result<AccountRow, Fail> {
+    Ok(AccountRow {
+        number: 1,
+        key: key(rt, alloc)?,
+        contacts: Sequence::new(Vec::new(alloc)),
+        opened: 0,
+        ended: None,
+        status: AccountStatus::Valid,
+    })
+}
+
+fn challenge(number: u64, kind: Kind) -> ChallengeRow {
+    ChallengeRow {
+        number,
+        kind,
+        token: [0; 16],
+        answered: None,
+        reported: None,
+        status: ChallengeStatus::Pending,
+    }
+}
+
+fn authorization(rt: &impl Abort, alloc: Global, number: u64) -> Result<AuthorizationRow, Fail> {
+    let base = Text::new(String::from_str(alloc, "a.example")?);
+    let mut challenges = Vec::new(alloc);
+    challenges.push(challenge(number, Kind::Http01))?;
+    challenges.push(challenge(number.saturating_add(ORDERS), Kind::Dns01))?;
+    Ok(AuthorizationRow {
+        number,
+        account: 1,
+        name: DnsName::new(base, false).expect(rt, "a name"),
+        made: 0,
+        expires: 2592000,
+        ended: None,
+        challenges: Sequence::new(challenges),
+        status: AuthzStatus::Pending,
+    })
+}
+
+fn order(alloc: Global, number: u64) -> Result<OrderRow, Fail> {
+    let mut listed = Vec::new(alloc);
+    listed.push(Listed {
+        place: 1,
+        authorization: number,
+    })?;
+    Ok(OrderRow {
+        number,
+        account: 1,
+        made: 0,
+        expires: 604800,
+        listed: Sequence::new(listed),
+        finalized: None,
+        certified: None,
+        failed: None,
+        status: OrderStatus::Pending,
+    })
+}
+
+fn meta(rt: &impl Abort, alloc: Global) -> Result<Meta, Fail> {
+    let policy = Policy::new(alloc, "https://ca.example", 3600, 604800, 2592000)?;
+    Ok(Meta {
+        policy: policy.expect(rt, "a policy"),
+        clock: 0,
+        nonces: 0,
+        accounts: 1,
+        orders: ORDERS,
+        authorizations: ORDERS,
+        challenges: 2000,
+    })
+}
+
+/// A desk of one account, which has many orders, each for one name.
+fn desk(rt: &impl Abort, alloc: Global) -> Result<Book, Fail> {
+    let mut accounts = Table::new(alloc);
+    accounts.put(account(rt, alloc)?)?;
+    let mut authorizations = Table::new(alloc);
+    let mut orders = Table::new(alloc);
+    for number in 1..ORDERS + 1 {
+        authorizations.put(authorization(rt, alloc, number)?)?;
+        orders.put(order(alloc, number)?)?;
+    }
+    Ok(Book::of_tables(
+        meta(rt, alloc)?,
+        Table::new(alloc),
+        accounts,
+        authorizations,
+        orders,
+    ))
+}
+
+/// A request of the account to an order.
+fn post_order(rt: &impl Abort, alloc: Global, number: u64) -> Result<Call, Fail> {
+    Ok(Call {
+        at: 1,
+        random: Sequence::new(Vec::new(alloc)),
+        ask: Ask::Signed(Signed {
+            target: Target::Order(number),
+            key: Ok(key(rt, alloc)?),
+            nonce: None,
+            payload: Text::new(String::new(alloc)),
+        }),
+    })
+}
+
+/// How many orders, authorizations, challenges of the first of these and accounts a call touches.
+fn touched(rt: &impl Abort, alloc: Global, desk: &mut Book, call: &Call) -> [usize; 4] {
+    let part = touched_book(alloc, desk, call).ok().expect(rt, "a book");
+    let challenges = part
+        .authorization(1)
+        .map(|row| row.challenges.as_slice().len());
+    [
+        part.orders().iter().count(),
+        part.authorizations().iter().count(),
+        challenges.unwrap_or(0),
+        part.accounts().iter().count(),
+    ]
+}
+
+#[test]
+fn one_order_of_a_thousand_is_touched(rt: HostRuntime) -> Result<(), Fail> {
+    let alloc = rt.alloc();
+    let mut desk = desk(&rt, alloc)?;
+    let call = post_order(&rt, alloc, 1)?;
+    assert_eq!(rt; touched(&rt, alloc, &mut desk, &call), [1, 1, 2, 1]);
+    Ok(())
+}

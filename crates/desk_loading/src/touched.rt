@@ -1,0 +1,136 @@
+//! The book of the rows that a call touches.
+ghost use Rattle.std.specs.Prelude.{◌≡◌, List, IfOk};
+ghost use Rattle.desk_laws.specs.Ordered.{IsOrdered};
+ghost use Rattle.desk_model.specs.Tables.{Tables};
+ghost use Rattle.desk_model.specs.Touched.{only_meta, touched};
+ghost use Rattle.desk_parts.specs.Loaded.{loaded_at, loaded_rows};
+ghost use Rattle.desk_loading.specs.Sight.{ForTables, Reads};
+
+use crate::fault::LoadFault;
+use crate::gathering::{put_all, put_nonces, table_of};
+use crate::look_ups::LookUps;
+use crate::named::serials;
+use crate::objects::{Objects, all_objects, objects_touched};
+use desk_book::{Book, Table};
+use desk_model::{Ask, Call, Meta, Nonce};
+use std::alloc::Global;
+
+// ---- nonces
+
+/// The nonces that are touched: the one that is carried, and those past their life.
+#[tactic(auto, using(desk_parts::proofs::Found::puts_append))]
+fn nonces_touched<S: LookUps>(
+    alloc: Global,
+    source: &mut S,
+    nonce_life: u64,
+    moment: u64,
+    ask: &Ask,
+) -> Result<Table<Nonce>, LoadFault>
+    ensures reads { Reads S.sight source.old source.new result }
+    ensures found { ForTables S.sight source.old source.new (λ T. nonce_life ≡ T.meta.policy.nonce_life
+        → IfOk result (λ t. t ≡ (loaded_rows T moment ask.now).nonces)) }
+{
+    let mut nonces = Table::new(alloc);
+    let numbers = serials(alloc, ask)?;
+    put_nonces(alloc, source, &mut nonces, numbers)?;
+    let past = source.nonces_before(alloc, moment.saturating_sub(nonce_life))?;
+    put_all(&mut nonces, past)?;
+    Ok(nonces)
+}
+
+// ---- books
+
+/// The book of these rows.
+fn book_of(meta: Meta, nonces: Table<Nonce>, objects: Objects) -> Book
+    ensures { result ≡ record { meta = meta; nonces = nonces; accounts = objects.accounts; authorizations = objects.authorizations; orders = objects.orders } }
+{
+    Book::of_tables(
+        meta,
+        nonces,
+        objects.accounts,
+        objects.authorizations,
+        objects.orders,
+    )
+}
+
+/// The book of the rows that an ask touches at a moment, the directory and the work lists apart.
+fn rows_touched<S: LookUps>(
+    alloc: Global,
+    source: &mut S,
+    meta: Meta,
+    moment: u64,
+    ask: &Ask,
+) -> Result<Book, LoadFault>
+    ensures reads { Reads S.sight source.old source.new result }
+    ensures found { ForTables S.sight source.old source.new (λ T.
+        meta ≡ T.meta → IfOk result (λ book. book ≡ loaded_rows T moment ask.now)) }
+{
+    let nonces = nonces_touched(alloc, source, meta.policy.nonce_life(), moment, ask)?;
+    let objects = objects_touched(alloc, source, moment, ask)?;
+    Ok(book_of(meta, nonces, objects))
+}
+
+/// The book of all rows.
+fn all_rows<S: LookUps>(alloc: Global, source: &mut S, meta: Meta) -> Result<Book, LoadFault>
+    ensures reads { Reads S.sight source.old source.new result }
+    ensures found { ForTables S.sight source.old source.new (λ T. meta ≡ T.meta → IsOrdered T → IfOk result (λ book. book ≡ T)) }
+{
+    let rows = source.all_nonces(alloc)?;
+    let nonces = table_of(alloc, rows)?;
+    let objects = all_objects(alloc, source)?;
+    Ok(book_of(meta, nonces, objects))
+}
+
+/// The book of the desk's own row alone.
+fn meta_alone(alloc: Global, meta: Meta) -> Book
+    ensures { (T : Tables) → meta ≡ T.meta → result ≡ only_meta T }
+{
+    Book::of_tables(
+        meta,
+        Table::new(alloc),
+        Table::new(alloc),
+        Table::new(alloc),
+        Table::new(alloc),
+    )
+}
+
+/// The book of the rows that an ask touches at a moment.
+fn rows_at<S: LookUps>(
+    alloc: Global,
+    source: &mut S,
+    meta: Meta,
+    moment: u64,
+    ask: &Ask,
+) -> Result<Book, LoadFault>
+    ensures reads { Reads S.sight source.old source.new result }
+    ensures found { ForTables S.sight source.old source.new (λ T.
+        meta ≡ T.meta → IsOrdered T → IfOk result (λ book. book ≡ loaded_at T moment ask.now)) }
+{
+    match ask {
+        Ask::Directory => Ok(meta_alone(alloc, meta)),
+        Ask::ChallengeWork => all_rows(alloc, source, meta),
+        Ask::OrderWork => all_rows(alloc, source, meta),
+        _ => rows_touched(alloc, source, meta, moment, ask),
+    }
+}
+
+/// The book of the rows that a call touches: the desk's own row for the directory, all rows for the work lists, and
+/// what is named, what is past its end and what hangs on these for other calls.
+///
+/// # Errors
+///
+/// `Memory` where a growth was refused: the source then has the tables that it had. `Device` where the tables could not
+/// be read: they may be out of reach, and a stop leaves no more than it did.
+#[tactic(auto, using(desk_parts::proofs::Loading::loaded_touched))]
+pub fn touched_book<S: LookUps>(
+    alloc: Global,
+    source: &mut S,
+    call: &Call,
+) -> Result<Book, LoadFault>
+    ensures reads { Reads S.sight source.old source.new result }
+    ensures touched { ForTables S.sight source.old source.new (λ T. IsOrdered T → IfOk result (λ book. book ≡ touched T call.now)) }
+{
+    let meta = source.meta_row(alloc)?;
+    let moment = call.at.max(meta.clock);
+    rows_at(alloc, source, meta, moment, &call.ask)
+}
