@@ -33,7 +33,7 @@ edits:
 test: edits
 	@$(HAS_RT)
 	@echo 'Running the merge gate: every proof from nothing, the edits that must fail, every test.'
-	rt ci
+	@start=$$SECONDS; rt ci || exit 1; echo "The gate took $$((SECONDS - start)) seconds on $$(nproc) processors."
 	@mkdir -p bin
 	@cp crates/desk/out/desk bin/desk
 	@set -o pipefail; for calls in examples/*.jsonl; do \

@@ -1,6 +1,7 @@
 -- Fifty names, ten at a time: a name is dear to compute.
 use Rattle.std.specs.Prelude.{◌≡◌, refl, ℕ, ◌+◌, List, [], ◌∷◌, ◌++◌, map, Option, Some}
 use Rattle.std.proofs.Common.{ap, ◌∙◌}
+use Rattle.desk_model.specs.declared.refusal.Refusal.TheVariants as refusal
 use Rattle.desk_model.specs.Rules.{subproblems, names_in, kept, wanted, order_of, new_order_verdict}
 use Rattle.desk_model.specs.Verdict.{check, given, records}
 use Rattle.desk_model.specs.Tables.{Tables}
@@ -72,7 +73,7 @@ names_taken [] h = refl
 names_taken (x ∷ xs) h = rw (h.0, names_taken xs h.1) refl
 
 -- fifty identifiers are not too many
-in_number : (T : Tables) → given (Some (map identifier (names 50))) 1 (new_order_verdict T (zeros 1600) 1) ≡ order_of T (zeros 1600) 1 (map identifier (names 50)) (subproblems (map identifier (names 50)))
+in_number : (T : Tables) → given (Some (map identifier (names 50))) refusal.Malformed (new_order_verdict T (zeros 1600) 1) ≡ order_of T (zeros 1600) 1 (map identifier (names 50)) (subproblems (map identifier (names 50)))
 unfolding check given
 in_number T = refl
 
@@ -80,7 +81,7 @@ in_number T = refl
 pub fifty_steps : FiftyIdentifiers → FiftyFaultless → FiftyTaken → FiftyKept → FiftyWanted → FiftyOrdered
 fifty_steps read faultless taken all_kept all_wanted T =
     let ids : List Identifier = map identifier (names 50) in
-    ap (λ (o : Option (List Identifier)). given o 1 (new_order_verdict T (zeros 1600) 1)) read
+    ap (λ (o : Option (List Identifier)). given o refusal.Malformed (new_order_verdict T (zeros 1600) 1)) read
     ∙ in_number T
     ∙ ap (λ (s : List Subproblem). order_of T (zeros 1600) 1 ids s) faultless
     ∙ ap (λ (ns : List Name). records (ordered 1 (wanted (kept ns) (zeros 1600))) (show.MadeOrder (T.meta.orders + 1))) taken

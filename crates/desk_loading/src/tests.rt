@@ -2,8 +2,8 @@ use crate::touched_book;
 use desk_book::{Book, Table};
 use desk_model::{
     AccountRow, AccountStatus, Ask, AuthorizationRow, AuthzStatus, Call, ChallengeRow,
-    ChallengeStatus, DnsName, Jwk, Kind, Listed, Meta, OrderRow, OrderStatus, Policy, Sequence,
-    Signed, Target, Text,
+    ChallengeStatus, Clock, DnsName, Jwk, Kind, Listed, Meta, OrderRow, OrderStatus, Policy,
+    Sequence, Signed, Target, Text,
 };
 use std::alloc::Global;
 use std::process::Abort;
@@ -79,7 +79,7 @@ fn meta(rt: &impl Abort, alloc: Global) -> Result<Meta, Fail> {
     let policy = Policy::new(alloc, "https://ca.example", 3600, 604800, 2592000)?;
     Ok(Meta {
         policy: policy.expect(rt, "a policy"),
-        clock: 0,
+        clock: Clock::at(0),
         nonces: 0,
         accounts: 1,
         orders: ORDERS,

@@ -131,6 +131,6 @@ pub fn touched_book<S: LookUps>(
     ensures touched { ForTables S.sight source.old source.new (λ T. IsOrdered T → IfOk result (λ book. book ≡ touched T call.now)) }
 {
     let meta = source.meta_row(alloc)?;
-    let moment = call.at.max(meta.clock);
+    let moment = call.at.max(meta.clock.moment());
     rows_at(alloc, source, meta, moment, &call.ask)
 }
