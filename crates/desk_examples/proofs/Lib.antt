@@ -22,3 +22,4 @@ pub mod Problems
 pub mod Refused
 pub mod Rows
 pub mod Statuses
+pub mod TouchedRows

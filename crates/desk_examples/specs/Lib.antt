@@ -22,3 +22,4 @@ pub mod Refused
 pub mod Rows
 pub mod Statuses
 pub mod Texts
+pub mod TouchedRows

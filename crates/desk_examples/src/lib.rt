@@ -5,6 +5,7 @@ mod histories;
 mod lives;
 mod requests;
 mod texts;
+mod touched;
 
 pub use histories::{entries_are_formed, entries_follow, rows_are_kept};
 pub use lives::{
@@ -18,3 +19,4 @@ pub use requests::{
 pub use texts::{
     documents_are_written, findings_are_matched, keys_hold, names_are_read, problems_are_said,
 };
+pub use touched::rows_are_touched;
