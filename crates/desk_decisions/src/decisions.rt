@@ -24,7 +24,9 @@ ghost use Rattle.desk_decisions.specs.Room.{IsIssueFault};
 use crate::acts::act;
 use desk_book::Book;
 use desk_changes::Recording;
-use desk_model::{Ask, Call, Change, LAST_MOMENT, OrderProblem, Refusal, Reply, Sequence, Signed, Verdict};
+use desk_model::{
+    Ask, Call, Change, LAST_MOMENT, OrderProblem, Refusal, Reply, Sequence, Signed, Verdict,
+};
 use desk_replies::{nonce_reply, refusal_reply, show, with_nonce};
 use desk_rules::{CoreFault, first_random, has_room, judge_office, judge_signed, open_nonce};
 use std::alloc::{AllocError, Global};

@@ -167,8 +167,18 @@ fn rows_are_a_book_whose_statuses_are_checked(rt: HostRuntime) -> Result<(), Fai
     for (shows, accounts_given, status, wanted) in [
         ("statuses that are derived", 1, "pending", Ok((0, None))),
         ("a status that is not", 1, "valid", Ok((1, Some(stale)))),
-        ("a number above its counter", 0, "pending", Err(RowsFault::NotABook)),
-        ("a status that is none", 1, "ready", Err(RowsFault::NotABook)),
+        (
+            "a number above its counter",
+            0,
+            "pending",
+            Err(RowsFault::NotABook),
+        ),
+        (
+            "a status that is none",
+            1,
+            "ready",
+            Err(RowsFault::NotABook),
+        ),
     ] {
         let found = faults(alloc, accounts_given, status)?;
         assert!(rt; found == wanted, "{shows}");
