@@ -1,5 +1,5 @@
 //! One desk, which answers calls one after the other.
-ghost use Rattle.std.specs.Prelude.{◌≡◌, ◌∷◌, [], MatchResult, length, take};
+ghost use Rattle.std.specs.Prelude.{◌≡◌, ◌<◌, ◌↔◌, ◌∷◌, [], Err, MatchResult, length, take};
 ghost use Rattle.desk_model.specs.declared.entry.Entry.TheVariants.{Made as made};
 ghost use Rattle.desk_model.specs.Entry.{History};
 ghost use Rattle.desk_model.specs.Legal.{Legal};
@@ -100,7 +100,8 @@ impl Desk {
     /// The fault of the call, or `Memory`; the desk is then as it was.
     #[tactic(auto, using(desk_parts::proofs::Enough::same_part))]
     pub fn answer(&mut self, call: &Call) -> Result<Reply, DeskFault>
-        ensures { MatchResult result
+        ensures late { (result ≡ Err DeskFault.Moment) ↔ (250000000000 < call.now.at) }
+        ensures meets { MatchResult result
             (λ reply. Answers self.old call.now reply self.new)
             (λ fault. Declines self.old call.now fault self.new) }
     {

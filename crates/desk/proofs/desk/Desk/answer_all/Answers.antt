@@ -10,5 +10,5 @@ loop-call-preserved c =
     let taken = take_one_more c.args.calls.now c.loop-call.call-index c.call-item.result c.loop-call-test.true c.call-item.is in
     record {
       counted = ap length pushed ∙ length-append c.loop-call.replies.items (c.in-Ok.reply ∷ []) ∙ ap (λ n. n + 1) counted;
-      answered = rw (taken, pushed) (answers_more c.args.self.now c.loop-call.self c.answer.new.self _ c.loop-call.replies.items c.call-item.result c.in-Ok.reply c.loop-call.invariant.answered c.in-Ok.ensures);
+      answered = rw (taken, pushed) (answers_more c.args.self.now c.loop-call.self c.answer.new.self _ c.loop-call.replies.items c.call-item.result c.in-Ok.reply c.loop-call.invariant.answered c.in-Ok.ensures.meets);
     }
