@@ -1,27 +1,23 @@
 -- Look-ups in the tables of a book at a moment, after an entry that makes nothing.
-use Rattle.std.proofs.Common.{◌≡◌, ℕ, ◌≤◌, List, [], ◌∷◌, ◌++◌, map, Bool, true, false, cond, Option, Some, None, refl, sym, ap, ◌∙◌, append-nil}
+use Rattle.std.proofs.Common.{◌≡◌, ℕ, List, [], ◌∷◌, ◌++◌, map, Bool, true, false, cond, Option, Some, None, refl, sym, ap, ◌∙◌, append-nil}
 use Rattle.std.specs.Prelude.{◌==◌, find}
 use Rattle.std.specs.Option.{option_map}
 use Rattle.desk_model.specs.Tables.{Tables}
 use Rattle.desk_model.specs.Derived.{authorization_numbered, numbers_of, restated_authorization, restated_order}
 use Rattle.desk_model.specs.Document.{and_row, listed_rows, rows_of}
 use Rattle.desk_model.specs.Effect.{effect, fresh_account, fresh_order, has_row, swept, swept_authorization, swept_order, moved_account, moved_authorization, moved_order, noted_authorization, noted_order, touches_authorization, touches_order}
-use Rattle.desk_model.specs.Questions.{account_on, authorization_on, challenge_of, order_on, owner_on}
+use Rattle.desk_model.specs.Questions.{account_on, authorization_on, order_on, owner_on}
 use Rattle.desk_model.specs.declared.entry.Entry.{Entry}
 use Rattle.desk_model.specs.declared.rows.AuthorizationRow.{AuthorizationRow}
-use Rattle.desk_model.specs.declared.rows.ChallengeRow.{ChallengeRow}
 use Rattle.desk_model.specs.declared.rows.OrderRow.{OrderRow}
 use Rattle.desk_model.specs.declared.rows.Meta.{Meta}
 use Rattle.desk_laws.proofs.Local.{moved_number}
 use Rattle.desk_laws.proofs.Chain.{account_number, order_number}
 use Rattle.desk_laws.proofs.MovedRows.{has_row-moved}
-use Rattle.desk_laws.specs.LegalLaws.{last_end}
-use Rattle.desk_laws.proofs.Finds.{each_found}
 use Rattle.desk_model.specs.Shown.{plain, shown}
 use Rattle.desk_model.specs.declared.reply.Body.TheVariants.{Empty}
 use Rattle.desk_model.specs.declared.reply.Reply.{Reply}
-use Rattle.desk_changes.specs.Shown.{HasDatedReport, HasMoments}
-use Rattle.desk_changes.specs.Acting.{HasTexts, MakesNone, account_with, authorization_with, order_with, tables_with}
+use Rattle.desk_changes.specs.Acting.{MakesNone, account_with, authorization_with, order_with, tables_with}
 use Rattle.desk_changes.specs.Moved.{rows_after, standing_rows}
 use Rattle.desk_changes.specs.Recorded.{IsMoving}
 use Rattle.desk_changes.proofs.Moving.{makes_nothing, moving_after, moving_meta}
@@ -146,16 +142,3 @@ shown-some f found on x r is looked said = said ∙ ap (shown f) (sym is ∙ loo
 -- what is not found is not
 pub shown-none : {X : Type 0} (f : X → Reply) (found on : Option X) (r : Reply) → found ≡ None → found ≡ on → r ≡ plain 200 Empty → r ≡ shown f on
 shown-none f found on r is looked said = said ∙ ap (shown f) (sym is ∙ looked)
-
--- the moments of rows that are found have texts
-pub order_text : (T : Tables) (n : ℕ) (found : Option OrderRow) (row : OrderRow) → HasTexts T → found ≡ Some row → found ≡ order_on T n → row.expires ≤ last_end
-order_text T n found row texts is looked = each_found (λ o. o.expires ≤ last_end) (λ o. o.number == n) T.orders row texts.orders (sym looked ∙ is)
-
-pub authorization_text : (T : Tables) (n : ℕ) (found : Option AuthorizationRow) (row : AuthorizationRow) → HasTexts T → found ≡ Some row → found ≡ authorization_on T n → HasMoments row
-authorization_text T n found row texts is looked = each_found HasMoments (λ a. a.number == n) T.authorizations row texts.authorizations (sym looked ∙ is)
-
-pub owner_text : (T : Tables) (n : ℕ) (found : Option AuthorizationRow) (row : AuthorizationRow) → HasTexts T → found ≡ Some row → found ≡ owner_on T n → HasMoments row
-owner_text T n found row texts is looked = each_found HasMoments (has_row n) T.authorizations row texts.authorizations (sym looked ∙ is)
-
-pub challenge_text : (n : ℕ) (a : AuthorizationRow) (c : ChallengeRow) → HasMoments a → Some c ≡ challenge_of n a → HasDatedReport c.reported
-challenge_text n a c texts found = each_found (λ k. HasDatedReport k.reported) (λ k. n == k.number) a.challenges c texts.reports (sym found)

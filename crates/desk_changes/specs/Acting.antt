@@ -1,10 +1,8 @@
 -- What a verdict shows: the tables after its entry, row by row.
-use Rattle.std.specs.Prelude.{ℕ, ◌+◌, ◌≡◌, ◌≤◌, List, Bool, false, Option, Some, None, is_some}
-use Rattle.desk_laws.specs.LegalLaws.{last_end}
+use Rattle.std.specs.Prelude.{ℕ, ◌+◌, ◌≡◌, List, Bool, false, Option, Some, None, is_some}
 use Rattle.desk_model.specs.Decide.{listed_entry}
 use Rattle.desk_model.specs.Effect.{effects, swept, swept_authorization, swept_order, moved_account, moved_authorization, moved_order}
 use Rattle.desk_model.specs.Tables.{Tables}
-use Rattle.desk_model.specs.Kept.{EachOf}
 use Rattle.desk_model.specs.declared.entry.Entry.{Entry}
 use Rattle.desk_model.specs.declared.entry.Entry.TheVariants.{Opened as opened, Ordered as ordered}
 use Rattle.desk_model.specs.declared.rows.AccountRow.{AccountRow}
@@ -17,7 +15,6 @@ use Rattle.desk_model.specs.declared.verdict.Verdict.{Verdict}
 use Rattle.desk_model.specs.declared.verdict.Verdict.TheVariants.{Refused as refused, Accepted as accepted}
 use Rattle.desk_changes.specs.Moved.{rows_after, standing_rows}
 use Rattle.desk_changes.specs.Recorded.{IsMoving}
-use Rattle.desk_changes.specs.Shown.{HasMoments}
 
 -- ---- rows at a moment, after an entry if there is one
 
@@ -41,19 +38,6 @@ tables_with m B entry = effects m (swept m B) (listed_entry entry)
 abbrev pub MakesNone : Option Entry → Type 0
 MakesNone None = Unit {0}
 MakesNone (Some e) = IsMoving e
-
--- each moment that may be shown has a text
-pub record HasTexts (T : Tables) : Type 0 where
-  pub authorizations : EachOf HasMoments T.authorizations
-  pub orders : EachOf (λ o. o.expires ≤ last_end) T.orders
-
--- what is shown is a list, or the directory
-abbrev pub IsListing : Shows → Type 0
-IsListing show.Directory = Unit {0}
-IsListing (show.Orders n) = Unit {0}
-IsListing show.ChallengeWork = Unit {0}
-IsListing show.OrderWork = Unit {0}
-IsListing _ = ⊥
 
 -- the meta row is that of a book at the moment, but for the count of nonces
 abbrev pub IsAt : ℕ → Tables → Meta → Type 0

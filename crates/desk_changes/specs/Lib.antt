@@ -2,4 +2,3 @@ pub mod Acting
 pub mod Made
 pub mod Moved
 pub mod Recorded
-pub mod Shown

@@ -36,33 +36,26 @@ use Rattle.desk_model.specs.declared.rows.Meta.{Meta}
 use Rattle.desk_model.specs.declared.rows.OrderRow.{OrderRow}
 use Rattle.desk_model.specs.declared.verdict.Verdict.{Verdict}
 use Rattle.desk_model.specs.declared.verdict.Verdict.TheVariants.{Refused as refused}
+use Rattle.desk_lives.proofs.Steps.{check_keeps, choose_keeps, fault_keeps, given_keeps}
 use Rattle.desk_changes.specs.Acting.{IsActable}
 
 -- ---- steps of verdicts
 
 -- a test keeps the form of what comes after it
 check_actable : (M : Meta) (b : Bool) (n : Refusal) (v : Verdict) → IsActable M v → IsActable M (check b n v)
-unfolding check
-check_actable M true n v h = h
-check_actable M false n v h = tt
+check_actable M b n v h = check_keeps (IsActable M) b n v tt (λ _. h)
 
 -- so does a value that is there
 given_actable : {X : Type 0} (M : Meta) (o : Option X) (n : Refusal) (f : X → Verdict) → ((x : X) → IsActable M (f x)) → IsActable M (given o n f)
-unfolding given
-given_actable M None n f h = tt
-given_actable M (Some x) n f h = h x
+given_actable M o n f h = given_keeps (IsActable M) o n f tt (λ x _. h x)
 
 -- and a fault that is not there
 fault_actable : (M : Meta) (o : Option Refusal) (v : Verdict) → IsActable M v → IsActable M (unless_fault o v)
-unfolding unless_fault
-fault_actable M None v h = h
-fault_actable M (Some n) v h = tt
+fault_actable M o v h = fault_keeps (IsActable M) o v (λ _. tt) (λ _. h)
 
 -- and one of two
 choose_actable : (M : Meta) (b : Bool) (v w : Verdict) → IsActable M v → IsActable M w → IsActable M (choose b v w)
-unfolding choose
-choose_actable M true v w h k = h
-choose_actable M false v w h k = k
+choose_actable M b v w h = choose_keeps (IsActable M) b v w (λ _. h)
 
 -- ---- accounts
 

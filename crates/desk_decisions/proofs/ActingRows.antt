@@ -28,7 +28,8 @@ use Rattle.desk_laws.specs.LegalLaws.{last_end}
 use Rattle.desk_laws.proofs.Chain.{account_number, order_number}
 use Rattle.desk_laws.proofs.Local.{swept_order_number}
 use Rattle.desk_laws.proofs.RowLists.{ascends_above, ascends_found, none_below}
-use Rattle.desk_changes.specs.Acting.{HasTexts, IsActable, IsAt, IsShownWith, MakesNone, is_recording}
+use Rattle.desk_changes.specs.Acting.{IsActable, IsAt, IsShownWith, MakesNone, is_recording}
+use Rattle.desk_decisions.specs.HasTexts.{HasTexts}
 use Rattle.desk_changes.specs.Made.{made_rows, next_account, next_order, next_rows}
 use Rattle.desk_rules.specs.Needs.{NumbersLeft}
 use Rattle.desk_changes.specs.Recorded.{recorded_changes}
@@ -36,7 +37,7 @@ use Rattle.desk_model.specs.Change.{all_changes, sweep_changes}
 use Rattle.desk_model.specs.Decide.{entries_of}
 use Rattle.desk_changes.proofs.MadeRows.{find-after, made_ascends, numbers_placed, stood_before}
 use Rattle.desk_changes.proofs.Moving.{below_standing, ordered_one}
-use Rattle.desk_changes.proofs.ShownAfter.{order_text}
+use Rattle.desk_decisions.proofs.ShownTexts.{order_text}
 use Rattle.swept_rows.proofs.SweptRows.{find-moved}
 
 -- what is shown of rows that move makes none

@@ -32,12 +32,13 @@ use Rattle.desk_laws.proofs.Step.{steps, sweep}
 use Rattle.desk_laws.proofs.Keeps.{counters_fit, numbers_fit_counters}
 use Rattle.desk_laws.specs.LegalLaws.{CountersFit, last_end}
 use Rattle.desk_lives.proofs.SoundCalls.{moment_later, call_follows, legal_by_numbers}
-use Rattle.desk_changes.specs.Acting.{HasTexts, IsActable}
+use Rattle.desk_changes.specs.Acting.{IsActable}
+use Rattle.desk_decisions.specs.HasTexts.{HasTexts}
 use Rattle.desk_changes.specs.Recorded.{recorded_changes}
 use Rattle.desk_decisions.specs.Decided.{IsDecision}
 use Rattle.desk_rules.specs.Needs.{NumbersLeft, NumbersSpent}
 use Rattle.desk_decisions.specs.SameRows.{SameRows}
-use Rattle.desk_changes.specs.Shown.{HasMoments}
+use Rattle.desk_replies.specs.Shown.{HasMoments}
 use Rattle.std.proofs.lemmas.Bool.Decides.{nat_tests}
 
 pub not_less : (a b : ℕ) → b ≤ a → nat_lt a b ≡ false

@@ -24,7 +24,7 @@ use Rattle.desk_model.specs.declared.verdict.Verdict.TheVariants.{Refused as ref
 use Rattle.desk_laws.proofs.Recorded.{tables_ordered}
 use Rattle.desk_laws.proofs.Keeps.{numbers_fit_counters}
 use Rattle.desk_laws.specs.Ordered.{IsOrdered}
-use Rattle.desk_changes.specs.Acting.{HasTexts}
+use Rattle.desk_decisions.specs.HasTexts.{HasTexts}
 use Rattle.desk_decisions.specs.Outcomes.{Issues, Passes, Settles, MeetsSigned, MeetsAsk}
 use Rattle.desk_decisions.specs.Decided.{IsDecision}
 use Rattle.desk_rules.specs.Needs.{NumbersLeft}

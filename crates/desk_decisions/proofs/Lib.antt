@@ -11,3 +11,4 @@ pub mod SameVerdicts
 pub mod Spaced
 pub mod Texts
 pub mod Parts
+pub mod ShownTexts

@@ -14,9 +14,9 @@ use Rattle.desk_model.specs.declared.entry.Entry.{Entry}
 use Rattle.desk_model.specs.declared.reply.Reply.{Reply}
 use Rattle.desk_model.specs.declared.rows.Change.{Change}
 use Rattle.desk_model.specs.declared.verdict.Verdict.{Verdict}
-use Rattle.desk_changes.specs.Acting.{HasTexts}
+use Rattle.desk_decisions.specs.HasTexts.{HasTexts}
 use Rattle.desk_changes.specs.Recorded.{recorded_changes}
-use Rattle.desk_changes.specs.Shown.{HasMoments}
+use Rattle.desk_replies.specs.Shown.{HasMoments}
 use Rattle.desk_laws.specs.LegalLaws.{last_end}
 use Rattle.desk_decisions.specs.Outcomes.{IsAskFault, IsPassedFault, IsSignedFault, Issues, MeetsAsk, MeetsSigned, Passes, Settles}
 use Rattle.desk_decisions.specs.Room.{IsIssueFault}

@@ -42,6 +42,7 @@ use Rattle.desk_model.specs.declared.rows.Meta.{Meta}
 use Rattle.desk_model.specs.declared.rows.OrderRow.{OrderRow}
 use Rattle.desk_model.specs.declared.verdict.Verdict.{Verdict}
 use Rattle.desk_model.specs.declared.verdict.Verdict.TheVariants.{Refused as refused, Accepted as accepted}
+use Rattle.desk_lives.proofs.Steps as step
 use Rattle.desk_changes.specs.Acting.{MakesNone}
 use Rattle.desk_rules.specs.Needs.{HasTokens, IsSpaced, NumbersLeft, BytesLeft}
 use Rattle.desk_rules.proofs.NamesWanted.{length-pieces}
@@ -50,27 +51,19 @@ use Rattle.desk_rules.proofs.NamesWanted.{length-pieces}
 
 -- what holds of a refusal and of what comes after a test
 check_keeps : (P : Verdict → Type 0) (b : Bool) (n : Refusal) (v : Verdict) → P (refused n []) → P v → P (check b n v)
-unfolding check
-check_keeps P true n v r h = h
-check_keeps P false n v r h = r
+check_keeps P b n v r h = step.check_keeps P b n v r (λ _. h)
 
 -- of what comes after a value that is there
 given_keeps : {X : Type 0} (P : Verdict → Type 0) (o : Option X) (n : Refusal) (f : X → Verdict) → P (refused n []) → ((x : X) → P (f x)) → P (given o n f)
-unfolding given
-given_keeps P None n f r h = r
-given_keeps P (Some x) n f r h = h x
+given_keeps P o n f r h = step.given_keeps P o n f r (λ x _. h x)
 
 -- of what comes after a fault that is not there
 fault_keeps : (P : Verdict → Type 0) (o : Option Refusal) (v : Verdict) → ((n : Refusal) → P (refused n [])) → P v → P (unless_fault o v)
-unfolding unless_fault
-fault_keeps P None v r h = h
-fault_keeps P (Some n) v r h = r n
+fault_keeps P o v r h = step.fault_keeps P o v r (λ _. h)
 
 -- of one of two
 choose_keeps : (P : Verdict → Type 0) (b : Bool) (v w : Verdict) → P v → P w → P (choose b v w)
-unfolding choose
-choose_keeps P true v w h k = h
-choose_keeps P false v w h k = k
+choose_keeps P b v w h = step.choose_keeps P b v w (λ _. h)
 
 -- ---- signed requests
 

@@ -11,8 +11,8 @@ use Rattle.desk_model.specs.declared.entry.Entry.TheVariants.{Reported as report
 use Rattle.desk_model.specs.declared.objects.Report.{Report}
 use Rattle.desk_laws.proofs.Basics.{each, each_all, each-map}
 use Rattle.desk_laws.proofs.Keeps.{all_end, authorizations_end}
-use Rattle.desk_changes.specs.Acting.{HasTexts}
-use Rattle.desk_changes.specs.Shown.{HasDatedReport}
+use Rattle.desk_decisions.specs.HasTexts.{HasTexts}
+use Rattle.desk_replies.specs.Shown.{HasDatedReport}
 
 -- the earlier of two reports has a date with a text where both have
 earlier_dated : (x y : Option Report) → HasDatedReport x → HasDatedReport y → HasDatedReport (earlier x y)

@@ -1,4 +1,5 @@
 pub mod Decided
+pub mod HasTexts
 pub mod Outcomes
 pub mod Room
 pub mod SameRows

@@ -15,7 +15,8 @@ use Rattle.desk_model.specs.declared.call.Ask.TheVariants as ask
 use Rattle.desk_model.specs.declared.call.Signed.{Signed}
 use Rattle.desk_model.specs.declared.refusal.Refusal.TheVariants as refusal
 use Rattle.desk_laws.specs.Ordered.{IsOrdered}
-use Rattle.desk_changes.specs.Acting.{HasTexts, IsActable}
+use Rattle.desk_changes.specs.Acting.{IsActable}
+use Rattle.desk_decisions.specs.HasTexts.{HasTexts}
 use Rattle.desk_rules.specs.Needs.{BytesLeft, NumbersLeft, NumbersSpent}
 use Rattle.desk_changes.specs.Recorded.{recorded_changes}
 use Rattle.desk_decisions.specs.Room.{IsIssueFault}

@@ -9,15 +9,17 @@ ghost use Rattle.desk_model.specs.Shown.{reply_of};
 ghost use Rattle.desk_model.specs.declared.entry.Entry.{Entry as EntryOf};
 ghost use Rattle.desk_model.specs.declared.entry.Entry.TheVariants.{Opened as opened, Ordered as ordered};
 ghost use Rattle.desk_model.specs.declared.verdict.Shows.TheVariants as show;
-ghost use Rattle.desk_changes.specs.Acting.{HasTexts, IsActable, IsAt, IsShownWith, MakesNone, tables_with};
+ghost use Rattle.desk_changes.specs.Acting.{IsActable, IsAt, IsShownWith, MakesNone, tables_with};
+ghost use Rattle.desk_decisions.specs.HasTexts.{HasTexts};
 ghost use Rattle.desk_model.specs.declared.verdict.Verdict.TheVariants.{Accepted as accepted};
 ghost use Rattle.desk_rules.specs.Needs.{NumbersLeft, NumbersLeftFor};
 ghost use Rattle.desk_changes.specs.Recorded.{IsRecorded, IsUntouched};
 
+use crate::showing::show;
 use desk_book::Book;
 use desk_changes::Recording;
 use desk_model::{DnsName, Entry, Jwk, Reply, Sequence, Shows, Text, Verdict, Wanted};
-use desk_replies::{located_account, located_order, refusal_reply, show};
+use desk_replies::{located_account, located_order, refusal_reply};
 use std::alloc::{AllocError, Global};
 
 /// Records an entry that moves rows, if there is one, and shows what the verdict names.

@@ -13,7 +13,8 @@ ghost use Rattle.desk_model.specs.Legal.{Legal};
 ghost use Rattle.desk_model.specs.Tables.{picture};
 ghost use Rattle.desk_model.specs.Run.{IsFormedCall, IsFormedSigned};
 ghost use Rattle.desk_model.specs.Texts.{IsTextProblem};
-ghost use Rattle.desk_changes.specs.Acting.{HasTexts, IsActable, is_recording};
+ghost use Rattle.desk_changes.specs.Acting.{IsActable, is_recording};
+ghost use Rattle.desk_decisions.specs.HasTexts.{HasTexts};
 ghost use Rattle.desk_decisions.specs.Decided.{IsDecision, IsFaultOf};
 ghost use Rattle.desk_parts.specs.IsPart.{IsPartFor};
 ghost use Rattle.desk_rules.specs.Needs.{NumbersLeft};
@@ -22,12 +23,13 @@ ghost use Rattle.desk_changes.specs.Recorded.{recorded_changes};
 ghost use Rattle.desk_decisions.specs.Room.{IsIssueFault};
 
 use crate::acts::act;
+use crate::showing::show;
 use desk_book::Book;
 use desk_changes::Recording;
 use desk_model::{
     Ask, Call, Change, LAST_MOMENT, OrderProblem, Refusal, Reply, Sequence, Signed, Verdict,
 };
-use desk_replies::{nonce_reply, refusal_reply, show, with_nonce};
+use desk_replies::{nonce_reply, refusal_reply, with_nonce};
 use desk_rules::{CoreFault, first_random, has_room, judge_office, judge_signed, open_nonce};
 use std::alloc::{AllocError, Global};
 

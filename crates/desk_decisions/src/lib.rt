@@ -3,6 +3,7 @@
 
 mod acts;
 mod decisions;
+mod showing;
 
 pub use decisions::{Outcome, decide};
 pub use desk_rules::CoreFault;

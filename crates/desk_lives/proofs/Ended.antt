@@ -4,7 +4,7 @@ use Rattle.std.specs.Prelude.{IsTrue, find, ◌&&◌, ◌||◌, ◌==◌, nat_lt
 use Rattle.desk_model.specs.Entry.{History}
 use Rattle.desk_model.specs.declared.entry.Entry.{Entry}
 use Rattle.desk_model.specs.declared.entry.Dated.{Dated}
-use Rattle.desk_model.specs.declared.entry.Entry.TheVariants.{Made as made, Answered as answered, Reported as reported}
+use Rattle.desk_model.specs.declared.entry.Entry.TheVariants.{Made as made}
 use Rattle.desk_model.specs.History.{clock}
 use Rattle.desk_model.specs.Authorization.{authorizations, is_over}
 use Rattle.desk_model.specs.Order.{orders}
@@ -25,7 +25,7 @@ use Rattle.desk_model.specs.declared.status.AuthzStatus.TheVariants as authz
 use Rattle.desk_model.specs.declared.status.OrderStatus.{OrderStatus}
 use Rattle.desk_model.specs.declared.status.OrderStatus.TheVariants as order
 use Rattle.desk_laws.proofs.AllowedFacts.{allowed}
-use Rattle.desk_laws.proofs.Basics.{each, each_all, each-map, find-append, list_any-map, list_any-same}
+use Rattle.desk_laws.proofs.Basics.{each, each_all, each-map, find-append}
 use Rattle.desk_laws.proofs.MovedRows.{challenge_number, has_row-moved, one_kept}
 use Rattle.desk_laws.proofs.OrderFacts.{listed_found, order_stated}
 use Rattle.desk_laws.proofs.Recorded.{challenges_ordered}

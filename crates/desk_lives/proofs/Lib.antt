@@ -11,3 +11,4 @@ pub mod Owners
 pub mod PayloadTexts
 pub mod Sound
 pub mod SoundCalls
+pub mod Steps

@@ -49,6 +49,7 @@ use Rattle.desk_laws.specs.Ordered.{IsOrdered}
 use Rattle.desk_laws.proofs.RowLists.{ascends_found}
 use Rattle.desk_laws.proofs.Finds.{each_found}
 use Rattle.desk_lives.proofs.Names.{wanted_fits}
+use Rattle.desk_lives.proofs.Steps.{check_keeps, choose_keeps, fault_keeps, given_keeps}
 use Rattle.desk_lives.proofs.PayloadTexts.{AsksWithTexts, ChangesToTexts, account_change_texts, new_account_texts}
 
 -- the entry may be recorded by these tables
@@ -83,29 +84,21 @@ refused_sound n ss = record { records = tt }
 
 -- a test
 check_sound : (r : List ℕ) (T : Tables) (b : Bool) (n : Refusal) (v : Verdict) → (b ≡ true → IsSound r T v) → IsSound r T (check b n v)
-unfolding check
-check_sound r T true n v h = h refl
-check_sound r T false n v h = refused_sound n []
+check_sound r T b n v h = check_keeps (IsSound r T) b n v (refused_sound n []) h
 
 -- one of two
 choose_sound : (r : List ℕ) (T : Tables) (b : Bool) (v w : Verdict) → (b ≡ true → IsSound r T v) → IsSound r T w → IsSound r T (choose b v w)
-unfolding choose
-choose_sound r T true v w h k = h refl
-choose_sound r T false v w h k = k
+choose_sound r T = choose_keeps (IsSound r T)
 
 -- a value that is there
 given_sound : {X : Type 0} (r : List ℕ) (T : Tables) (o : Option X) (n : Refusal) (f : X → Verdict) →
     ((x : X) → o ≡ Some x → IsSound r T (f x)) →
     IsSound r T (given o n f)
-unfolding given
-given_sound r T None n f h = refused_sound n []
-given_sound r T (Some x) n f h = h x refl
+given_sound r T o n f h = given_keeps (IsSound r T) o n f (refused_sound n []) h
 
 -- no fault
 fault_sound : (r : List ℕ) (T : Tables) (o : Option Refusal) (v : Verdict) → (o ≡ None → IsSound r T v) → IsSound r T (unless_fault o v)
-unfolding unless_fault
-fault_sound r T None v h = h refl
-fault_sound r T (Some n) v h = refused_sound n []
+fault_sound r T o v h = fault_keeps (IsSound r T) o v (λ n. refused_sound n []) h
 
 -- ---- accounts
 

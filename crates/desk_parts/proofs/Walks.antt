@@ -21,7 +21,7 @@ use Rattle.desk_model.specs.Questions.{account_on, account_with_key, authorizati
 use Rattle.desk_model.specs.Rules.{account_verdict, authorization_verdict, certify_verdict, challenge_verdict, csr_in, fail_verdict, finalize_verdict, holder_verdict, is_endable, is_revoked, is_revoked_status, key_verdict, new_account_verdict, nothing, office_verdict, open_account, order_of, outcome_of, own, report_verdict, revoke_account, revoke_authorization, same_outcome, same_problem, signed_verdict, stands_open, subproblems, target_verdict, wanted, kept, names_in}
 use Rattle.desk_model.specs.Tables.{Tables}
 use Rattle.desk_model.specs.Kept.{EachOf, IsClosed, Kept}
-use Rattle.desk_model.specs.Verdict.{check, choose, given, unless_fault}
+use Rattle.desk_model.specs.Verdict.{choose, unless_fault}
 use Rattle.desk_model.specs.declared.call.Ask.{Ask}
 use Rattle.desk_model.specs.declared.call.Ask.TheVariants as ask
 use Rattle.desk_model.specs.declared.call.BadKey.{BadKey}
@@ -49,6 +49,7 @@ use Rattle.desk_laws.proofs.Basics.{each}
 use Rattle.desk_laws.proofs.SweptParts.{swept_closed}
 use Rattle.desk_model.specs.Asked.{asks_authorizations, asks_orders, names_account, names_authorization, names_order, names_owner}
 use Rattle.desk_model.specs.Touched.{is_first_authorization, is_named_account, is_named_authorization, is_own_authorization}
+use Rattle.desk_lives.proofs.Steps.{check_keeps, choose_keeps, fault_keeps, given_keeps}
 use Rattle.desk_parts.proofs.Listed.{KeepsListed}
 use Rattle.desk_parts.proofs.Grown.{IsNamedBy}
 use Rattle.desk_parts.proofs.Lists.{each_member, found_each, found_passes, or_left, or_right, same_number, turned}
@@ -59,26 +60,13 @@ use Rattle.desk_parts.proofs.Replies.{account_shown, authorization_shown, certif
 
 -- ---- steps of verdicts
 
--- what holds of a refusal and of what comes after a test that passed
-check_keeps : (P : Verdict → Type 0) (b : Bool) (n : Refusal) (v : Verdict) → P (refused n []) → (b ≡ true → P v) → P (check b n v)
-unfolding check
-check_keeps P true n v r h = h refl
-check_keeps P false n v r h = r
+-- what holds of both holds of one of the two
+either_keeps : (P : Verdict → Type 0) (b : Bool) (v w : Verdict) → P v → P w → P (choose b v w)
+either_keeps P b v w h = choose_keeps P b v w (λ _. h)
 
-given_keeps : {X : Type 0} (P : Verdict → Type 0) (o : Option X) (n : Refusal) (f : X → Verdict) → P (refused n []) → ((x : X) → o ≡ Some x → P (f x)) → P (given o n f)
-unfolding given
-given_keeps P None n f r h = r
-given_keeps P (Some x) n f r h = h x refl
-
-fault_keeps : (P : Verdict → Type 0) (o : Option Refusal) (v : Verdict) → ((n : Refusal) → P (refused n [])) → P v → P (unless_fault o v)
-unfolding unless_fault
-fault_keeps P None v r h = h
-fault_keeps P (Some n) v r h = r n
-
-choose_keeps : (P : Verdict → Type 0) (b : Bool) (v w : Verdict) → P v → P w → P (choose b v w)
-unfolding choose
-choose_keeps P true v w h g = h
-choose_keeps P false v w h g = g
+-- what holds of a refusal and of what comes where there is no fault
+no_fault_keeps : (P : Verdict → Type 0) (o : Option Refusal) (v : Verdict) → ((n : Refusal) → P (refused n [])) → P v → P (unless_fault o v)
+no_fault_keeps P o v r h = fault_keeps P o v r (λ _. h)
 
 -- ---- what entries touch
 
@@ -161,7 +149,7 @@ report_answered k T m n finding ready =
     given_keeps (IsAnswered k m S) (owner_on S n) refusal.NotFound _ tt (λ a found.
     given_keeps (IsAnswered k m S) (challenge_of n a) refusal.NotFound _ tt (λ c there.
     given_keeps (IsAnswered k m S) (outcome_of c.kind (expected S a c) finding) refusal.Malformed _ tt (λ o is.
-    choose_keeps (IsAnswered k m S) (holds (λ r. same_outcome r.outcome o) c.reported) _ _ (challenge_shown k S n owner)
+    either_keeps (IsAnswered k m S) (holds (λ r. same_outcome r.outcome o) c.reported) _ _ (challenge_shown k S n owner)
     (check_keeps (IsAnswered k m S) (stands_open (λ c. is_processing_challenge c.status) a n) refusal.Conflict _ tt (λ stands. (
       covered k T m (ask.Report n finding) (reported n o) ready (reported_named T m (ask.Report n finding) n o (λ r h. h)),
       challenge_shown k (effect m S (reported n o)) n (owner_after k S m (reported n o) n (swept_closed k T m ready.closed) owner),
@@ -174,7 +162,7 @@ certify_answered k T m n bytes ready o =
     let kept : k.orders n ≡ true = ready.named.order n (same_number n) in
     check_keeps (IsAnswered k m S) (nat_le 1 (length bytes)) refusal.Malformed _ tt (λ some.
     check_keeps (IsAnswered k m S) (nat_le (length bytes) 65536) refusal.TooLarge _ tt (λ few.
-    choose_keeps (IsAnswered k m S) (holds (λ x. bytes_eq x.bytes bytes) o.certified) _ _ (order_shown k S n kept (swept_closed k T m ready.closed).listed)
+    either_keeps (IsAnswered k m S) (holds (λ x. bytes_eq x.bytes bytes) o.certified) _ _ (order_shown k S n kept (swept_closed k T m ready.closed).listed)
     (check_keeps (IsAnswered k m S) (is_processing o.status) refusal.Conflict _ tt (λ ready_for. (
       covered k T m (ask.Certify n bytes) (certified n bytes) ready (certified_named T m (ask.Certify n bytes) n bytes (same_number n)),
       order_shown k (effect m S (certified n bytes)) n kept (listed_then k T m (ask.Certify n bytes) (certified n bytes) ready),
@@ -186,7 +174,7 @@ fail_answered k T m n problem ready o =
     let S : Tables = swept m T in
     let kept : k.orders n ≡ true = ready.named.order n (same_number n) in
     check_keeps (IsAnswered k m S) (is_problem problem) refusal.Malformed _ tt (λ formed.
-    choose_keeps (IsAnswered k m S) (holds (λ f. same_problem f.problem problem) o.failed) _ _ (order_shown k S n kept (swept_closed k T m ready.closed).listed)
+    either_keeps (IsAnswered k m S) (holds (λ f. same_problem f.problem problem) o.failed) _ _ (order_shown k S n kept (swept_closed k T m ready.closed).listed)
     (check_keeps (IsAnswered k m S) (is_processing o.status) refusal.Conflict _ tt (λ ready_for. (
       covered k T m (ask.FailOrder n problem) (failed n problem) ready (failed_named T m (ask.FailOrder n problem) n problem (same_number n)),
       order_shown k (effect m S (failed n problem)) n kept (listed_then k T m (ask.FailOrder n problem) (failed n problem) ready),
@@ -197,7 +185,7 @@ revoke_authorization_answered : (k : Kept) (T : Tables) (m : ℕ) (n : ℕ) → 
 revoke_authorization_answered k T m n ready r =
     let S : Tables = swept m T in
     let kept : k.authorizations n ≡ true = ready.named.authorization n (same_number n) in
-    choose_keeps (IsAnswered k m S) (is_revoked_status r.status) _ _ (authorization_shown k S n kept)
+    either_keeps (IsAnswered k m S) (is_revoked_status r.status) _ _ (authorization_shown k S n kept)
     (check_keeps (IsAnswered k m S) (is_endable r) refusal.Conflict _ tt (λ stands. (
       covered k T m (ask.RevokeAuthz n) (authorization_ended n revoked) ready (authorization_named T m (ask.RevokeAuthz n) n revoked (same_number n)),
       authorization_shown k (effect m S (authorization_ended n revoked)) n kept,
@@ -211,7 +199,7 @@ revoke_account_answered k T m n ready x found =
     let kept : k.accounts n ≡ true = ready.named.account n (same_number n) in
     let here : (x.number == n) ≡ true = found_passes (λ y. y.number == n) T.accounts x found in
     let number : x.number ≡ n = eqb-true x.number n here in
-    choose_keeps (IsAnswered k m S) (holds (λ e. is_revoked e.ending) x.ended) _ _ (account_shown k S n kept)
+    either_keeps (IsAnswered k m S) (holds (λ e. is_revoked e.ending) x.ended) _ _ (account_shown k S n kept)
     (check_keeps (IsAnswered k m S) (is_valid_account x.status) refusal.Conflict _ tt (λ stands. (
       covered k T m (ask.RevokeAccount n) (account_ended n revoked) ready (ended_named T m (ask.RevokeAccount n) n revoked (same_number n)
           (λ r h. owned_by T (ask.RevokeAccount n) x refl here
@@ -250,7 +238,7 @@ open_answered : (k : Kept) (T : Tables) (m : ℕ) (a : Ask) (key : List ℕ) (p 
 open_answered k T m a key p ready =
     let S : Tables = swept m T in
     check_keeps (IsAnswered k m S) (not p.only_existing) refusal.AccountDoesNotExist _ tt (λ new_too.
-    fault_keeps (IsAnswered k m S) (contacts_fault p.contacts) _ (λ n. tt) (
+    no_fault_keeps (IsAnswered k m S) (contacts_fault p.contacts) _ (λ n. tt) (
       covered k T m a (opened key p.contacts) ready (opened_named T m a key p.contacts),
       opened_shown k (effect m S (opened key p.contacts)) (T.meta.accounts + 1) (ready.closed.new_accounts (T.meta.accounts + 1) (omega arith)),
     ))
@@ -276,7 +264,7 @@ account_answered k T m s j x change.Deactivate ready kept named member here = (
 )
 account_answered k T m s j x (change.Update None) ready kept named member here = account_shown k (swept m T) x.number kept
 account_answered k T m s j x (change.Update (Some contacts)) ready kept named member here =
-    fault_keeps (IsAnswered k m (swept m T)) (contacts_fault contacts) _ (λ n. tt) (
+    no_fault_keeps (IsAnswered k m (swept m T)) (contacts_fault contacts) _ (λ n. tt) (
       covered k T m (sent s (to.Account j)) (contacts_changed x.number contacts) ready (contacts_named T m (sent s (to.Account j)) x.number contacts (turned j x.number here)),
       account_shown k (effect m (swept m T) (contacts_changed x.number contacts)) x.number kept,
     )
@@ -303,7 +291,7 @@ authorization_answered : (k : Kept) (T : Tables) (m : ℕ) (s : Signed) (j : ℕ
     IsAnswered k m (swept m T) (authorization_verdict j r p)
 authorization_answered k T m s j r authz_change.Read ready = authorization_shown k (swept m T) j (ready.named.authorization j (same_number j))
 authorization_answered k T m s j r authz_change.Deactivate ready =
-    choose_keeps (IsAnswered k m (swept m T)) (is_endable r) _ _ (
+    either_keeps (IsAnswered k m (swept m T)) (is_endable r) _ _ (
       covered k T m (sent s (to.Authz j)) (authorization_ended j deactivated) ready (authorization_named T m (sent s (to.Authz j)) j deactivated (same_number j)),
       authorization_shown k (effect m (swept m T) (authorization_ended j deactivated)) j (ready.named.authorization j (same_number j)),
     )
@@ -314,7 +302,7 @@ challenge_answered : (k : Kept) (T : Tables) (m : ℕ) (s : Signed) (j : ℕ) (r
 challenge_answered k T m s j r chall_change.Read ready = client_challenge_shown k (swept m T) j (swept_names k T m (sent s (to.Chall j)) ready.named).owner
 challenge_answered k T m s j r chall_change.Answer ready =
     let owner = (swept_names k T m (sent s (to.Chall j)) ready.named).owner in
-    choose_keeps (IsAnswered k m (swept m T)) (stands_open (λ c. is_pending_challenge c.status) r j) _ _ (
+    either_keeps (IsAnswered k m (swept m T)) (stands_open (λ c. is_pending_challenge c.status) r j) _ _ (
       covered k T m (sent s (to.Chall j)) (answered j) ready (answered_named T m (sent s (to.Chall j)) j (λ a h. h)),
       client_challenge_shown k (effect m (swept m T) (answered j)) j (owner_after k (swept m T) m (answered j) j (swept_closed k T m ready.closed) owner),
     )

@@ -8,7 +8,7 @@ use Rattle.desk_model.specs.Json.{members}
 use Rattle.desk_model.specs.Keys.{Key, ec, rsa, okp, IsCurve, IsKey, IsKeyText, canonical_text, is_base64url_byte}
 use Rattle.desk_model.specs.Document.{key_members}
 use Rattle.desk_model.proofs.Numbers.{and-first, and-second, number_bytes}
-use Rattle.desk_changes.specs.Shown.{with_members}
+use Rattle.desk_replies.specs.Shown.{with_members}
 
 -- the parts of a text between its quotation marks
 abbrev parts : List ℕ → List (List ℕ)

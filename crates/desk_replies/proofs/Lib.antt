@@ -3,3 +3,4 @@ pub mod NoFloats
 pub mod ShownAuthorizations
 pub mod ShownOrders
 pub mod ShownWork
+pub mod ShownChallenges

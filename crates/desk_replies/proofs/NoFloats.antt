@@ -24,7 +24,7 @@ use Rattle.desk_model.specs.declared.rows.ChallengeRow.{ChallengeRow}
 use Rattle.desk_model.specs.declared.rows.AuthorizationRow.{AuthorizationRow}
 use Rattle.desk_model.specs.declared.rows.DatedBytes.{DatedBytes}
 use Rattle.desk_model.specs.declared.rows.DatedProblem.{DatedProblem}
-use Rattle.desk_changes.specs.Shown.{order_with_names}
+use Rattle.desk_replies.specs.Shown.{order_with_names}
 use Rattle.desk_model.specs.declared.rows.AccountRow.{AccountRow}
 
 -- nor does a list of texts

@@ -12,7 +12,7 @@ use Rattle.desk_model.specs.declared.objects.Report.{Report}
 use Rattle.desk_model.specs.declared.entry.Outcome.{Outcome}
 use Rattle.desk_model.specs.declared.entry.Outcome.TheVariants.{Good, IncorrectResponse, Connection, Dns}
 use Rattle.desk_model.specs.Document.{error_of, report_error, validated, validated_by, authorization_status_text, challenge_document, identifier, or_all, shown_challenges}
-use Rattle.desk_changes.specs.Shown.{capped, capped_report, capped_challenge, capped_authorization, with_members, HasDatedReport, HasMoments}
+use Rattle.desk_replies.specs.Shown.{capped, capped_report, capped_challenge, capped_authorization, with_members, HasDatedReport, HasMoments}
 use Rattle.desk_replies.proofs.ShownOrders.{capped-same, map-map}
 
 -- ---- moments that have a text are shown as they are

@@ -14,7 +14,7 @@ use Rattle.desk_model.specs.declared.rows.AuthorizationRow.{AuthorizationRow}
 use Rattle.desk_model.specs.declared.rows.DatedBytes.{DatedBytes}
 use Rattle.desk_model.specs.declared.rows.DatedProblem.{DatedProblem}
 use Rattle.desk_model.specs.Document.{order_error, order_status_text, identifier, authorization_url, finalize_url, certificate_url, listed_rows, order_document}
-use Rattle.desk_changes.specs.Shown.{capped, capped_order, order_with_names, with_members}
+use Rattle.desk_replies.specs.Shown.{capped, capped_order, order_with_names, with_members}
 
 -- a moment that has a text is shown as it is
 pub capped-same : (m : ℕ) → m ≤ last_end → capped m ≡ m

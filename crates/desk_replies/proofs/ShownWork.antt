@@ -16,7 +16,7 @@ use Rattle.desk_model.specs.declared.rows.AuthorizationRow.{AuthorizationRow}
 use Rattle.desk_model.specs.declared.rows.ChallengeRow.{ChallengeRow}
 use Rattle.desk_model.specs.declared.rows.OrderRow.{OrderRow}
 use Rattle.desk_model.specs.Document.{and_row, rows_of, listed_rows, order_url, is_listed, bytes_of, work_of, expected, kind_text, work_document, order_work_document}
-use Rattle.desk_changes.specs.Shown.{work_at}
+use Rattle.desk_replies.specs.Shown.{work_at}
 use Rattle.desk_replies.proofs.ShownOrders.{map-map}
 use Rattle.swept_rows.proofs.SweptRows.{swept_authorization-status, swept_order-status, swept_authorization_on}
 

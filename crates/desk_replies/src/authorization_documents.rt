@@ -7,7 +7,7 @@ ghost use Rattle.desk_model.specs.Json.{members, list, when};
 ghost use Rattle.desk_model.specs.Moment.{moment_text};
 ghost use Rattle.desk_model.specs.Tokens.{token_text};
 ghost use Rattle.desk_model.specs.Document.{authorization_status_text, challenge_status_text, kind_text, challenge_url, identifier, error_of, report_error, validated, validated_by, challenge_document, shown_challenges, authorization_document};
-ghost use Rattle.desk_changes.specs.Shown.{capped, capped_report, capped_challenge, capped_authorization, with_members, HasDatedReport, HasMoments};
+ghost use Rattle.desk_replies.specs.Shown.{capped, capped_report, capped_challenge, capped_authorization, with_members, HasDatedReport, HasMoments};
 
 use crate::document_values::{
     error_value, identifier_value, kind_text, list_value, moment_value, text_value,

@@ -5,7 +5,7 @@ ghost use Rattle.serde_json.specs.View.{view};
 ghost use Rattle.desk_model.specs.Json.{list};
 ghost use Rattle.desk_model.specs.Document.{identifier, error, kind_text};
 ghost use Rattle.desk_model.specs.Moment.{moment_text as text_of_moment};
-ghost use Rattle.desk_changes.specs.Shown.{capped};
+ghost use Rattle.desk_replies.specs.Shown.{capped};
 
 use desk_model::{Kind, Text};
 use serde_json::{Value, json};

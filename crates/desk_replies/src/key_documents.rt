@@ -3,7 +3,7 @@ ghost use Rattle.std.specs.Prelude.{◌≡◌, ◌==◌, map, IfOk, OnOk};
 ghost use Rattle.std.specs.List.{slice_split};
 ghost use Rattle.serde_json.specs.View.{view, members_view};
 ghost use Rattle.desk_model.specs.Document.{key_members, key_document};
-ghost use Rattle.desk_changes.specs.Shown.{with_members};
+ghost use Rattle.desk_replies.specs.Shown.{with_members};
 
 use desk_model::{Document, Jwk};
 use serde_json::{Map, Value, put};

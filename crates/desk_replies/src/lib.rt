@@ -1,15 +1,21 @@
-//! The replies of the desk: its documents, and what a request is shown (RFC 8555, 6.7, 7.1).
+//! The replies of the desk and their documents, by the rows that they show (RFC 8555, 6.7, 7.1).
 #![tactic(auto)]
 
 mod authorization_documents;
 mod document_values;
 mod documents;
 mod key_documents;
+mod list_replies;
+mod object_replies;
 mod order_documents;
 mod replies;
-mod showing;
 mod urls;
 mod work_documents;
 
-pub use replies::{located_account, nonce_reply, refusal_reply, with_nonce};
-pub use showing::{located_order, show};
+pub use list_replies::list_reply;
+pub use object_replies::{
+    account_reply, authorization_reply, certificate_reply, challenge_in, client_challenge_in,
+    key_reply, located_order, order_reply,
+};
+pub use order_documents::order_names;
+pub use replies::{located_account, nonce_reply, plain, refusal_reply, with_nonce};

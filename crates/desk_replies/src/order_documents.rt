@@ -11,7 +11,7 @@ ghost use Rattle.desk_model.specs.Moment.{moment_text};
 ghost use Rattle.desk_model.specs.Tables.{Tables};
 ghost use Rattle.desk_model.specs.Effect.{swept, swept_order};
 ghost use Rattle.desk_model.specs.Document.{order_status_text, problem_status, order_error, identifier, finalize_url, certificate_url, authorization_url, order_url, rows_of, listed_rows, order_document, is_listed, orders_document};
-ghost use Rattle.desk_changes.specs.Shown.{capped, capped_order, order_with_names, with_members};
+ghost use Rattle.desk_replies.specs.Shown.{capped, capped_order, order_with_names, with_members};
 
 use crate::document_values::{error_value, identifier_value, list_value, moment_value, text_value};
 use crate::urls::{authorization_url, certificate_url, finalize_url, order_url};
@@ -207,11 +207,7 @@ fn listed_names(
 }
 
 /// The names of the authorizations that an order lists, in their places; the passing of time moves none of them.
-pub(crate) fn order_names(
-    alloc: Global,
-    book: &Book,
-    row: &OrderRow,
-) -> Result<Vec<DnsName>, AllocError>
+pub fn order_names(alloc: Global, book: &Book, row: &OrderRow) -> Result<Vec<DnsName>, AllocError>
     ensures stored { IfOk result (λ v. v.items ≡ map (λ a. a.name) (listed_rows book.now row.now)) }
     ensures swept { IfOk result (λ v. (moment : ℕ) → v.items ≡ map (λ a. a.name) (listed_rows (swept moment book.now) row.now)) }
 {

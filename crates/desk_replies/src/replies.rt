@@ -1,7 +1,7 @@
 //! Replies (RFC 8555, 6.5, 6.7, 7).
-ghost use Rattle.std.specs.Prelude.{◌≡◌, ◌+◌, ◌<◌, ◌^◌, [], true, IfOk, string_bytes, option_copied};
+ghost use Rattle.std.specs.Prelude.{◌≡◌, ◌+◌, ◌<◌, ◌^◌, [], true, IfOk, string_bytes};
 ghost use Rattle.desk_model.specs.Tokens.{nonce_text};
-ghost use Rattle.desk_model.specs.Shown.{refusal_reply, nonce_reply, with_nonce, located_account, shown, plain};
+ghost use Rattle.desk_model.specs.Shown.{refusal_reply, nonce_reply, with_nonce, located_account, plain};
 ghost use Rattle.desk_model.specs.declared.reply.Body.TheVariants.{Empty};
 ghost use Rattle.desk_model.specs.Tables.{Tables};
 
@@ -33,13 +33,7 @@ pub fn refusal_reply(refusal: Refusal, subproblems: Sequence<Subproblem>, index:
 pub fn nonce_reply(head: bool) -> Reply
     ensures { result ≡ nonce_reply head }
 {
-    Reply {
-        status: if head { 200 } else { 204 },
-        location: None,
-        up: None,
-        nonce: None,
-        body: Body::Empty,
-    }
+    plain(if head { 200 } else { 204 })
 }
 
 /// The reply with the fresh nonce of a serial and its random bytes.
@@ -78,23 +72,8 @@ pub fn located_account(
     })
 }
 
-/// What is shown of an account, with its Location; nothing where there is none.
-pub(crate) fn account_shown(
-    alloc: Global,
-    policy: &Policy,
-    status: u16,
-    row: Option<&AccountRow>,
-) -> Result<Reply, AllocError>
-    ensures { IfOk result (λ r. (T : Tables) → T.meta.policy ≡ policy.now → r ≡ shown (located_account status T) (option_copied row.entry)) }
-{
-    match row {
-        Some(row) => located_account(alloc, policy, status, row),
-        None => Ok(plain(200)),
-    }
-}
-
 /// A reply without a body.
-pub(crate) fn plain(status: u16) -> Reply
+pub fn plain(status: u16) -> Reply
     ensures { result ≡ plain status Empty }
 {
     Reply {

@@ -11,7 +11,7 @@ ghost use Rattle.desk_model.specs.Order.{is_processing};
 ghost use Rattle.desk_model.specs.Effect.{swept, swept_order};
 ghost use Rattle.desk_model.specs.declared.rows.ChallengeRow.{ChallengeRow};
 ghost use Rattle.desk_model.specs.Document.{answer_key, bytes_of, listed_rows, work_document, work_of, challenge_work, order_work_document, order_work};
-ghost use Rattle.desk_changes.specs.Shown.{work_at};
+ghost use Rattle.desk_replies.specs.Shown.{work_at};
 
 use crate::document_values::{kind_text, list_value, text_value};
 use crate::order_documents::order_names;

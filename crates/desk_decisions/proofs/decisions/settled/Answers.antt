@@ -2,7 +2,7 @@ use Rattle.std.proofs.Common.{◌≡◌, [], ap, sym, subst, ◌∙◌}
 use Rattle.desk_model.specs.Decide.{entries_of, verdict_reply}
 use Rattle.desk_model.specs.Effect.{effects, swept}
 use Rattle.std.proofs.Common.{false}
-use Rattle.desk_changes.specs.Acting.{HasTexts}
+use Rattle.desk_decisions.specs.HasTexts.{HasTexts}
 use Rattle.desk_changes.specs.Recorded.{recorded_changes}
 use Rattle.desk_decisions.proofs.ActingRows.{no_entries, one_entry}
 use Rattle.desk_decisions.proofs.decisions.settled.Goals as goal

@@ -1,7 +1,7 @@
 use Rattle.std.proofs.Common.{◌≡◌, map, take}
 use Rattle.serde_json.specs.View.{view}
 use Rattle.desk_model.specs.Document.{challenge_document}
-use Rattle.desk_changes.specs.Shown.{capped_challenge}
+use Rattle.desk_replies.specs.Shown.{capped_challenge}
 use Rattle.desk_replies.proofs.authorization_documents.all_challenges.Given as goal
 
 abbrev pub invariant-loop-challenge : goal.invariant-loop-challenge

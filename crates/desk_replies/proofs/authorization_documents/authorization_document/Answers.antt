@@ -1,7 +1,7 @@
 use Rattle.std.proofs.Common.{ap, ◌∙◌}
 use Rattle.serde_json.specs.Written.{has_float}
 use Rattle.desk_model.specs.Document.{authorization_document}
-use Rattle.desk_changes.specs.Shown.{capped_authorization}
+use Rattle.desk_replies.specs.Shown.{capped_authorization}
 use Rattle.desk_replies.proofs.NoFloats.{authorization_plain}
 use Rattle.desk_replies.proofs.ShownAuthorizations.{capped_authorization-same}
 use Rattle.desk_replies.proofs.authorization_documents.authorization_document.Goals as goal

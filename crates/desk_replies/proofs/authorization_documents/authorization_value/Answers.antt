@@ -4,7 +4,7 @@ use Rattle.serde_json.specs.Data.{object, boolean}
 use Rattle.serde_json.specs.View.{members_view}
 use Rattle.serde_json.proofs.Views.{view-Object}
 use Rattle.desk_model.specs.Json.{when}
-use Rattle.desk_changes.specs.Shown.{with_members}
+use Rattle.desk_replies.specs.Shown.{with_members}
 use Rattle.desk_replies.proofs.ShownAuthorizations.{authorization_members-put}
 use Rattle.desk_replies.proofs.authorization_documents.authorization_value.Goals as goal
 

@@ -2,7 +2,7 @@ use Rattle.std.proofs.Common.{ap, ◌∙◌}
 use Rattle.serde_json.specs.Data.{object}
 use Rattle.serde_json.proofs.Views.{view-Object}
 use Rattle.desk_model.specs.Document.{error_of, validated}
-use Rattle.desk_changes.specs.Shown.{with_members, capped_report}
+use Rattle.desk_replies.specs.Shown.{with_members, capped_report}
 use Rattle.desk_replies.proofs.ShownAuthorizations.{challenge_members-put}
 use Rattle.desk_replies.proofs.authorization_documents.challenge_value.Goals as goal
 

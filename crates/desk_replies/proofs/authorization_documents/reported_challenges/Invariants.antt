@@ -2,7 +2,7 @@ use Rattle.std.proofs.Common.{◌≡◌, map, filter, take}
 use Rattle.std.specs.Prelude.{is_some}
 use Rattle.serde_json.specs.View.{view}
 use Rattle.desk_model.specs.Document.{challenge_document}
-use Rattle.desk_changes.specs.Shown.{capped_challenge}
+use Rattle.desk_replies.specs.Shown.{capped_challenge}
 use Rattle.desk_replies.proofs.authorization_documents.reported_challenges.Given as goal
 
 abbrev pub invariant-loop-challenge : goal.invariant-loop-challenge

@@ -5,7 +5,7 @@ use Rattle.serde_json.specs.Data.{object, no_members}
 use Rattle.serde_json.specs.View.{members_view}
 use Rattle.serde_json.proofs.Views.{view-Object}
 use Rattle.desk_model.specs.Document.{key_members}
-use Rattle.desk_changes.specs.Shown.{with_members}
+use Rattle.desk_replies.specs.Shown.{with_members}
 use Rattle.desk_replies.proofs.KeyMembers.{key_members-put}
 use Rattle.desk_replies.proofs.key_documents.key_value.Goals as goal
 

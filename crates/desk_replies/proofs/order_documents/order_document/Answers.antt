@@ -1,6 +1,6 @@
 use Rattle.std.proofs.Common.{ap, ◌∙◌}
 use Rattle.serde_json.specs.Written.{has_float}
-use Rattle.desk_changes.specs.Shown.{capped_order}
+use Rattle.desk_replies.specs.Shown.{capped_order}
 use Rattle.desk_replies.proofs.NoFloats.{order_plain}
 use Rattle.desk_replies.proofs.ShownOrders.{order_with_names-is}
 use Rattle.desk_replies.proofs.order_documents.order_document.Goals as goal

@@ -3,7 +3,7 @@ use Rattle.serde_json.specs.Data.{object}
 use Rattle.serde_json.proofs.Views.{view-Object}
 use Rattle.desk_model.specs.Json.{when}
 use Rattle.desk_model.specs.Document.{order_error}
-use Rattle.desk_changes.specs.Shown.{with_members}
+use Rattle.desk_replies.specs.Shown.{with_members}
 use Rattle.desk_replies.proofs.ShownOrders.{order_members-put}
 use Rattle.desk_replies.proofs.order_documents.order_value.Goals as goal
 

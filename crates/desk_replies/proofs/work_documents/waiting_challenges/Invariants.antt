@@ -1,7 +1,7 @@
 use Rattle.std.proofs.Common.{◌≡◌, ◌++◌, map}
 use Rattle.std.specs.List.{flat_map}
 use Rattle.serde_json.specs.View.{view}
-use Rattle.desk_changes.specs.Shown.{work_at}
+use Rattle.desk_replies.specs.Shown.{work_at}
 use Rattle.desk_replies.proofs.work_documents.waiting_challenges.Given as goal
 
 abbrev pub invariant-loop-row : goal.invariant-loop-row

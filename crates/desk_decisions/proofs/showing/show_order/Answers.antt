@@ -3,8 +3,9 @@ use Rattle.desk_model.specs.Shown.{order_reply}
 use Rattle.desk_model.specs.Tables.{Tables}
 use Rattle.desk_model.specs.declared.rows.Meta.{Meta}
 use Rattle.desk_changes.specs.Acting.{tables_with}
-use Rattle.desk_changes.proofs.ShownAfter.{names_with, order_text, policy_with, shown-some}
-use Rattle.desk_replies.proofs.showing.show_order.Goals as goal
+use Rattle.desk_changes.proofs.ShownAfter.{names_with, policy_with, shown-some}
+use Rattle.desk_decisions.proofs.ShownTexts.{order_text}
+use Rattle.desk_decisions.proofs.showing.show_order.Goals as goal
 
 pub returns-in_ok-reply-in-Some : goal.returns-in_ok-reply-in-Some
 returns-in_ok-reply-in-Some c =

@@ -1,8 +1,8 @@
 use Rattle.std.proofs.Common.{◌∙◌, ap, sym}
 use Rattle.std.specs.Prelude.{option_copied}
 use Rattle.desk_model.specs.Shown.{challenge_reply, shown}
-use Rattle.desk_changes.proofs.ShownAfter.{challenge_text}
-use Rattle.desk_replies.proofs.showing.challenge_in.Goals as goal
+use Rattle.desk_replies.proofs.ShownChallenges.{challenge_text}
+use Rattle.desk_replies.proofs.object_replies.challenge_in.Goals as goal
 
 pub returns-in_ok-reply-in-Some : goal.returns-in_ok-reply-in-Some
 returns-in_ok-reply-in-Some c =

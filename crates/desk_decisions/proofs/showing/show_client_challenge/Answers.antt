@@ -3,8 +3,9 @@ use Rattle.desk_model.specs.Shown.{client_challenge_in}
 use Rattle.desk_model.specs.Tables.{Tables}
 use Rattle.desk_model.specs.declared.rows.Meta.{Meta}
 use Rattle.desk_changes.specs.Acting.{tables_with}
-use Rattle.desk_changes.proofs.ShownAfter.{policy_with, owner_text, shown-some}
-use Rattle.desk_replies.proofs.showing.show_client_challenge.Goals as goal
+use Rattle.desk_changes.proofs.ShownAfter.{policy_with, shown-some}
+use Rattle.desk_decisions.proofs.ShownTexts.{owner_text}
+use Rattle.desk_decisions.proofs.showing.show_client_challenge.Goals as goal
 
 pub returns-in_ok-reply-in-Some : goal.returns-in_ok-reply-in-Some
 returns-in_ok-reply-in-Some c =

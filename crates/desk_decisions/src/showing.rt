@@ -1,161 +1,19 @@
-//! Replies that show objects, as their rows stand at a moment and after an entry, if there is one (RFC 8555, 7).
-ghost use Rattle.std.specs.Prelude.{◌≡◌, ◌≤◌, map, IfOk, option_copied};
-ghost use Rattle.desk_laws.specs.LegalLaws.{last_end};
-ghost use Rattle.desk_model.specs.Document.{listed_rows};
-ghost use Rattle.desk_model.specs.Effect.{swept};
-ghost use Rattle.desk_model.specs.Questions.{challenge_of, order_on};
-ghost use Rattle.desk_model.specs.Shown.{account_reply, at, below, certificate_reply, challenge_reply, challenge_in, client_challenge_in, authorization_reply, located_order, ok, order_reply, reply_of, shown};
-ghost use Rattle.desk_model.specs.Tables.{Tables};
+//! What a verdict names, shown as its rows stand at a moment and after an entry, if there is one (RFC 8555, 7).
+ghost use Rattle.std.specs.Prelude.{◌≡◌, IfOk};
+ghost use Rattle.desk_model.specs.Questions.{order_on};
+ghost use Rattle.desk_model.specs.Shown.{located_order, reply_of, shown};
 ghost use Rattle.desk_model.specs.declared.verdict.Shows.TheVariants as show;
-ghost use Rattle.desk_changes.specs.Acting.{HasTexts, IsListing, IsShownWith, MakesNone, tables_with};
-ghost use Rattle.desk_changes.specs.Shown.{HasDatedReport, HasMoments};
+ghost use Rattle.desk_changes.specs.Acting.{IsShownWith, MakesNone, tables_with};
+ghost use Rattle.desk_decisions.specs.HasTexts.{HasTexts};
 
-use crate::authorization_documents::{authorization_document, challenge_document};
-use crate::documents::{account_document, directory_document};
-use crate::key_documents::key_document;
-use crate::order_documents::{order_document, order_names, orders_document};
-use crate::replies::{located_account, plain};
-use crate::urls::{authorization_url, order_url};
-use crate::work_documents::{challenge_work, order_work};
 use desk_book::Book;
 use desk_changes::{shown_account, shown_authorization, shown_order, shown_owner};
-use desk_model::{
-    AccountRow, AuthorizationRow, Body, ChallengeRow, DnsName, Document, Entry, OrderRow, Policy,
-    Reply, Shows, Text,
+use desk_model::{Entry, Reply, Shows};
+use desk_replies::{
+    account_reply, authorization_reply, certificate_reply, challenge_in, client_challenge_in,
+    key_reply, list_reply, located_account, located_order, order_names, order_reply, plain,
 };
 use std::alloc::{AllocError, Global};
-use swept_rows::challenge_of;
-
-/// A reply with a document.
-fn json_reply(status: u16, document: Document) -> Reply
-    ensures { result ≡ ok status document }
-{
-    Reply {
-        status,
-        location: None,
-        up: None,
-        nonce: None,
-        body: Body::Json(document),
-    }
-}
-
-fn account_reply(
-    alloc: Global,
-    policy: &Policy,
-    status: u16,
-    row: &AccountRow,
-) -> Result<Reply, AllocError>
-    ensures { IfOk result (λ r. (T : Tables) → T.meta.policy ≡ policy.now → r ≡ account_reply status T row.now) }
-{
-    let document = account_document(alloc, policy, row)?;
-    Ok(json_reply(status, document))
-}
-
-fn order_reply(
-    alloc: Global,
-    policy: &Policy,
-    status: u16,
-    row: &OrderRow,
-    names: &[DnsName],
-) -> Result<Reply, AllocError>
-    ensures { IfOk result (λ r. (T : Tables) → T.meta.policy ≡ policy.now → map (λ a. a.name) (listed_rows T row.now) ≡ names.now
-        → row.now.expires ≤ last_end → r ≡ order_reply status T row.now) }
-{
-    let document = order_document(alloc, policy, row, names)?;
-    Ok(json_reply(status, document))
-}
-
-/// An order with its Location.
-pub fn located_order(
-    alloc: Global,
-    policy: &Policy,
-    status: u16,
-    row: &OrderRow,
-    names: &[DnsName],
-) -> Result<Reply, AllocError>
-    ensures { IfOk result (λ r. (T : Tables) → T.meta.policy ≡ policy.now → map (λ a. a.name) (listed_rows T row.now) ≡ names.now
-        → row.now.expires ≤ last_end → r ≡ located_order status T row.now) }
-{
-    let location = order_url(alloc, policy, row.number)?;
-    let reply = order_reply(alloc, policy, status, row, names)?;
-    Ok(Reply {
-        location: Some(Text::new(location)),
-        ..reply
-    })
-}
-
-fn certificate_reply(row: &OrderRow) -> Result<Reply, AllocError>
-    ensures { IfOk result (λ r. r ≡ certificate_reply row.now.certified) }
-{
-    match &row.certified {
-        Some(certified) => {
-            let bytes = certified.bytes.clone()?;
-            Ok(Reply {
-                status: 200,
-                location: None,
-                up: None,
-                nonce: None,
-                body: Body::Certificate(bytes),
-            })
-        }
-        None => Ok(plain(200)),
-    }
-}
-
-fn authorization_reply(
-    alloc: Global,
-    policy: &Policy,
-    row: &AuthorizationRow,
-) -> Result<Reply, AllocError>
-    ensures { IfOk result (λ r. (T : Tables) → T.meta.policy ≡ policy.now → HasMoments row.now → r ≡ authorization_reply T row.now) }
-{
-    let document = authorization_document(alloc, policy, row)?;
-    Ok(json_reply(200, document))
-}
-
-fn challenge_reply(alloc: Global, policy: &Policy, row: &ChallengeRow) -> Result<Reply, AllocError>
-    ensures { IfOk result (λ r. (T : Tables) → T.meta.policy ≡ policy.now → HasDatedReport row.now.reported → r ≡ challenge_reply T row.now) }
-{
-    let document = challenge_document(alloc, policy, row)?;
-    Ok(json_reply(200, document))
-}
-
-/// The challenge of a number in its authorization.
-fn challenge_in(
-    alloc: Global,
-    policy: &Policy,
-    number: u64,
-    owner: &AuthorizationRow,
-) -> Result<Reply, AllocError>
-    ensures { IfOk result (λ r. (T : Tables) → T.meta.policy ≡ policy.now → HasMoments owner.now → r ≡ challenge_in T number owner.now) }
-{
-    match challenge_of(owner, number) {
-        Some(row) => {
-            let reply = challenge_reply(alloc, policy, row)?;
-            Ok(reply)
-        }
-        None => Ok(plain(200)),
-    }
-}
-
-/// A challenge that is shown to its client names its authorization (RFC 8555, 7.5.1).
-fn client_challenge_in(
-    alloc: Global,
-    policy: &Policy,
-    number: u64,
-    owner: &AuthorizationRow,
-) -> Result<Reply, AllocError>
-    ensures { IfOk result (λ r. (T : Tables) → T.meta.policy ≡ policy.now → HasMoments owner.now → r ≡ client_challenge_in T number owner.now) }
-{
-    let up = authorization_url(alloc, policy, owner.number)?;
-    let reply = challenge_in(alloc, policy, number, owner)?;
-    Ok(Reply {
-        up: Some(Text::new(up)),
-        ..reply
-    })
-}
-
-// ---- what is shown, by what a verdict names
 
 fn show_account(
     alloc: Global,
@@ -222,8 +80,8 @@ fn show_key(
 {
     match shown_account(book, entry, moment, number)? {
         Some(row) => {
-            let document = key_document(alloc, &row.key)?;
-            Ok(json_reply(200, document))
+            let reply = key_reply(alloc, &row)?;
+            Ok(reply)
         }
         None => Ok(plain(200)),
     }
@@ -341,22 +199,8 @@ fn show_client_challenge(
     }
 }
 
-/// The document of what is shown of the whole desk, where no entry moves it.
-fn show_lists(alloc: Global, book: &Book, moment: u64, shows: Shows) -> Result<Reply, AllocError>
-    ensures { IfOk result (λ r. IsListing shows → r ≡ reply_of (swept moment book.now) shows) }
-{
-    let document = match shows {
-        Shows::Directory => directory_document(alloc, &book.meta().policy)?,
-        Shows::Orders(number) => orders_document(alloc, book, moment, number)?,
-        Shows::ChallengeWork => challenge_work(alloc, book, moment)?,
-        Shows::OrderWork => order_work(alloc, book, moment)?,
-        _ => return Ok(plain(200)),
-    };
-    Ok(json_reply(200, document))
-}
-
 /// What is shown of a book at a moment, after an entry that makes nothing, if there is one.
-pub fn show(
+pub(crate) fn show(
     alloc: Global,
     book: &Book,
     entry: &Option<Entry>,
@@ -380,7 +224,7 @@ pub fn show(
         Shows::ClientChallenge(number) => show_client_challenge(alloc, book, entry, moment, number),
         Shows::Key(number) => show_key(alloc, book, entry, moment, number),
         Shows::Directory | Shows::Orders(_) | Shows::ChallengeWork | Shows::OrderWork => {
-            show_lists(alloc, book, moment, shows)
+            list_reply(alloc, book, moment, shows)
         }
     }
 }

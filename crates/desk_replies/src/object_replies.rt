@@ -1,0 +1,163 @@
+//! Replies with one object, by its row (RFC 8555, 7).
+ghost use Rattle.std.specs.Prelude.{◌≡◌, ◌≤◌, map, IfOk, option_copied};
+ghost use Rattle.desk_laws.specs.LegalLaws.{last_end};
+ghost use Rattle.desk_model.specs.Document.{key_document, listed_rows};
+ghost use Rattle.desk_model.specs.Questions.{challenge_of};
+ghost use Rattle.desk_model.specs.Shown.{account_reply, certificate_reply, challenge_reply, challenge_in, client_challenge_in, authorization_reply, located_order, ok, order_reply};
+ghost use Rattle.desk_model.specs.Tables.{Tables};
+ghost use Rattle.desk_replies.specs.Shown.{HasDatedReport, HasMoments};
+
+use crate::authorization_documents::{authorization_document, challenge_document};
+use crate::documents::account_document;
+use crate::key_documents::key_document;
+use crate::order_documents::order_document;
+use crate::replies::plain;
+use crate::urls::{authorization_url, order_url};
+use desk_model::{
+    AccountRow, AuthorizationRow, Body, ChallengeRow, DnsName, Document, OrderRow, Policy, Reply,
+    Text,
+};
+use std::alloc::{AllocError, Global};
+use swept_rows::challenge_of;
+
+/// A reply with a document.
+pub(crate) fn json_reply(status: u16, document: Document) -> Reply
+    ensures { result ≡ ok status document }
+{
+    Reply {
+        status,
+        location: None,
+        up: None,
+        nonce: None,
+        body: Body::Json(document),
+    }
+}
+
+/// The reply with an account (RFC 8555, 7.1.2).
+pub fn account_reply(
+    alloc: Global,
+    policy: &Policy,
+    status: u16,
+    row: &AccountRow,
+) -> Result<Reply, AllocError>
+    ensures { IfOk result (λ r. (T : Tables) → T.meta.policy ≡ policy.now → r ≡ account_reply status T row.now) }
+{
+    let document = account_document(alloc, policy, row)?;
+    Ok(json_reply(status, document))
+}
+
+/// The reply with an order whose authorizations have these names (RFC 8555, 7.1.3).
+pub fn order_reply(
+    alloc: Global,
+    policy: &Policy,
+    status: u16,
+    row: &OrderRow,
+    names: &[DnsName],
+) -> Result<Reply, AllocError>
+    ensures { IfOk result (λ r. (T : Tables) → T.meta.policy ≡ policy.now → map (λ a. a.name) (listed_rows T row.now) ≡ names.now
+        → row.now.expires ≤ last_end → r ≡ order_reply status T row.now) }
+{
+    let document = order_document(alloc, policy, row, names)?;
+    Ok(json_reply(status, document))
+}
+
+/// The reply with an order and its Location (RFC 8555, 7.4).
+pub fn located_order(
+    alloc: Global,
+    policy: &Policy,
+    status: u16,
+    row: &OrderRow,
+    names: &[DnsName],
+) -> Result<Reply, AllocError>
+    ensures { IfOk result (λ r. (T : Tables) → T.meta.policy ≡ policy.now → map (λ a. a.name) (listed_rows T row.now) ≡ names.now
+        → row.now.expires ≤ last_end → r ≡ located_order status T row.now) }
+{
+    let location = order_url(alloc, policy, row.number)?;
+    let reply = order_reply(alloc, policy, status, row, names)?;
+    Ok(Reply {
+        location: Some(Text::new(location)),
+        ..reply
+    })
+}
+
+/// The reply with the certificate of an order (RFC 8555, 7.4.2).
+pub fn certificate_reply(row: &OrderRow) -> Result<Reply, AllocError>
+    ensures { IfOk result (λ r. r ≡ certificate_reply row.now.certified) }
+{
+    match &row.certified {
+        Some(certified) => {
+            let bytes = certified.bytes.clone()?;
+            Ok(Reply {
+                status: 200,
+                location: None,
+                up: None,
+                nonce: None,
+                body: Body::Certificate(bytes),
+            })
+        }
+        None => Ok(plain(200)),
+    }
+}
+
+/// The reply with an authorization (RFC 8555, 7.1.4).
+pub fn authorization_reply(
+    alloc: Global,
+    policy: &Policy,
+    row: &AuthorizationRow,
+) -> Result<Reply, AllocError>
+    ensures { IfOk result (λ r. (T : Tables) → T.meta.policy ≡ policy.now → HasMoments row.now → r ≡ authorization_reply T row.now) }
+{
+    let document = authorization_document(alloc, policy, row)?;
+    Ok(json_reply(200, document))
+}
+
+// The reply with a challenge.
+fn challenge_reply(alloc: Global, policy: &Policy, row: &ChallengeRow) -> Result<Reply, AllocError>
+    ensures { IfOk result (λ r. (T : Tables) → T.meta.policy ≡ policy.now → HasDatedReport row.now.reported → r ≡ challenge_reply T row.now) }
+{
+    let document = challenge_document(alloc, policy, row)?;
+    Ok(json_reply(200, document))
+}
+
+/// The reply with the challenge of a number in its authorization (RFC 8555, 8).
+pub fn challenge_in(
+    alloc: Global,
+    policy: &Policy,
+    number: u64,
+    owner: &AuthorizationRow,
+) -> Result<Reply, AllocError>
+    ensures { IfOk result (λ r. (T : Tables) → T.meta.policy ≡ policy.now → HasMoments owner.now → r ≡ challenge_in T number owner.now) }
+{
+    match challenge_of(owner, number) {
+        Some(row) => {
+            let reply = challenge_reply(alloc, policy, row)?;
+            Ok(reply)
+        }
+        None => Ok(plain(200)),
+    }
+}
+
+/// The reply with a challenge to its client, which names its authorization (RFC 8555, 7.5.1).
+pub fn client_challenge_in(
+    alloc: Global,
+    policy: &Policy,
+    number: u64,
+    owner: &AuthorizationRow,
+) -> Result<Reply, AllocError>
+    ensures { IfOk result (λ r. (T : Tables) → T.meta.policy ≡ policy.now → HasMoments owner.now → r ≡ client_challenge_in T number owner.now) }
+{
+    let up = authorization_url(alloc, policy, owner.number)?;
+    let reply = challenge_in(alloc, policy, number, owner)?;
+    Ok(Reply {
+        up: Some(Text::new(up)),
+        ..reply
+    })
+}
+
+/// The reply with the key of an account.
+pub fn key_reply(alloc: Global, row: &AccountRow) -> Result<Reply, AllocError>
+    ensures { IfOk result (λ r. r ≡ ok 200 (key_document row.now.key)) }
+{
+    let document = key_document(alloc, &row.key)?;
+    Ok(json_reply(200, document))
+}
