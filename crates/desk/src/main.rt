@@ -6,7 +6,11 @@ mod desk;
 #[cfg(test)]
 mod failing_streams;
 #[cfg(test)]
+mod stored_rows_tests;
+#[cfg(test)]
 mod tests;
+#[cfg(test)]
+mod touched_rows_tests;
 
 use crate::desk::Desk;
 use desk_model::{Clock, Policy};

@@ -1,8 +1,10 @@
 pub mod Columns
+pub mod Flat
 pub mod Laws
 pub mod Limits
 pub mod MetaParts
 pub mod ProblemParts
 pub mod Reading
+pub mod RowHeads
 pub mod Spelling
 pub mod TextColumns

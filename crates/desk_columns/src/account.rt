@@ -1,8 +1,10 @@
 //! Rows of the table `account`.
-ghost use Rattle.std.specs.Prelude.{◌≡◌, IfOk};
+ghost use Rattle.std.specs.Prelude.{◌≡◌, ◌≢◌, IfOk, MatchOption};
+ghost use Rattle.desk_model.specs.declared.rows.AccountRow.{AccountRow as Row};
 ghost use Rattle.desk_columns.specs.Columns.{account_columns};
 ghost use Rattle.desk_columns.specs.Limits.{IsStoredAccount};
 ghost use Rattle.desk_columns.specs.Reading.{IsRead};
+ghost use Rattle.desk_columns.specs.RowHeads.{IsAccountHead};
 ghost use Rattle.desk_columns.specs.Spelling.{contacts_text};
 
 use crate::columns::AccountColumns;
@@ -11,8 +13,16 @@ use crate::facts::read_account_end;
 use crate::numbers::{read_moment, read_number};
 use crate::spelling::read_account_status;
 use crate::table::Columns;
-use desk_model::{AccountRow, Jwk, Sequence, Text};
+use desk_model::{AccountRow, AccountStatus, Jwk, Sequence, Text};
 use std::alloc::{AllocError, Global};
+
+// What stands in columns of its own.
+#[derive(Clone, Copy)]
+struct AccountHead {
+    number: u64,
+    opened: u64,
+    status: AccountStatus,
+}
 
 /// The account with these columns, or `None` where none in its limits has them.
 ///
@@ -36,18 +46,29 @@ fn account_with(contacts: Sequence<Text>, columns: AccountColumns) -> Option<Acc
     requires { columns.contacts ≡ contacts_text contacts }
     ensures { IsRead account_columns IsStoredAccount columns result }
 {
-    let number = read_number(columns.num)?;
-    let key = Jwk::from_canonical(columns.jwk.into_string())?;
-    let opened = read_moment(columns.opened)?;
+    let head = read_head(&columns)?;
     let ended = read_account_end(columns.ended, columns.end_kind)?;
-    let status = read_account_status(columns.status.as_str())?;
+    let key = Jwk::from_canonical(columns.jwk.into_string())?;
     Some(AccountRow {
-        number,
+        number: head.number,
         key,
         contacts,
-        opened,
+        opened: head.opened,
         ended,
-        status,
+        status: head.status,
+    })
+}
+
+// The parts of an account that stand in columns of their own, or `None` where no account has these columns.
+fn read_head(columns: &AccountColumns) -> Option<AccountHead>
+    ensures { MatchOption result
+        ((row : Row) → IsStoredAccount row → columns.now ≢ account_columns row)
+        (λ head. IsAccountHead columns.now head) }
+{
+    Some(AccountHead {
+        number: read_number(columns.num)?,
+        opened: read_moment(columns.opened)?,
+        status: read_account_status(columns.status.as_str())?,
     })
 }
 

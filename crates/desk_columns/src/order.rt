@@ -1,16 +1,28 @@
 //! Rows of the table `ord`.
-ghost use Rattle.std.specs.Prelude.{◌≡◌, IfOk};
+ghost use Rattle.std.specs.Prelude.{◌≡◌, ◌≢◌, IfOk, MatchOption};
+ghost use Rattle.desk_model.specs.declared.rows.OrderRow.{OrderRow as Row};
 ghost use Rattle.desk_columns.specs.Columns.{dated_problem_columns, order_columns};
 ghost use Rattle.desk_columns.specs.Limits.{IfRecorded, IsDatedProblem, IsStoredOrder};
 ghost use Rattle.desk_columns.specs.Reading.{IsRead};
+ghost use Rattle.desk_columns.specs.RowHeads.{IsOrderHead};
 
 use crate::columns::OrderColumns;
 use crate::facts::{read_dated_bytes, read_dated_problem};
 use crate::numbers::{read_expiry, read_moment, read_number};
 use crate::spelling::read_order_status;
 use crate::table::Columns;
-use desk_model::{DatedProblem, OrderRow, Sequence};
+use desk_model::{DatedProblem, OrderRow, OrderStatus, Sequence};
 use std::alloc::{AllocError, Global};
+
+// What stands in columns of its own.
+#[derive(Clone, Copy)]
+struct OrderHead {
+    number: u64,
+    account: u64,
+    made: u64,
+    expires: u64,
+    status: OrderStatus,
+}
 
 /// The order with these columns and nothing listed, or `None` where none in its limits has them.
 ///
@@ -36,23 +48,34 @@ fn order_with(
     requires limits { IfRecorded IsDatedProblem failed }
     ensures { IsRead order_columns IsStoredOrder columns result }
 {
-    let number = read_number(columns.num)?;
-    let account = read_number(columns.account)?;
-    let made = read_moment(columns.made)?;
-    let expires = read_expiry(columns.expires)?;
+    let head = read_head(&columns)?;
     let finalized = read_dated_bytes(columns.finalized, columns.csr)?;
     let certified = read_dated_bytes(columns.certified, columns.cert)?;
-    let status = read_order_status(columns.status.as_str())?;
     Some(OrderRow {
-        number,
-        account,
-        made,
-        expires,
+        number: head.number,
+        account: head.account,
+        made: head.made,
+        expires: head.expires,
         listed: Sequence::new(Vec::new(alloc)),
         finalized,
         certified,
         failed,
-        status,
+        status: head.status,
+    })
+}
+
+// The parts of an order that stand in columns of their own, or `None` where no order has these columns.
+fn read_head(columns: &OrderColumns) -> Option<OrderHead>
+    ensures { MatchOption result
+        ((row : Row) → IsStoredOrder row → columns.now ≢ order_columns row)
+        (λ head. IsOrderHead columns.now head) }
+{
+    Some(OrderHead {
+        number: read_number(columns.num)?,
+        account: read_number(columns.account)?,
+        made: read_moment(columns.made)?,
+        expires: read_expiry(columns.expires)?,
+        status: read_order_status(columns.status.as_str())?,
     })
 }
 

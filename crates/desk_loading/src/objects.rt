@@ -32,7 +32,6 @@ pub(crate) struct Objects {
 // ---- accounts
 
 /// Puts the account with the request's key into a table.
-#[tactic(auto, using(desk_parts::proofs::Found::puts_append))]
 fn put_keyed<S: LookUps>(
     alloc: Global,
     source: &mut S,
@@ -53,7 +52,6 @@ fn put_keyed<S: LookUps>(
 }
 
 /// The accounts that are named.
-#[tactic(auto, using(desk_parts::proofs::Found::puts_append))]
 fn accounts_named<S: LookUps>(
     alloc: Global,
     source: &mut S,
@@ -70,7 +68,6 @@ fn accounts_named<S: LookUps>(
 }
 
 /// Puts the accounts of these orders and authorizations into a table.
-#[tactic(auto, using(desk_parts::proofs::Found::puts_append))]
 fn put_holders<S: LookUps>(
     alloc: Global,
     source: &mut S,
@@ -126,7 +123,6 @@ fn put_asked_orders<S: LookUps>(
 }
 
 /// The authorizations from which orders are looked for.
-#[tactic(auto, using(desk_parts::proofs::Found::puts_append))]
 fn authorizations_first<S: LookUps>(
     alloc: Global,
     source: &mut S,
@@ -149,7 +145,6 @@ fn authorizations_first<S: LookUps>(
 }
 
 /// The orders that are named, or of a named account, or past their moment.
-#[tactic(auto, using(desk_parts::proofs::Found::puts_append))]
 fn orders_first<S: LookUps>(
     alloc: Global,
     source: &mut S,
@@ -170,7 +165,6 @@ fn orders_first<S: LookUps>(
 }
 
 /// The authorizations and orders that are touched, found from the accounts that are named.
-#[tactic(auto, using(desk_parts::proofs::Found::puts_append))]
 fn authorizations_and_orders<S: LookUps>(
     alloc: Global,
     source: &mut S,
@@ -192,7 +186,6 @@ fn authorizations_and_orders<S: LookUps>(
 }
 
 /// The accounts, authorizations and orders that are touched.
-#[tactic(auto, using(desk_parts::proofs::Found::puts_append))]
 pub(crate) fn objects_touched<S: LookUps>(
     alloc: Global,
     source: &mut S,

@@ -18,7 +18,7 @@ use Rattle.stored_laws.proofs.Books.{tables_book}
 use Rattle.stored_laws.proofs.Rows.{picture_stored}
 use Rattle.stored_laws.specs.Told.{AreReorderedColumns, IsOnlyBookOf}
 use Rattle.stored_rows.proofs.SoundBooks.{same-tables, stored-told}
-use Rattle.stored_rows.specs.Flat.{AreReordered, flat}
+use Rattle.desk_columns.specs.Flat.{AreReordered, flat}
 use Rattle.stored_rows.specs.IsBook.{IsBook, IsBookOfStored}
 
 -- ---- one table

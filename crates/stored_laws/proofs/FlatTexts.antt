@@ -1,5 +1,4 @@
 -- The rows of tables that hold texts hold them table by table, and so do their columns.
-use Rattle.std.proofs.Common.{map}
 use Rattle.desk_model.specs.Texts.{HoldTexts}
 use Rattle.desk_laws.proofs.Basics.{each-map}
 use Rattle.desk_columns.specs.TextColumns.{RowsHoldTexts}
@@ -7,7 +6,7 @@ use Rattle.desk_columns.proofs.Utf8Columns.{texts_are_written}
 use Rattle.desk_laws.proofs.TextFacts.{hold_texts}
 use Rattle.desk_model.specs.Tables.{Tables, tables_at}
 use Rattle.stored_laws.specs.Laws.{TablesAreTexts}
-use Rattle.stored_rows.specs.Flat.{flat, without_challenges, without_listed}
+use Rattle.desk_columns.specs.Flat.{flat, without_challenges, without_listed}
 
 -- as the tables hold them
 flat_holds : (T : Tables) → HoldTexts T → RowsHoldTexts (flat T)

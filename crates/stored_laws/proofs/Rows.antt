@@ -35,7 +35,7 @@ use Rattle.desk_model.specs.declared.rows.Listed.{Listed}
 use Rattle.desk_model.specs.declared.rows.OrderRow.{OrderRow}
 use Rattle.stored_laws.proofs.Books.{tables_book}
 use Rattle.stored_laws.specs.InLimits.{AreInLimits, IsAuthorizationInLimits, IsOrderInLimits}
-use Rattle.stored_rows.specs.Flat.{flat, owned_by, without_challenges, without_listed}
+use Rattle.desk_columns.specs.Flat.{flat, owned_by, without_challenges, without_listed}
 use Rattle.stored_rows.specs.IsBook.{ListsFound}
 
 -- ---- numbers

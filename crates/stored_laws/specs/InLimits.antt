@@ -6,7 +6,7 @@ use Rattle.desk_model.specs.declared.rows.AuthorizationRow.{AuthorizationRow}
 use Rattle.desk_model.specs.declared.rows.Change.{Change}
 use Rattle.desk_model.specs.declared.rows.Change.TheVariants.{PutMeta, PutNonce, RemoveNonce, PutAccount, PutAuthorization, PutOrder}
 use Rattle.desk_model.specs.declared.rows.OrderRow.{OrderRow}
-use Rattle.stored_rows.specs.Flat.{owned_by, without_challenges, without_listed}
+use Rattle.desk_columns.specs.Flat.{owned_by, without_challenges, without_listed}
 
 -- an authorization and its challenges
 pub record IsAuthorizationInLimits (row : AuthorizationRow) : Type 0 where

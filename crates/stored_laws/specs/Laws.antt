@@ -14,7 +14,7 @@ use Rattle.desk_model.specs.Tables.{Tables, picture, tables_at}
 use Rattle.desk_model.specs.declared.entry.Entry.{Entry}
 use Rattle.stored_laws.specs.InLimits.{AreInLimits, IsPutInLimits}
 use Rattle.stored_laws.specs.Told.{AreReorderedColumns, IsOnlyBookOf}
-use Rattle.stored_rows.specs.Flat.{flat}
+use Rattle.desk_columns.specs.Flat.{flat}
 use Rattle.stored_rows.specs.IsBook.{IsBook}
 
 -- the tables of a history are a book, at each moment

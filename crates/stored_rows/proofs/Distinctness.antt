@@ -1,5 +1,5 @@
 -- What a sort tells of repeated keys, and when the rows of these keys have different ones.
-use Rattle.std.proofs.Common.{◌≡◌, ℕ, ◌+◌, ◌<◌, ◌≤◌, Bool, true, false, List, [], ◌∷◌, ◌++◌, map, length, get_or, refl, sym, ap, ◌∙◌, subst, arith, Ordering, zero-le, is_lt, is_eq, nat_cmp}
+use Rattle.std.proofs.Common.{◌≡◌, ℕ, ◌+◌, Bool, true, false, List, [], ◌∷◌, ◌++◌, map, get_or, refl, sym, ap, ◌∙◌, subst, arith, Ordering, is_lt, is_eq, nat_cmp}
 use Rattle.std.specs.Prelude.{◌≢◌, ◌↔◌, IsTrue}
 use Rattle.std.specs.Cmp.{IsTotalOrder}
 use Rattle.std.specs.List.{AllByRecursion, IsAllAdjacentAnswer, IsDistinct}

@@ -1,12 +1,12 @@
 -- Rows that are nested under their owners have these parents and these children, and none else do.
 use Rattle.std.proofs.Common.{◌≡◌, ℕ, ◌+◌, ◌<◌, ◌≤◌, Bool, true, false, cond, List, [], ◌∷◌, ◌++◌, map, refl, sym, ap, ◌∙◌, arith, append_assoc}
 use Rattle.std.specs.Prelude.{◌==◌}
-use Rattle.std.specs.List.{AllByRecursion, flat_map}
+use Rattle.std.specs.List.{AllByRecursion}
 use Rattle.std.proofs.lemmas.Bool.{eqb-true, eq-eqb}
 use Rattle.std.proofs.lemmas.Bool.Decides.{nat_tests}
 use Rattle.desk_laws.specs.Ordered.{Ascends}
 use Rattle.desk_columns.specs.declared.flat_rows.Owned.{Owned}
-use Rattle.stored_rows.specs.Flat.{owned_by}
+use Rattle.desk_columns.specs.Flat.{owned_by}
 use Rattle.stored_rows.specs.Nesting.{IsNesting, child_rows, first_of, behind, nested, left_over}
 
 -- one more row takes its first children of what is left

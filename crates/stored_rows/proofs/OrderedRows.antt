@@ -1,14 +1,13 @@
 -- Rows that stand by number rise strictly, and so do their children by owner and number.
-use Rattle.std.proofs.Common.{◌≡◌, ℕ, ◌+◌, ◌<◌, ◌≤◌, true, false, List, [], ◌∷◌, ◌++◌, map, nat_cmp, refl, sym, ap, ◌∙◌, arith, Ordering}
+use Rattle.std.proofs.Common.{◌≡◌, ℕ, ◌+◌, ◌<◌, ◌≤◌, List, [], ◌∷◌, ◌++◌, nat_cmp, ap, ◌∙◌, arith, Ordering}
 use Rattle.std.specs.Cmp.{IsTotalOrder, nat_cmp_total, on_total, then_total}
-use Rattle.std.specs.List.{AllByRecursion, flat_map}
+use Rattle.std.specs.List.{AllByRecursion}
 use Rattle.std.specs.List.Sorted.{IsSorted, IsStrictlySortedBy, IsPermutation}
 use Rattle.std.specs.Ordering.{ordering_then}
 use Rattle.std.proofs.lemmas.Bool.Decides.{nat_tests}
 use Rattle.desk_model.specs.Kept.{EachOf}
 use Rattle.desk_laws.specs.Ordered.{Ascends}
-use Rattle.desk_columns.specs.declared.flat_rows.Owned.{Owned}
-use Rattle.stored_rows.specs.Flat.{owned_by}
+use Rattle.desk_columns.specs.Flat.{owned_by}
 use Rattle.stored_rows.specs.Nesting.{by_number, by_owner, child_rows}
 use Rattle.stored_rows.proofs.SortedLists.{same_sorted, same_strictly}
 

@@ -1,17 +1,15 @@
 -- The tests of a book's tables, and that one book at most has given rows.
-use Rattle.std.proofs.Common.{◌≡◌, ℕ, ◌+◌, ◌<◌, ◌≤◌, Bool, true, false, List, [], ◌∷◌, refl, sym, ap, ◌∙◌, arith, subst}
-use Rattle.std.specs.Prelude.{◌&&◌, ◌↔◌, IsSome, IsTrue, nat_le, is_some}
+use Rattle.std.proofs.Common.{◌≡◌, ℕ, ◌+◌, ◌<◌, Bool, true, List, [], ◌∷◌, refl, sym, ◌∙◌, arith, subst}
+use Rattle.std.specs.Prelude.{◌&&◌, ◌↔◌, IsSome, IsTrue, nat_le}
 use Rattle.std.specs.List.{list_all}
 use Rattle.std.proofs.lemmas.Bool.Decides.{nat_tests}
 use Rattle.std.specs.List.Sorted.{IsPermutation}
 use Rattle.std.proofs.lemmas.List.Sorted.{IsPermutation-refl, IsPermutation-sym, IsPermutation-trans}
 use Rattle.desk_model.specs.Questions.{account_on, authorization_on}
 use Rattle.desk_model.specs.Tables.{Tables}
-use Rattle.desk_model.specs.Kept.{EachOf}
 use Rattle.desk_model.specs.declared.rows.AuthorizationRow.{AuthorizationRow}
 use Rattle.desk_model.specs.declared.rows.ChallengeRow.{ChallengeRow}
 use Rattle.desk_model.specs.declared.rows.Listed.{Listed}
-use Rattle.desk_model.specs.declared.rows.Meta.{Meta}
 use Rattle.desk_model.specs.declared.rows.OrderRow.{OrderRow}
 use Rattle.desk_laws.proofs.Basics.{each}
 use Rattle.desk_columns.proofs.RowsApart.{rows-apart}
@@ -19,9 +17,9 @@ use Rattle.desk_columns.specs.Columns.{rows_columns}
 use Rattle.desk_columns.specs.Limits.{AreStored, IsStoredAuthorization, IsStoredOrder}
 use Rattle.desk_columns.specs.declared.columns.StoredRows.{StoredRows}
 use Rattle.desk_laws.specs.Ordered.{Ascends, Below, IsOrdered}
-use Rattle.stored_rows.specs.Flat.{AreReordered, flat}
+use Rattle.desk_columns.specs.Flat.{AreReordered, flat}
 use Rattle.stored_rows.specs.IsBook.{AreDistinct, AreFlat, AreInOrder, HaveReferences, IsBook, IsSound, KeepCounters, ListsFound}
-use Rattle.stored_rows.specs.Nesting.{IsNesting, IsNestOf}
+use Rattle.stored_rows.specs.Nesting.{IsNestOf}
 use Rattle.stored_rows.specs.Tests.{are_given, has_row_of, have_references, keep_counters}
 use Rattle.desk_columns.specs.declared.flat_rows.FlatRows.{FlatRows}
 use Rattle.stored_rows.proofs.Ascending.{both, EachOf-from_test, list_all-true}

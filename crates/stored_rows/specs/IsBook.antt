@@ -1,5 +1,5 @@
 -- Which tables are a book.
-use Rattle.std.specs.Prelude.{ℕ, ◌+◌, ◌≡◌, [], IsSome}
+use Rattle.std.specs.Prelude.{◌+◌, ◌≡◌, [], IsSome}
 use Rattle.desk_model.specs.Questions.{account_on, authorization_on}
 use Rattle.desk_model.specs.Tables.{Tables}
 use Rattle.desk_model.specs.Kept.{EachOf}
@@ -7,7 +7,7 @@ use Rattle.desk_model.specs.declared.rows.OrderRow.{OrderRow}
 use Rattle.desk_laws.specs.Distinct.{Distinct}
 use Rattle.desk_laws.specs.Ordered.{Ascends, Below}
 use Rattle.stored_rows.specs.FaultNumbers.{challenges_of}
-use Rattle.stored_rows.specs.Flat.{AreReordered, flat}
+use Rattle.desk_columns.specs.Flat.{AreReordered, flat}
 use Rattle.desk_columns.specs.Columns.{rows_columns}
 use Rattle.desk_columns.specs.Limits.{AreStored}
 use Rattle.desk_columns.specs.declared.columns.StoredRows.{StoredRows}

@@ -7,7 +7,7 @@ use Rattle.std.specs.declared.cmp.Ordering.{Ordering}
 use Rattle.desk_model.specs.Kept.{EachOf}
 use Rattle.desk_laws.specs.Ordered.{Ascends}
 use Rattle.desk_columns.specs.declared.flat_rows.Owned.{Owned}
-use Rattle.stored_rows.specs.Flat.{owned_by}
+use Rattle.desk_columns.specs.Flat.{owned_by}
 
 -- what a row's children are, and the row with others
 pub record IsNesting {P T : Type 0} (number : P → ℕ) (children : P → List T) (with_children : P → List T → P) : Type 0 where

@@ -2,8 +2,6 @@
 use Rattle.std.specs.Prelude.{ℕ, ◌==◌, Bool, List, [], ◌∷◌, nat_le, find, is_some}
 use Rattle.std.specs.List.{list_all}
 use Rattle.desk_model.specs.Tables.{Tables}
-use Rattle.desk_model.specs.declared.rows.AccountRow.{AccountRow}
-use Rattle.desk_model.specs.declared.rows.AuthorizationRow.{AuthorizationRow}
 
 -- whether no number is above the last one given
 abbrev pub are_given : {X : Type 0} → (X → ℕ) → ℕ → List X → Bool

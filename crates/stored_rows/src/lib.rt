@@ -8,8 +8,6 @@ mod rows_fault;
 mod soundness;
 mod status_check;
 mod stored_book;
-#[cfg(test)]
-mod tests;
 
 pub use rows_fault::RowsFault;
 pub use status_check::check;

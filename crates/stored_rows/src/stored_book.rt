@@ -1,7 +1,7 @@
 //! The book of rows that stand in any order.
 ghost use Rattle.std.specs.Prelude.{◌≡◌, [], ◌∷◌, IfOk, IfErr, MatchResult};
 ghost use Rattle.desk_model.specs.Tables.{Tables};
-ghost use Rattle.stored_rows.specs.Flat.{AreReordered, flat};
+ghost use Rattle.desk_columns.specs.Flat.{AreReordered, flat};
 ghost use Rattle.desk_columns.specs.Columns.{rows_columns};
 ghost use Rattle.desk_columns.specs.Limits.{AreStored};
 ghost use Rattle.desk_columns.specs.declared.flat_rows.FlatRows.{FlatRows as Rows};

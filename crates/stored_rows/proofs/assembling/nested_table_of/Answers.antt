@@ -1,9 +1,9 @@
-use Rattle.std.proofs.Common.{[], ◌≡◌, true, false, ◌∙◌, sym, ap, subst}
+use Rattle.std.proofs.Common.{◌≡◌, true, false, ◌∙◌, sym, ap, subst}
 use Rattle.std.specs.List.{list_all}
 use Rattle.std.specs.List.Sorted.{IsPermutation}
 use Rattle.std.proofs.lemmas.Result.{err_from_is_err_and}
 use Rattle.desk_laws.specs.Ordered.{Ascends}
-use Rattle.stored_rows.specs.Nesting.{ascends, nested, left_over}
+use Rattle.stored_rows.specs.Nesting.{ascends}
 use Rattle.stored_rows.proofs.Ascending.{Ascends-from_test, ascends-true, EachOf-from_test, list_all-true}
 use Rattle.stored_rows.proofs.Nests.{sorted-flat, nests-rows}
 use Rattle.stored_rows.proofs.assembling.nested_table_of.Goals as goal

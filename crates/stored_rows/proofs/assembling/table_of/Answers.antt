@@ -1,7 +1,6 @@
-use Rattle.std.proofs.Common.{[], ◌≡◌, true, false, ◌∙◌, sym, ap, subst}
+use Rattle.std.proofs.Common.{◌≡◌, true, false, ◌∙◌, sym, ap, subst}
 use Rattle.std.specs.List.Sorted.{IsPermutation}
 use Rattle.std.proofs.lemmas.List.Sorted.{IsPermutation-sym, IsPermutation-trans}
-use Rattle.desk_laws.specs.Ordered.{Ascends}
 use Rattle.stored_rows.specs.Nesting.{ascends}
 use Rattle.stored_rows.proofs.Ascending.{Ascends-from_test, ascends-true}
 use Rattle.stored_rows.proofs.OrderedRows.{same_by_number}

@@ -1,5 +1,5 @@
 use Rattle.std.proofs.Common.{◌++◌, [], ◌∷◌, ◌∙◌, sym, ap}
-use Rattle.stored_rows.specs.Nesting.{first_of, behind, nested, left_over}
+use Rattle.stored_rows.specs.Nesting.{first_of, behind, nested}
 use Rattle.stored_rows.proofs.NestedRows.{nested-last, left_over-last}
 use Rattle.stored_rows.proofs.nesting.nest.Goals as goal
 

@@ -1,4 +1,4 @@
-use Rattle.std.proofs.Common.{◌∙◌, sym, ap, map, nat_cmp}
+use Rattle.std.proofs.Common.{◌∙◌, ap, map, nat_cmp}
 use Rattle.stored_rows.specs.FaultNumbers.{challenges_of}
 use Rattle.stored_rows.proofs.Distinctness.{distinct-rows, ended, equal-numbers, map-same, numbers-equal}
 use Rattle.stored_rows.proofs.soundness.have_distinct_challenges.Goals as goal

@@ -1,8 +1,4 @@
-use Rattle.std.proofs.Common.{◌≡◌, sym, ap, ◌∙◌, subst}
-use Rattle.std.proofs.lemmas.List.Sorted.{IsPermutation-refl}
-use Rattle.std.specs.List.Sorted.{IsPermutation}
 use Rattle.std.proofs.lemmas.Result.{err_from_is_err_and}
-use Rattle.stored_rows.specs.IsBook.{AreInOrder}
 use Rattle.stored_rows.proofs.SoundBooks.{authorizations-nest, orders-nest, in_order-from_tables}
 use Rattle.stored_rows.proofs.SortedLists.{same_single}
 use Rattle.stored_rows.proofs.stored_book.book_in_order.Goals as goal

@@ -1,4 +1,4 @@
-use Rattle.std.proofs.Common.{◌∙◌, sym, subst}
+use Rattle.std.proofs.Common.{subst}
 use Rattle.std.proofs.lemmas.Result.{err_from_is_err_and}
 use Rattle.stored_rows.specs.IsBook.{IsBookOf}
 use Rattle.stored_rows.proofs.SoundBooks.{AreFlat-from_stored, stored-told}

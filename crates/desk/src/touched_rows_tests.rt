@@ -1,5 +1,5 @@
-use crate::touched_book;
 use desk_book::{Book, Table};
+use desk_loading::touched_book;
 use desk_model::{
     AccountRow, AccountStatus, Ask, AuthorizationRow, AuthzStatus, Call, ChallengeRow,
     ChallengeStatus, Clock, DnsName, Jwk, Kind, Listed, Meta, OrderRow, OrderStatus, Policy,

@@ -1,4 +1,3 @@
-use crate::{RowsFault, check, from_rows};
 use desk_columns::{
     AccountColumns, AuthzColumns, ChallColumns, MetaColumns, NonceColumns, OrderAuthzColumns,
     OrderColumns, StoredRows,
@@ -6,6 +5,7 @@ use desk_columns::{
 use desk_model::{AuthzStatus, Sequence, StatusFault, Text};
 use std::alloc::Global;
 use std::test::Fail;
+use stored_rows::{RowsFault, check, from_rows};
 
 const KEY: &str = "{\"crv\":\"P-256\",\"kty\":\"EC\",\"x\":\"AQ\",\"y\":\"Ag\"}";
 

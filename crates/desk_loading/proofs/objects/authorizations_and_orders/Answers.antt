@@ -1,0 +1,37 @@
+use Rattle.std.proofs.Common.{[], ◌++◌, ap, ◌∙◌}
+use Rattle.desk_model.specs.declared.rows.AuthorizationRow.{AuthorizationRow}
+use Rattle.desk_model.specs.declared.rows.OrderRow.{OrderRow}
+use Rattle.desk_parts.specs.Loaded.{all_put, authorizations_once, first_authorizations, found_orders, listed_authorizations, listing_orders, named_orders, orders_once, own_orders, past_orders}
+use Rattle.desk_loading.proofs.Gathered.{put_by, put_then}
+use Rattle.desk_loading.proofs.objects.authorizations_and_orders.Goals as goal
+
+pub returns-clause-authorizations : goal.returns-clause-authorizations
+returns-clause-authorizations g c = λ honest T held named.
+    let listing = c.in_ok-put_listed.ensures.reads.honest honest in
+    let ordered = c.in_ok-put_listing.ensures.reads.honest listing in
+    let authorized = c.in_ok-orders.ensures.reads.honest ordered in
+    let has = c.in_ok-authorizations.ensures.reads.tables authorized T held in
+    let still = c.in_ok-orders.ensures.reads.tables ordered T has in
+    let first = first_authorizations T c.args.moment c.args.ask.now in
+    let found = c.in_ok-authorizations.ensures.found authorized T held named in
+    let orders =
+    put_then (λ (o : OrderRow). o.number) (named_orders T c.args.ask.now ++ (own_orders T c.args.ask.now ++ past_orders T c.args.moment))
+    (listing_orders T (authorizations_once first)) [] _ _
+    (c.in_ok-orders.ensures.found ordered T has named)
+    (put_by (λ (o : OrderRow). o.number) (listing_orders T) _ _ _ _ (c.in_ok-put_listing.ensures.found listing T still) found) in
+    put_then (λ (a : AuthorizationRow). a.number) first (listed_authorizations T (orders_once (found_orders T c.args.moment c.args.ask.now))) [] _ _
+    found
+    (put_by (λ (a : AuthorizationRow). a.number) (listed_authorizations T) _ _ _ _
+    (c.in_ok-put_listed.ensures.found honest T (c.in_ok-put_listing.ensures.reads.tables listing T still)) orders)
+
+pub returns-clause-orders : goal.returns-clause-orders
+returns-clause-orders g c = λ honest T held named.
+    let listing = c.in_ok-put_listed.ensures.reads.honest honest in
+    let ordered = c.in_ok-put_listing.ensures.reads.honest listing in
+    let authorized = c.in_ok-orders.ensures.reads.honest ordered in
+    let has = c.in_ok-authorizations.ensures.reads.tables authorized T held in
+    let still = c.in_ok-orders.ensures.reads.tables ordered T has in
+    put_then (λ (o : OrderRow). o.number) (named_orders T c.args.ask.now ++ (own_orders T c.args.ask.now ++ past_orders T c.args.moment))
+    (listing_orders T (authorizations_once (first_authorizations T c.args.moment c.args.ask.now))) [] _ _
+    (c.in_ok-orders.ensures.found ordered T has named)
+    (put_by (λ (o : OrderRow). o.number) (listing_orders T) _ _ _ _ (c.in_ok-put_listing.ensures.found listing T still) (c.in_ok-authorizations.ensures.found authorized T held named))

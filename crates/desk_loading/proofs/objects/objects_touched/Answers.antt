@@ -1,0 +1,30 @@
+use Rattle.std.proofs.Common.{◌≡◌, ℕ, List, [], ◌++◌, ap, ◌∙◌}
+use Rattle.std.specs.List.{flat_map}
+use Rattle.desk_model.specs.declared.rows.AccountRow.{AccountRow}
+use Rattle.desk_model.specs.declared.rows.AuthorizationRow.{AuthorizationRow}
+use Rattle.desk_model.specs.declared.rows.OrderRow.{OrderRow}
+use Rattle.desk_parts.specs.Loaded.{all_put, authorizations_once, found_authorizations, found_orders, named_accounts, orders_once}
+use Rattle.desk_parts.specs.LookUps.{accounts_numbered}
+use Rattle.desk_loading.proofs.Gathered.{put_then}
+use Rattle.desk_loading.proofs.objects.objects_touched.Goals as goal
+
+-- what is put by two values is put by their equals
+put_by_both : {X Y Z : Type 0} (number : X → ℕ) (rows_of : Y → Z → List X) (y v : Y) (z w : Z) (rows later : List X) →
+    later ≡ all_put number (rows_of y z) rows → y ≡ v → z ≡ w → later ≡ all_put number (rows_of v w) rows
+put_by_both number rows_of y v z w rows later put_now same alike =
+    put_now ∙ ap (λ a. all_put number (rows_of a z) rows) same ∙ ap (λ b. all_put number (rows_of v b) rows) alike
+
+pub returns-clause-accounts : goal.returns-clause-accounts
+returns-clause-accounts g c = λ honest T held.
+    let so_far = c.in_ok-put_holders.ensures.reads.honest honest in
+    let accounted = c.in_ok-authorizations.ensures.reads.honest so_far in
+    let has = c.in_ok-accounts.ensures.reads.tables accounted T held in
+    let named = c.in_ok-accounts.ensures.found accounted T held in
+    let holders = λ (os : List OrderRow) (rows : List AuthorizationRow). flat_map (λ o. accounts_numbered T o.account) os ++ flat_map (λ a. accounts_numbered T a.account) rows in
+    put_then (λ (x : AccountRow). x.number) (named_accounts T c.args.ask.now)
+    (holders (orders_once (found_orders T c.args.moment c.args.ask.now)) (authorizations_once (found_authorizations T c.args.moment c.args.ask.now))) [] _ _
+    named
+    (put_by_both (λ (x : AccountRow). x.number) holders _ _ _ _ _ _
+    (c.in_ok-put_holders.ensures.found honest T (c.in_ok-authorizations.ensures.reads.tables so_far T has))
+    (c.in_ok-authorizations.ensures.orders so_far T has named)
+    (c.in_ok-authorizations.ensures.authorizations so_far T has named))
