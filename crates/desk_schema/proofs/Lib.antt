@@ -1,0 +1,5 @@
+pub mod AdvanceLemmas
+pub mod Making
+pub mod Meanings
+pub mod StaysLemmas
+pub mod Steps

@@ -1,0 +1,20 @@
+-- What the definitions make of an empty database.
+use Rattle.std.specs.Prelude.{◌≡◌, ℕ, []}
+use Rattle.std.specs.List.{AllByRecursion}
+use Rattle.sqlite.specs.Schema.{Schema}
+use Rattle.sqlite.specs.Tree.{Trees}
+use Rattle.sqlite.specs.Effect.{Database}
+use Rattle.desk_schema.specs.Schema.{no_schema, schema_at}
+
+-- no table has a row
+abbrev pub AreEmpty : Schema → Trees → Type 0
+AreEmpty schema trees = AllByRecursion (λ t. trees t.tree ≡ []) schema.tables
+
+-- the tables and indexes of so many definitions are there, no other object, and no row
+pub record IsDefined (steps : ℕ) (db : Database) : Type 0 where
+  pub schema : db.schema ≡ schema_at steps
+  pub empty : AreEmpty (schema_at steps) db.trees
+
+-- so many definitions are carried out, where there was nothing
+abbrev pub Defines : ℕ → Database → Database → Type 0
+Defines steps old new = old.schema ≡ no_schema → IsDefined steps new

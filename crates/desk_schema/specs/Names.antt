@@ -1,0 +1,35 @@
+-- The names of the tables and indexes.
+use Rattle.std.specs.Prelude.{ℕ, Bool, List, [], ◌∷◌, codes, ◌||◌, is_some}
+use Rattle.std.specs.List.{list_all, list_any}
+use Rattle.sqlite.specs.Schema.{Schema}
+use Rattle.sqlite_schema.specs.Names.{index_named}
+use Rattle.sqlite.specs.Change.{is_used}
+
+-- the seven tables
+abbrev pub table_names : List (List ℕ)
+table_names = codes "meta" ∷ codes "nonce" ∷ codes "account" ∷ codes "ord" ∷ codes "authz" ∷ codes "ord_authz" ∷ codes "chall" ∷ []
+
+-- the eight indexes of CREATE INDEX
+abbrev pub index_names : List (List ℕ)
+index_names =
+    codes "nonce_issued"
+    ∷ codes "ord_account"
+    ∷ codes "ord_status_expires"
+    ∷ codes "authz_account_name"
+    ∷ codes "authz_status_expires"
+    ∷ codes "ord_authz_authz"
+    ∷ codes "chall_authz"
+    ∷ codes "chall_status"
+    ∷ []
+
+-- a table, an index or a view has one of these names
+abbrev pub uses_one : Schema → List (List ℕ) → Bool
+uses_one schema names = list_any (λ name. is_used schema name) names
+
+-- one of them has a name of the desk
+abbrev pub uses_names : Schema → Bool
+uses_names schema = uses_one schema table_names || uses_one schema index_names
+
+-- each of the eight names is that of an index
+abbrev pub has_all_indexes : Schema → Bool
+has_all_indexes schema = list_all (λ name. is_some (index_named schema name)) index_names

@@ -1,0 +1,36 @@
+-- The upsert into `account`.
+use Rattle.std.proofs.Common.{pos, [], ◌∷◌, drop, refl, ap}
+use Rattle.sqlite.specs.declared.types.Value.TheVariants.{Int, Null}
+use Rattle.sqlite_sql.specs.Term.{lit, col}
+use Rattle.sqlite_tied.specs.Compute.{everything}
+use Rattle.sqlite.specs.Listing.{understood}
+use Rattle.desk_columns.specs.Columns.{account_columns}
+use Rattle.desk_schema.specs.Schema.{account_table}
+use Rattle.desk_tables.specs.Images.{account_image, account_params}
+use Rattle.desk_tables.specs.Layouts.{account_layout}
+use Rattle.desk_tables.specs.Texts.{upsert_account}
+use Rattle.desk_tables.proofs.Casts.{cast_int, cast_int_or_null, cast_null, cast_text_or_null, row_kept}
+use Rattle.desk_tables.proofs.Clashes.{clash_by_key}
+use Rattle.desk_tables.proofs.UpsertStatement.{IsUpsert}
+
+-- what the text means, and what its table is
+pub account_upsert : IsUpsert account_layout (λ row. account_params (account_columns row)) upsert_account
+unfolding understood everything
+account_upsert = record {
+  place = 2;
+  terms = col 0 0 ∷ lit Null ∷ col 0 1 ∷ col 0 2 ∷ col 0 3 ∷ col 0 4 ∷ col 0 5 ∷ col 0 6 ∷ [];
+  width = 8;
+  at = 7;
+  project = col 1 0 ∷ col 1 0 ∷ lit Null ∷ col 0 10 ∷ col 0 11 ∷ col 0 12 ∷ col 0 13 ∷ col 0 14 ∷ col 0 15 ∷ [];
+  command = refl;
+  plain = (refl, refl);
+  found = refl;
+  uncounted = refl;
+  low = λ _. refl;
+  first = λ _. refl;
+  casts = λ _. row_kept account_table _ _ (cast_null, (refl, (refl, (cast_int _, (cast_int_or_null _, (cast_text_or_null _, (refl, tt)))))));
+  clash = λ x y. clash_by_key account_layout.key account_image (λ _. refl) account_table x y;
+  given = λ _. refl;
+  sets = λ x y same. ap (λ k. Int (pos (account_layout.key y)) ∷ Int (pos k) ∷ drop 1 (account_image x)) same;
+  source = λ _. refl;
+}

@@ -1,0 +1,36 @@
+-- The upsert into `authz`.
+use Rattle.std.proofs.Common.{pos, [], ◌∷◌, drop, refl, ap}
+use Rattle.sqlite.specs.declared.types.Value.TheVariants.{Int, Null}
+use Rattle.sqlite_sql.specs.Term.{lit, col}
+use Rattle.sqlite_tied.specs.Compute.{everything}
+use Rattle.sqlite.specs.Listing.{understood}
+use Rattle.desk_columns.specs.Columns.{authorization_columns}
+use Rattle.desk_schema.specs.Schema.{authz_table}
+use Rattle.desk_tables.specs.Images.{authorization_image, authorization_params}
+use Rattle.desk_tables.specs.Layouts.{authorization_layout}
+use Rattle.desk_tables.specs.Texts.{upsert_authorization}
+use Rattle.desk_tables.proofs.Casts.{cast_int, cast_int_or_null, cast_null, cast_text_or_null, row_kept}
+use Rattle.desk_tables.proofs.Clashes.{clash_by_key}
+use Rattle.desk_tables.proofs.UpsertStatement.{IsUpsert}
+
+-- what the text means, and what its table is
+pub authorization_upsert : IsUpsert authorization_layout (λ row. authorization_params (authorization_columns row)) upsert_authorization
+unfolding understood everything
+authorization_upsert = record {
+  place = 4;
+  terms = col 0 0 ∷ lit Null ∷ col 0 1 ∷ col 0 2 ∷ col 0 3 ∷ col 0 4 ∷ col 0 5 ∷ col 0 6 ∷ col 0 7 ∷ col 0 8 ∷ [];
+  width = 10;
+  at = 9;
+  project = col 1 0 ∷ col 1 0 ∷ lit Null ∷ col 0 12 ∷ col 0 13 ∷ col 0 14 ∷ col 0 15 ∷ col 0 16 ∷ col 0 17 ∷ col 0 18 ∷ col 0 19 ∷ [];
+  command = refl;
+  plain = (refl, refl);
+  found = refl;
+  uncounted = refl;
+  low = λ _. refl;
+  first = λ _. refl;
+  casts = λ _. row_kept authz_table _ _ (cast_null, (cast_int _, (refl, (cast_int _, (cast_int _, (cast_int _, (cast_int_or_null _, (cast_text_or_null _, (refl, tt)))))))));
+  clash = λ x y. clash_by_key authorization_layout.key authorization_image (λ _. refl) authz_table x y;
+  given = λ _. refl;
+  sets = λ x y same. ap (λ k. Int (pos (authorization_layout.key y)) ∷ Int (pos k) ∷ drop 1 (authorization_image x)) same;
+  source = λ _. refl;
+}

@@ -1,0 +1,19 @@
+//! The rows of a desk, written as the columns of its tables, format 1.
+#![tactic(auto)]
+
+mod contacts;
+mod facts;
+mod fault;
+mod numbers;
+mod problem;
+mod rows;
+mod spelling;
+mod values;
+
+pub use fault::WriteFault;
+pub use numbers::number_column;
+pub use rows::{
+    account_columns, authorization_columns, challenge_columns, listed_columns, meta_columns,
+    nonce_columns, order_columns,
+};
+pub use spelling::{authorization_status_text, order_status_text};

@@ -1,0 +1,181 @@
+//! The columns of each row (docs/SPECIFICATION.md, 13).
+ghost use Rattle.std.specs.Prelude.{◌≡◌, IfOk, IfErr, IsOk};
+ghost use Rattle.desk_columns.specs.Columns.{meta_columns, nonce_columns, account_columns, order_columns, authorization_columns, listed_columns, challenge_columns};
+ghost use Rattle.written_rows.specs.Fits.{FitsMeta, FitsNonce, FitsAccount, FitsOrder, FitsAuthorization, FitsListed, FitsChallenge};
+ghost use Rattle.written_rows.specs.declared.fault.WriteFault.TheVariants.{Memory};
+
+use crate::contacts::contacts_column;
+use crate::facts::{
+    account_end_columns, answered_column, authorization_end_columns, dated_bytes_columns,
+    dated_problem_columns, report_columns,
+};
+use crate::fault::WriteFault;
+use crate::numbers::{number_column, wildcard_column};
+use crate::spelling::{
+    account_status_text, authorization_status_text, challenge_status_text, kind_text,
+    order_status_text,
+};
+use crate::values::{bytes_column, text_column};
+use desk_columns::{
+    AccountColumns, AuthzColumns, ChallColumns, MetaColumns, NonceColumns, OrderAuthzColumns,
+    OrderColumns,
+};
+use desk_model::{AccountRow, AuthorizationRow, ChallengeRow, Listed, Meta, Nonce, OrderRow};
+use std::alloc::Global;
+
+/// The columns of the row of `meta`.
+///
+/// # Errors
+///
+/// `Memory`, or `TooLarge` where a number is above 2^63 - 1.
+pub fn meta_columns(alloc: Global, row: &Meta) -> Result<MetaColumns, WriteFault>
+    ensures columns { IfOk result (λ c. c ≡ meta_columns row.now) }
+    ensures fits { FitsMeta row.now → IfErr result (λ why. why ≡ Memory) }
+{
+    Ok(MetaColumns {
+        id: 1,
+        format: 1,
+        base: text_column(alloc, row.policy.base())?,
+        nonce_life: number_column(row.policy.nonce_life())?,
+        order_life: number_column(row.policy.order_life())?,
+        authz_life: number_column(row.policy.authz_life())?,
+        clock: number_column(row.clock.moment())?,
+        nonces: number_column(row.nonces)?,
+        accounts: number_column(row.accounts)?,
+        orders: number_column(row.orders)?,
+        authzs: number_column(row.authorizations)?,
+        challs: number_column(row.challenges)?,
+    })
+}
+
+/// The columns of a row of `nonce`.
+///
+/// # Errors
+///
+/// `Memory`, or `TooLarge` where a number is above 2^63 - 1.
+pub fn nonce_columns(alloc: Global, row: &Nonce) -> Result<NonceColumns, WriteFault>
+    ensures columns { IfOk result (λ c. c ≡ nonce_columns row.now) }
+    ensures fits { FitsNonce row.now → IfErr result (λ why. why ≡ Memory) }
+{
+    Ok(NonceColumns {
+        serial: number_column(row.serial)?,
+        random: bytes_column(alloc, &row.random)?,
+        issued: number_column(row.issued)?,
+    })
+}
+
+/// The columns of a row of `account`.
+///
+/// # Errors
+///
+/// `Memory`, or `TooLarge` where a number is above 2^63 - 1.
+pub fn account_columns(alloc: Global, row: &AccountRow) -> Result<AccountColumns, WriteFault>
+    ensures columns { IfOk result (λ c. c ≡ account_columns row.now) }
+    ensures fits { FitsAccount row.now → IfErr result (λ why. why ≡ Memory) }
+{
+    let (ended, end_kind) = account_end_columns(alloc, row.ended)?;
+    Ok(AccountColumns {
+        num: number_column(row.number)?,
+        jwk: text_column(alloc, row.key.canonical())?,
+        contacts: contacts_column(alloc, row.contacts.as_slice())?,
+        opened: number_column(row.opened)?,
+        ended,
+        end_kind,
+        status: text_column(alloc, account_status_text(row.status))?,
+    })
+}
+
+/// The columns of a row of `ord`; what it lists stands in `ord_authz`.
+///
+/// # Errors
+///
+/// `Memory`, or `TooLarge` where a number is above 2^63 - 1.
+pub fn order_columns(alloc: Global, row: &OrderRow) -> Result<OrderColumns, WriteFault>
+    ensures columns { IfOk result (λ c. c ≡ order_columns row.now) }
+    ensures fits { FitsOrder row.now → IfErr result (λ why. why ≡ Memory) }
+{
+    let (finalized, csr) = dated_bytes_columns(alloc, &row.finalized)?;
+    let (certified, cert) = dated_bytes_columns(alloc, &row.certified)?;
+    let (failed, problem) = dated_problem_columns(alloc, &row.failed)?;
+    Ok(OrderColumns {
+        num: number_column(row.number)?,
+        account: number_column(row.account)?,
+        made: number_column(row.made)?,
+        expires: number_column(row.expires)?,
+        finalized,
+        csr,
+        certified,
+        cert,
+        failed,
+        problem,
+        status: text_column(alloc, order_status_text(row.status))?,
+    })
+}
+
+/// The columns of a row of `authz`; its challenges stand in `chall`.
+///
+/// # Errors
+///
+/// `Memory`, or `TooLarge` where a number is above 2^63 - 1.
+pub fn authorization_columns(
+    alloc: Global,
+    row: &AuthorizationRow,
+) -> Result<AuthzColumns, WriteFault>
+    ensures columns { IfOk result (λ c. c ≡ authorization_columns row.now) }
+    ensures fits { FitsAuthorization row.now → IfErr result (λ why. why ≡ Memory) }
+{
+    let (ended, end_kind) = authorization_end_columns(alloc, row.ended)?;
+    Ok(AuthzColumns {
+        num: number_column(row.number)?,
+        account: number_column(row.account)?,
+        name: text_column(alloc, row.name.base())?,
+        wildcard: wildcard_column(row.name.is_wildcard()),
+        made: number_column(row.made)?,
+        expires: number_column(row.expires)?,
+        ended,
+        end_kind,
+        status: text_column(alloc, authorization_status_text(row.status))?,
+    })
+}
+
+/// The columns of a row of `ord_authz` of this order.
+///
+/// # Errors
+///
+/// `TooLarge`, where a number is above 2^63 - 1.
+pub fn listed_columns(order: u64, row: &Listed) -> Result<OrderAuthzColumns, WriteFault>
+    ensures columns { IfOk result (λ c. c ≡ listed_columns (record { owner = order; row = row.now })) }
+    ensures fits { FitsListed (record { owner = order; row = row.now }) → IsOk result }
+{
+    Ok(OrderAuthzColumns {
+        ord: number_column(order)?,
+        place: number_column(row.place)?,
+        authz: number_column(row.authorization)?,
+    })
+}
+
+/// The columns of a row of `chall` of this authorization.
+///
+/// # Errors
+///
+/// `Memory`, or `TooLarge` where a number is above 2^63 - 1.
+pub fn challenge_columns(
+    alloc: Global,
+    authorization: u64,
+    row: &ChallengeRow,
+) -> Result<ChallColumns, WriteFault>
+    ensures columns { IfOk result (λ c. c ≡ challenge_columns (record { owner = authorization; row = row.now })) }
+    ensures fits { FitsChallenge (record { owner = authorization; row = row.now }) → IfErr result (λ why. why ≡ Memory) }
+{
+    let (reported, outcome) = report_columns(alloc, row.reported)?;
+    Ok(ChallColumns {
+        num: number_column(row.number)?,
+        authz: number_column(authorization)?,
+        kind: text_column(alloc, kind_text(row.kind))?,
+        token: bytes_column(alloc, &row.token)?,
+        answered: answered_column(row.answered)?,
+        reported,
+        outcome,
+        status: text_column(alloc, challenge_status_text(row.status))?,
+    })
+}
