@@ -9,7 +9,7 @@ use Rattle.requests.specs.declared.lines.LineRequest.TheVariants as spelled
 use Rattle.desk.specs.Answers.{Answers, Declines}
 use Rattle.desk.specs.declared.batch.AnswerFault.{AnswerFault}
 use Rattle.desk.specs.declared.batch.AnswerFault.TheVariants as answerfault
-use Rattle.desk.specs.declared.desk.DeskFault.{DeskFault}
+use Rattle.desk_calls.specs.declared.fault.DeskFault.{DeskFault}
 
 -- the reply to a line: the desk's to the call, or the refusal of a request that is none
 abbrev pub RepliesTo : Tables → LineRequest → Reply → Tables → Type 0

@@ -1,8 +1,8 @@
 //! Batches: a call a line in, a reply a line out.
-ghost use Rattle.std.specs.Prelude.{◌≤◌, MatchResult};
+ghost use Rattle.std.specs.Prelude.{◌≡◌, ◌≤◌, false, MatchResult};
 ghost use Rattle.desk.specs.Said.{Says, SaysNothing, RepliesTo, DeclinesTo};
 
-use crate::desk::{Desk, DeskFault};
+use desk_calls::{Desk, DeskFault, Memory};
 use desk_model::Reply;
 use requests::{LineFault, LineRequest, read_line, reply_line};
 use std::alloc::Global;
@@ -47,17 +47,22 @@ impl fmt::Display for BatchFault {
 ///
 /// `NotACall` where the line spells none, `Desk` where the desk declines the call, `Memory` where there is no
 /// memory beside the desk's own.
-pub fn batch_line(alloc: Global, desk: &mut Desk, line: &[u8]) -> Result<Vec<u8>, AnswerFault>
-    ensures { MatchResult result
-        (λ said. Says desk.old line.now said.items desk.new)
-        (λ fault. SaysNothing desk.old line.now fault desk.new) }
+pub fn batch_line(
+    alloc: Global,
+    desk: &mut Desk<Memory>,
+    line: &[u8],
+) -> Result<Vec<u8>, AnswerFault>
+    ensures open { desk.old.is_closed ≡ false → desk.new.is_closed ≡ false }
+    ensures said { desk.old.is_closed ≡ false → MatchResult result
+        (λ said. Says desk.old.store line.now said.items desk.new.store)
+        (λ fault. SaysNothing desk.old.store line.now fault desk.new.store) }
 {
     let asked = match read_line(alloc, line) {
         Ok(asked) => asked,
         Err(LineFault::NotACall) => return Err(AnswerFault::NotACall),
         Err(LineFault::Memory) => return Err(AnswerFault::Memory),
     };
-    let reply = match reply_to(desk, asked) {
+    let reply = match reply_to(alloc, desk, asked) {
         Ok(reply) => reply,
         Err(fault) => return Err(AnswerFault::Desk(fault)),
     };
@@ -68,13 +73,14 @@ pub fn batch_line(alloc: Global, desk: &mut Desk, line: &[u8]) -> Result<Vec<u8>
 }
 
 // The reply to what a line asks.
-fn reply_to(desk: &mut Desk, asked: LineRequest) -> Result<Reply, DeskFault>
-    ensures { MatchResult result
-        (λ reply. RepliesTo desk.old asked reply desk.new)
-        (λ fault. DeclinesTo desk.old asked fault desk.new) }
+fn reply_to(alloc: Global, desk: &mut Desk<Memory>, asked: LineRequest) -> Result<Reply, DeskFault>
+    ensures open { desk.old.is_closed ≡ false → desk.new.is_closed ≡ false }
+    ensures meets { desk.old.is_closed ≡ false → MatchResult result
+        (λ reply. RepliesTo desk.old.store asked reply desk.new.store)
+        (λ fault. DeclinesTo desk.old.store asked fault desk.new.store) }
 {
     match asked {
-        LineRequest::Call(call) => desk.answer(&call),
+        LineRequest::Call(call) => desk.answer(alloc, &call),
         LineRequest::Refused(reply) => Ok(reply),
     }
 }
@@ -86,7 +92,7 @@ pub fn batch<R: Read + Drop, W: Write, E: Write>(
     reader: R,
     writer: &mut W,
     errors: &mut E,
-    desk: &mut Desk,
+    desk: &mut Desk<Memory>,
 ) -> u8
     ensures { result ≤ 1 }
 {
@@ -103,7 +109,7 @@ fn answer_lines<R: Read + Drop, W: Write>(
     alloc: Global,
     reader: R,
     writer: &mut W,
-    desk: &mut Desk,
+    desk: &mut Desk<Memory>,
 ) -> Result<(), BatchFault> {
     let Ok(mut reader) = BufReader::new(alloc, reader) else {
         return Err(BatchFault::Desk(DeskFault::Memory));
@@ -140,7 +146,7 @@ fn next_line<R: BufRead>(reader: &mut R, line: &mut Vec<u8>) -> Result<bool, Bat
 // Answers the line of this number, from 1.
 fn answer_line<W: Write>(
     alloc: Global,
-    desk: &mut Desk,
+    desk: &mut Desk<Memory>,
     number: u64,
     line: &[u8],
     writer: &mut W,

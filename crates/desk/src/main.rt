@@ -2,7 +2,6 @@
 #![tactic(auto)]
 
 mod batch;
-mod desk;
 #[cfg(test)]
 mod failing_streams;
 #[cfg(test)]
@@ -12,7 +11,7 @@ mod tests;
 #[cfg(test)]
 mod touched_rows_tests;
 
-use crate::desk::Desk;
+use desk_calls::{Desk, Memory};
 use desk_model::{Clock, Policy};
 use std::alloc::Global;
 use std::env::{self, Env};
@@ -52,7 +51,7 @@ fn asks_for_batch(rt: &(impl Env + AllocGlobal)) -> io::Result<bool> {
 }
 
 // The desk of the profile, made at 0, or `None` where there is no memory for it.
-fn new_desk(alloc: Global) -> Option<Desk> {
+fn new_desk(alloc: Global) -> Option<Desk<Memory>> {
     let policy = Policy::new(alloc, "https://ca.example", 3600, 604800, 2592000).ok()??;
-    Some(Desk::make(alloc, policy, Clock::at(0)))
+    Some(Desk::adopt(Memory::make(alloc, policy, Clock::at(0))))
 }

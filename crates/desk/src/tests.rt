@@ -1,7 +1,7 @@
 use crate::batch::batch;
-use crate::desk::DeskFault;
 use crate::failing_streams::{FailingReader, FailingWriter};
 use crate::new_desk;
+use desk_calls::DeskFault;
 use std::test::Fail;
 
 const MISSING: &str =

@@ -5,12 +5,12 @@ ghost use Rattle.std.specs.List.{flat_map};
 ghost use Rattle.desk_model.specs.Derived.{authz_code, order_code};
 ghost use Rattle.desk_parts.specs.LookUps.{listed_by as listed_in, orders_listing as listing_in, owners_of as owners_in};
 
-use crate::fault::LoadFault;
 use crate::look_ups::LookUps;
 use desk_book::{Book, Row, Table};
 use desk_model::{
     AccountRow, AuthorizationRow, AuthzStatus, Jwk, Listed, Meta, Nonce, OrderRow, OrderStatus,
 };
+use desk_storage::StorageFault;
 use std::alloc::{AllocError, Global};
 
 // ---- rows
@@ -155,37 +155,38 @@ fn owners_of(alloc: Global, book: &Book, challenge: u64) -> Result<Vec<u64>, All
 // ---- the source
 
 impl LookUps for Book {
-    ghost use Rattle.std.specs.Prelude.{◌≡◌};
+    ghost use Rattle.desk_model.specs.Tables.{Tables};
+    ghost use Rattle.desk_storage.specs.InMemory.{in_memory};
 
-    ghost Content = { ⊥ };
+    ghost Content = { Tables };
 
-    ghost sight = { record { is_honest = λ _. Unit {0}; holds = λ book T. book ≡ T; leaves = λ _ _. ⊥ } };
+    ghost sight = { in_memory };
 
-    fn meta_row(&mut self, _alloc: Global) -> Result<Meta, LoadFault> {
+    fn meta_row(&mut self, _alloc: Global) -> Result<Meta, StorageFault> {
         Ok(self.meta().clone()?)
     }
 
-    fn all_nonces(&mut self, alloc: Global) -> Result<Vec<Nonce>, LoadFault> {
+    fn all_nonces(&mut self, alloc: Global) -> Result<Vec<Nonce>, StorageFault> {
         Ok(all_rows(alloc, self.nonces())?)
     }
 
-    fn all_accounts(&mut self, alloc: Global) -> Result<Vec<AccountRow>, LoadFault> {
+    fn all_accounts(&mut self, alloc: Global) -> Result<Vec<AccountRow>, StorageFault> {
         Ok(all_rows(alloc, self.accounts())?)
     }
 
-    fn all_orders(&mut self, alloc: Global) -> Result<Vec<OrderRow>, LoadFault> {
+    fn all_orders(&mut self, alloc: Global) -> Result<Vec<OrderRow>, StorageFault> {
         Ok(all_rows(alloc, self.orders())?)
     }
 
-    fn all_authorizations(&mut self, alloc: Global) -> Result<Vec<AuthorizationRow>, LoadFault> {
+    fn all_authorizations(&mut self, alloc: Global) -> Result<Vec<AuthorizationRow>, StorageFault> {
         Ok(all_rows(alloc, self.authorizations())?)
     }
 
-    fn nonces_numbered(&mut self, alloc: Global, serial: u64) -> Result<Vec<Nonce>, LoadFault> {
+    fn nonces_numbered(&mut self, alloc: Global, serial: u64) -> Result<Vec<Nonce>, StorageFault> {
         Ok(rows_where(alloc, self.nonces(), |row| { row.serial == serial })?)
     }
 
-    fn nonces_before(&mut self, alloc: Global, moment: u64) -> Result<Vec<Nonce>, LoadFault> {
+    fn nonces_before(&mut self, alloc: Global, moment: u64) -> Result<Vec<Nonce>, StorageFault> {
         Ok(rows_where(alloc, self.nonces(), |row| { row.issued < moment })?)
     }
 
@@ -193,7 +194,7 @@ impl LookUps for Book {
         &mut self,
         alloc: Global,
         number: u64,
-    ) -> Result<Vec<AccountRow>, LoadFault> {
+    ) -> Result<Vec<AccountRow>, StorageFault> {
         Ok(rows_where(alloc, self.accounts(), |row| { row.number == number })?)
     }
 
@@ -201,18 +202,22 @@ impl LookUps for Book {
         &mut self,
         alloc: Global,
         key: &Jwk,
-    ) -> Result<Vec<AccountRow>, LoadFault> {
+    ) -> Result<Vec<AccountRow>, StorageFault> {
         let text = key.canonical();
         Ok(rows_where(alloc, self.accounts(), |row| {
             row.key.canonical() == text
         })?)
     }
 
-    fn orders_numbered(&mut self, alloc: Global, number: u64) -> Result<Vec<OrderRow>, LoadFault> {
+    fn orders_numbered(
+        &mut self,
+        alloc: Global,
+        number: u64,
+    ) -> Result<Vec<OrderRow>, StorageFault> {
         Ok(rows_where(alloc, self.orders(), |row| { row.number == number })?)
     }
 
-    fn orders_of(&mut self, alloc: Global, account: u64) -> Result<Vec<OrderRow>, LoadFault> {
+    fn orders_of(&mut self, alloc: Global, account: u64) -> Result<Vec<OrderRow>, StorageFault> {
         Ok(rows_where(alloc, self.orders(), |row| { row.account == account })?)
     }
 
@@ -221,7 +226,7 @@ impl LookUps for Book {
         alloc: Global,
         status: OrderStatus,
         moment: u64,
-    ) -> Result<Vec<OrderRow>, LoadFault> {
+    ) -> Result<Vec<OrderRow>, StorageFault> {
         Ok(rows_where(alloc, self.orders(), |row| {
             is_past_order(row, status, moment)
         })?)
@@ -231,7 +236,7 @@ impl LookUps for Book {
         &mut self,
         alloc: Global,
         number: u64,
-    ) -> Result<Vec<AuthorizationRow>, LoadFault> {
+    ) -> Result<Vec<AuthorizationRow>, StorageFault> {
         Ok(rows_where(alloc, self.authorizations(), |row| { row.number == number })?)
     }
 
@@ -239,7 +244,7 @@ impl LookUps for Book {
         &mut self,
         alloc: Global,
         account: u64,
-    ) -> Result<Vec<AuthorizationRow>, LoadFault> {
+    ) -> Result<Vec<AuthorizationRow>, StorageFault> {
         Ok(rows_where(alloc, self.authorizations(), |row| {
             row.account == account
         })?)
@@ -250,21 +255,25 @@ impl LookUps for Book {
         alloc: Global,
         status: AuthzStatus,
         moment: u64,
-    ) -> Result<Vec<AuthorizationRow>, LoadFault> {
+    ) -> Result<Vec<AuthorizationRow>, StorageFault> {
         Ok(rows_where(alloc, self.authorizations(), |row| {
             is_past_authorization(row, status, moment)
         })?)
     }
 
-    fn orders_listing(&mut self, alloc: Global, authorization: u64) -> Result<Vec<u64>, LoadFault> {
+    fn orders_listing(
+        &mut self,
+        alloc: Global,
+        authorization: u64,
+    ) -> Result<Vec<u64>, StorageFault> {
         Ok(orders_listing(alloc, self, authorization)?)
     }
 
-    fn listed_by(&mut self, alloc: Global, order: u64) -> Result<Vec<u64>, LoadFault> {
+    fn listed_by(&mut self, alloc: Global, order: u64) -> Result<Vec<u64>, StorageFault> {
         Ok(listed_by(alloc, self, order)?)
     }
 
-    fn owners_of(&mut self, alloc: Global, challenge: u64) -> Result<Vec<u64>, LoadFault> {
+    fn owners_of(&mut self, alloc: Global, challenge: u64) -> Result<Vec<u64>, StorageFault> {
         Ok(owners_of(alloc, self, challenge)?)
     }
 }

@@ -4,9 +4,8 @@ ghost use Rattle.std.specs.List.{flat_map};
 ghost use Rattle.desk_laws.specs.Ordered.{IsOrdered};
 ghost use Rattle.desk_parts.specs.Loaded.{accounts_once, all_put, authorizations_once, first_authorizations, found_authorizations, found_orders, keys as keys_of, loaded_rows, named_accounts, named_orders, own_authorizations, own_orders, orders_once, past_orders};
 ghost use Rattle.desk_parts.specs.LookUps.{accounts_numbered, accounts_with_key};
-ghost use Rattle.desk_loading.specs.Sight.{ForTables, Reads};
+ghost use Rattle.desk_storage.specs.Sight.{ForTables, Reads};
 
-use crate::fault::LoadFault;
 use crate::gathering::{
     put_accounts, put_accounts_of_authorizations, put_accounts_of_orders, put_all,
     put_authorizations, put_listed, put_listing, put_orders, put_own_authorizations,
@@ -19,6 +18,7 @@ use crate::named::{
 };
 use desk_book::Table;
 use desk_model::{AccountRow, Ask, AuthorizationRow, OrderRow};
+use desk_storage::StorageFault;
 use std::alloc::Global;
 
 /// Accounts, authorizations and orders.
@@ -37,7 +37,7 @@ fn put_keyed<S: LookUps>(
     source: &mut S,
     accounts: &mut Table<AccountRow>,
     ask: &Ask,
-) -> Result<(), LoadFault>
+) -> Result<(), StorageFault>
     ensures reads { Reads S.sight source.old source.new result }
     ensures found { ForTables S.sight source.old source.new (λ T.
         OnOk result (accounts.new ≡ all_put (λ x. x.number) (flat_map (accounts_with_key T) (keys_of ask.now)) accounts.old)) }
@@ -56,7 +56,7 @@ fn accounts_named<S: LookUps>(
     alloc: Global,
     source: &mut S,
     ask: &Ask,
-) -> Result<Table<AccountRow>, LoadFault>
+) -> Result<Table<AccountRow>, StorageFault>
     ensures reads { Reads S.sight source.old source.new result }
     ensures found { ForTables S.sight source.old source.new (λ T. IfOk result (λ t. t ≡ accounts_once (named_accounts T ask.now))) }
 {
@@ -74,7 +74,7 @@ fn put_holders<S: LookUps>(
     accounts: &mut Table<AccountRow>,
     orders: &Table<OrderRow>,
     authorizations: &Table<AuthorizationRow>,
-) -> Result<(), LoadFault>
+) -> Result<(), StorageFault>
     ensures reads { Reads S.sight source.old source.new result }
     ensures found { ForTables S.sight source.old source.new (λ T. OnOk result (accounts.new ≡ all_put (λ x. x.number)
         (flat_map (λ o. accounts_numbered T o.account) orders.now ++ flat_map (λ r. accounts_numbered T r.account) authorizations.now) accounts.old)) }
@@ -93,7 +93,7 @@ fn put_asked_authorizations<S: LookUps>(
     authorizations: &mut Table<AuthorizationRow>,
     accounts: &Table<AccountRow>,
     ask: &Ask,
-) -> Result<(), LoadFault>
+) -> Result<(), StorageFault>
     ensures reads { Reads S.sight source.old source.new result }
     ensures found { ForTables S.sight source.old source.new (λ T. accounts.now ≡ accounts_once (named_accounts T ask.now)
         → OnOk result (authorizations.new ≡ all_put (λ r. r.number) (own_authorizations T ask.now) authorizations.old)) }
@@ -111,7 +111,7 @@ fn put_asked_orders<S: LookUps>(
     orders: &mut Table<OrderRow>,
     accounts: &Table<AccountRow>,
     ask: &Ask,
-) -> Result<(), LoadFault>
+) -> Result<(), StorageFault>
     ensures reads { Reads S.sight source.old source.new result }
     ensures found { ForTables S.sight source.old source.new (λ T. accounts.now ≡ accounts_once (named_accounts T ask.now)
         → OnOk result (orders.new ≡ all_put (λ o. o.number) (own_orders T ask.now) orders.old)) }
@@ -129,7 +129,7 @@ fn authorizations_first<S: LookUps>(
     moment: u64,
     ask: &Ask,
     accounts: &Table<AccountRow>,
-) -> Result<Table<AuthorizationRow>, LoadFault>
+) -> Result<Table<AuthorizationRow>, StorageFault>
     ensures reads { Reads S.sight source.old source.new result }
     ensures found { ForTables S.sight source.old source.new (λ T. accounts.now ≡ accounts_once (named_accounts T ask.now)
         → IfOk result (λ t. t ≡ authorizations_once (first_authorizations T moment ask.now))) }
@@ -151,7 +151,7 @@ fn orders_first<S: LookUps>(
     moment: u64,
     ask: &Ask,
     accounts: &Table<AccountRow>,
-) -> Result<Table<OrderRow>, LoadFault>
+) -> Result<Table<OrderRow>, StorageFault>
     ensures reads { Reads S.sight source.old source.new result }
     ensures found { ForTables S.sight source.old source.new (λ T. accounts.now ≡ accounts_once (named_accounts T ask.now)
         → IfOk result (λ t. t ≡ orders_once (named_orders T ask.now ++ (own_orders T ask.now ++ past_orders T moment)))) }
@@ -171,7 +171,7 @@ fn authorizations_and_orders<S: LookUps>(
     moment: u64,
     ask: &Ask,
     accounts: &Table<AccountRow>,
-) -> Result<(Table<AuthorizationRow>, Table<OrderRow>), LoadFault>
+) -> Result<(Table<AuthorizationRow>, Table<OrderRow>), StorageFault>
     ensures reads { Reads S.sight source.old source.new result }
     ensures authorizations { ForTables S.sight source.old source.new (λ T. accounts.now ≡ accounts_once (named_accounts T ask.now)
         → IfOk result (λ r. r.0 ≡ authorizations_once (found_authorizations T moment ask.now))) }
@@ -191,7 +191,7 @@ pub(crate) fn objects_touched<S: LookUps>(
     source: &mut S,
     moment: u64,
     ask: &Ask,
-) -> Result<Objects, LoadFault>
+) -> Result<Objects, StorageFault>
     ensures reads { Reads S.sight source.old source.new result }
     ensures accounts { ForTables S.sight source.old source.new (λ T.
         IfOk result (λ o. o.accounts ≡ (loaded_rows T moment ask.now).accounts)) }
@@ -217,7 +217,7 @@ pub(crate) fn objects_touched<S: LookUps>(
 fn all_authorizations_and_orders<S: LookUps>(
     alloc: Global,
     source: &mut S,
-) -> Result<(Table<AuthorizationRow>, Table<OrderRow>), LoadFault>
+) -> Result<(Table<AuthorizationRow>, Table<OrderRow>), StorageFault>
     ensures reads { Reads S.sight source.old source.new result }
     ensures authorizations { ForTables S.sight source.old source.new (λ T. IsOrdered T → IfOk result (λ r. r.0 ≡ T.authorizations)) }
     ensures orders { ForTables S.sight source.old source.new (λ T. IsOrdered T → IfOk result (λ r. r.1 ≡ T.orders)) }
@@ -230,7 +230,10 @@ fn all_authorizations_and_orders<S: LookUps>(
 }
 
 /// All accounts, authorizations and orders.
-pub(crate) fn all_objects<S: LookUps>(alloc: Global, source: &mut S) -> Result<Objects, LoadFault>
+pub(crate) fn all_objects<S: LookUps>(
+    alloc: Global,
+    source: &mut S,
+) -> Result<Objects, StorageFault>
     ensures reads { Reads S.sight source.old source.new result }
     ensures accounts { ForTables S.sight source.old source.new (λ T. IsOrdered T → IfOk result (λ o. o.accounts ≡ T.accounts)) }
     ensures authorizations { ForTables S.sight source.old source.new (λ T.

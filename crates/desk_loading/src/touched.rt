@@ -4,15 +4,16 @@ ghost use Rattle.desk_laws.specs.Ordered.{IsOrdered};
 ghost use Rattle.desk_model.specs.Tables.{Tables};
 ghost use Rattle.desk_model.specs.Touched.{only_meta, touched};
 ghost use Rattle.desk_parts.specs.Loaded.{loaded_at, loaded_rows};
-ghost use Rattle.desk_loading.specs.Sight.{ForTables, Reads};
+ghost use Rattle.desk_storage.specs.Sight.{ForTables, Reads};
+ghost use Rattle.desk_storage.specs.Storing.{Loads};
 
-use crate::fault::LoadFault;
 use crate::gathering::{put_all, put_nonces, table_of};
 use crate::look_ups::LookUps;
 use crate::named::serials;
 use crate::objects::{Objects, all_objects, objects_touched};
 use desk_book::{Book, Table};
 use desk_model::{Ask, Call, Meta, Nonce};
+use desk_storage::StorageFault;
 use std::alloc::Global;
 
 // ---- nonces
@@ -25,7 +26,7 @@ fn nonces_touched<S: LookUps>(
     nonce_life: u64,
     moment: u64,
     ask: &Ask,
-) -> Result<Table<Nonce>, LoadFault>
+) -> Result<Table<Nonce>, StorageFault>
     ensures reads { Reads S.sight source.old source.new result }
     ensures found { ForTables S.sight source.old source.new (λ T. nonce_life ≡ T.meta.policy.nonce_life
         → IfOk result (λ t. t ≡ (loaded_rows T moment ask.now).nonces)) }
@@ -60,7 +61,7 @@ fn rows_touched<S: LookUps>(
     meta: Meta,
     moment: u64,
     ask: &Ask,
-) -> Result<Book, LoadFault>
+) -> Result<Book, StorageFault>
     ensures reads { Reads S.sight source.old source.new result }
     ensures found { ForTables S.sight source.old source.new (λ T.
         meta ≡ T.meta → IfOk result (λ book. book ≡ loaded_rows T moment ask.now)) }
@@ -71,7 +72,7 @@ fn rows_touched<S: LookUps>(
 }
 
 /// The book of all rows.
-fn all_rows<S: LookUps>(alloc: Global, source: &mut S, meta: Meta) -> Result<Book, LoadFault>
+fn all_rows<S: LookUps>(alloc: Global, source: &mut S, meta: Meta) -> Result<Book, StorageFault>
     ensures reads { Reads S.sight source.old source.new result }
     ensures found { ForTables S.sight source.old source.new (λ T. meta ≡ T.meta → IsOrdered T → IfOk result (λ book. book ≡ T)) }
 {
@@ -101,7 +102,7 @@ fn rows_at<S: LookUps>(
     meta: Meta,
     moment: u64,
     ask: &Ask,
-) -> Result<Book, LoadFault>
+) -> Result<Book, StorageFault>
     ensures reads { Reads S.sight source.old source.new result }
     ensures found { ForTables S.sight source.old source.new (λ T.
         meta ≡ T.meta → IsOrdered T → IfOk result (λ book. book ≡ loaded_at T moment ask.now)) }
@@ -119,18 +120,33 @@ fn rows_at<S: LookUps>(
 ///
 /// # Errors
 ///
-/// `Memory` where a growth was refused: the source then has the tables that it had. `Device` where the tables could not
-/// be read: they may be out of reach, and a stop leaves no more than it did.
+/// `Memory` where a growth was refused: the source then has the tables that it had. `Device` or `Reopen` where the tables
+/// could not be read: they may be out of reach, and a stop leaves no more than it did.
 #[tactic(auto, using(desk_parts::proofs::Loading::loaded_touched))]
 pub fn touched_book<S: LookUps>(
     alloc: Global,
     source: &mut S,
     call: &Call,
-) -> Result<Book, LoadFault>
+) -> Result<Book, StorageFault>
     ensures reads { Reads S.sight source.old source.new result }
     ensures touched { ForTables S.sight source.old source.new (λ T. IsOrdered T → IfOk result (λ book. book ≡ touched T call.now)) }
 {
     let meta = source.meta_row(alloc)?;
     let moment = call.at.max(meta.clock.moment());
     rows_at(alloc, source, meta, moment, &call.ask)
+}
+
+/// A part for the call, whatever legal history's picture the source has: the book of the rows that it touches.
+///
+/// # Errors
+///
+/// As of `touched_book`.
+pub fn load_part<S: LookUps>(
+    alloc: Global,
+    source: &mut S,
+    call: &Call,
+) -> Result<Book, StorageFault>
+    ensures { Loads S.sight call.now source.old source.new result }
+{
+    touched_book(alloc, source, call)
 }

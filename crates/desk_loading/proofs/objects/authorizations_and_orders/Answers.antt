@@ -1,7 +1,7 @@
-use Rattle.std.proofs.Common.{[], ◌++◌, ap, ◌∙◌}
+use Rattle.std.proofs.Common.{[], ◌++◌}
 use Rattle.desk_model.specs.declared.rows.AuthorizationRow.{AuthorizationRow}
 use Rattle.desk_model.specs.declared.rows.OrderRow.{OrderRow}
-use Rattle.desk_parts.specs.Loaded.{all_put, authorizations_once, first_authorizations, found_orders, listed_authorizations, listing_orders, named_orders, orders_once, own_orders, past_orders}
+use Rattle.desk_parts.specs.Loaded.{authorizations_once, first_authorizations, found_orders, listed_authorizations, listing_orders, named_orders, orders_once, own_orders, past_orders}
 use Rattle.desk_loading.proofs.Gathered.{put_by, put_then}
 use Rattle.desk_loading.proofs.objects.authorizations_and_orders.Goals as goal
 

@@ -1,0 +1,5 @@
+pub mod Exiting
+pub mod InMemory
+pub mod Living
+pub mod Running
+pub mod Seeing

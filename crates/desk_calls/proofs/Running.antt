@@ -1,0 +1,116 @@
+-- Calls that are answered one after the other.
+use Rattle.std.proofs.Common.{◌≡◌, ℕ, ◌+◌, ◌<◌, List, [], ◌∷◌, ◌++◌, length, take, drop, get_or, subst, refl, sym, ◌∙◌, ap, add-one, None, Some, Option, Ok}
+use Rattle.std.proofs.Math.Seq.{take-suc}
+use Rattle.desk_model.specs.Entry.{History}
+use Rattle.desk_model.specs.Legal.{Legal}
+use Rattle.desk_model.specs.Tables.{picture}
+use Rattle.desk_model.specs.Decide.{decide, after}
+use Rattle.desk_model.specs.Run.{fault, run, and_reply}
+use Rattle.desk_model.specs.declared.call.Call.{Call}
+use Rattle.desk_model.specs.declared.reply.Reply.{Reply}
+use Rattle.desk_storage.specs.Sight.{Sight, Keeps}
+use Rattle.desk_calls.specs.Answers.{Answers, ExitsBy}
+use Rattle.desk_calls.specs.Runs.{AnswersAll, EndsBy, RunsAs, ExitsRun, IsOfModel, IsRun, Runs}
+use Rattle.desk_calls.specs.declared.fault.DeskFault.{DeskFault}
+use Rattle.desk_calls.specs.declared.fault.DeskFault.TheVariants as deskfault
+
+-- the first items and one more
+pub take_one_more : {A : Type 0} (l : List A) (i : ℕ) (x : A) → i < length l → x ≡ get_or l i x → take (i + 1) l ≡ take i l ++ x ∷ []
+take_one_more l i x lt is = rw add-one (take-suc l i x lt ∙ ap (λ y. take i l ++ y ∷ []) (sym is))
+
+-- ---- the model's run
+
+-- from a call that has no fault
+ran_on : (F : History) (call : Call) (calls : List Call) → fault F call ≡ None →
+    run F (call ∷ calls) ≡ and_reply (decide F call).reply (run (after F call) calls)
+ran_on F call calls none = rw none refl
+
+-- and from one that has
+ran_out : (F : History) (call : Call) (calls : List Call) (n : ℕ) → fault F call ≡ Some n →
+    run F (call ∷ calls) ≡ record { replies = []; history = F }
+ran_out F call calls n some = rw some refl
+
+module _ {S C : Type 0} (v : Sight S C) where
+  -- ---- the chain
+
+  -- one more call is answered
+  pub answers_more : (old now new : S) (calls : List Call) (replies : List Reply) (call : Call) (reply : Reply) → AnswersAll v old calls replies now →
+      Answers v call now new (Ok reply) → AnswersAll v old (calls ++ call ∷ []) (replies ++ reply ∷ []) new
+  answers_more old now new [] [] call reply all one = (new, subst (λ s. Answers v call s new (Ok reply)) all one, refl)
+  answers_more old now new [] (r ∷ replies) call reply all one = absurd all
+  answers_more old now new (c ∷ calls) [] call reply all one = absurd all
+  answers_more old now new (c ∷ calls) (r ∷ replies) call reply all one =
+      (all.0, all.1, answers_more all.0 now new calls replies call reply all.2 one)
+
+  -- ---- honesty to the end
+
+  -- through the answers
+  pub honest_all : (old mid : S) (calls : List Call) (replies : List Reply) → AnswersAll v old calls replies mid → v.is_honest mid → v.is_honest old
+  honest_all old mid [] [] all h = subst v.is_honest all h
+  honest_all old mid [] (r ∷ replies) all h = absurd all
+  honest_all old mid (c ∷ calls) [] all h = absurd all
+  honest_all old mid (c ∷ calls) (r ∷ replies) all h = all.1.honest (honest_all all.0 mid calls replies all.2 h)
+
+  -- and through the last exit
+  pub honest_end : (mid new : S) (rest : List Call) (why : Option DeskFault) → EndsBy v mid rest why new → v.is_honest new → v.is_honest mid
+  honest_end mid new rest None ends h = subst v.is_honest ends.1 h
+  honest_end mid new [] (Some why) ends h = absurd ends
+  honest_end mid new (call ∷ rest) (Some why) ends h = ends.honest h
+
+  -- ---- the end of a run
+
+  -- the exit of the run, at the history of the calls that were answered
+  exits_run : (F : History) → Legal F → (mid new : S) (rest : List Call) (why : Option DeskFault) → Keeps v mid (picture F) → v.is_honest new →
+      EndsBy v mid rest why new → ExitsRun v F rest why new
+  exits_run F legal mid new rest None keeps h ends = (ends.0, subst (λ s. Keeps v s (picture F)) (sym ends.1) keeps)
+  exits_run F legal mid new [] (Some why) keeps h ends = absurd ends
+  exits_run F legal mid new (call ∷ rest) (Some why) keeps h ends = ends.exit h F legal keeps
+
+  -- the model stops where the desk does
+  stops : (F : History) (call : Call) (calls : List Call) (why : DeskFault) (new : S) → ExitsBy v F call why new → IsOfModel (Some why) →
+      run F [] ≡ run F (call ∷ calls)
+  stops F call calls deskfault.Memory new e is = absurd is
+  stops F call calls deskfault.Device new e is = absurd is
+  stops F call calls deskfault.Reopen new e is = absurd is
+  stops F call calls deskfault.Moment new e is = sym (ran_out F call calls 24 e.cause)
+  stops F call calls deskfault.ShortRandom new e is = sym (ran_out F call calls 25 e.cause)
+  stops F call calls deskfault.Full new e is = sym (ran_out F call calls 26 e.cause)
+  stops F call calls deskfault.NotADesk new e is = absurd e.cause
+  stops F call calls deskfault.NewerFormat new e is = absurd e.cause
+
+  -- a run that ends here is the model's
+  whole : (F : History) (rest : List Call) (why : Option DeskFault) (new : S) → ExitsRun v F rest why new → IsOfModel why → run F [] ≡ run F rest
+  whole F rest None new e is = ap (run F) (sym e.0)
+  whole F [] (Some why) new e is = absurd e
+  whole F (call ∷ rest) (Some why) new e is = stops F call rest why new e is
+
+  -- ---- the whole run
+
+  -- by a history, from the chain
+  is_run : (F : History) → Legal F → (old mid new : S) (calls : List Call) (replies : List Reply) (why : Option DeskFault) → Keeps v old (picture F) →
+      v.is_honest mid → v.is_honest new → AnswersAll v old (take (length replies) calls) replies mid →
+      EndsBy v mid (drop (length replies) calls) why new → IsRun v F calls replies why new
+  is_run F legal old mid new calls [] why keeps hm h all ends =
+      let exit = exits_run F legal mid new calls why (subst (λ s. Keeps v s (picture F)) (sym all) keeps) h ends in
+      record { answered = refl; legal = legal; exit = exit; whole = whole F calls why new exit }
+  is_run F legal old mid new [] (r ∷ replies) why keeps hm h all ends = absurd all
+  is_run F legal old mid new (call ∷ calls) (r ∷ replies) why keeps hm h all ends =
+      let hb = honest_all all.0 mid (take (length replies) calls) replies all.2 hm in
+      let a = all.1.exit hb F legal keeps in
+      let next = is_run (after F call) a.stays_legal all.0 mid new calls replies why a.keeps hm h all.2 ends in
+      let on = ran_on F call (take (length replies) calls) a.faultless in
+      record {
+        answered = ap (λ x. x ∷ replies) a.decided ∙ ap (λ l. (decide F call).reply ∷ l) next.answered ∙ sym (ap (λ q. q.replies) on);
+        legal = subst (λ q. Legal q.history) (sym on) next.legal;
+        exit = subst (λ q. ExitsRun v q.history (drop (length replies) calls) why new) (sym on) next.exit;
+        whole = λ is. on ∙ ap (λ q. and_reply (decide F call).reply q) (next.whole is) ∙ sym (ran_on F call calls a.faultless);
+      }
+
+  -- and so it is by every one
+  pub runs : (calls : List Call) (old new : S) (replies : List Reply) (why : Option DeskFault) → RunsAs v old calls replies why new →
+      Runs v calls old new replies why
+  runs calls old new replies why r =
+      record {
+        honest = λ h. honest_all old r.0 (take (length replies) calls) replies r.1 (honest_end r.0 new (drop (length replies) calls) why r.2 h);
+        exit = λ h F legal keeps. is_run F legal old r.0 new calls replies why keeps (honest_end r.0 new (drop (length replies) calls) why r.2 h) h r.1 r.2;
+      }

@@ -1,0 +1,15 @@
+use Rattle.std.proofs.Common.{sym, subst}
+use Rattle.desk_storage.specs.InMemory.{in_memory}
+use Rattle.desk_storage.specs.Storing.{Loads}
+use Rattle.desk_calls.proofs.InMemory.{only_memory}
+use Rattle.desk_calls.proofs.memory.MemoryStorage.load_part.Goals as goal
+use Rattle.desk_calls.proofs.memory.MemoryStorage.load_part.Goals.{in-Ok, in-Err}
+
+pub returns-clause-loads : goal.returns-clause-loads
+returns-clause-loads c =
+    subst (λ old. Loads in_memory c.args.call.now old c.load_part.new.source c.match-load_part.result) c.self.view_is
+    (elim c.match-load_part.branch [
+      | in-Ok w ↦ subst (Loads in_memory c.args.call.now c.self.inside.book c.load_part.new.source) (sym w.result-is) w.in-Ok.ensures
+      | in-Err w ↦ subst (Loads in_memory c.args.call.now c.self.inside.book c.load_part.new.source) (sym w.result-is)
+          (only_memory c.args.call.now c.self.inside.book c.load_part.new.source _ w.in-Err.ensures)
+    ])

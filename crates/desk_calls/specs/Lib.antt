@@ -1,0 +1,6 @@
+pub mod Answers
+pub mod Faults
+pub mod Runs
+pub mod Seen
+pub mod SeenRuns
+pub mod State

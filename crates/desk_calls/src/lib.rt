@@ -1,0 +1,13 @@
+//! One desk over a store: calls from tables to tables.
+#![tactic(auto)]
+
+mod desk;
+mod fault;
+mod forms;
+mod laws;
+mod memory;
+
+pub use desk::Desk;
+pub use fault::DeskFault;
+pub use laws::stores_live;
+pub use memory::Memory;

@@ -1,0 +1,77 @@
+//! A store in memory.
+ghost use Rattle.std.specs.Prelude.{◌≡◌, ◌∷◌, []};
+ghost use Rattle.desk_model.specs.declared.entry.Entry.TheVariants.{Made as made};
+ghost use Rattle.desk_model.specs.Legal.{Legal};
+ghost use Rattle.desk_model.specs.Tables.{picture};
+
+use desk_book::Book;
+use desk_loading::load_part;
+use desk_model::{Call, Change, Clock, Policy};
+use desk_storage::{Storage, StorageFault};
+use std::alloc::Global;
+use std::marker::Model;
+
+/// The tables of a desk in memory, which contracts see as these tables.
+#[derive(Drop)]
+pub struct Memory {
+    book: Book,
+}
+
+impl Model for Memory {
+    ghost use Rattle.desk_model.specs.Tables.{Tables};
+
+    ghost Value = { Tables };
+
+    ghost view = { λ memory. memory.book };
+}
+
+impl Memory {
+    /// The store of a desk that is made with a policy at a moment.
+    pub fn make(alloc: Global, policy: Policy, at: Clock) -> Memory
+        ensures legal { Legal ((record { date = at; entry = made policy }) ∷ []) }
+        ensures picture { result ≡ picture ((record { date = at; entry = made policy }) ∷ []) }
+    {
+        Memory {
+            book: Book::new(alloc, policy, at),
+        }
+    }
+
+    /// The store of these tables.
+    pub fn new(book: Book) -> Memory
+        ensures { result ≡ book }
+    {
+        Memory { book }
+    }
+
+    /// The tables.
+    pub fn book(&self) -> &Book
+        ensures { result.now ≡ self.now }
+    {
+        &self.book
+    }
+}
+
+impl Storage for Memory {
+    ghost use Rattle.std.specs.Prelude.{◌≡◌};
+    ghost use Rattle.desk_model.specs.Tables.{Tables};
+    ghost use Rattle.desk_storage.specs.InMemory.{in_memory};
+    ghost use Rattle.desk_storage.specs.declared.fault.StorageFault.TheVariants.{Memory as memory_fault};
+
+    ghost Content = { Tables };
+
+    ghost sight = { in_memory };
+
+    ghost may_meet = { λ why. why ≡ memory_fault };
+
+    // A book in memory is never out of reach: each fault of looking things up is that of memory.
+    fn load_part(&mut self, alloc: Global, call: &Call) -> Result<Book, StorageFault> {
+        match load_part(alloc, &mut self.book, call) {
+            Ok(book) => Ok(book),
+            Err(_) => Err(StorageFault::Memory),
+        }
+    }
+
+    fn save(&mut self, _alloc: Global, changes: Vec<Change>) -> Result<(), StorageFault> {
+        Ok(self.book.apply(changes)?)
+    }
+}

@@ -1,0 +1,187 @@
+-- What a query of one table answers: its rows that pass tests, in the order of a number.
+use Rattle.std.proofs.Common.{◌≡◌, ℕ, ◌<◌, ◌+◌, pos, negsuc, ◌++◌, if◌then◌else◌, Bool, true, false, cond, List, [], ◌∷◌, map, filter, flat_map, None, Ordering, Less, Equal, refl, sym, ap, subst, ◌∙◌, arith, inl, inr}
+use Rattle.std.specs.List.{AllByRecursion, list_all}
+use Rattle.std.specs.List.Sorted.{IsPermutation, IsSorted, IsStrictlySortedBy}
+use Rattle.std.specs.Ordering.{ordering_then}
+use Rattle.std.proofs.lemmas.List.Sorted.{IsPermutation-map, IsPermutation-sym, IsPermutation-trans}
+use Rattle.sqlite.specs.declared.types.Value.TheVariants.{Null, Int}
+use Rattle.sqlite_value.specs.declared.keys.Collation.TheVariants.{Binary}
+use Rattle.sqlite_value.specs.declared.keys.Key.{Key}
+use Rattle.sqlite_value.specs.Order.{Row}
+use Rattle.sqlite_value.proofs.OrderLemmas.{value_cmp-Int}
+use Rattle.sqlite_trees.specs.Tree.{Trees}
+use Rattle.sqlite_sql.specs.Term.{Term, Env, lit, col, holds}
+use Rattle.sqlite_sql.specs.Query.{Query, Output, inner, end, IsAnswer, output, output_cmp}
+use Rattle.sqlite_sql.specs.Program.{overlay}
+use Rattle.sqlite_sql.proofs.QueryLemmas.{output_cmp_total}
+use Rattle.sqlite_schema.specs.declared.command.Command.TheVariants.{Select}
+use Rattle.sqlite.specs.Listing.{understood, reads_listing}
+use Rattle.sqlite.specs.State.{State, Shown}
+use Rattle.sqlite.proofs.Callers.{IsPlain, command_of, reads_as}
+use Rattle.stored_rows.proofs.SortedLists.{same_sorted}
+use Rattle.desk_laws.specs.Ordered.{Ascends}
+use Rattle.desk_schema.specs.Schema.{desk_schema}
+use Rattle.desk_tables.proofs.Keyed.{ranked, three}
+use Rattle.desk_reading.specs.Selecting.{IsQuery}
+use Rattle.desk_reading.proofs.Lists.{map-map}
+
+-- ---- queries of one table
+
+-- in the order of a column
+abbrev pub by : ℕ → Term × Key
+by place = (col 1 place, record { collation = Binary; descending = false })
+
+-- the rows of a tree that pass the tests, in an order
+abbrev pub picked : ℕ → List Term → List Term → List (Term × Key) → Query
+picked tree tests project order = record {
+  from = inner tree end;
+  filter = tests;
+  group = None;
+  project = project;
+  distinct = false;
+  collations = [];
+  order = order;
+  limit = lit (Int (negsuc 0));
+  offset = lit (Int (pos 0));
+}
+
+-- what a text means
+pub record IsReading (text : List ℕ) (tree : ℕ) (tests project : List Term) (order : List (Term × Key)) : Type 0 where
+  pub names : List (List ℕ)
+  pub command : command_of (understood desk_schema text) ≡ Select (record { lets = []; body = picked tree tests project order }) names
+  pub plain : IsPlain (understood desk_schema text)
+  pub unlisted : reads_listing desk_schema text ≡ false
+  pub selecting : IsQuery text
+
+-- a row passes the tests
+abbrev pub passes : List Term → Row → Row → Bool
+passes tests params r = list_all (holds (params ∷ r ∷ [])) tests
+
+-- ---- what is left, and what is shown of it
+
+-- the rows that the tests leave
+left : (tests : List Term) (params : Row) (rs : List Row)
+    → flat_map (λ r. if list_all (holds (params ∷ r ∷ [])) tests then (params ∷ r ∷ []) ∷ [] else []) rs
+    ≡ map (λ r. params ∷ r ∷ []) (filter (passes tests params) rs)
+left tests params [] = refl
+left tests params (r ∷ rs) = go (passes tests params r) (left tests params rs)
+  where
+    go : (b : Bool) {rest : List Env} → rest ≡ map (λ r. params ∷ r ∷ []) (filter (passes tests params) rs)
+        → (if b then (params ∷ r ∷ []) ∷ [] else []) ++ rest
+        ≡ map (λ r. params ∷ r ∷ []) (cond b (r ∷ filter (passes tests params) rs) (filter (passes tests params) rs))
+    go true more = ap (λ es. (params ∷ r ∷ []) ∷ es) more
+    go false more = more
+
+-- an answer before it is cut to what is shown: in this order, and in no other
+pub record IsOrderedAs (q : Query) (outputs : List Output) (rows : List Row) : Type 0 where
+  pub ordered : List Output
+  pub same : IsPermutation outputs ordered
+  pub sorted : IsSorted (output_cmp q) ordered
+  pub shown : rows ≡ map (λ (o : Output). o.1) ordered
+
+-- rows as the engine keeps them, of which the query tests and shows a part
+module _ {X Y : Type 0} (image : X → Row) (part : X → Y) (tree : ℕ) (tests project : List Term) (order : List (Term × Key)) (params : Row)
+    (test : Y → Bool) (shown : Y → Output)
+    (tests_are : (x : X) → passes tests params (image x) ≡ test (part x))
+    (shown_is : (x : X) → output (picked tree tests project order) (params ∷ image x ∷ []) ≡ shown (part x)) where
+  -- what is shown of the rows that are left
+  outputs : (xs : List X)
+      → map (output (picked tree tests project order)) (map (λ r. params ∷ r ∷ []) (filter (passes tests params) (map image xs)))
+      ≡ map shown (filter test (map part xs))
+  outputs [] = refl
+  outputs (x ∷ xs) = rw (tests_are x) (go (test (part x)) (outputs xs))
+    where
+      go : (b : Bool)
+          → map (output (picked tree tests project order)) (map (λ r. params ∷ r ∷ []) (filter (passes tests params) (map image xs)))
+          ≡ map shown (filter test (map part xs))
+          → map (output (picked tree tests project order)) (map (λ r. params ∷ r ∷ [])
+          (cond b (image x ∷ filter (passes tests params) (map image xs)) (filter (passes tests params) (map image xs))))
+          ≡ map shown (cond b (part x ∷ filter test (map part xs)) (filter test (map part xs)))
+      go true more = λ i. shown_is x i ∷ more i
+      go false more = more
+
+  -- the answer is that of the rows which pass the model's test
+  pub answers : (text : List ℕ) → IsReading text tree tests project order → ((db : Trees) → overlay db [] tree ≡ db tree)
+      → (old new : State) (xs : List X) (rows : List Row) → old.now.schema ≡ desk_schema → old.now.trees tree ≡ map image xs
+      → Shown text params old new rows
+      → IsOrderedAs (picked tree tests project order) (map shown (filter test (map part xs))) rows
+  answers text is low old new xs rows schema has h =
+      let q = picked tree tests project order in
+      let read = reads_as text params old new desk_schema schema _ is.command is.plain is.unlisted rows h in
+      let a : IsAnswer q (overlay old.now.trees []) params rows = read.answer Null in
+      let staged : a.staged ≡ map (λ r. params ∷ r ∷ []) (filter (passes tests params) (old.now.trees tree)) =
+      a.grouped ∙ rw (low old.now.trees) (left tests params (old.now.trees tree)) in
+      let kept : a.kept ≡ map shown (filter test (map part xs)) =
+      a.distinct
+      ∙ ap (map (output q)) staged
+      ∙ ap (λ rs. map (output q) (map (λ r. params ∷ r ∷ []) (filter (passes tests params) rs))) has
+      ∙ outputs xs in
+      record { ordered = a.ordered; same = subst (λ os. IsPermutation os a.ordered) kept a.same; sorted = a.sorted; shown = a.shown }
+
+-- ---- in an order
+
+-- in some order
+pub shown_somehow : {Y : Type 0} (q : Query) (shown : Y → Output) (ys : List Y) (rows : List Row) → IsOrderedAs q (map shown ys) rows
+    → IsPermutation (map (λ y. (shown y).1) ys) rows
+shown_somehow q shown ys rows a =
+    subst (λ rs. IsPermutation rs rows) (map-map (λ (o : Output). o.1) shown ys)
+    (subst (λ rs. IsPermutation (map (λ (o : Output). o.1) (map shown ys)) rs) (sym a.shown)
+    (IsPermutation-map (λ (o : Output). o.1) (map shown ys) a.ordered a.same))
+
+-- SQL orders numbers as the model does
+pub less : (a b : ℕ) → a < b → three a b ≡ Less
+less a b low = elim (ranked a b) [
+  | inl below ↦ below.ranks
+  | inr (inl tied) ↦ absurd (omega (arith, low, tied.same))
+  | inr (inr more) ↦ absurd (omega (arith, low, more.high))
+]
+
+-- what holds of each item of a map
+all_map : {X Y : Type 0} (P : Y → Type 0) (f : X → Y) (xs : List X) → AllByRecursion (λ x. P (f x)) xs → AllByRecursion P (map f xs)
+all_map P f [] h = tt
+all_map P f (x ∷ xs) h = (h.0, all_map P f xs h.1)
+
+-- what is in strict order by what is shown of it
+strictly_shown : {Y : Type 0} (q : Query) (shown : Y → Output) (ys : List Y) → IsStrictlySortedBy (λ x y. output_cmp q (shown x) (shown y)) ys
+    → IsStrictlySortedBy (output_cmp q) (map shown ys)
+unfolding IsStrictlySortedBy
+strictly_shown q shown [] up = tt
+strictly_shown q shown (y ∷ ys) up = (all_map (λ o. output_cmp q (shown y) o ≡ Less) shown ys up.0, strictly_shown q shown ys up.1)
+
+-- the rows come in the one order that is strict
+pub shown_in_order : {Y : Type 0} (q : Query) (shown : Y → Output) (zs ys : List Y) (rows : List Row) → IsPermutation zs ys
+    → IsStrictlySortedBy (λ x y. output_cmp q (shown x) (shown y)) ys → IsOrderedAs q (map shown zs) rows → rows ≡ map (λ y. (shown y).1) ys
+shown_in_order q shown zs ys rows same up a =
+    let moved = IsPermutation-trans a.ordered (map shown zs) (map shown ys) (IsPermutation-sym (map shown zs) a.ordered a.same)
+    (IsPermutation-map shown zs ys same) in
+    a.shown
+    ∙ ap (map (λ (o : Output). o.1))
+    (same_sorted (output_cmp q) (output_cmp_total q) a.ordered (map shown ys) a.sorted (strictly_shown q shown ys up) moved)
+    ∙ map-map (λ (o : Output). o.1) shown ys
+
+-- ---- by one number
+
+module _ {Y : Type 0} (tree : ℕ) (tests project : List Term) (place : ℕ) (key : Y → ℕ) (row : Y → Row) where
+  -- a row beside the number that it is ordered by
+  abbrev pub beside : Y → Output
+  beside y = (Int (pos (key y)) ∷ [], row y)
+
+  -- how the query orders two rows
+  abbrev pub ranks : Y → Y → Ordering
+  ranks x y = output_cmp (picked tree tests project (by place ∷ [])) (beside x) (beside y)
+
+  -- a lower number comes first
+  below : (x y : Y) → key x < key y → ranks x y ≡ Less
+  below x y low = ap (λ o. ordering_then o Equal) (value_cmp-Int (pos (key x)) (pos (key y)) ∙ less (key x) (key y) low)
+
+  -- and so before all that ascend from it
+  all_below : (x : Y) (n : ℕ) (ys : List Y) → key x < n → Ascends key n ys → AllByRecursion (λ y. ranks x y ≡ Less) ys
+  all_below x n [] low up = tt
+  all_below x n (y ∷ ys) low up =
+      (below x y (omega (arith, low, up.0)), all_below x (key y + 1) ys (omega (arith, low, up.0)) up.1)
+
+  -- numbers that ascend are in strict order
+  pub strictly : (n : ℕ) (ys : List Y) → Ascends key n ys → IsStrictlySortedBy ranks ys
+  unfolding IsStrictlySortedBy
+  strictly n [] up = tt
+  strictly n (y ∷ ys) up = (all_below y (key y + 1) ys (omega arith) up.1, strictly (key y + 1) ys up.1)

@@ -1,0 +1,58 @@
+-- The rows that a look-up finds are those of the model.
+use Rattle.std.proofs.Common.{◌≡◌, ℕ, Bool, List, [], ◌∷◌, map, filter, cond, refl, sym, ap, subst, ◌∙◌}
+use Rattle.sqlite_value.specs.Order.{Row}
+use Rattle.sqlite_sql.specs.Term.{Term}
+use Rattle.sqlite.specs.State.{State, Shown}
+use Rattle.desk_columns.specs.Laws.{AreToldApart}
+use Rattle.desk_laws.proofs.Basics.{each-map}
+use Rattle.desk_laws.proofs.Keeps.{each-filter}
+use Rattle.desk_model.specs.Kept.{EachOf}
+use Rattle.desk_tables.specs.Layouts.{HasRows, Layout}
+use Rattle.desk_reading.proofs.Answered.{IsReading, by, passes}
+use Rattle.desk_reading.proofs.KeyedReadings.{reads_keyed}
+use Rattle.desk_reading.proofs.Lists.{map-map}
+use Rattle.desk_reading.proofs.Told.{IsSpelled}
+
+-- ---- rows and their columns
+
+-- a list of rows in their limits is told by its columns
+pub rows_told : {C R : Type 0} (write : R → C) (P : R → Type 0) → AreToldApart write P
+    → (rows others : List R) → EachOf P rows → EachOf P others → map write rows ≡ map write others → rows ≡ others
+rows_told write P apart [] [] kept kept2 same = refl
+rows_told write P apart [] (o ∷ os) kept kept2 same = absurd (cc same)
+rows_told write P apart (r ∷ rs) [] kept kept2 same = absurd (cc same)
+rows_told write P apart (r ∷ rs) (o ∷ os) kept kept2 same =
+    let first : write r ≡ write o = cc same in
+    let rest : map write rs ≡ map write os = cc same in
+    λ i. apart r o kept.0 kept2.0 first i ∷ rows_told write P apart rs os kept.1 kept2.1 rest i
+
+-- what holds of each item of a map
+pub each_unmap : {X Y : Type 0} (P : Y → Type 0) (f : X → Y) (xs : List X) → EachOf P (map f xs) → EachOf (λ x. P (f x)) xs
+each_unmap P f [] h = tt
+each_unmap P f (x ∷ xs) h = (h.0, each_unmap P f xs h.1)
+
+-- tests that agree on each item
+pub filter-each : {X : Type 0} (P : X → Type 0) (p q : X → Bool) → ((x : X) → P x → p x ≡ q x) → (xs : List X) → EachOf P xs → filter p xs ≡ filter q xs
+filter-each P p q agree [] h = refl
+filter-each P p q agree (x ∷ xs) h =
+    λ i. cond (agree x h.0 i) (x ∷ filter-each P p q agree xs h.1 i) (filter-each P p q agree xs h.1 i)
+
+-- ---- rows of a table by number
+
+-- a look-up finds the rows that pass the model's test, where the tests agree on rows in their limits
+pub found_keyed : {X R C : Type 0} (L : Layout X) (bare : X → R) (write : R → C) (IsStored : R → Type 0) (spelled : Row → C) (project : List Term)
+    → IsSpelled L (λ x. write (bare x)) spelled project → AreToldApart write IsStored
+    → (text : List ℕ) (tests : List Term) (params : Row) (sql test : X → Bool) → IsReading text L.table.tree tests project (by 0 ∷ [])
+    → ((x : X) → passes tests params (L.image x) ≡ sql x) → ((x : X) → IsStored (bare x) → sql x ≡ test x)
+    → (old new : State) (values : Row) (xs : List X) (rows : List Row) (found : List R)
+    → HasRows L old.now xs → EachOf IsStored (map bare xs) → values ≡ params → Shown text values old new rows → EachOf IsStored found
+    → map spelled rows ≡ map write found → found ≡ map bare (filter test xs)
+found_keyed L bare write IsStored spelled project is apart text tests params sql test reading tests_are agree old new values xs rows found has stored given h kept spells =
+    let limits = each_unmap IsStored bare xs stored in
+    let shown = subst (λ v. Shown text v old new rows) given h in
+    let columns = reads_keyed L (λ x. write (bare x)) spelled project is text tests params sql reading tests_are old new xs rows has shown in
+    let same : filter sql xs ≡ filter test xs = filter-each (λ x. IsStored (bare x)) sql test agree xs limits in
+    rows_told write IsStored apart found (map bare (filter sql xs)) kept
+    (each-map IsStored bare (filter sql xs) (each-filter (λ x. IsStored (bare x)) sql xs limits))
+    (sym spells ∙ columns ∙ sym (map-map write bare (filter sql xs)))
+    ∙ ap (map bare) same

@@ -1,0 +1,35 @@
+-- What a reading gives of a table that has a number as its key.
+use Rattle.std.proofs.Common.{◌≡◌, ℕ, Bool, List, [], ◌∷◌, map, filter, ap, ◌∙◌}
+use Rattle.sqlite_value.specs.Order.{Row}
+use Rattle.sqlite_sql.specs.Term.{Term}
+use Rattle.sqlite.specs.State.{State, Shown}
+use Rattle.desk_laws.proofs.RowLists.{ascends_filter}
+use Rattle.desk_tables.specs.Layouts.{HasRows, Layout}
+use Rattle.desk_reading.proofs.Answered.{IsReading, answers, beside, by, passes, picked, shown_in_order, strictly}
+use Rattle.desk_reading.proofs.Lists.{as_it_is, map-id, map-map, map-same}
+use Rattle.desk_reading.proofs.Told.{IsSpelled}
+
+-- what is read of rows is what they spell
+pub columns_of : {Y C : Type 0} (spelled : Row → C) (row : C → Row) (columns : Y → C) → ((c : C) → spelled (row c) ≡ c) → (ys : List Y) (rows : List Row)
+    → rows ≡ map (λ y. row (columns y)) ys → map spelled rows ≡ map columns ys
+columns_of spelled row columns back ys rows are =
+    ap (map spelled) are
+    ∙ map-map spelled (λ y. row (columns y)) ys
+    ∙ map-same (λ y. spelled (row (columns y))) columns ys (λ y. back (columns y))
+
+-- the columns of the rows that pass a test, in the order of their keys
+pub reads_keyed : {X C : Type 0} (L : Layout X) (columns : X → C) (spelled : Row → C) (project : List Term) → IsSpelled L columns spelled project
+    → (text : List ℕ) (tests : List Term) (params : Row) (test : X → Bool) → IsReading text L.table.tree tests project (by 0 ∷ [])
+    → ((x : X) → passes tests params (L.image x) ≡ test x)
+    → (old new : State) (xs : List X) (rows : List Row) → HasRows L old.now xs → Shown text params old new rows
+    → map spelled rows ≡ map columns (filter test xs)
+reads_keyed {X} L columns spelled project is text tests params test reading tests_are old new xs rows has h =
+    let row = λ (x : X). is.row (columns x) in
+    let order = by 0 ∷ [] in
+    let answered = answers L.image (λ (x : X). x) L.table.tree tests project order params test (beside L.table.tree tests project 0 L.key row) tests_are
+    (λ x i. (is.key x i ∷ [], is.shows params x i)) text reading is.low old new xs rows has.schema has.rows_are h in
+    let up = strictly L.table.tree tests project 0 L.key row 0 (filter test xs) (ascends_filter L.key test 0 xs has.rising) in
+    let rows_are = shown_in_order (picked L.table.tree tests project order) (beside L.table.tree tests project 0 L.key row)
+    (filter test (map (λ (x : X). x) xs)) (filter test xs) rows
+    (as_it_is (filter test (map (λ (x : X). x) xs)) (filter test xs) (ap (filter test) (map-id xs))) up answered in
+    columns_of spelled is.row columns is.back (filter test xs) rows rows_are

@@ -1,0 +1,43 @@
+-- Lists: maps, filters and their order.
+use Rattle.std.proofs.Common.{◌≡◌, List, [], ◌∷◌, map, filter, Bool, true, false, cond, refl, ap, subst}
+use Rattle.std.specs.List.Sorted.{IsPermutation}
+use Rattle.std.proofs.lemmas.List.Sorted.{IsPermutation-refl}
+
+-- two maps, one after the other
+pub map-map : {A B C : Type 0} (g : B → C) (f : A → B) (xs : List A) → map g (map f xs) ≡ map (λ x. g (f x)) xs
+map-map g f [] = refl
+map-map g f (x ∷ xs) = ap (λ ys. g (f x) ∷ ys) (map-map g f xs)
+
+-- maps that agree
+pub map-same : {A B : Type 0} (f g : A → B) (xs : List A) → ((x : A) → f x ≡ g x) → map f xs ≡ map g xs
+map-same f g [] same = refl
+map-same f g (x ∷ xs) same = λ i. same x i ∷ map-same f g xs same i
+
+-- a map that changes nothing
+pub map-id : {A : Type 0} (xs : List A) → map (λ x. x) xs ≡ xs
+map-id [] = refl
+map-id (x ∷ xs) = ap (λ ys. x ∷ ys) (map-id xs)
+
+-- a test that holds always
+pub filter-all : {A : Type 0} (xs : List A) → filter (λ _. true) xs ≡ xs
+filter-all [] = refl
+filter-all (x ∷ xs) = ap (λ ys. x ∷ ys) (filter-all xs)
+
+-- tests that agree
+pub filter-same : {A : Type 0} (p q : A → Bool) (xs : List A) → ((x : A) → p x ≡ q x) → filter p xs ≡ filter q xs
+filter-same p q [] same = refl
+filter-same p q (x ∷ xs) same = λ i. cond (same x i) (x ∷ filter-same p q xs same i) (filter-same p q xs same i)
+
+-- a test of what a map gives
+pub filter-map : {A B : Type 0} (p : B → Bool) (f : A → B) (xs : List A) → filter p (map f xs) ≡ map f (filter (λ x. p (f x)) xs)
+filter-map p f [] = refl
+filter-map {A} p f (x ∷ xs) = by (p (f x)) (filter-map p f xs)
+  where
+    by : (b : Bool) → filter p (map f xs) ≡ map f (filter (λ x. p (f x)) xs)
+        → cond b (f x ∷ filter p (map f xs)) (filter p (map f xs)) ≡ map f (cond b (x ∷ filter (λ x. p (f x)) xs) (filter (λ x. p (f x)) xs))
+    by true ih = ap (λ ys. f x ∷ ys) ih
+    by false ih = ih
+
+-- equal lists are permutations
+pub as_it_is : {X : Type 0} (xs ys : List X) → xs ≡ ys → IsPermutation xs ys
+as_it_is xs ys same = subst (λ zs. IsPermutation xs zs) same (IsPermutation-refl xs)

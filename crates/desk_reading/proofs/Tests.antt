@@ -1,0 +1,122 @@
+-- SQL's tests of a column are the model's.
+use Rattle.std.proofs.Common.{◌≡◌, ℕ, ℤ, pos, ◌<◌, ◌≤◌, ◌^◌, ◌&&◌, List, Bool, true, false, Some, refl, sym, ap, ◌∙◌, arith, int_cmp, inl, inr, nat_cmp}
+use Rattle.std.specs.Prelude.{◌==◌, nat_lt, nat_le, bytes_eq, if◌then◌else◌}
+use Rattle.std.specs.Ordering.{is_eq, is_lt}
+use Rattle.std.specs.Cmp.Lexicographic.{slice_cmp}
+use Rattle.std.proofs.lemmas.Bool.Decides.{nat_tests}
+use Rattle.std.proofs.lemmas.Map.Text.{is_eq-slice_cmp}
+use Rattle.sqlite.specs.declared.types.Value.TheVariants.{Int, Text}
+use Rattle.sqlite_value.specs.declared.keys.Collation.TheVariants.{Binary}
+use Rattle.sqlite_value.proofs.OrderLemmas.{value_cmp-Int, value_cmp-Text}
+use Rattle.sqlite_sql.specs.declared.ops.BinaryOp.TheVariants.{Compare}
+use Rattle.sqlite_sql.specs.declared.ops.CompareOp.TheVariants.{Eq, Lt}
+use Rattle.sqlite_sql.specs.Ops.{binary, is_true, from_truth}
+use Rattle.desk_tables.proofs.Found.{equal_is}
+use Rattle.desk_tables.proofs.Keyed.{ranked, three}
+use Rattle.desk_reading.specs.Bounded.{bounded}
+
+-- a truth that is known is told
+told : (b : Bool) → is_true (from_truth (Some b)) ≡ b
+told true = refl
+told false = refl
+
+-- a test alone
+alone : (b : Bool) → (b && true) ≡ b
+alone true = refl
+alone false = refl
+
+-- ---- numbers
+
+same_as : (a b : ℕ) → a ≡ b → (a == b) ≡ true
+same_as a b h = grind (arith, nat_tests)
+
+apart_below : (a b : ℕ) → a < b → (a == b) ≡ false
+apart_below a b h = grind (arith, nat_tests)
+
+apart_above : (a b : ℕ) → b < a → (a == b) ≡ false
+apart_above a b h = grind (arith, nat_tests)
+
+before_is : (a b : ℕ) → a < b → nat_lt a b ≡ true
+before_is a b h = grind (arith, nat_tests)
+
+not_before : (a b : ℕ) → b ≤ a → nat_lt a b ≡ false
+not_before a b h = grind (arith, nat_tests)
+
+-- SQL's `=`
+eq_as : (a b : ℕ) → is_eq (three a b) ≡ (a == b)
+eq_as a b = elim (ranked a b) [
+  | inl less ↦ rw (less.ranks, apart_below a b less.low) refl
+  | inr (inl tied) ↦ rw (tied.ranks, same_as a b tied.same) refl
+  | inr (inr more) ↦ rw (more.ranks, apart_above a b more.high) refl
+]
+
+-- SQL's `<`
+lt_as : (a b : ℕ) → is_lt (three a b) ≡ nat_lt a b
+lt_as a b = elim (ranked a b) [
+  | inl less ↦ rw (less.ranks, before_is a b less.low) refl
+  | inr (inl tied) ↦ rw (tied.ranks, not_before a b (omega (arith, tied.same))) refl
+  | inr (inr more) ↦ rw (more.ranks, not_before a b (omega (arith, more.high))) refl
+]
+
+less_is : (m n : ℤ) → is_true (binary (Compare Lt Binary) (Int m) (Int n)) ≡ is_lt (int_cmp m n)
+unfolding binary
+less_is m n = rw (value_cmp-Int m n) (told (is_lt (int_cmp m n)))
+
+text_is : (s t : List ℕ) → is_true (binary (Compare Eq Binary) (Text s) (Text t)) ≡ is_eq (slice_cmp nat_cmp s t)
+unfolding binary
+text_is s t = rw (value_cmp-Text s t) (told (is_eq (slice_cmp nat_cmp s t)))
+
+-- a number is the one that is looked for
+pub is_number : (a n : ℕ) → is_true (binary (Compare Eq Binary) (Int (pos a)) (Int (pos n))) ≡ (a == n)
+is_number a n = equal_is (pos a) (pos n) ∙ eq_as a n
+
+-- and alone in WHERE
+pub number_test : (a n : ℕ) → (is_true (binary (Compare Eq Binary) (Int (pos a)) (Int (pos n))) && true) ≡ (a == n)
+number_test a n = alone _ ∙ is_number a n
+
+-- a number is below a limit
+pub is_below : (a n : ℕ) → is_true (binary (Compare Lt Binary) (Int (pos a)) (Int (pos n))) ≡ nat_lt a n
+is_below a n = less_is (pos a) (pos n) ∙ lt_as a n
+
+pub below_test : (a n : ℕ) → (is_true (binary (Compare Lt Binary) (Int (pos a)) (Int (pos n))) && true) ≡ nat_lt a n
+below_test a n = alone _ ∙ is_below a n
+
+-- ---- texts
+
+-- a text is the one that is looked for
+pub is_text : (s t : List ℕ) → is_true (binary (Compare Eq Binary) (Text s) (Text t)) ≡ bytes_eq s t
+is_text s t = text_is s t ∙ is_eq-slice_cmp s t
+
+pub text_test : (s t : List ℕ) → (is_true (binary (Compare Eq Binary) (Text s) (Text t)) && true) ≡ bytes_eq s t
+text_test s t = alone _ ∙ is_text s t
+
+-- a text beside a limit
+pub text_below_test : (s t : List ℕ) (a n : ℕ)
+    → (is_true (binary (Compare Eq Binary) (Text s) (Text t)) && (is_true (binary (Compare Lt Binary) (Int (pos a)) (Int (pos n))) && true))
+    ≡ (bytes_eq s t && nat_lt a n)
+text_below_test s t a n = λ i. is_text s t i && below_test a n i
+
+-- ---- numbers that SQL does not have
+
+beyond : (n : ℕ) → nat_le n 9223372036854775807 ≡ false → 9223372036854775807 < n
+beyond n h = grind (arith, nat_tests)
+
+-- no number of a row is the greatest of SQL, or above it
+pub same_bounded : (a n : ℕ) → a ≤ 2 ^ 62 → (a == bounded n) ≡ (a == n)
+same_bounded a n low = go (nat_le n 9223372036854775807) refl
+  where
+    go : (b : Bool) → nat_le n 9223372036854775807 ≡ b → (a == bounded n) ≡ (a == n)
+    go true is = ap (λ b. a == (if b then n else 9223372036854775807)) is
+    go false is =
+        let high : 9223372036854775807 < n = beyond n is in
+        ap (λ b. a == (if b then n else 9223372036854775807)) is ∙ apart_below a 9223372036854775807 (omega (arith, low)) ∙ sym (apart_below a n (omega (arith, low, high)))
+
+-- each moment of a row is below the greatest of SQL
+pub below_bounded : (a n : ℕ) → a ≤ 2 ^ 62 → nat_lt a (bounded n) ≡ nat_lt a n
+below_bounded a n low = go (nat_le n 9223372036854775807) refl
+  where
+    go : (b : Bool) → nat_le n 9223372036854775807 ≡ b → nat_lt a (bounded n) ≡ nat_lt a n
+    go true is = ap (λ b. nat_lt a (if b then n else 9223372036854775807)) is
+    go false is =
+        let high : 9223372036854775807 < n = beyond n is in
+        ap (λ b. nat_lt a (if b then n else 9223372036854775807)) is ∙ before_is a 9223372036854775807 (omega (arith, low)) ∙ sym (before_is a n (omega (arith, low, high)))

@@ -1,0 +1,103 @@
+-- What the readings of whole tables give.
+use Rattle.std.proofs.Common.{◌≡◌, ℕ, ◌∷◌, [], List, map, true, filter, refl, sym, ap, subst, ◌∙◌}
+use Rattle.std.specs.List.Sorted.{IsPermutation}
+use Rattle.std.proofs.lemmas.List.Sorted.{IsPermutation-map, IsPermutation-sym, IsPermutation-trans}
+use Rattle.sqlite.specs.declared.types.Value.TheVariants.{Int}
+use Rattle.sqlite_value.specs.Order.{Row}
+use Rattle.sqlite_sql.specs.Term.{Term}
+use Rattle.sqlite.specs.State.{State, Shown}
+use Rattle.desk_columns.specs.Columns.{account_columns, authorization_columns, challenge_columns, listed_columns, meta_columns, nonce_columns, order_columns}
+use Rattle.desk_columns.specs.Flat.{challenge_rows, listed_rows}
+use Rattle.desk_columns.specs.declared.columns.AccountColumns.{AccountColumns}
+use Rattle.desk_columns.specs.declared.columns.AuthzColumns.{AuthzColumns}
+use Rattle.desk_columns.specs.declared.columns.ChallColumns.{ChallColumns}
+use Rattle.desk_columns.specs.declared.columns.MetaColumns.{MetaColumns}
+use Rattle.desk_columns.specs.declared.columns.NonceColumns.{NonceColumns}
+use Rattle.desk_columns.specs.declared.columns.OrderAuthzColumns.{OrderAuthzColumns}
+use Rattle.desk_columns.specs.declared.columns.OrderColumns.{OrderColumns}
+use Rattle.desk_columns.specs.declared.flat_rows.Owned.{Owned}
+use Rattle.desk_model.specs.Tables.{Tables}
+use Rattle.desk_model.specs.declared.rows.Listed.{Listed}
+use Rattle.desk_tables.specs.Hidden.{hidden, row_of}
+use Rattle.desk_tables.specs.Holds.{Holds}
+use Rattle.desk_tables.specs.Images.{listed_cells, listed_params}
+use Rattle.desk_tables.specs.Layouts.{HasRows, Layout, account_layout, authorization_layout, challenge_layout, meta_layout, nonce_layout, order_layout}
+use Rattle.desk_tables.proofs.Holding.{accounts_held, authorizations_held, challenges_held, meta_held, nonces_held, orders_held}
+use Rattle.desk_reading.specs.Spelled.{account_in, authorization_in, challenge_in, listed_in, meta_in, nonce_in, order_in}
+use Rattle.desk_reading.specs.Texts.{select_accounts, select_authorizations, select_challenges, select_listed, select_meta, select_nonces, select_orders}
+use Rattle.desk_reading.proofs.Answered.{IsReading, answers, by, shown_somehow, picked}
+use Rattle.desk_reading.proofs.KeyedReadings.{columns_of, reads_keyed}
+use Rattle.desk_reading.proofs.Lists.{filter-all}
+use Rattle.desk_reading.proofs.Readings.{accounts_reading, authorizations_reading, challenges_reading, listed_reading, meta_reading, nonces_reading, orders_reading}
+use Rattle.desk_reading.proofs.Told.{IsSpelled, account_project, account_spelled, authorization_project, authorization_spelled, challenge_project, challenge_spelled, listed_back, listed_project, meta_project, meta_spelled, nonce_project, nonce_spelled, order_project, order_spelled}
+
+-- all rows of a table, in the order of their keys
+whole : {X C : Type 0} (L : Layout X) (columns : X → C) (spelled : Row → C) (project : List Term) → IsSpelled L columns spelled project
+    → (text : List ℕ) → IsReading text L.table.tree [] project (by 0 ∷ [])
+    → (old new : State) (xs : List X) (rows : List Row) → HasRows L old.now xs → Shown text [] old new rows
+    → map spelled rows ≡ map columns xs
+whole L columns spelled project is text reading old new xs rows has h =
+    reads_keyed L columns spelled project is text [] [] (λ _. true) reading (λ _. refl) old new xs rows has h ∙ ap (map columns) (filter-all xs)
+
+module _ (old new : State) (T : Tables) (rows : List Row) where
+  -- `meta`
+  pub meta_read : (all : List MetaColumns) → Holds old.now T → Shown select_meta [] old new rows → all ≡ map meta_in rows
+      → all ≡ map meta_columns (T.meta ∷ [])
+  meta_read all has h are =
+      are ∙ whole meta_layout meta_columns meta_in meta_project meta_spelled select_meta meta_reading old new (T.meta ∷ []) rows (meta_held old.now T has) h
+
+  -- `nonce`
+  pub nonces_read : (all : List NonceColumns) → Holds old.now T → Shown select_nonces [] old new rows → all ≡ map nonce_in rows
+      → all ≡ map nonce_columns T.nonces
+  nonces_read all has h are =
+      are ∙ whole nonce_layout nonce_columns nonce_in nonce_project nonce_spelled select_nonces nonces_reading old new T.nonces rows (nonces_held old.now T has) h
+
+  -- `account`
+  pub accounts_read : (all : List AccountColumns) → Holds old.now T → Shown select_accounts [] old new rows → all ≡ map account_in rows
+      → all ≡ map account_columns T.accounts
+  accounts_read all has h are =
+      are
+      ∙ whole account_layout account_columns account_in account_project account_spelled select_accounts accounts_reading old new T.accounts rows (accounts_held old.now T has) h
+
+  -- `ord`
+  pub orders_read : (all : List OrderColumns) → Holds old.now T → Shown select_orders [] old new rows → all ≡ map order_in rows
+      → all ≡ map order_columns T.orders
+  orders_read all has h are =
+      are ∙ whole order_layout order_columns order_in order_project order_spelled select_orders orders_reading old new T.orders rows (orders_held old.now T has) h
+
+  -- `authz`
+  pub authorizations_read : (all : List AuthzColumns) → Holds old.now T → Shown select_authorizations [] old new rows → all ≡ map authorization_in rows
+      → all ≡ map authorization_columns T.authorizations
+  authorizations_read all has h are =
+      are
+      ∙ whole authorization_layout authorization_columns authorization_in authorization_project authorization_spelled select_authorizations authorizations_reading
+      old new T.authorizations rows (authorizations_held old.now T has) h
+
+  -- `chall`
+  pub challenges_read : (all : List ChallColumns) → Holds old.now T → Shown select_challenges [] old new rows → all ≡ map challenge_in rows
+      → all ≡ map challenge_columns (challenge_rows T.authorizations)
+  challenges_read all has h are =
+      are
+      ∙ whole challenge_layout challenge_columns challenge_in challenge_project challenge_spelled select_challenges challenges_reading
+      old new (challenge_rows T.authorizations) rows (challenges_held old.now T has) h
+
+  -- `ord_authz`, in some order
+  pub listed_read : (all : List OrderAuthzColumns) → Holds old.now T → Shown select_listed [] old new rows → all ≡ map listed_in rows
+      → IsPermutation all (map listed_columns (listed_rows T.orders))
+  listed_read all has h are =
+      let order = by 1 ∷ by 2 ∷ [] in
+      let ts = has.listed.numbered in
+      let sorted_by = λ (l : Owned Listed). Int (listed_columns l).ord ∷ Int (listed_columns l).place ∷ [] in
+      let answered = answers (hidden listed_cells) row_of 6 [] listed_project order [] (λ _. true) (λ l. (sorted_by l, listed_cells l)) (λ _. refl) (λ _. refl)
+      select_listed listed_reading (λ _. refl) old new ts rows has.schema has.listed.has h in
+      let ls = filter (λ _. true) (map row_of ts) in
+      let some = shown_somehow (picked 6 [] listed_project order) (λ (l : Owned Listed). (sorted_by l, listed_cells l)) ls rows answered in
+      let these : ls ≡ map row_of ts = filter-all (map row_of ts) in
+      let cells = subst (λ ls. IsPermutation (map listed_cells ls) rows) these some in
+      let moved = IsPermutation-trans (map listed_cells (listed_rows T.orders)) (map listed_cells (map row_of ts)) rows
+      (IsPermutation-map listed_cells (listed_rows T.orders) (map row_of ts) (IsPermutation-sym (map row_of ts) (listed_rows T.orders) has.listed.same)) cells in
+      let told = IsPermutation-map listed_in (map listed_cells (listed_rows T.orders)) rows moved in
+      let first : map listed_in (map listed_cells (listed_rows T.orders)) ≡ map listed_columns (listed_rows T.orders) =
+      columns_of listed_in listed_params listed_columns listed_back (listed_rows T.orders) (map listed_cells (listed_rows T.orders)) refl in
+      IsPermutation-sym (map listed_columns (listed_rows T.orders)) all
+      (subst (λ cs. IsPermutation (map listed_columns (listed_rows T.orders)) cs) (sym are) (subst (λ cs. IsPermutation cs (map listed_in rows)) first told))

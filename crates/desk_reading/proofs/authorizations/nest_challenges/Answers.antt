@@ -1,0 +1,44 @@
+use Rattle.std.proofs.Common.{◌≡◌, [], ◌∷◌, ◌++◌, ◌∙◌, ap, append-nil, append_assoc, arith, refl, sym}
+use Rattle.std.specs.Vec.Iter.{into_iter_items}
+use Rattle.sqlite.proofs.Callers.{unchanged_then}
+use Rattle.sqlite.specs.Held.{state}
+use Rattle.sqlite.specs.State.{HasCleanDisk}
+use Rattle.desk_columns.specs.Flat.{challenge_rows, without_challenges}
+use Rattle.desk_model.specs.declared.rows.AuthorizationRow.{AuthorizationRow}
+use Rattle.desk_schema.proofs.StaysLemmas.{asks_then}
+use Rattle.desk_tables.proofs.Holding.{holds_still}
+use Rattle.desk_reading.specs.Under.{rows_under}
+use Rattle.std.proofs.lemmas.Grind.{common_steps}
+use Rattle.desk_reading.proofs.NestLemmas.{filled_more}
+use Rattle.desk_reading.proofs.authorizations.nest_challenges.Goals as goal
+
+pub loop-head-preserved : goal.loop-head-preserved
+loop-head-preserved g c =
+    let first = state g.S.Store c.args.conn.now in
+    let old = state g.S.Store c.loop-head.conn in
+    let new = state g.S.Store c.challenges_under.new.conn in
+    let before = c.loop-head.invariant in
+    let after = c.in_ok-challenges.ensures in
+    record {
+      whole =
+          before.whole
+          ∙ ap (λ l. c.loop-head.yielded ++ l) c.in-Some.ensures.steps.0
+          ∙ sym (append_assoc c.loop-head.yielded (c.in-Some.head ∷ []) (into_iter_items c.next.new.self));
+      found = λ clean T has book open_.
+          let clean_old : HasCleanDisk old = omega (arith, clean, after.asks.survives.clean) in
+          filled_more (λ (a : AuthorizationRow). a.number) (λ (a : AuthorizationRow). a.challenges) (λ n. rows_under n (challenge_rows T.authorizations)) without_challenges
+          (λ (a : AuthorizationRow) cs. record a { challenges = cs }) (λ _. refl) (λ _. refl) c.loop-head.yielded c.loop-head.rows.items _ c.in-Some.head c.in_ok-challenges.challenges.items
+          (before.found clean_old T has book open_)
+          (after.found clean T (holds_still first old T (before.unchanged clean_old open_) has) book)
+          (c.in_ok-push.ensures.items ∙ ap (λ ks. c.loop-head.rows.items ++ (record c.in-Some.head { challenges = ks }) ∷ []) c.new.ensures);
+      unchanged = λ clean open_.
+          let clean_old : HasCleanDisk old = omega (arith, clean, after.asks.survives.clean) in
+          unchanged_then first old new (before.unchanged clean_old open_) (after.unchanged clean);
+      asks = asks_then first old new before.asks after.asks;
+    }
+
+pub returns-clause-found : goal.returns-clause-found
+returns-clause-found g c clean T has book open_ rows own are =
+    let none : into_iter_items c.loop-head.head-iterator ≡ [] = grind (arith, common_steps) in
+    let all : c.loop-head.yielded ≡ c.args.heads.items = sym (c.loop-head.invariant.whole ∙ ap (λ l. c.loop-head.yielded ++ l) none ∙ append-nil c.loop-head.yielded) in
+    c.loop-head.invariant.found clean T has book open_ rows own (all ∙ are)

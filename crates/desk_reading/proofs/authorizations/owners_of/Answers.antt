@@ -1,0 +1,16 @@
+use Rattle.std.proofs.Common.{map, ap, ◌∙◌}
+use Rattle.sqlite.specs.Held.{state}
+use Rattle.desk_reading.proofs.LookUpRows.{challenges_numbered_found}
+use Rattle.desk_reading.proofs.LookUpReadings.{challenges_numbered_reading}
+use Rattle.desk_reading.proofs.UnderLemmas.{owners_are}
+use Rattle.desk_reading.proofs.authorizations.owners_of.Goals as goal
+
+pub find_rows-requires : goal.find_rows-requires
+find_rows-requires g c = challenges_numbered_reading.selecting
+
+pub returns-clause-found : goal.returns-clause-found
+returns-clause-found g c clean T has book =
+    let it = c.in_ok-rows.ensures.read clean in
+    let found = challenges_numbered_found (state g.S.Store c.args.conn.now) (state g.S.Store c.find_rows.new.conn) T it.0 _ has book c.in_ok-rows.rows.items it.2 it.3
+    c.args.challenge c.number_param-params.ensures it.1 in
+    c.in_ok-owners.ensures ∙ ap (map (λ c. c.owner)) found ∙ owners_are T c.args.challenge

@@ -1,0 +1,23 @@
+use Rattle.std.proofs.Common.{IsTrue, sym, ◌∙◌}
+use Rattle.sqlite.specs.Held.{state}
+use Rattle.desk_reading.proofs.FormatLemmas.{never_newer}
+use Rattle.desk_reading.proofs.Results.{not_true}
+use Rattle.desk_reading.proofs.format.is_newer.Goals as goal
+
+pub returns-clause-newer : goal.returns-clause-newer
+returns-clause-newer g c clean told = (_, c.in_ok-rows.ensures.shown clean, rw (c.deref.ensures.value) at (c.is_newer_row.ensures.0 told))
+
+pub returns-clause-desk : goal.returns-clause-desk
+returns-clause-desk g c clean T has =
+    not_true c.is_newer_row.result (λ told.
+    never_newer (state g.S.Store c.args.conn.now) (state g.S.Store c.formats.new.conn) T _ has (c.in_ok-rows.ensures.shown clean)
+    (rw (c.deref.ensures.value) at (c.is_newer_row.ensures.0 told)))
+
+pub returns-clause-known : goal.returns-clause-known
+returns-clause-known g c clean not_told = (
+  _,
+  c.in_ok-rows.ensures.shown clean,
+  λ newer.
+      let told : IsTrue c.is_newer_row.result = c.is_newer_row.ensures.1 (rw (← c.deref.ensures.value) at newer) in
+      absurd (let e = sym told ∙ not_told in cc),
+)

@@ -1,0 +1,13 @@
+use Rattle.sqlite.specs.Held.{state}
+use Rattle.desk_reading.proofs.Readings.{challenges_reading}
+use Rattle.desk_reading.proofs.Results.{read_then}
+use Rattle.desk_reading.proofs.WholeTables.{challenges_read}
+use Rattle.desk_reading.proofs.tables.challenge_table.Goals as goal
+
+pub read_query-requires : goal.read_query-requires
+read_query-requires g c = challenges_reading.selecting
+
+pub returns-clause-found : goal.returns-clause-found
+returns-clause-found g c clean T has =
+    read_then c.read_query.result (c.read_query.ensures.read clean) (λ all it.
+    challenges_read (state g.S.Store c.args.conn.now) (state g.S.Store c.read_query.new.conn) T it.0 all has it.1 it.2)

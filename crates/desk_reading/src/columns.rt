@@ -1,0 +1,154 @@
+//! The columns of a row of an answer.
+ghost use Rattle.std.specs.Prelude.{◌≡◌, IfOk, map};
+ghost use Rattle.sqlite.specs.Order.{Row as SqlRow};
+ghost use Rattle.desk_reading.specs.Spelled.{account_in, authorization_in, challenge_in, listed_in, meta_in, nonce_in, order_in};
+
+use crate::values::{bytes, bytes_or_none, number, number_or_none, text, text_or_none};
+use desk_columns::{
+    AccountColumns, AuthzColumns, ChallColumns, MetaColumns, NonceColumns, OrderAuthzColumns,
+    OrderColumns,
+};
+use desk_model::Sequence;
+use sqlite::{Error, Row};
+use std::alloc::Global;
+
+/// Columns that a row of an answer spells.
+pub(crate) trait Columns: Drop {
+    // The columns that a row spells.
+    ghost spelled: { SqlRow → Self };
+
+    // The columns of a row.
+    fn read(row: &Row) -> Result<Self, Error>
+        ensures { IfOk result (λ c. c ≡ spelled row.now) };
+}
+
+/// The columns of each row.
+///
+/// # Errors
+///
+/// Where a row has other values, or there is no memory.
+pub(crate) fn read_all<C: Columns>(alloc: Global, rows: &[Row]) -> Result<Sequence<C>, Error>
+    ensures { IfOk result (λ all. all ≡ map C.spelled rows.now) }
+{
+    let mut all = Vec::new(alloc);
+    for row in rows {
+        all.push(C::read(row)?)?;
+    }
+    Ok(Sequence::new(all))
+}
+
+impl Columns for MetaColumns {
+    ghost spelled = { meta_in };
+
+    fn read(row: &Row) -> Result<MetaColumns, Error> {
+        Ok(MetaColumns {
+            id: number(row, 0)?,
+            format: number(row, 1)?,
+            nonce_life: number(row, 3)?,
+            order_life: number(row, 4)?,
+            authz_life: number(row, 5)?,
+            clock: number(row, 6)?,
+            nonces: number(row, 7)?,
+            accounts: number(row, 8)?,
+            orders: number(row, 9)?,
+            authzs: number(row, 10)?,
+            challs: number(row, 11)?,
+            base: text(row, 2)?,
+        })
+    }
+}
+
+impl Columns for NonceColumns {
+    ghost spelled = { nonce_in };
+
+    fn read(row: &Row) -> Result<NonceColumns, Error> {
+        Ok(NonceColumns {
+            serial: number(row, 0)?,
+            issued: number(row, 2)?,
+            random: bytes(row, 1)?,
+        })
+    }
+}
+
+impl Columns for AccountColumns {
+    ghost spelled = { account_in };
+
+    fn read(row: &Row) -> Result<AccountColumns, Error> {
+        Ok(AccountColumns {
+            num: number(row, 0)?,
+            opened: number(row, 3)?,
+            ended: number_or_none(row, 4)?,
+            jwk: text(row, 1)?,
+            contacts: text(row, 2)?,
+            end_kind: text_or_none(row, 5)?,
+            status: text(row, 6)?,
+        })
+    }
+}
+
+impl Columns for OrderColumns {
+    ghost spelled = { order_in };
+
+    fn read(row: &Row) -> Result<OrderColumns, Error> {
+        Ok(OrderColumns {
+            num: number(row, 0)?,
+            account: number(row, 1)?,
+            made: number(row, 2)?,
+            expires: number(row, 3)?,
+            finalized: number_or_none(row, 4)?,
+            certified: number_or_none(row, 6)?,
+            failed: number_or_none(row, 8)?,
+            csr: bytes_or_none(row, 5)?,
+            cert: bytes_or_none(row, 7)?,
+            problem: text_or_none(row, 9)?,
+            status: text(row, 10)?,
+        })
+    }
+}
+
+impl Columns for AuthzColumns {
+    ghost spelled = { authorization_in };
+
+    fn read(row: &Row) -> Result<AuthzColumns, Error> {
+        Ok(AuthzColumns {
+            num: number(row, 0)?,
+            account: number(row, 1)?,
+            wildcard: number(row, 3)?,
+            made: number(row, 4)?,
+            expires: number(row, 5)?,
+            ended: number_or_none(row, 6)?,
+            name: text(row, 2)?,
+            end_kind: text_or_none(row, 7)?,
+            status: text(row, 8)?,
+        })
+    }
+}
+
+impl Columns for OrderAuthzColumns {
+    ghost spelled = { listed_in };
+
+    fn read(row: &Row) -> Result<OrderAuthzColumns, Error> {
+        Ok(OrderAuthzColumns {
+            ord: number(row, 0)?,
+            place: number(row, 1)?,
+            authz: number(row, 2)?,
+        })
+    }
+}
+
+impl Columns for ChallColumns {
+    ghost spelled = { challenge_in };
+
+    fn read(row: &Row) -> Result<ChallColumns, Error> {
+        Ok(ChallColumns {
+            num: number(row, 0)?,
+            authz: number(row, 1)?,
+            answered: number_or_none(row, 4)?,
+            reported: number_or_none(row, 5)?,
+            kind: text(row, 2)?,
+            token: bytes(row, 3)?,
+            outcome: text_or_none(row, 6)?,
+            status: text(row, 7)?,
+        })
+    }
+}

@@ -1,0 +1,65 @@
+//! The format of the tables.
+ghost use Rattle.std.specs.Prelude.{◌≡◌, ◌↔◌, [], IfOk, OnOk, IsTrue, false, ◌≢◌, ℤ, MatchOption};
+ghost use Rattle.sqlite.specs.Order.{column};
+ghost use Rattle.sqlite.specs.declared.types.Value.TheVariants.{Int};
+ghost use Rattle.sqlite.specs.State.{HasCleanDisk, IsUnchanged, Shown};
+ghost use Rattle.sqlite.specs.Held.{state};
+ghost use Rattle.desk_schema.specs.Stays.{Asks};
+ghost use Rattle.desk_reading.specs.Format.{IsNewer, ShowsFormats};
+ghost use Rattle.desk_reading.specs.Held.{ForHeld};
+ghost use Rattle.desk_reading.specs.Texts.{select_format};
+
+use crate::query::all_rows;
+use sqlite::types::ValueRef;
+use sqlite::{Alter, Connection, Error, Row};
+
+// The format that this crate reads.
+const FORMAT: i64 = 1;
+
+// The number that a row begins with, or `None` where it begins with no number.
+fn first_number(row: &Row) -> Option<i64>
+    ensures { MatchOption result ((n : ℤ) → column row.now 0 ≢ Int n) (λ n. column row.now 0 ≡ Int n) }
+{
+    match row.get_ref(0) {
+        Ok(ValueRef::Int(n)) => Some(n),
+        _ => None,
+    }
+}
+
+// Whether this is one row of a format above 1.
+fn is_newer_row(rows: &[Row]) -> bool
+    ensures { IsTrue result ↔ IsNewer rows.now }
+{
+    match rows {
+        [row] => match first_number(row) {
+            Some(format) => format > FORMAT,
+            None => false,
+        },
+        _ => false,
+    }
+}
+
+// The rows of the format.
+fn formats<S: Alter>(conn: &mut Connection<S>) -> Result<Vec<Row>, Error>
+    ensures shown { HasCleanDisk (state S.Store conn.new) → IfOk result (λ rows. Shown select_format [] (state S.Store conn.old) (state S.Store conn.new) rows.items) }
+    ensures unchanged { HasCleanDisk (state S.Store conn.new) → OnOk result (IsUnchanged (state S.Store conn.old) (state S.Store conn.new)) }
+    ensures asks { Asks (state S.Store conn.old) (state S.Store conn.new) }
+{
+    all_rows(conn, "SELECT format FROM meta", &[])
+}
+
+/// Whether the tables are of a later format: `meta` has one row, whose format is a whole number above 1.
+///
+/// # Errors
+///
+/// The engine's; the connection is as it was, or what was not committed is undone.
+pub fn is_newer<S: Alter>(conn: &mut Connection<S>) -> Result<bool, Error>
+    ensures newer { HasCleanDisk (state S.Store conn.new) → IfOk result (λ newer. IsTrue newer → ShowsFormats (state S.Store conn.old) (state S.Store conn.new) IsNewer) }
+    ensures known { HasCleanDisk (state S.Store conn.new) → IfOk result (λ newer. newer ≡ false → ShowsFormats (state S.Store conn.old) (state S.Store conn.new) (λ rows. ¬ IsNewer rows)) }
+    ensures desk { ForHeld (state S.Store conn.old) (state S.Store conn.new) (λ T. IfOk result (λ newer. newer ≡ false)) }
+    ensures unchanged { HasCleanDisk (state S.Store conn.new) → OnOk result (IsUnchanged (state S.Store conn.old) (state S.Store conn.new)) }
+    ensures asks { Asks (state S.Store conn.old) (state S.Store conn.new) }
+{
+    let rows = formats(conn)?;
+    Ok(is_newer_row(&rows))
+}

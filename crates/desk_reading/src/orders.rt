@@ -1,0 +1,210 @@
+//! Orders that are looked up, each with what it lists.
+ghost use Rattle.std.specs.Prelude.{◌≡◌, List, map, IfOk, IsTrue, OnOk};
+ghost use Rattle.sqlite.specs.State.{HasCleanDisk, IsUnchanged};
+ghost use Rattle.sqlite.specs.Held.{state};
+ghost use Rattle.desk_columns.specs.Flat.{listed_rows, without_listed};
+ghost use Rattle.desk_model.specs.Kept.{EachOf};
+ghost use Rattle.desk_model.specs.declared.rows.OrderRow.{OrderRow as Row};
+ghost use Rattle.desk_parts.specs.LookUps.{listed_by, orders_listing, orders_numbered, orders_of, orders_past};
+ghost use Rattle.desk_schema.specs.Stays.{Asks};
+ghost use Rattle.desk_reading.specs.Held.{ForHeld};
+ghost use Rattle.desk_reading.specs.StoredBook.{IsStoredBook};
+ghost use Rattle.desk_reading.specs.Under.{HasItsListed, rows_under};
+
+use crate::fault::ReadFault;
+use crate::owned::{authorizations_of_listed, owners, without_owners};
+use crate::params::{number_param, text_and_number};
+use crate::rows::find_rows;
+use desk_columns::{OrderAuthzColumns, OrderColumns};
+use desk_model::{Listed, OrderRow, OrderStatus, Sequence};
+use sqlite::{Alter, Connection};
+use std::alloc::Global;
+use written_rows::order_status_text;
+
+/// What the order of a number lists.
+///
+/// # Errors
+///
+/// The engine's, and `NotARow` where a row is not one of a desk; nothing is changed.
+fn listed_under<S: Alter>(
+    alloc: Global,
+    conn: &mut Connection<S>,
+    order: u64,
+) -> Result<Vec<Listed>, ReadFault>
+    ensures found { ForHeld (state S.Store conn.old) (state S.Store conn.new) (λ T. IsStoredBook T → IfOk result (λ rows. rows.items ≡ rows_under order (listed_rows T.orders))) }
+    ensures unchanged { HasCleanDisk (state S.Store conn.new) → OnOk result (IsUnchanged (state S.Store conn.old) (state S.Store conn.new)) }
+    ensures asks { Asks (state S.Store conn.old) (state S.Store conn.new) }
+{
+    let params = number_param(order);
+    let rows = find_rows::<S, OrderAuthzColumns>(
+        alloc,
+        conn,
+        "SELECT ord, place, authz FROM ord_authz WHERE ord = ?1 ORDER BY ord, place",
+        &params,
+    )?;
+    Ok(without_owners(alloc, rows)?)
+}
+
+/// The orders, each with what it lists.
+fn nest_listed<S: Alter>(
+    alloc: Global,
+    conn: &mut Connection<S>,
+    heads: Vec<OrderRow>,
+) -> Result<Vec<OrderRow>, ReadFault>
+    ensures found { ForHeld (state S.Store conn.old) (state S.Store conn.new) (λ T. IsStoredBook T → IsTrue (state S.Store conn.old).is_open → (rows : List Row) → EachOf (HasItsListed T.orders) rows → heads.items ≡ map without_listed rows → IfOk result (λ found. found.items ≡ rows)) }
+    ensures unchanged { HasCleanDisk (state S.Store conn.new) → IsTrue (state S.Store conn.old).is_open → OnOk result (IsUnchanged (state S.Store conn.old) (state S.Store conn.new)) }
+    ensures asks { Asks (state S.Store conn.old) (state S.Store conn.new) }
+{
+    let mut rows = Vec::new(alloc);
+    for head in heads {
+        let listed = listed_under(alloc, conn, head.number)?;
+        rows.push(OrderRow {
+            listed: Sequence::new(listed),
+            ..head
+        })?;
+    }
+    Ok(rows)
+}
+
+/// All orders, by number.
+///
+/// # Errors
+///
+/// The engine's, and `NotARow` where a row is not one of a desk; nothing is changed.
+pub fn all_orders<S: Alter>(
+    alloc: Global,
+    conn: &mut Connection<S>,
+) -> Result<Vec<OrderRow>, ReadFault>
+    ensures found { ForHeld (state S.Store conn.old) (state S.Store conn.new) (λ T. IsStoredBook T → IfOk result (λ rows. rows.items ≡ T.orders)) }
+    ensures unchanged { HasCleanDisk (state S.Store conn.new) → OnOk result (IsUnchanged (state S.Store conn.old) (state S.Store conn.new)) }
+    ensures asks { Asks (state S.Store conn.old) (state S.Store conn.new) }
+{
+    let heads = find_rows::<S, OrderColumns>(
+        alloc,
+        conn,
+        "SELECT num, account, made, expires, finalized, csr, certified, cert, failed, problem, status FROM ord ORDER BY num",
+        &[],
+    )?;
+    nest_listed(alloc, conn, heads)
+}
+
+/// The orders of a number.
+///
+/// # Errors
+///
+/// The engine's, and `NotARow` where a row is not one of a desk; nothing is changed.
+pub fn orders_numbered<S: Alter>(
+    alloc: Global,
+    conn: &mut Connection<S>,
+    number: u64,
+) -> Result<Vec<OrderRow>, ReadFault>
+    ensures found { ForHeld (state S.Store conn.old) (state S.Store conn.new) (λ T. IsStoredBook T → IfOk result (λ rows. rows.items ≡ orders_numbered T number)) }
+    ensures unchanged { HasCleanDisk (state S.Store conn.new) → OnOk result (IsUnchanged (state S.Store conn.old) (state S.Store conn.new)) }
+    ensures asks { Asks (state S.Store conn.old) (state S.Store conn.new) }
+{
+    let params = number_param(number);
+    let heads = find_rows::<S, OrderColumns>(
+        alloc,
+        conn,
+        "SELECT num, account, made, expires, finalized, csr, certified, cert, failed, problem, status FROM ord WHERE num = ?1 ORDER BY num",
+        &params,
+    )?;
+    nest_listed(alloc, conn, heads)
+}
+
+/// The orders of an account.
+///
+/// # Errors
+///
+/// The engine's, and `NotARow` where a row is not one of a desk; nothing is changed.
+pub fn orders_of<S: Alter>(
+    alloc: Global,
+    conn: &mut Connection<S>,
+    account: u64,
+) -> Result<Vec<OrderRow>, ReadFault>
+    ensures found { ForHeld (state S.Store conn.old) (state S.Store conn.new) (λ T. IsStoredBook T → IfOk result (λ rows. rows.items ≡ orders_of T account)) }
+    ensures unchanged { HasCleanDisk (state S.Store conn.new) → OnOk result (IsUnchanged (state S.Store conn.old) (state S.Store conn.new)) }
+    ensures asks { Asks (state S.Store conn.old) (state S.Store conn.new) }
+{
+    let params = number_param(account);
+    let heads = find_rows::<S, OrderColumns>(
+        alloc,
+        conn,
+        "SELECT num, account, made, expires, finalized, csr, certified, cert, failed, problem, status FROM ord WHERE account = ?1 ORDER BY num",
+        &params,
+    )?;
+    nest_listed(alloc, conn, heads)
+}
+
+/// The orders of a stored status whose end is before a moment.
+///
+/// # Errors
+///
+/// The engine's, and `NotARow` where a row is not one of a desk; nothing is changed.
+pub fn orders_past<S: Alter>(
+    alloc: Global,
+    conn: &mut Connection<S>,
+    status: OrderStatus,
+    moment: u64,
+) -> Result<Vec<OrderRow>, ReadFault>
+    ensures found { ForHeld (state S.Store conn.old) (state S.Store conn.new) (λ T. IsStoredBook T → IfOk result (λ rows. rows.items ≡ orders_past T status moment)) }
+    ensures unchanged { HasCleanDisk (state S.Store conn.new) → OnOk result (IsUnchanged (state S.Store conn.old) (state S.Store conn.new)) }
+    ensures asks { Asks (state S.Store conn.old) (state S.Store conn.new) }
+{
+    let params = text_and_number(order_status_text(status), moment);
+    let heads = find_rows::<S, OrderColumns>(
+        alloc,
+        conn,
+        "SELECT num, account, made, expires, finalized, csr, certified, cert, failed, problem, status FROM ord WHERE status = ?1 AND expires < ?2 ORDER BY num",
+        &params,
+    )?;
+    nest_listed(alloc, conn, heads)
+}
+
+/// The numbers of the orders that list an authorization.
+///
+/// # Errors
+///
+/// The engine's, and `NotARow` where a row is not one of a desk; nothing is changed.
+pub fn orders_listing<S: Alter>(
+    alloc: Global,
+    conn: &mut Connection<S>,
+    authorization: u64,
+) -> Result<Vec<u64>, ReadFault>
+    ensures found { ForHeld (state S.Store conn.old) (state S.Store conn.new) (λ T. IsStoredBook T → IfOk result (λ rows. rows.items ≡ orders_listing T authorization)) }
+    ensures unchanged { HasCleanDisk (state S.Store conn.new) → OnOk result (IsUnchanged (state S.Store conn.old) (state S.Store conn.new)) }
+    ensures asks { Asks (state S.Store conn.old) (state S.Store conn.new) }
+{
+    let params = number_param(authorization);
+    let rows = find_rows::<S, OrderAuthzColumns>(
+        alloc,
+        conn,
+        "SELECT ord, place, authz FROM ord_authz WHERE authz = ?1 ORDER BY ord, place",
+        &params,
+    )?;
+    Ok(owners(alloc, rows)?)
+}
+
+/// The numbers of the authorizations that an order lists.
+///
+/// # Errors
+///
+/// The engine's, and `NotARow` where a row is not one of a desk; nothing is changed.
+pub fn listed_by<S: Alter>(
+    alloc: Global,
+    conn: &mut Connection<S>,
+    order: u64,
+) -> Result<Vec<u64>, ReadFault>
+    ensures found { ForHeld (state S.Store conn.old) (state S.Store conn.new) (λ T. IsStoredBook T → IfOk result (λ rows. rows.items ≡ listed_by T order)) }
+    ensures unchanged { HasCleanDisk (state S.Store conn.new) → OnOk result (IsUnchanged (state S.Store conn.old) (state S.Store conn.new)) }
+    ensures asks { Asks (state S.Store conn.old) (state S.Store conn.new) }
+{
+    let params = number_param(order);
+    let rows = find_rows::<S, OrderAuthzColumns>(
+        alloc,
+        conn,
+        "SELECT ord, place, authz FROM ord_authz WHERE ord = ?1 ORDER BY ord, place",
+        &params,
+    )?;
+    Ok(authorizations_of_listed(alloc, rows)?)
+}

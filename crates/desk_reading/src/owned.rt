@@ -1,0 +1,45 @@
+//! Rows that belong to others, and the numbers of those.
+ghost use Rattle.std.specs.Prelude.{◌≡◌, map, IfOk};
+
+use desk_columns::Owned;
+use desk_model::Listed;
+use std::alloc::{AllocError, Global};
+
+/// The rows without the numbers of their owners.
+pub(crate) fn without_owners<T: Drop>(
+    alloc: Global,
+    rows: Vec<Owned<T>>,
+) -> Result<Vec<T>, AllocError>
+    ensures { IfOk result (λ all. all.items ≡ map (λ r. r.row) rows.items) }
+{
+    let mut all = Vec::new(alloc);
+    for owned in rows {
+        all.push(owned.row)?;
+    }
+    Ok(all)
+}
+
+/// The numbers of the owners.
+pub(crate) fn owners<T: Drop>(alloc: Global, rows: Vec<Owned<T>>) -> Result<Vec<u64>, AllocError>
+    ensures { IfOk result (λ numbers. numbers.items ≡ map (λ r. r.owner) rows.items) }
+{
+    let mut numbers = Vec::new(alloc);
+    for owned in rows {
+        numbers.push(owned.owner)?;
+    }
+    Ok(numbers)
+}
+
+/// The numbers of the authorizations that are listed.
+pub(crate) fn authorizations_of_listed(
+    alloc: Global,
+    rows: Vec<Owned<Listed>>,
+) -> Result<Vec<u64>, AllocError>
+    ensures { IfOk result (λ numbers. numbers.items ≡ map (λ l. l.row.authorization) rows.items) }
+{
+    let mut numbers = Vec::new(alloc);
+    for owned in rows {
+        numbers.push(owned.row.authorization)?;
+    }
+    Ok(numbers)
+}

@@ -1,0 +1,42 @@
+//! Parameters of look-ups.
+ghost use Rattle.std.specs.Prelude.{◌≡◌, pos, [], ◌∷◌};
+ghost use Rattle.sqlite.specs.declared.types.Value.TheVariants.{Int, Text as SqlText};
+ghost use Rattle.sqlite.specs.Values.{bound};
+ghost use Rattle.desk_reading.specs.Bounded.{bounded};
+
+use desk_tables::values::int;
+use sqlite::types::ValueRef;
+
+// The number as SQL has it; one above 2^63 - 1, which no row of a desk has, becomes 2^63 - 1, which none has either.
+fn bounded(number: u64) -> i64
+    ensures { result ≡ pos (bounded number) }
+{
+    if number <= 9223372036854775807 {
+        number as i64
+    } else {
+        9223372036854775807
+    }
+}
+
+/// One number.
+pub(crate) fn number_param<'a>(number: u64) -> [ValueRef<'a>; 1]
+    ensures { bound result ≡ Int (pos (bounded number)) ∷ [] }
+{
+    let number = bounded(number);
+    [int(&number)]
+}
+
+/// One text.
+pub(crate) fn text_param<'a>(text: &'a str) -> [ValueRef<'a>; 1]
+    ensures { bound result ≡ SqlText text.now ∷ [] }
+{
+    [ValueRef::Text(text.as_bytes())]
+}
+
+/// A text and a number.
+pub(crate) fn text_and_number<'a>(text: &'a str, number: u64) -> [ValueRef<'a>; 2]
+    ensures { bound result ≡ SqlText text.now ∷ Int (pos (bounded number)) ∷ [] }
+{
+    let number = bounded(number);
+    [ValueRef::Text(text.as_bytes()), int(&number)]
+}

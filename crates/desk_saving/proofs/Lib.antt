@@ -1,0 +1,9 @@
+pub mod Numbered
+pub mod NestedRows
+pub mod PlacedRows
+pub mod ListedAfter
+pub mod RowsInTurn
+pub mod MadeChanges
+pub mod BackFits
+pub mod PicturesFit
+pub mod Leaving

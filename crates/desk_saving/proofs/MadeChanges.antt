@@ -1,0 +1,160 @@
+-- What each change makes of a desk's database.
+use Rattle.std.specs.Prelude.{IfSome, find, ◌==◌}
+use Rattle.std.proofs.Common.{◌≡◌, ℕ, List, [], ◌∷◌, map, Some, refl, sym, ap, subst, ◌∙◌}
+use Rattle.sqlite.specs.Effect.{Database}
+use Rattle.desk_columns.specs.Flat.{challenge_rows, listed_rows, owned_by}
+use Rattle.desk_model.specs.Tables.{Tables}
+use Rattle.desk_model.specs.declared.objects.Nonce.{Nonce}
+use Rattle.desk_model.specs.declared.rows.AccountRow.{AccountRow}
+use Rattle.desk_model.specs.declared.rows.AuthorizationRow.{AuthorizationRow}
+use Rattle.desk_model.specs.declared.rows.ChallengeRow.{ChallengeRow}
+use Rattle.desk_model.specs.declared.rows.Meta.{Meta}
+use Rattle.desk_model.specs.declared.rows.OrderRow.{OrderRow}
+use Rattle.desk_model.specs.declared.rows.Change.TheVariants.{PutMeta, PutNonce, RemoveNonce, PutAccount, PutAuthorization, PutOrder}
+use Rattle.desk_saving.specs.Makes.{Makes, PlacesAll, PutsAll}
+use Rattle.desk_saving.proofs.ListedAfter.{listed_after}
+use Rattle.desk_saving.proofs.NestedRows.{children_put}
+use Rattle.desk_tables.specs.Effects.{Puts, Removes}
+use Rattle.desk_tables.specs.Holds.{HoldsListed}
+use Rattle.desk_tables.specs.Images.{challenge_image}
+use Rattle.desk_tables.specs.Layouts.{HasRows, account_layout, authorization_layout, challenge_layout, listed_layout, meta_layout, nonce_layout, order_layout}
+use Rattle.desk_tables.proofs.Holding.{accounts_held, authorizations_held, meta_held, nonces_held, orders_held}
+use Rattle.desk_tables.proofs.NoIndexes.{no_index_account, no_index_authorization, no_index_challenge, no_index_listed, no_index_meta, no_index_nonce, no_index_order}
+
+-- what orders list, in a table that is as it was
+listed_as : (old new : Database) (T : Tables) → new.trees 6 ≡ old.trees 6 → HoldsListed (old.trees 6) (listed_rows T.orders)
+    → HoldsListed (new.trees 6) (listed_rows T.orders)
+listed_as old new T is h = record { numbered = h.numbered; has = is ∙ h.has; rising = h.rising; same = h.same }
+
+-- the numbers of challenges, with or without their owner
+pub keys_owned : (n : ℕ) (cs : List ChallengeRow) → map challenge_layout.key (owned_by n cs) ≡ map (λ c. c.number) cs
+keys_owned n [] = refl
+keys_owned n (c ∷ cs) = ap (λ ks. c.number ∷ ks) (keys_owned n cs)
+
+-- ---- one row
+
+-- the row of `meta`
+pub makes_meta : (x : Meta) (old new : Database) → Puts meta_layout x old new → Makes (PutMeta x) old new
+makes_meta x old new puts T has fits =
+    let p = puts (T.meta ∷ []) (meta_held old T has) in
+    record {
+      sound = p.sound;
+      schema = p.has.schema;
+      meta = p.has.rows_are;
+      nonces = p.others 1 (λ e. cc) no_index_nonce ∙ has.nonces;
+      accounts = p.others 2 (λ e. cc) no_index_account ∙ has.accounts;
+      orders = p.others 4 (λ e. cc) no_index_order ∙ has.orders;
+      authorizations = p.others 5 (λ e. cc) no_index_authorization ∙ has.authorizations;
+      listed = listed_as old new T (p.others 6 (λ e. cc) no_index_listed) has.listed;
+      challenges = p.others 8 (λ e. cc) no_index_challenge ∙ has.challenges;
+      rising = fits.rising;
+    }
+
+-- a nonce
+pub makes_nonce : (x : Nonce) (old new : Database) → Puts nonce_layout x old new → Makes (PutNonce x) old new
+makes_nonce x old new puts T has fits =
+    let p = puts T.nonces (nonces_held old T has) in
+    record {
+      sound = p.sound;
+      schema = p.has.schema;
+      meta = p.others 0 (λ e. cc) no_index_meta ∙ has.meta;
+      nonces = p.has.rows_are;
+      accounts = p.others 2 (λ e. cc) no_index_account ∙ has.accounts;
+      orders = p.others 4 (λ e. cc) no_index_order ∙ has.orders;
+      authorizations = p.others 5 (λ e. cc) no_index_authorization ∙ has.authorizations;
+      listed = listed_as old new T (p.others 6 (λ e. cc) no_index_listed) has.listed;
+      challenges = p.others 8 (λ e. cc) no_index_challenge ∙ has.challenges;
+      rising = fits.rising;
+    }
+
+-- the removal of a nonce
+pub makes_removal : (n : ℕ) (old new : Database) → Removes nonce_layout n old new → Makes (RemoveNonce n) old new
+makes_removal n old new removes T has fits =
+    let p = removes T.nonces (nonces_held old T has) in
+    record {
+      sound = p.sound;
+      schema = p.has.schema;
+      meta = p.others 0 (λ e. cc) no_index_meta ∙ has.meta;
+      nonces = p.has.rows_are;
+      accounts = p.others 2 (λ e. cc) no_index_account ∙ has.accounts;
+      orders = p.others 4 (λ e. cc) no_index_order ∙ has.orders;
+      authorizations = p.others 5 (λ e. cc) no_index_authorization ∙ has.authorizations;
+      listed = listed_as old new T (p.others 6 (λ e. cc) no_index_listed) has.listed;
+      challenges = p.others 8 (λ e. cc) no_index_challenge ∙ has.challenges;
+      rising = fits.rising;
+    }
+
+-- an account
+pub makes_account : (x : AccountRow) (old new : Database) → Puts account_layout x old new → Makes (PutAccount x) old new
+makes_account x old new puts T has fits =
+    let p = puts T.accounts (accounts_held old T has) in
+    record {
+      sound = p.sound;
+      schema = p.has.schema;
+      meta = p.others 0 (λ e. cc) no_index_meta ∙ has.meta;
+      nonces = p.others 1 (λ e. cc) no_index_nonce ∙ has.nonces;
+      accounts = p.has.rows_are;
+      orders = p.others 4 (λ e. cc) no_index_order ∙ has.orders;
+      authorizations = p.others 5 (λ e. cc) no_index_authorization ∙ has.authorizations;
+      listed = listed_as old new T (p.others 6 (λ e. cc) no_index_listed) has.listed;
+      challenges = p.others 8 (λ e. cc) no_index_challenge ∙ has.challenges;
+      rising = fits.rising;
+    }
+
+-- ---- a row with its children
+
+-- an authorization, then its challenges
+pub makes_authorization : (x : AuthorizationRow) (old mid new : Database) → Puts authorization_layout x old mid
+    → PutsAll challenge_layout (owned_by x.number x.challenges) mid new
+    → Makes (PutAuthorization x) old new
+makes_authorization x old mid new first last T has fits =
+    let p = first T.authorizations (authorizations_held old T has) in
+    let between : HasRows challenge_layout mid (challenge_rows T.authorizations) =
+    record { schema = p.has.schema; rows_are = p.others 8 (λ e. cc) no_index_challenge ∙ has.challenges; rising = has.rising.challenges } in
+    let q = last p.sound (challenge_rows T.authorizations) between in
+    let same = λ (a : AuthorizationRow) (found : find (λ (a : AuthorizationRow). a.number == x.number) T.authorizations ≡ Some a).
+    let kept : map (λ c. c.number) a.challenges ≡ map (λ c. c.number) x.challenges =
+    subst (λ o. IfSome o (λ (a : AuthorizationRow). map (λ c. c.number) a.challenges ≡ map (λ c. c.number) x.challenges)) found fits.children in
+    keys_owned a.number a.challenges ∙ kept ∙ sym (keys_owned x.number x.challenges) in
+    let children = children_put (λ a. a.number) (λ a. owned_by a.number a.challenges) challenge_layout.key 0 x T.authorizations same fits.rising.challenges in
+    record {
+      sound = q.sound;
+      schema = q.has.schema;
+      meta = q.others 0 (λ e. cc) no_index_meta ∙ p.others 0 (λ e. cc) no_index_meta ∙ has.meta;
+      nonces = q.others 1 (λ e. cc) no_index_nonce ∙ p.others 1 (λ e. cc) no_index_nonce ∙ has.nonces;
+      accounts = q.others 2 (λ e. cc) no_index_account ∙ p.others 2 (λ e. cc) no_index_account ∙ has.accounts;
+      orders = q.others 4 (λ e. cc) no_index_order ∙ p.others 4 (λ e. cc) no_index_order ∙ has.orders;
+      authorizations = q.others 5 (λ e. cc) no_index_authorization ∙ p.has.rows_are;
+      listed = listed_as old new T (q.others 6 (λ e. cc) no_index_listed ∙ p.others 6 (λ e. cc) no_index_listed) has.listed;
+      challenges = q.has.rows_are ∙ ap (map challenge_image) children;
+      rising = fits.rising;
+    }
+
+-- an order, then what it lists
+pub makes_order : (x : OrderRow) (old mid new : Database) → Puts order_layout x old mid → PlacesAll (owned_by x.number x.listed) mid new
+    → Makes (PutOrder x) old new
+makes_order x old mid new first last T has fits =
+    let p = first T.orders (orders_held old T has) in
+    let between : HasRows listed_layout mid has.listed.numbered =
+    record { schema = p.has.schema; rows_are = p.others 6 (λ e. cc) no_index_listed ∙ has.listed.has; rising = has.listed.rising } in
+    let placed = last p.sound has.listed.numbered between in
+    let q = placed.2 in
+    record {
+      sound = q.sound;
+      schema = q.has.schema;
+      meta = q.others 0 (λ e. cc) no_index_meta ∙ p.others 0 (λ e. cc) no_index_meta ∙ has.meta;
+      nonces = q.others 1 (λ e. cc) no_index_nonce ∙ p.others 1 (λ e. cc) no_index_nonce ∙ has.nonces;
+      accounts = q.others 2 (λ e. cc) no_index_account ∙ p.others 2 (λ e. cc) no_index_account ∙ has.accounts;
+      orders = q.others 4 (λ e. cc) no_index_order ∙ p.has.rows_are;
+      authorizations = q.others 5 (λ e. cc) no_index_authorization ∙ p.others 5 (λ e. cc) no_index_authorization ∙ has.authorizations;
+      listed = record {
+        numbered = placed.0;
+        has = q.has.rows_are;
+        rising = q.has.rising;
+        same = listed_after x T.orders has.listed.numbered placed.0 has.rising.orders has.listed.rising has.listed.same has.rising.listed fits.rising.listed
+            fits.children
+            placed.1;
+      };
+      challenges = q.others 8 (λ e. cc) no_index_challenge ∙ p.others 8 (λ e. cc) no_index_challenge ∙ has.challenges;
+      rising = fits.rising;
+    }

@@ -1,0 +1,132 @@
+-- Rows of one table, and changes, made one after the other inside a transaction.
+use Rattle.std.proofs.Common.{zero, suc, arith, ◌≡◌, Result, Ok, Err, OnOk, ℕ, ◌+◌, ◌<◌, ◌++◌, List, [], ◌∷◌, take, get_or, length, refl, sym, ap, subst, ◌∙◌, add-one}
+use Rattle.std.proofs.Math.Seq.{take-suc}
+use Rattle.std.proofs.lemmas.List.{map-append}
+use Rattle.sqlite.specs.Effect.{Database}
+use Rattle.sqlite.specs.State.{State, Survives}
+use Rattle.desk_columns.specs.Columns.{listed_columns}
+use Rattle.desk_columns.specs.Flat.{owned_by}
+use Rattle.desk_columns.specs.declared.columns.OrderAuthzColumns.{OrderAuthzColumns}
+use Rattle.desk_columns.specs.declared.flat_rows.Owned.{Owned}
+use Rattle.desk_model.specs.Change.{applied, applied_one}
+use Rattle.desk_model.specs.Kept.{EachOf}
+use Rattle.desk_model.specs.Tables.{Tables}
+use Rattle.desk_model.specs.declared.rows.Change.{Change}
+use Rattle.desk_model.specs.declared.rows.Listed.{Listed}
+use Rattle.desk_schema.proofs.AdvanceLemmas.{advances_as, advances_then}
+use Rattle.desk_schema.specs.Advances.{Advances}
+use Rattle.desk_saving.specs.Fitting.{AreFit, IsFit}
+use Rattle.desk_saving.specs.Makes.{ArePlaced, Makes, MakesAll, PlacesAll, PutsAll, puts}
+use Rattle.desk_saving.proofs.Numbered.{puts_snoc}
+use Rattle.desk_tables.specs.Effects.{Places, PlacesColumns, Puts, is_same_place}
+use Rattle.desk_tables.specs.Hidden.{IsPlaced}
+use Rattle.desk_tables.specs.Holds.{Holds}
+use Rattle.desk_tables.specs.Layouts.{HasRows, Layout}
+
+-- ---- one row
+
+-- what an order lists, by its columns
+pub places_typed : (columns : OrderAuthzColumns) (row : Owned Listed) (old new : State) → columns ≡ listed_columns row → Advances old new (PlacesColumns columns)
+    → Advances old new (Places row)
+places_typed columns row old new are = advances_as old new (PlacesColumns columns) (Places row) (λ does. does row (sym are))
+
+-- ---- several rows
+
+-- one more
+one_more_put : {X : Type 0} (L : Layout X) (ys : List X) (y : X) (a b c : Database) → PutsAll L ys a b → Puts L y b c → PutsAll L (ys ++ y ∷ []) a c
+one_more_put L ys y a b c before last sound rows has =
+    let one = before sound rows has in
+    let two = last (puts L.key ys rows) one.has in
+    record {
+      sound = two.sound;
+      has = subst (HasRows L c) (sym (puts_snoc L.key ys y rows)) two.has;
+      others = λ t other none. two.others t other none ∙ one.others t other none;
+    }
+
+-- the rows of one owner, and one more
+owned_snoc : {T : Type 0} (n : ℕ) (xs : List T) (i : ℕ) (d : T) → i < length xs
+    → owned_by n (take (i + 1) xs) ≡ owned_by n (take i xs) ++ (record { owner = n; row = get_or xs i d }) ∷ []
+owned_snoc n xs i d low =
+    ap (λ k. owned_by n (take k xs)) (add-one i) ∙ ap (owned_by n) (take-suc xs i d low) ∙ map-append _ (take i xs) (get_or xs i d ∷ [])
+
+-- what holds of all rows of an owner holds of the one at a place
+pub each_owned : {X : Type 0} (P : Owned X → Type 0) (n : ℕ) (xs : List X) (i : ℕ) (d : X) → i < length xs → EachOf P (owned_by n xs)
+    → P (record { owner = n; row = get_or xs i d })
+each_owned P n [] i d low all = absurd (omega (arith, low))
+each_owned P n (x ∷ xs) zero d low all = all.0
+each_owned P n (x ∷ xs) (suc i) d low all = each_owned P n xs i d (omega (arith, low)) all.1
+
+-- one more row of an owner
+pub advances_put : {T : Type 0} (L : Layout (Owned T)) (n : ℕ) (first old new : State) (xs : List T) (i : ℕ) (d : T) → i < length xs
+    → Survives old new (λ _. ⊥)
+    → Advances first old (PutsAll L (owned_by n (take i xs))) → Advances old new (Puts L (record { owner = n; row = get_or xs i d }))
+    → Advances first new (PutsAll L (owned_by n (take (i + 1) xs)))
+advances_put {T} L n first old new xs i d low survives before last =
+    let row : Owned T = record { owner = n; row = get_or xs i d } in
+    let more = one_more_put L (owned_by n (take i xs)) row first.now old.now new.now in
+    subst (λ ys. Advances first new (PutsAll L ys)) (sym (owned_snoc n xs i d low))
+    (advances_then first old new (PutsAll L (owned_by n (take i xs))) (Puts L row) (PutsAll L (owned_by n (take i xs) ++ row ∷ [])) more survives before last)
+
+-- ---- what an order lists
+
+-- one more after several
+placed_snoc : (ls : List (Owned Listed)) (l : Owned Listed) (before mid after : List (ℕ × Owned Listed)) → ArePlaced ls before mid
+    → IsPlaced is_same_place l mid after
+    → ArePlaced (ls ++ l ∷ []) before after
+placed_snoc [] l before mid after same placed = (after, subst (λ m. IsPlaced is_same_place l m after) same placed, refl)
+placed_snoc (k ∷ ks) l before mid after first placed = (first.0, first.1, placed_snoc ks l first.0 mid after first.2 placed)
+
+-- one more
+one_more_placed : (ls : List (Owned Listed)) (l : Owned Listed) (a b c : Database) → PlacesAll ls a b → Places l b c → PlacesAll (ls ++ l ∷ []) a c
+one_more_placed ls l a b c first last sound before has =
+    let one = first sound before has in
+    let two = last one.0 one.2.has in (
+      two.0,
+      placed_snoc ls l before one.0 two.0 one.1 two.1,
+      record { sound = two.2.sound; has = two.2.has; others = λ t other none. two.2.others t other none ∙ one.2.others t other none },
+    )
+
+-- one more row of an order
+pub advances_placed : (n : ℕ) (first old new : State) (xs : List Listed) (i : ℕ) (d : Listed) → i < length xs → Survives old new (λ _. ⊥)
+    → Advances first old (PlacesAll (owned_by n (take i xs))) → Advances old new (Places (record { owner = n; row = get_or xs i d }))
+    → Advances first new (PlacesAll (owned_by n (take (i + 1) xs)))
+advances_placed n first old new xs i d low survives before last =
+    let row : Owned Listed = record { owner = n; row = get_or xs i d } in
+    let more = one_more_placed (owned_by n (take i xs)) row first.now old.now new.now in
+    subst (λ ys. Advances first new (PlacesAll ys)) (sym (owned_snoc n xs i d low))
+    (advances_then first old new (PlacesAll (owned_by n (take i xs))) (Places row) (PlacesAll (owned_by n (take i xs) ++ row ∷ [])) more survives before last)
+
+-- ---- changes
+
+-- applied one more
+applied_snoc : (cs : List Change) (c : Change) (T : Tables) → applied (cs ++ c ∷ []) T ≡ applied_one c (applied cs T)
+applied_snoc [] c T = refl
+applied_snoc (d ∷ ds) c T = applied_snoc ds c (applied_one d T)
+
+-- several that fit, and the last
+fit_snoc : (cs : List Change) (c : Change) (T : Tables) → AreFit T (cs ++ c ∷ []) → AreFit T cs × IsFit (applied cs T) c
+fit_snoc [] c T h = (tt, h.0)
+fit_snoc (d ∷ ds) c T h = let rest = fit_snoc ds c (applied_one d T) h.1 in ((h.0, rest.0), rest.1)
+
+-- one more
+one_more_made : (cs : List Change) (c : Change) (a b d : Database) → MakesAll cs a b → Makes c b d → MakesAll (cs ++ c ∷ []) a d
+one_more_made cs c a b d before last T has fits =
+    let parts = fit_snoc cs c T fits in
+    subst (Holds d) (sym (applied_snoc cs c T)) (last (applied cs T) (before T has parts.0) parts.1)
+
+-- one more change
+pub advances_made : (first old new : State) (cs : List Change) (i : ℕ) (c : Change) → i < length cs → c ≡ get_or cs i c → Survives old new (λ _. ⊥)
+    → Advances first old (MakesAll (take i cs)) → Advances old new (Makes c)
+    → Advances first new (MakesAll (take (i + 1) cs))
+advances_made first old new cs i c low is survives before last =
+    let more = one_more_made (take i cs) c first.now old.now new.now in
+    subst (λ ys. Advances first new (MakesAll ys)) (sym (ap (λ k. take k cs) (add-one i) ∙ take-suc cs i c low ∙ ap (λ y. take i cs ++ y ∷ []) (sym is)))
+    (advances_then first old new (MakesAll (take i cs)) (Makes c) (MakesAll (take i cs ++ c ∷ [])) more survives before last)
+
+-- what puts a row makes the change, where the call was answered
+pub makes_on_ok : {A E : Type 0} (old new : State) (Does : Database → Database → Type 0) (c d : Change) → d ≡ c
+    → ((a b : Database) → Does a b → Makes c a b) → (r : Result A E) → OnOk r (Advances old new Does)
+    → OnOk r (Advances old new (Makes d))
+makes_on_ok old new Does c d is makes (Ok v) it =
+    subst (λ e. Advances old new (Makes e)) (sym is) (advances_as old new Does (Makes c) (makes old.now new.now) it)
+makes_on_ok old new Does c d is makes (Err e) it = it

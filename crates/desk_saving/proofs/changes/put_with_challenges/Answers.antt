@@ -1,0 +1,21 @@
+use Rattle.std.proofs.Common.{subst}
+use Rattle.sqlite.specs.Held.{state}
+use Rattle.desk_columns.specs.Flat.{owned_by}
+use Rattle.desk_model.specs.declared.rows.Change.TheVariants.{PutAuthorization}
+use Rattle.desk_schema.proofs.AdvanceLemmas.{advances_then}
+use Rattle.desk_schema.specs.Advances.{Advances}
+use Rattle.desk_saving.specs.Makes.{Makes, PutsAll}
+use Rattle.desk_saving.proofs.MadeChanges.{makes_authorization}
+use Rattle.desk_saving.proofs.changes.put_with_challenges.Goals as goal
+use Rattle.desk_tables.specs.Effects.{Puts}
+use Rattle.desk_tables.specs.Layouts.{authorization_layout, challenge_layout}
+
+pub returns-clause-ok : goal.returns-clause-ok
+returns-clause-ok g c =
+    let row = c.args.row.now in
+    let old = state g.S.Store c.args.tx.now.conn.now in
+    let mid = state g.S.Store c.put_authorization.new.tx.conn.now in
+    let new = state g.S.Store c.put_challenges.new.tx.conn.now in
+    let last = subst (λ rows. Advances mid new (PutsAll challenge_layout (owned_by row.number rows))) c.as_slice.ensures c.in_ok-put_challenges.ensures.ok in
+    advances_then old mid new (Puts authorization_layout row) (PutsAll challenge_layout (owned_by row.number row.challenges)) (Makes (PutAuthorization row))
+    (makes_authorization row old.now mid.now new.now) c.in_ok-put_challenges.ensures.survives c.in_ok-put_authorization.ensures.ok last

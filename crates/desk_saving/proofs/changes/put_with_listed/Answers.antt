@@ -1,0 +1,21 @@
+use Rattle.std.proofs.Common.{subst}
+use Rattle.sqlite.specs.Held.{state}
+use Rattle.desk_columns.specs.Flat.{owned_by}
+use Rattle.desk_model.specs.declared.rows.Change.TheVariants.{PutOrder}
+use Rattle.desk_schema.proofs.AdvanceLemmas.{advances_then}
+use Rattle.desk_schema.specs.Advances.{Advances}
+use Rattle.desk_saving.specs.Makes.{Makes, PlacesAll}
+use Rattle.desk_saving.proofs.MadeChanges.{makes_order}
+use Rattle.desk_saving.proofs.changes.put_with_listed.Goals as goal
+use Rattle.desk_tables.specs.Effects.{Puts}
+use Rattle.desk_tables.specs.Layouts.{order_layout}
+
+pub returns-clause-ok : goal.returns-clause-ok
+returns-clause-ok g c =
+    let row = c.args.row.now in
+    let old = state g.S.Store c.args.tx.now.conn.now in
+    let mid = state g.S.Store c.put_order.new.tx.conn.now in
+    let new = state g.S.Store c.put_all_listed.new.tx.conn.now in
+    let last = subst (λ rows. Advances mid new (PlacesAll (owned_by row.number rows))) c.as_slice.ensures c.in_ok-put_all_listed.ensures.ok in
+    advances_then old mid new (Puts order_layout row) (PlacesAll (owned_by row.number row.listed)) (Makes (PutOrder row))
+    (makes_order row old.now mid.now new.now) c.in_ok-put_all_listed.ensures.survives c.in_ok-put_order.ensures.ok last

@@ -1,0 +1,36 @@
+use Rattle.std.proofs.Common.{◌∙◌, rules, arith, subst, take_all}
+use Rattle.sqlite.specs.Held.{state}
+use Rattle.sqlite.proofs.StateLemmas.{survives_then}
+use Rattle.desk_columns.specs.Flat.{owned_by}
+use Rattle.desk_schema.specs.Advances.{Advances}
+use Rattle.desk_saving.specs.Makes.{PlacesAll}
+use Rattle.desk_saving.proofs.RowsInTurn.{advances_placed, each_owned}
+use Rattle.desk_saving.proofs.children.put_all_listed.Goals as goal
+use Rattle.written_rows.specs.Fits.{FitsListed}
+
+pub loop-row-preserved : goal.loop-row-preserved
+loop-row-preserved g c =
+    let first = state g.S.Store c.args.tx.now.conn.now in
+    let old = state g.S.Store c.loop-row.tx.conn.now in
+    let new = state g.S.Store c.put_listed.new.tx.conn.now in
+    let after = c.in_ok-put_listed.ensures in
+    record {
+      same = after.same_reference ∙ c.loop-row.invariant.same;
+      advances = advances_placed c.args.order first old new c.args.rows.now c.loop-row.row-index _ (search rules) after.survives
+          c.loop-row.invariant.advances
+          after.ok;
+      survives = survives_then first old new _ _ (λ _. ⊥) (λ _ db none. none) (λ _ db none. none) c.loop-row.invariant.survives after.survives;
+    }
+
+pub returns-in_err-put_listed-clause-fits : goal.returns-in_err-put_listed-clause-fits
+returns-in_err-put_listed-clause-fits g c all =
+    let at = each_owned FitsListed c.args.order c.args.rows.now c.loop-row.row-index _ (search rules) all in
+    let fits = c.in_err-put_listed.ensures.fits at in
+    search (rules, fits)
+
+pub returns-clause-ok : goal.returns-clause-ok
+returns-clause-ok g c =
+    let first = state g.S.Store c.args.tx.now.conn.now in
+    let new = state g.S.Store c.loop-row.tx.conn.now in
+    let whole = take_all c.loop-row.row-index c.args.rows.now (omega arith) in
+    subst (λ xs. Advances first new (PlacesAll (owned_by c.args.order xs))) whole c.loop-row.invariant.advances

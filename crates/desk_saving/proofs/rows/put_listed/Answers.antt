@@ -1,0 +1,10 @@
+use Rattle.desk_columns.specs.declared.flat_rows.Owned.{Owned}
+use Rattle.desk_model.specs.declared.rows.Listed.{Listed}
+use Rattle.desk_saving.proofs.RowsInTurn.{places_typed}
+use Rattle.desk_saving.proofs.rows.put_listed.Goals as goal
+
+pub returns-clause-ok : goal.returns-clause-ok
+returns-clause-ok g c =
+    let written = c.in_ok-columns in
+    let row : Owned Listed = record { owner = c.args.order; row = c.args.row.now } in
+    places_typed written.columns row _ _ written.ensures.columns c.in_ok-upsert_listed.ensures.ok

@@ -1,0 +1,5 @@
+pub mod Fitting
+pub mod Makes
+pub mod Committing
+pub mod Making
+pub mod Numbers

@@ -1,0 +1,45 @@
+-- What puts of several rows, and changes, make of a database.
+use Rattle.std.specs.Prelude.{◌≡◌, ℕ, List, [], ◌∷◌}
+use Rattle.sqlite.specs.Effect.{Database, IsDatabase}
+use Rattle.desk_columns.specs.declared.flat_rows.Owned.{Owned}
+use Rattle.desk_model.specs.Change.{applied, applied_one, put}
+use Rattle.desk_model.specs.Tables.{Tables}
+use Rattle.desk_model.specs.declared.rows.Change.{Change}
+use Rattle.desk_model.specs.declared.rows.Listed.{Listed}
+use Rattle.desk_saving.specs.Fitting.{AreFit, IsFit}
+use Rattle.desk_tables.specs.Effects.{Becomes, BecomesRows, is_same_place}
+use Rattle.desk_tables.specs.Hidden.{IsPlaced}
+use Rattle.desk_tables.specs.Holds.{Holds}
+use Rattle.desk_tables.specs.Layouts.{HasRows, Layout, listed_layout}
+
+-- ---- several rows of one table
+
+-- rows put one after the other
+abbrev pub puts : {X : Type 0} → (X → ℕ) → List X → List X → List X
+puts key [] rows = rows
+puts key (x ∷ xs) rows = puts key xs (put key x rows)
+
+-- each of the rows stands in the place of the one with its key
+abbrev pub PutsAll : {X : Type 0} → Layout X → List X → Database → Database → Type 0
+PutsAll L xs old new = IsDatabase old → Becomes L (puts L.key xs) old new
+
+-- rows placed one after the other
+abbrev pub ArePlaced : List (Owned Listed) → List (ℕ × Owned Listed) → List (ℕ × Owned Listed) → Type 0
+ArePlaced [] before after = after ≡ before
+ArePlaced (l ∷ ls) before after = (mid : List (ℕ × Owned Listed)) × IsPlaced is_same_place l before mid × ArePlaced ls mid after
+
+-- each of the rows stands in the place of the one of its order and place
+abbrev pub PlacesAll : List (Owned Listed) → Database → Database → Type 0
+PlacesAll ls old new =
+    IsDatabase old → (before : List (ℕ × Owned Listed)) → HasRows listed_layout old before →
+    (after : List (ℕ × Owned Listed)) × ArePlaced ls before after × BecomesRows listed_layout after old new
+
+-- ---- changes
+
+-- whatever tables the database holds, where the change fits them it then holds them with the change
+abbrev pub Makes : Change → Database → Database → Type 0
+Makes change old new = (T : Tables) → Holds old T → IsFit T change → Holds new (applied_one change T)
+
+-- the same of changes one after the other
+abbrev pub MakesAll : List Change → Database → Database → Type 0
+MakesAll changes old new = (T : Tables) → Holds old T → AreFit T changes → Holds new (applied changes T)

@@ -1,0 +1,15 @@
+//! Changes of a desk's rows, made in its database by one transaction, and the making of that database.
+#![tactic(auto)]
+
+mod changes;
+mod children;
+mod fault;
+mod laws;
+mod making;
+mod rows;
+mod saving;
+
+pub use fault::SaveFault;
+pub use laws::{leading_changes_fit, left_tables_are_found};
+pub use making::make_tables;
+pub use saving::save_all;

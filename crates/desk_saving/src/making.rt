@@ -1,0 +1,60 @@
+//! The making of a desk's database.
+ghost use Rattle.std.specs.Prelude.{◌≡◌, false, OnOk, OnErr, IfErr};
+ghost use Rattle.sqlite.specs.State.{HasCleanDisk, Survives};
+ghost use Rattle.sqlite.specs.Held.{state};
+ghost use Rattle.desk_schema.specs.Advances.{Advances, KeepsLast};
+ghost use Rattle.desk_saving.specs.Committing.{GoesBack, HasCommitted, IsBeforeCommit, IsLeft};
+ghost use Rattle.desk_saving.specs.Making.{MakesDesk};
+ghost use Rattle.desk_saving.specs.Numbers.{IsNotTooLarge};
+ghost use Rattle.written_rows.specs.Fits.{FitsMeta};
+
+use crate::fault::SaveFault;
+use crate::rows::put_meta;
+use desk_model::Meta;
+use desk_schema::define_all;
+use sqlite::{Alter, Connection, Transaction};
+use std::alloc::Global;
+
+// Makes the tables, the indexes and the row of `meta`.
+fn define_desk<S: Alter>(
+    alloc: Global,
+    tx: &mut Transaction<'_, S>,
+    meta: &Meta,
+) -> Result<(), SaveFault>
+    ensures same_reference { tx.new.conn.ghost_name ≡ tx.old.conn.ghost_name }
+    ensures ok { OnOk result (Advances (state S.Store tx.old.conn.now) (state S.Store tx.new.conn.now) (MakesDesk meta.now)) }
+    ensures kept { KeepsLast (state S.Store tx.old.conn.now) (state S.Store tx.new.conn.now) }
+    ensures survives { Survives (state S.Store tx.old.conn.now) (state S.Store tx.new.conn.now) (λ _. ⊥) }
+    ensures fits { FitsMeta meta.now → IfErr result IsNotTooLarge }
+{
+    define_all(tx)?;
+    put_meta(alloc, tx, meta)?;
+    Ok(())
+}
+
+/// Makes the tables and indexes of a desk in a database that has no object, and puts its row of `meta`, in one transaction: all
+/// of it, or nothing.
+///
+/// # Errors
+///
+/// As `save_all`.
+pub fn make_tables<S: Alter>(
+    alloc: Global,
+    conn: &mut Connection<S>,
+    meta: &Meta,
+) -> Result<(), SaveFault>
+    requires idle { conn.old.in_transaction ≡ false }
+    ensures idle { conn.new.in_transaction ≡ false }
+    ensures ok { HasCleanDisk (state S.Store conn.new) → OnOk result (HasCommitted (state S.Store conn.old) (state S.Store conn.new) (MakesDesk meta.now)) }
+    ensures err { HasCleanDisk (state S.Store conn.new) → OnErr result (GoesBack (state S.Store conn.old) (state S.Store conn.new)) }
+    ensures fits { FitsMeta meta.now → IfErr result IsNotTooLarge }
+    ensures before { IfErr result (λ why. IsBeforeCommit why → Survives (state S.Store conn.old) (state S.Store conn.new) (λ _. ⊥)) }
+    ensures left { Survives (state S.Store conn.old) (state S.Store conn.new) (IsLeft (MakesDesk meta.now (state S.Store conn.old).now)) }
+{
+    let mut tx = conn.transaction();
+    define_desk(alloc, &mut tx, meta)?;
+    match tx.commit() {
+        Ok(()) => Ok(()),
+        Err(error) => Err(SaveFault::Commit(error)),
+    }
+}

@@ -1,0 +1,42 @@
+//! Changes, in one transaction.
+ghost use Rattle.std.specs.Prelude.{◌≡◌, false, OnOk, OnErr, IfErr};
+ghost use Rattle.sqlite.specs.State.{HasCleanDisk, Survives};
+ghost use Rattle.sqlite.specs.Held.{state};
+ghost use Rattle.desk_model.specs.Kept.{EachOf};
+ghost use Rattle.desk_saving.specs.Committing.{GoesBack, HasCommitted, IsBeforeCommit, IsLeft};
+ghost use Rattle.desk_saving.specs.Fitting.{Saves};
+ghost use Rattle.desk_saving.specs.Numbers.{FitsColumns, IsNotTooLarge};
+
+use crate::changes::put_changes;
+use crate::fault::SaveFault;
+use desk_model::Change;
+use sqlite::{Alter, Connection};
+use std::alloc::Global;
+
+/// Makes the changes in one transaction: all of them, or none.
+///
+/// # Errors
+///
+/// `Row` or `Statement` where a change was not made, `Commit` where their commit failed; a row is too large only where a number
+/// is above 2^63 - 1. A connection that is still open has what was committed before, and after `Row` or `Statement` a stop leaves
+/// nothing that it did not leave before.
+pub fn save_all<S: Alter>(
+    alloc: Global,
+    conn: &mut Connection<S>,
+    changes: &[Change],
+) -> Result<(), SaveFault>
+    requires idle { conn.old.in_transaction ≡ false }
+    ensures idle { conn.new.in_transaction ≡ false }
+    ensures ok { HasCleanDisk (state S.Store conn.new) → OnOk result (HasCommitted (state S.Store conn.old) (state S.Store conn.new) (Saves changes.now)) }
+    ensures err { HasCleanDisk (state S.Store conn.new) → OnErr result (GoesBack (state S.Store conn.old) (state S.Store conn.new)) }
+    ensures fits { EachOf FitsColumns changes.now → IfErr result IsNotTooLarge }
+    ensures before { IfErr result (λ why. IsBeforeCommit why → Survives (state S.Store conn.old) (state S.Store conn.new) (λ _. ⊥)) }
+    ensures left { Survives (state S.Store conn.old) (state S.Store conn.new) (IsLeft (Saves changes.now (state S.Store conn.old).now)) }
+{
+    let mut tx = conn.transaction();
+    put_changes(alloc, &mut tx, changes)?;
+    match tx.commit() {
+        Ok(()) => Ok(()),
+        Err(error) => Err(SaveFault::Commit(error)),
+    }
+}

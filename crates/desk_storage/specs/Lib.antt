@@ -1,0 +1,3 @@
+pub mod InMemory
+pub mod Sight
+pub mod Storing

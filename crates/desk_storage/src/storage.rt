@@ -1,0 +1,41 @@
+//! A store of the tables of a desk.
+ghost use Rattle.std.specs.Prelude.{IfErr};
+ghost use Rattle.desk_storage.specs.declared.fault.StorageFault.{StorageFault as Fault};
+ghost use Rattle.desk_storage.specs.Sight.{Sight};
+ghost use Rattle.desk_storage.specs.Storing.{Loads, Saves};
+
+use crate::fault::StorageFault;
+use desk_book::Book;
+use desk_model::{Call, Change};
+use std::alloc::Global;
+
+/// A store of the tables of a desk.
+pub trait Storage {
+    // What a stop leaves.
+    ghost Content: { Type 0 };
+
+    // What may be said of the store.
+    ghost sight: { Sight Self Content };
+
+    // The faults that the store may meet.
+    ghost may_meet: { Fault → Type 0 };
+
+    /// A book of the rows that the call touches, and maybe more.
+    ///
+    /// # Errors
+    ///
+    /// `Memory`: the store has what it had. `Device` or `Reopen`: it is to be opened again.
+    fn load_part(&mut self, alloc: Global, call: &Call) -> Result<Book, StorageFault>
+        ensures loads { Loads sight call.now self.old self.new result }
+        ensures met { IfErr result may_meet };
+
+    /// Makes the changes, all of them or none.
+    ///
+    /// # Errors
+    ///
+    /// `Memory`: the store has what it had. `Device` or `Reopen`: it is to be opened again, and then has all changes or
+    /// none.
+    fn save(&mut self, alloc: Global, changes: Vec<Change>) -> Result<(), StorageFault>
+        ensures saves { Saves sight changes.items self.old self.new result }
+        ensures met { IfErr result may_meet };
+}

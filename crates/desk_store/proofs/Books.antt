@@ -1,0 +1,36 @@
+-- What a desk's tables are to a file.
+use Rattle.std.proofs.Common.{◌≡◌, Result, Ok, Err, sym, subst}
+use Rattle.std.specs.Prelude.{IfOk}
+use Rattle.sqlite.specs.Effect.{Database}
+use Rattle.sqlite.specs.State.{State}
+use Rattle.desk_columns.specs.Columns.{rows_columns}
+use Rattle.desk_columns.specs.Flat.{flat}
+use Rattle.desk_columns.specs.declared.columns.StoredRows.{StoredRows}
+use Rattle.desk_model.specs.History.{clock}
+use Rattle.desk_model.specs.Tables.{Tables}
+use Rattle.desk_reading.specs.StoredBook.{IsStoredBook}
+use Rattle.desk_store.specs.Desks.{HasDesk, IsDesk}
+use Rattle.desk_tables.specs.Holds.{Holds}
+use Rattle.stored_rows.specs.IsBook.{IsBookOfStored}
+use Rattle.stored_laws.proofs.Books.{tables_book}
+use Rattle.stored_laws.proofs.Columns.{picture_told}
+use Rattle.stored_laws.proofs.Rows.{picture_stored}
+use Rattle.stored_laws.specs.Told.{AreReorderedColumns, IsOnlyBookOf}
+
+-- they are a book in the limits of the columns
+pub stored_book : (db : Database) (T : Tables) → IsDesk db T → IsStoredBook T
+stored_book db T desk =
+    subst IsStoredBook (sym desk.is_picture)
+    (record { book = tables_book desk.history desk.legal.each (clock desk.history); stored = picture_stored desk.history desk.legal })
+
+-- a file that has their rows is their book and no other
+pub only_book : (db : Database) (T : Tables) → IsDesk db T → (stored : StoredRows) → AreReorderedColumns stored (rows_columns (flat T)) → IsOnlyBookOf stored T
+only_book db T desk stored told =
+    subst (IsOnlyBookOf stored) (sym desk.is_picture)
+    (picture_told desk.history desk.legal stored (subst (λ (U : Tables). AreReorderedColumns stored (rows_columns (flat U))) desk.is_picture told))
+
+-- the book that was made of the rows that were read
+pub book_told : {E : Type 0} (s : State) (stored : StoredRows) (made : Result Tables E) → IfOk made (λ book. IsBookOfStored stored book)
+    → ((T : Tables) → Holds s.now T → AreReorderedColumns stored (rows_columns (flat T))) → IfOk made (λ book. (T : Tables) → HasDesk s T → book ≡ T)
+book_told s stored (Ok book) is told = λ T has. (only_book s.now T has.desk stored (told T has.desk.holds)).only book is
+book_told s stored (Err why) is told = tt

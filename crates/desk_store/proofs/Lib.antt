@@ -1,0 +1,4 @@
+pub mod Books
+pub mod NewDesks
+pub mod SavedDesks
+pub mod Standing

@@ -1,0 +1,44 @@
+-- From the tables that are made to a desk.
+use Rattle.std.proofs.Common.{◌≡◌, ℕ, refl, sym, subst, ◌∙◌}
+use Rattle.std.specs.Prelude.{false}
+use Rattle.sqlite.specs.Effect.{Database}
+use Rattle.sqlite.specs.State.{State}
+use Rattle.sqlite.specs.Tree.{Trees}
+use Rattle.desk_model.specs.Legal.{Legal}
+use Rattle.desk_model.specs.Tables.{Tables, picture}
+use Rattle.desk_model.specs.Terms.{Terms}
+use Rattle.desk_saving.specs.Committing.{HasCommitted, IsLeft}
+use Rattle.desk_saving.specs.Making.{MakesDesk, tables_of}
+use Rattle.desk_schema.specs.Schema.{no_schema}
+use Rattle.desk_tables.specs.Holds.{Holds}
+use Rattle.desk_store.specs.Desks.{IsDesk}
+use Rattle.desk_store.specs.Making.{IsNewDesk, Makes, first_history}
+
+module _ (policy : Terms) (at : ℕ) (book : Tables) (is : book ≡ picture (first_history policy at)) (legal : Legal (first_history policy at)) where
+  -- a new desk has its row of `meta` and no other row
+  alone : tables_of book.meta ≡ picture (first_history policy at)
+  alone = subst (λ (T : Tables). tables_of T.meta ≡ picture (first_history policy at)) (sym is) refl
+
+  -- a database that was made is a desk
+  new_desk : (old new : Database) → MakesDesk book.meta old new → old.schema ≡ no_schema → IsDesk new (picture (first_history policy at))
+  new_desk old new makes none =
+      record { holds = subst (Holds new) alone (makes none); history = first_history policy at; legal = legal; is_picture = refl }
+
+  -- what a stop in the commit leaves
+  pub desk_left : (old : State) (trees : Trees) → IsLeft (MakesDesk book.meta old.now) trees → IsNewDesk policy at old trees
+  desk_left old trees left none = (left.0, left.1, new_desk old.now left.0 left.2 none)
+
+  -- what was committed
+  pub desk_made : (old new : State) → new.in_transaction ≡ false → new.step_limit ≡ old.step_limit → HasCommitted old new (MakesDesk book.meta) → Makes policy at old new
+  desk_made old new idle limit it none unlimited =
+      let desk = new_desk old.now new.committed it.does none in
+      record {
+        desk = record {
+          is_open = it.is_open;
+          idle = idle;
+          unlimited = limit ∙ unlimited;
+          settled = it.settled;
+          desk = subst (λ db. IsDesk db (picture (first_history policy at))) (sym it.settled) desk;
+        };
+        left = λ trees may. (new.committed, it.left trees may, desk);
+      }

@@ -1,0 +1,58 @@
+-- Which fault an error of the engine is.
+use Rattle.std.specs.Prelude.{◌≡◌, ◌⊎◌}
+use Rattle.sqlite.specs.declared.error.Error.{Error}
+use Rattle.sqlite.specs.declared.error.Error.TheVariants.{SqliteFailure}
+use Rattle.sqlite.specs.declared.error.ErrorCode.TheVariants as code
+use Rattle.desk_reading.specs.declared.fault.ReadFault.{ReadFault}
+use Rattle.desk_reading.specs.declared.fault.ReadFault.TheVariants.{Engine, NotARow}
+use Rattle.desk_saving.specs.declared.fault.SaveFault.{SaveFault}
+use Rattle.desk_saving.specs.declared.fault.SaveFault.TheVariants.{Row, Statement, Commit}
+use Rattle.desk_storage.specs.declared.fault.StorageFault.{StorageFault}
+use Rattle.desk_storage.specs.declared.fault.StorageFault.TheVariants as fault
+use Rattle.desk_store.specs.declared.faults.Cause.{Cause}
+use Rattle.desk_store.specs.declared.faults.Cause.TheVariants as cause
+use Rattle.desk_store.specs.declared.open_fault.OpenFault.{OpenFault}
+use Rattle.desk_store.specs.declared.open_fault.OpenFault.TheVariants.{NotADesk, Storage}
+use Rattle.written_rows.specs.declared.fault.WriteFault.TheVariants as write
+
+-- memory, the disk or a size, or anything else
+abbrev pub cause_of : Error → Cause
+cause_of (SqliteFailure code.OutOfMemory) = cause.Memory
+cause_of (SqliteFailure code.SystemIoFailure) = cause.Device
+cause_of (SqliteFailure code.DatabaseCorrupt) = cause.Device
+cause_of (SqliteFailure code.DiskFull) = cause.Device
+cause_of (SqliteFailure code.TooBig) = cause.Device
+cause_of _ = cause.Other
+
+-- after a want of memory the store goes on if its connection still answers
+abbrev pub IsOfMemory : StorageFault → Type 0
+IsOfMemory f = (f ≡ fault.Memory) ⊎ (f ≡ fault.Reopen)
+
+-- the fault of a statement that failed
+abbrev pub IsOfStatement : Cause → StorageFault → Type 0
+IsOfStatement cause.Memory f = IsOfMemory f
+IsOfStatement cause.Device f = f ≡ fault.Device
+IsOfStatement cause.Other f = f ≡ fault.Device
+
+-- the fault of a commit that failed
+abbrev pub commit_fault : Cause → StorageFault
+commit_fault cause.Device = fault.Device
+commit_fault _ = fault.Reopen
+
+-- the fault of a save that failed
+abbrev pub IsOfSave : SaveFault → StorageFault → Type 0
+IsOfSave (Row write.Memory) f = IsOfMemory f
+IsOfSave (Row write.TooLarge) f = f ≡ fault.Device
+IsOfSave (Statement error) f = IsOfStatement (cause_of error) f
+IsOfSave (Commit error) f = f ≡ commit_fault (cause_of error)
+
+-- the fault of a reading that failed
+abbrev pub IsOfReading : ReadFault → StorageFault → Type 0
+IsOfReading (Engine error) f = IsOfStatement (cause_of error) f
+IsOfReading NotARow f = f ≡ fault.Device
+
+-- the fault of a reading that failed in opening
+abbrev pub IsOfOpening : Cause → OpenFault → Type 0
+IsOfOpening cause.Memory f = (f ≡ Storage fault.Memory) ⊎ (f ≡ Storage fault.Reopen)
+IsOfOpening cause.Device f = f ≡ Storage fault.Device
+IsOfOpening cause.Other f = f ≡ NotADesk

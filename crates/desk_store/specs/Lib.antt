@@ -1,0 +1,3 @@
+pub mod Causes
+pub mod Desks
+pub mod Making

@@ -1,0 +1,34 @@
+-- What making a desk leaves.
+use Rattle.std.specs.Prelude.{◌≡◌, ℕ, [], ◌∷◌, None}
+use Rattle.sqlite.specs.State.{State}
+use Rattle.sqlite.specs.Tree.{Trees}
+use Rattle.desk_model.specs.Entry.{History}
+use Rattle.desk_model.specs.Terms.{Terms}
+use Rattle.desk_model.specs.Tables.{picture}
+use Rattle.desk_model.specs.declared.entry.Entry.TheVariants.{Made as made}
+use Rattle.desk_schema.specs.Schema.{no_schema}
+use Rattle.desk_storage.specs.declared.fault.StorageFault.{StorageFault}
+use Rattle.desk_store.specs.Desks.{AreOfDesk, HasDesk}
+use Rattle.desk_store.specs.declared.open_fault.OpenFault.{OpenFault}
+use Rattle.desk_store.specs.declared.open_fault.OpenFault.TheVariants.{Storage}
+
+-- the history of a desk that was just made
+abbrev pub first_history : Terms → ℕ → History
+first_history policy at = (record { date = at; entry = made policy }) ∷ []
+
+-- what a stop in the commit leaves, where there was nothing: the new desk
+abbrev pub IsNewDesk : Terms → ℕ → State → Trees → Type 0
+IsNewDesk policy at old trees = old.now.schema ≡ no_schema → AreOfDesk trees (picture (first_history policy at))
+
+-- the connection has the new desk, and a stop leaves that alone
+pub record IsMade (policy : Terms) (at : ℕ) (new : State) : Type 0 where
+  pub desk : HasDesk new (picture (first_history policy at))
+  pub left : (trees : Trees) → new.may_leave trees → AreOfDesk trees (picture (first_history policy at))
+
+-- where there was nothing and no limit on steps, there is the new desk
+abbrev pub Makes : Terms → ℕ → State → State → Type 0
+Makes policy at old new = old.now.schema ≡ no_schema → old.step_limit ≡ None → IsMade policy at new
+
+-- the store failed
+abbrev pub IsOfStorage : OpenFault → Type 0
+IsOfStorage f = (why : StorageFault) × (f ≡ Storage why)

@@ -1,0 +1,13 @@
+//! The tables of a desk over a connection of `sqlite`.
+#![tactic(auto)]
+
+mod faults;
+mod look_ups;
+mod making;
+mod open_fault;
+mod opening;
+mod storage;
+mod store;
+
+pub use open_fault::OpenFault;
+pub use store::{Store, Unopened};

@@ -1,0 +1,180 @@
+//! The store as a source of rows: one statement a look-up, and one more for the children of each row.
+use crate::faults::reading_fault;
+use crate::store::Store;
+use desk_loading::LookUps;
+use desk_model::{
+    AccountRow, AuthorizationRow, AuthzStatus, Jwk, Meta, Nonce, OrderRow, OrderStatus,
+};
+use desk_reading as rows;
+use desk_storage::StorageFault;
+use sqlite::Alter;
+use std::alloc::Global;
+
+impl<S: Alter> LookUps for Store<S> {
+    ghost use Rattle.sqlite.specs.Tree.{Trees};
+    ghost use Rattle.desk_store.specs.Desks.{store_sight};
+
+    ghost Content = { Trees };
+
+    ghost sight = { store_sight S.Store };
+
+    fn meta_row(&mut self, alloc: Global) -> Result<Meta, StorageFault> {
+        match rows::meta_row(alloc, &mut self.conn) {
+            Ok(found) => Ok(found),
+            Err(fault) => Err(reading_fault(&mut self.conn, fault)),
+        }
+    }
+
+    fn all_nonces(&mut self, alloc: Global) -> Result<Vec<Nonce>, StorageFault> {
+        match rows::all_nonces(alloc, &mut self.conn) {
+            Ok(found) => Ok(found),
+            Err(fault) => Err(reading_fault(&mut self.conn, fault)),
+        }
+    }
+
+    fn all_accounts(&mut self, alloc: Global) -> Result<Vec<AccountRow>, StorageFault> {
+        match rows::all_accounts(alloc, &mut self.conn) {
+            Ok(found) => Ok(found),
+            Err(fault) => Err(reading_fault(&mut self.conn, fault)),
+        }
+    }
+
+    fn all_orders(&mut self, alloc: Global) -> Result<Vec<OrderRow>, StorageFault> {
+        match rows::all_orders(alloc, &mut self.conn) {
+            Ok(found) => Ok(found),
+            Err(fault) => Err(reading_fault(&mut self.conn, fault)),
+        }
+    }
+
+    fn all_authorizations(&mut self, alloc: Global) -> Result<Vec<AuthorizationRow>, StorageFault> {
+        match rows::all_authorizations(alloc, &mut self.conn) {
+            Ok(found) => Ok(found),
+            Err(fault) => Err(reading_fault(&mut self.conn, fault)),
+        }
+    }
+
+    fn nonces_numbered(&mut self, alloc: Global, serial: u64) -> Result<Vec<Nonce>, StorageFault> {
+        match rows::nonces_numbered(alloc, &mut self.conn, serial) {
+            Ok(found) => Ok(found),
+            Err(fault) => Err(reading_fault(&mut self.conn, fault)),
+        }
+    }
+
+    fn nonces_before(&mut self, alloc: Global, moment: u64) -> Result<Vec<Nonce>, StorageFault> {
+        match rows::nonces_before(alloc, &mut self.conn, moment) {
+            Ok(found) => Ok(found),
+            Err(fault) => Err(reading_fault(&mut self.conn, fault)),
+        }
+    }
+
+    fn accounts_numbered(
+        &mut self,
+        alloc: Global,
+        number: u64,
+    ) -> Result<Vec<AccountRow>, StorageFault> {
+        match rows::accounts_numbered(alloc, &mut self.conn, number) {
+            Ok(found) => Ok(found),
+            Err(fault) => Err(reading_fault(&mut self.conn, fault)),
+        }
+    }
+
+    fn accounts_with_key(
+        &mut self,
+        alloc: Global,
+        key: &Jwk,
+    ) -> Result<Vec<AccountRow>, StorageFault> {
+        match rows::accounts_with_key(alloc, &mut self.conn, key) {
+            Ok(found) => Ok(found),
+            Err(fault) => Err(reading_fault(&mut self.conn, fault)),
+        }
+    }
+
+    fn orders_numbered(
+        &mut self,
+        alloc: Global,
+        number: u64,
+    ) -> Result<Vec<OrderRow>, StorageFault> {
+        match rows::orders_numbered(alloc, &mut self.conn, number) {
+            Ok(found) => Ok(found),
+            Err(fault) => Err(reading_fault(&mut self.conn, fault)),
+        }
+    }
+
+    fn orders_of(&mut self, alloc: Global, account: u64) -> Result<Vec<OrderRow>, StorageFault> {
+        match rows::orders_of(alloc, &mut self.conn, account) {
+            Ok(found) => Ok(found),
+            Err(fault) => Err(reading_fault(&mut self.conn, fault)),
+        }
+    }
+
+    fn orders_past(
+        &mut self,
+        alloc: Global,
+        status: OrderStatus,
+        moment: u64,
+    ) -> Result<Vec<OrderRow>, StorageFault> {
+        match rows::orders_past(alloc, &mut self.conn, status, moment) {
+            Ok(found) => Ok(found),
+            Err(fault) => Err(reading_fault(&mut self.conn, fault)),
+        }
+    }
+
+    fn authorizations_numbered(
+        &mut self,
+        alloc: Global,
+        number: u64,
+    ) -> Result<Vec<AuthorizationRow>, StorageFault> {
+        match rows::authorizations_numbered(alloc, &mut self.conn, number) {
+            Ok(found) => Ok(found),
+            Err(fault) => Err(reading_fault(&mut self.conn, fault)),
+        }
+    }
+
+    fn authorizations_of(
+        &mut self,
+        alloc: Global,
+        account: u64,
+    ) -> Result<Vec<AuthorizationRow>, StorageFault> {
+        match rows::authorizations_of(alloc, &mut self.conn, account) {
+            Ok(found) => Ok(found),
+            Err(fault) => Err(reading_fault(&mut self.conn, fault)),
+        }
+    }
+
+    fn authorizations_past(
+        &mut self,
+        alloc: Global,
+        status: AuthzStatus,
+        moment: u64,
+    ) -> Result<Vec<AuthorizationRow>, StorageFault> {
+        match rows::authorizations_past(alloc, &mut self.conn, status, moment) {
+            Ok(found) => Ok(found),
+            Err(fault) => Err(reading_fault(&mut self.conn, fault)),
+        }
+    }
+
+    fn orders_listing(
+        &mut self,
+        alloc: Global,
+        authorization: u64,
+    ) -> Result<Vec<u64>, StorageFault> {
+        match rows::orders_listing(alloc, &mut self.conn, authorization) {
+            Ok(found) => Ok(found),
+            Err(fault) => Err(reading_fault(&mut self.conn, fault)),
+        }
+    }
+
+    fn listed_by(&mut self, alloc: Global, order: u64) -> Result<Vec<u64>, StorageFault> {
+        match rows::listed_by(alloc, &mut self.conn, order) {
+            Ok(found) => Ok(found),
+            Err(fault) => Err(reading_fault(&mut self.conn, fault)),
+        }
+    }
+
+    fn owners_of(&mut self, alloc: Global, challenge: u64) -> Result<Vec<u64>, StorageFault> {
+        match rows::owners_of(alloc, &mut self.conn, challenge) {
+            Ok(found) => Ok(found),
+            Err(fault) => Err(reading_fault(&mut self.conn, fault)),
+        }
+    }
+}

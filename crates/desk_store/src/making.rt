@@ -1,0 +1,42 @@
+//! The making of a desk.
+ghost use Rattle.std.specs.Prelude.{◌≡◌, false, None, OnOk, OnErr, IfErr, Err, IsTrue};
+ghost use Rattle.sqlite.specs.State.{HasCleanDisk, Survives};
+ghost use Rattle.sqlite.specs.Held.{state};
+ghost use Rattle.desk_model.specs.Tables.{picture};
+ghost use Rattle.desk_saving.specs.Committing.{GoesBack};
+ghost use Rattle.desk_storage.specs.declared.fault.StorageFault.TheVariants.{Memory as memory};
+ghost use Rattle.desk_store.specs.Making.{IsNewDesk, Makes, first_history};
+
+use crate::faults::saving_fault;
+use desk_book::Book;
+use desk_model::{Clock, Policy};
+use desk_saving::make_tables;
+use desk_storage::StorageFault;
+use sqlite::{Alter, Connection};
+use std::alloc::Global;
+
+/// Makes the tables of a desk, at a moment in seconds since 1970, in one transaction.
+///
+/// # Errors
+///
+/// `Memory`, where a growth was refused and the connection still answers: it has what it had. `Device` or `Reopen`
+/// otherwise: a stop leaves what it left before, or the new desk.
+pub(crate) fn make_desk<S: Alter>(
+    alloc: Global,
+    conn: &mut Connection<S>,
+    policy: Policy,
+    at: Clock,
+) -> Result<(), StorageFault>
+    requires idle { conn.old.in_transaction ≡ false }
+    ensures idle { conn.new.in_transaction ≡ false }
+    ensures made { HasCleanDisk (state S.Store conn.new) → OnOk result (Makes policy at (state S.Store conn.old) (state S.Store conn.new)) }
+    ensures back { HasCleanDisk (state S.Store conn.new) → OnErr result (GoesBack (state S.Store conn.old) (state S.Store conn.new)) }
+    ensures answering { HasCleanDisk (state S.Store conn.new) → result ≡ Err memory → IsTrue (state S.Store conn.new).is_open }
+    ensures left { Survives (state S.Store conn.old) (state S.Store conn.new) (IsNewDesk policy at (state S.Store conn.old)) }
+{
+    let book = Book::new(alloc, policy, at);
+    match make_tables(alloc, conn, book.meta()) {
+        Ok(()) => Ok(()),
+        Err(fault) => Err(saving_fault(conn, fault)),
+    }
+}

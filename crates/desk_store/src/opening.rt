@@ -1,0 +1,102 @@
+//! The opening of a desk.
+ghost use Rattle.std.specs.Prelude.{◌≡◌, ◌⊎◌, Err, IfErr, IfOk, IsTrue, OnOk};
+ghost use Rattle.sqlite.specs.State.{HasCleanDisk, IsUnchanged};
+ghost use Rattle.sqlite.specs.Held.{state};
+ghost use Rattle.desk_model.specs.Tables.{Tables};
+ghost use Rattle.desk_reading.specs.Format.{IsNewer, ShowsFormats};
+ghost use Rattle.desk_schema.specs.Stays.{Asks};
+ghost use Rattle.desk_storage.specs.declared.fault.StorageFault.TheVariants.{Memory as memory};
+ghost use Rattle.desk_store.specs.Causes.{IsOfOpening, cause_of};
+ghost use Rattle.desk_store.specs.Desks.{HasDesk};
+ghost use Rattle.desk_store.specs.declared.open_fault.OpenFault.TheVariants.{NewerFormat as newer_format, NotADesk as not_a_desk, Storage as of_storage};
+ghost use Rattle.stored_rows.specs.IsBook.{IsBookOfStored};
+
+use crate::faults::{Cause, cause_of, memory_fault};
+use crate::open_fault::OpenFault;
+use desk_book::Book;
+use desk_columns::StoredRows;
+use desk_reading::{is_newer, load_stored};
+use desk_schema::has_indexes;
+use desk_storage::StorageFault;
+use sqlite::{Alter, Connection, Error};
+use std::alloc::Global;
+use stored_rows::{RowsFault, from_rows};
+
+/// The fault of a reading that failed in opening.
+fn opening_fault<S: Alter>(conn: &mut Connection<S>, error: Error) -> OpenFault
+    ensures fault { IsOfOpening (cause_of error) result }
+    ensures unchanged { HasCleanDisk (state S.Store conn.new) → result ≡ of_storage memory → IsUnchanged (state S.Store conn.old) (state S.Store conn.new) }
+    ensures asks { Asks (state S.Store conn.old) (state S.Store conn.new) }
+{
+    match cause_of(error) {
+        Cause::Memory => OpenFault::Storage(memory_fault(conn)),
+        Cause::Device => OpenFault::Storage(StorageFault::Device),
+        Cause::Other => OpenFault::NotADesk,
+    }
+}
+
+/// That the tables are not of a later format.
+fn check_format<S: Alter>(conn: &mut Connection<S>) -> Result<(), OpenFault>
+    ensures known { HasCleanDisk (state S.Store conn.new) → OnOk result (ShowsFormats (state S.Store conn.old) (state S.Store conn.new) (λ rows. ¬ IsNewer rows)) }
+    ensures newer { HasCleanDisk (state S.Store conn.new) → result ≡ Err newer_format → ShowsFormats (state S.Store conn.old) (state S.Store conn.new) IsNewer }
+    ensures unchanged { HasCleanDisk (state S.Store conn.new) → OnOk result (IsUnchanged (state S.Store conn.old) (state S.Store conn.new)) }
+    ensures answering { HasCleanDisk (state S.Store conn.new) → result ≡ Err (of_storage memory) → IsTrue (state S.Store conn.new).is_open }
+    ensures asks { Asks (state S.Store conn.old) (state S.Store conn.new) }
+{
+    match is_newer(conn) {
+        Ok(true) => Err(OpenFault::NewerFormat),
+        Ok(false) => Ok(()),
+        Err(error) => Err(opening_fault(conn, error)),
+    }
+}
+
+/// The book of the rows that were read.
+fn book_of(alloc: Global, stored: StoredRows) -> Result<Book, OpenFault>
+    ensures book { IfOk result (λ book. IsBookOfStored stored book) }
+    ensures fault { IfErr result (λ why. (why ≡ of_storage memory) ⊎ ((why ≡ not_a_desk) × ((T : Tables) → IsBookOfStored stored T → ⊥))) }
+{
+    match from_rows(alloc, stored) {
+        Ok(book) => Ok(book),
+        Err(RowsFault::NotABook) => Err(OpenFault::NotADesk),
+        Err(RowsFault::Memory) => Err(OpenFault::Storage(StorageFault::Memory)),
+    }
+}
+
+/// The book of the tables.
+///
+/// # Errors
+///
+/// `NotADesk` where the tables are no desk's, `Storage` where the store failed.
+pub(crate) fn read_book<S: Alter>(
+    alloc: Global,
+    conn: &mut Connection<S>,
+) -> Result<Book, OpenFault>
+    ensures book { HasCleanDisk (state S.Store conn.new) → IfOk result (λ book. (T : Tables) → HasDesk (state S.Store conn.old) T → book ≡ T) }
+    ensures unchanged { HasCleanDisk (state S.Store conn.new) → OnOk result (IsUnchanged (state S.Store conn.old) (state S.Store conn.new)) }
+    ensures answering { HasCleanDisk (state S.Store conn.new) → result ≡ Err (of_storage memory) → IsTrue (state S.Store conn.new).is_open }
+    ensures asks { Asks (state S.Store conn.old) (state S.Store conn.new) }
+{
+    match load_stored(alloc, conn) {
+        Ok(stored) => book_of(alloc, stored),
+        Err(error) => Err(opening_fault(conn, error)),
+    }
+}
+
+/// That the tables and indexes are those of a desk, of this format.
+///
+/// # Errors
+///
+/// `NewerFormat`, where `meta` has one row of a later format; else `NotADesk`, where a table, a column or an index is missing,
+/// or no book has these rows; `Storage` where the store failed.
+pub(crate) fn check_desk<S: Alter>(alloc: Global, conn: &mut Connection<S>) -> Result<(), OpenFault>
+    ensures unchanged { HasCleanDisk (state S.Store conn.new) → OnOk result (IsUnchanged (state S.Store conn.old) (state S.Store conn.new)) }
+    ensures answering { HasCleanDisk (state S.Store conn.new) → result ≡ Err (of_storage memory) → IsTrue (state S.Store conn.new).is_open }
+    ensures asks { Asks (state S.Store conn.old) (state S.Store conn.new) }
+{
+    check_format(conn)?;
+    if !has_indexes(conn.schema()) {
+        return Err(OpenFault::NotADesk);
+    }
+    read_book(alloc, conn)?;
+    Ok(())
+}

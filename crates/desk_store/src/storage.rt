@@ -1,0 +1,36 @@
+//! The store, as a desk asks for it.
+use crate::faults::saving_fault;
+use crate::store::Store;
+use desk_book::Book;
+use desk_loading::load_part;
+use desk_model::{Call, Change};
+use desk_saving::save_all;
+use desk_storage::{Storage, StorageFault};
+use sqlite::Alter;
+use std::alloc::Global;
+
+impl<S: Alter> Storage for Store<S> {
+    ghost use Rattle.sqlite.specs.Tree.{Trees};
+    ghost use Rattle.desk_store.specs.Desks.{store_sight};
+
+    ghost Content = { Trees };
+
+    ghost sight = { store_sight S.Store };
+
+    ghost may_meet = { λ _. Unit {0} };
+
+    fn load_part(&mut self, alloc: Global, call: &Call) -> Result<Book, StorageFault> {
+        load_part(alloc, self, call)
+    }
+
+    fn save(&mut self, alloc: Global, changes: Vec<Change>) -> Result<(), StorageFault> {
+        // No call leaves a transaction open; a store that had one would not know what it holds.
+        if !self.conn.is_autocommit() {
+            return Err(StorageFault::Reopen);
+        }
+        match save_all(alloc, &mut self.conn, changes.as_slice()) {
+            Ok(()) => Ok(()),
+            Err(fault) => Err(saving_fault(&mut self.conn, fault)),
+        }
+    }
+}

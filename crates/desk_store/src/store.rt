@@ -1,0 +1,120 @@
+//! The store of a desk.
+ghost use Rattle.std.specs.Prelude.{◌≡◌, false, Err, IfErr, IfOk, IsTrue, MatchResult};
+ghost use Rattle.sqlite.specs.State.{HasCleanDisk, IsUnchanged, Survives};
+ghost use Rattle.sqlite.specs.Held.{state};
+ghost use Rattle.desk_model.specs.Tables.{Tables};
+ghost use Rattle.desk_saving.specs.Committing.{GoesBack};
+ghost use Rattle.desk_schema.specs.Names.{uses_names};
+ghost use Rattle.desk_schema.specs.Stays.{Asks};
+ghost use Rattle.desk_storage.specs.Sight.{ForTables, Keeps, Reads};
+ghost use Rattle.desk_storage.specs.declared.fault.StorageFault.TheVariants.{Memory as memory};
+ghost use Rattle.desk_store.specs.Desks.{HasDesk, store_sight};
+ghost use Rattle.desk_store.specs.Making.{IsNewDesk, IsOfStorage, Makes};
+ghost use Rattle.desk_store.specs.declared.open_fault.OpenFault.TheVariants.{NotADesk as not_a_desk, Storage as of_storage};
+
+use crate::making::make_desk;
+use crate::open_fault::OpenFault;
+use crate::opening::{check_desk, read_book};
+use desk_book::Book;
+use desk_model::{Clock, Policy};
+use desk_schema::uses_names;
+use desk_storage::StorageFault;
+use sqlite::{Alter, Connection};
+use std::alloc::Global;
+
+/// The tables of a desk over a connection, which is in no transaction between two calls.
+#[derive(Drop)]
+pub struct Store<S: Alter> {
+    pub(crate) conn: Connection<S>,
+}
+
+/// Why there is no store, and the connection that was given.
+#[derive(Drop)]
+pub struct Unopened<S: Alter> {
+    pub fault: OpenFault,
+    pub conn: Connection<S>,
+}
+
+impl<S: Alter> Store<S> {
+    /// Makes a desk with a policy at a moment, in seconds since 1970, in an empty database, by one transaction.
+    ///
+    /// # Errors
+    ///
+    /// `NotADesk` where a table, an index or a view has a name of the desk's; the connection is then the one that was
+    /// given. `Storage` where the store failed: a connection that is still open has what it had.
+    pub fn make(
+        alloc: Global,
+        conn: Connection<S>,
+        policy: Policy,
+        at: Clock,
+    ) -> Result<Store<S>, Unopened<S>>
+        requires idle { conn.in_transaction ≡ false }
+        ensures taken { IsTrue (uses_names (state S.Store conn).now.schema) → result ≡ Err (record { fault = not_a_desk; conn = conn }) }
+        ensures free { uses_names (state S.Store conn).now.schema ≡ false → IfErr result (λ un. IsOfStorage un.fault) }
+        ensures idle { MatchResult result (λ store. store.conn.in_transaction ≡ false) (λ un. un.conn.in_transaction ≡ false) }
+        ensures made { IfOk result (λ store. HasCleanDisk (state S.Store store.conn) → Makes policy at (state S.Store conn) (state S.Store store.conn)) }
+        ensures back { uses_names (state S.Store conn).now.schema ≡ false → IfErr result (λ un. HasCleanDisk (state S.Store un.conn) → GoesBack (state S.Store conn) (state S.Store un.conn)) }
+        ensures answering { IfErr result (λ un. HasCleanDisk (state S.Store un.conn) → un.fault ≡ of_storage memory → IsTrue (state S.Store un.conn).is_open) }
+        ensures left { uses_names (state S.Store conn).now.schema ≡ false → MatchResult result
+            (λ store. Survives (state S.Store conn) (state S.Store store.conn) (IsNewDesk policy at (state S.Store conn)))
+            (λ un. Survives (state S.Store conn) (state S.Store un.conn) (IsNewDesk policy at (state S.Store conn))) }
+    {
+        let mut conn = conn;
+        if uses_names(conn.schema()) {
+            return Err(Unopened {
+                fault: OpenFault::NotADesk,
+                conn,
+            });
+        }
+        match make_desk(alloc, &mut conn, policy, at) {
+            Ok(()) => Ok(Store { conn }),
+            Err(fault) => Err(Unopened {
+                fault: OpenFault::Storage(fault),
+                conn,
+            }),
+        }
+    }
+
+    /// Opens the desk that the database of a connection holds, which changes nothing.
+    ///
+    /// # Errors
+    ///
+    /// `NewerFormat` where `meta` has one row of a later format; else `NotADesk` where a table, a column or an index is
+    /// missing, or where no book has the rows. `Storage` where the store failed.
+    pub fn open(alloc: Global, conn: Connection<S>) -> Result<Store<S>, Unopened<S>>
+        ensures asks { MatchResult result (λ store. Asks (state S.Store conn) (state S.Store store.conn)) (λ un. Asks (state S.Store conn) (state S.Store un.conn)) }
+        ensures unchanged { IfOk result (λ store. HasCleanDisk (state S.Store store.conn) → IsUnchanged (state S.Store conn) (state S.Store store.conn)) }
+        ensures kept { IfOk result (λ store. HasCleanDisk (state S.Store store.conn) → (T : Tables) → HasDesk (state S.Store conn) T → Keeps (store_sight S.Store) store T) }
+        ensures answering { IfErr result (λ un. HasCleanDisk (state S.Store un.conn) → un.fault ≡ of_storage memory → IsTrue (state S.Store un.conn).is_open) }
+    {
+        let mut conn = conn;
+        match check_desk(alloc, &mut conn) {
+            Ok(()) => Ok(Store { conn }),
+            Err(fault) => Err(Unopened { fault, conn }),
+        }
+    }
+
+    /// The book of the tables.
+    ///
+    /// # Errors
+    ///
+    /// `Memory`: the store has what it had. `Device` or `Reopen`: it is to be opened again.
+    pub fn load(&mut self, alloc: Global) -> Result<Book, StorageFault>
+        ensures reads { Reads (store_sight S.Store) self.old self.new result }
+        ensures book { ForTables (store_sight S.Store) self.old self.new (λ T. IfOk result (λ book. book ≡ T)) }
+    {
+        match read_book(alloc, &mut self.conn) {
+            Ok(book) => Ok(book),
+            Err(OpenFault::Storage(fault)) => Err(fault),
+            Err(OpenFault::NotADesk | OpenFault::NewerFormat) => Err(StorageFault::Device),
+        }
+    }
+
+    /// The connection, as it is.
+    pub fn close(self) -> Connection<S>
+        ensures { result ≡ self.conn }
+    {
+        let Store { conn } = self;
+        conn
+    }
+}
