@@ -1,9 +1,10 @@
 //! Batches: a call a line in, a reply a line out.
-ghost use Rattle.std.specs.Prelude.{◌≡◌, ◌≤◌, false, MatchResult};
+ghost use Rattle.std.specs.Prelude.{◌≤◌, MatchResult};
 ghost use Rattle.desk.specs.Said.{Says, SaysNothing, RepliesTo, DeclinesTo};
 
-use desk_calls::{Desk, DeskFault, Memory};
+use desk_calls::{Desk, DeskFault};
 use desk_model::Reply;
+use desk_storage::Storage;
 use requests::{LineFault, LineRequest, read_line, reply_line};
 use std::alloc::Global;
 use std::fmt;
@@ -47,15 +48,14 @@ impl fmt::Display for BatchFault {
 ///
 /// `NotACall` where the line spells none, `Desk` where the desk declines the call, `Memory` where there is no
 /// memory beside the desk's own.
-pub fn batch_line(
+pub fn batch_line<K: Storage + Drop>(
     alloc: Global,
-    desk: &mut Desk<Memory>,
+    desk: &mut Desk<K>,
     line: &[u8],
 ) -> Result<Vec<u8>, AnswerFault>
-    ensures open { desk.old.is_closed ≡ false → desk.new.is_closed ≡ false }
-    ensures said { desk.old.is_closed ≡ false → MatchResult result
-        (λ said. Says desk.old.store line.now said.items desk.new.store)
-        (λ fault. SaysNothing desk.old.store line.now fault desk.new.store) }
+    ensures { MatchResult result
+        (λ said. Says K.Storage.sight desk.old line.now said.items desk.new)
+        (λ fault. SaysNothing K.Storage.sight desk.old line.now fault desk.new) }
 {
     let asked = match read_line(alloc, line) {
         Ok(asked) => asked,
@@ -73,11 +73,14 @@ pub fn batch_line(
 }
 
 // The reply to what a line asks.
-fn reply_to(alloc: Global, desk: &mut Desk<Memory>, asked: LineRequest) -> Result<Reply, DeskFault>
-    ensures open { desk.old.is_closed ≡ false → desk.new.is_closed ≡ false }
-    ensures meets { desk.old.is_closed ≡ false → MatchResult result
-        (λ reply. RepliesTo desk.old.store asked reply desk.new.store)
-        (λ fault. DeclinesTo desk.old.store asked fault desk.new.store) }
+fn reply_to<K: Storage + Drop>(
+    alloc: Global,
+    desk: &mut Desk<K>,
+    asked: LineRequest,
+) -> Result<Reply, DeskFault>
+    ensures { MatchResult result
+        (λ reply. RepliesTo K.Storage.sight desk.old asked reply desk.new)
+        (λ fault. DeclinesTo K.Storage.sight desk.old asked fault desk.new) }
 {
     match asked {
         LineRequest::Call(call) => desk.answer(alloc, &call),
@@ -87,12 +90,12 @@ fn reply_to(alloc: Global, desk: &mut Desk<Memory>, asked: LineRequest) -> Resul
 
 /// Answers the lines of a reader on a writer, each before the next is read, and gives the exit status: 0, or 1
 /// after a line on `errors` that says why the rest is not answered.
-pub fn batch<R: Read + Drop, W: Write, E: Write>(
+pub fn batch<K: Storage + Drop, R: Read + Drop, W: Write, E: Write>(
     alloc: Global,
     reader: R,
     writer: &mut W,
     errors: &mut E,
-    desk: &mut Desk<Memory>,
+    desk: &mut Desk<K>,
 ) -> u8
     ensures { result ≤ 1 }
 {
@@ -105,11 +108,11 @@ pub fn batch<R: Read + Drop, W: Write, E: Write>(
     }
 }
 
-fn answer_lines<R: Read + Drop, W: Write>(
+fn answer_lines<K: Storage + Drop, R: Read + Drop, W: Write>(
     alloc: Global,
     reader: R,
     writer: &mut W,
-    desk: &mut Desk<Memory>,
+    desk: &mut Desk<K>,
 ) -> Result<(), BatchFault> {
     let Ok(mut reader) = BufReader::new(alloc, reader) else {
         return Err(BatchFault::Desk(DeskFault::Memory));
@@ -144,9 +147,9 @@ fn next_line<R: BufRead>(reader: &mut R, line: &mut Vec<u8>) -> Result<bool, Bat
 }
 
 // Answers the line of this number, from 1.
-fn answer_line<W: Write>(
+fn answer_line<K: Storage + Drop, W: Write>(
     alloc: Global,
-    desk: &mut Desk<Memory>,
+    desk: &mut Desk<K>,
     number: u64,
     line: &[u8],
     writer: &mut W,

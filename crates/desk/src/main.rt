@@ -1,6 +1,8 @@
 //! The program `desk`.
 #![tactic(auto)]
 
+ghost use Rattle.std.specs.Prelude.{◌≡◌, false, IfSome};
+
 mod batch;
 #[cfg(test)]
 mod failing_streams;
@@ -51,7 +53,9 @@ fn asks_for_batch(rt: &(impl Env + AllocGlobal)) -> io::Result<bool> {
 }
 
 // The desk of the profile, made at 0, or `None` where there is no memory for it.
-fn new_desk(alloc: Global) -> Option<Desk<Memory>> {
+fn new_desk(alloc: Global) -> Option<Desk<Memory>>
+    ensures { IfSome result (λ desk. desk.is_closed ≡ false) }
+{
     let policy = Policy::new(alloc, "https://ca.example", 3600, 604800, 2592000).ok()??;
     Some(Desk::adopt(Memory::make(alloc, policy, Clock::at(0))))
 }

@@ -47,7 +47,8 @@ pub found_keyed : {X R C : Type 0} (L : Layout X) (bare : X → R) (write : R �
     → (old new : State) (values : Row) (xs : List X) (rows : List Row) (found : List R)
     → HasRows L old.now xs → EachOf IsStored (map bare xs) → values ≡ params → Shown text values old new rows → EachOf IsStored found
     → map spelled rows ≡ map write found → found ≡ map bare (filter test xs)
-found_keyed L bare write IsStored spelled project is apart text tests params sql test reading tests_are agree old new values xs rows found has stored given h kept spells =
+found_keyed L bare write IsStored spelled project is apart text tests params sql test reading tests_are agree old new values xs rows found has stored given
+    h kept spells =
     let limits = each_unmap IsStored bare xs stored in
     let shown = subst (λ v. Shown text v old new rows) given h in
     let columns = reads_keyed L (λ x. write (bare x)) spelled project is text tests params sql reading tests_are old new xs rows has shown in

@@ -17,19 +17,29 @@ columns_of spelled row columns back ys rows are =
     ∙ map-map spelled (λ y. row (columns y)) ys
     ∙ map-same (λ y. spelled (row (columns y))) columns ys (λ y. back (columns y))
 
--- the columns of the rows that pass a test, in the order of their keys
-pub reads_keyed : {X C : Type 0} (L : Layout X) (columns : X → C) (spelled : Row → C) (project : List Term) → IsSpelled L columns spelled project
+-- the rows that pass a test are shown, in the order of their keys
+pub shown_keyed : {X C : Type 0} (L : Layout X) (columns : X → C) (spelled : Row → C) (project : List Term)
+    → (is : IsSpelled L columns spelled project)
     → (text : List ℕ) (tests : List Term) (params : Row) (test : X → Bool) → IsReading text L.table.tree tests project (by 0 ∷ [])
     → ((x : X) → passes tests params (L.image x) ≡ test x)
     → (old new : State) (xs : List X) (rows : List Row) → HasRows L old.now xs → Shown text params old new rows
-    → map spelled rows ≡ map columns (filter test xs)
-reads_keyed {X} L columns spelled project is text tests params test reading tests_are old new xs rows has h =
+    → rows ≡ map (λ x. is.row (columns x)) (filter test xs)
+shown_keyed {X} L columns spelled project is text tests params test reading tests_are old new xs rows has h =
     let row = λ (x : X). is.row (columns x) in
     let order = by 0 ∷ [] in
     let answered = answers L.image (λ (x : X). x) L.table.tree tests project order params test (beside L.table.tree tests project 0 L.key row) tests_are
     (λ x i. (is.key x i ∷ [], is.shows params x i)) text reading is.low old new xs rows has.schema has.rows_are h in
     let up = strictly L.table.tree tests project 0 L.key row 0 (filter test xs) (ascends_filter L.key test 0 xs has.rising) in
-    let rows_are = shown_in_order (picked L.table.tree tests project order) (beside L.table.tree tests project 0 L.key row)
+    shown_in_order (picked L.table.tree tests project order) (beside L.table.tree tests project 0 L.key row)
     (filter test (map (λ (x : X). x) xs)) (filter test xs) rows
-    (as_it_is (filter test (map (λ (x : X). x) xs)) (filter test xs) (ap (filter test) (map-id xs))) up answered in
-    columns_of spelled is.row columns is.back (filter test xs) rows rows_are
+    (as_it_is (filter test (map (λ (x : X). x) xs)) (filter test xs) (ap (filter test) (map-id xs))) up answered
+
+-- and so their columns are read
+pub reads_keyed : {X C : Type 0} (L : Layout X) (columns : X → C) (spelled : Row → C) (project : List Term) → IsSpelled L columns spelled project
+    → (text : List ℕ) (tests : List Term) (params : Row) (test : X → Bool) → IsReading text L.table.tree tests project (by 0 ∷ [])
+    → ((x : X) → passes tests params (L.image x) ≡ test x)
+    → (old new : State) (xs : List X) (rows : List Row) → HasRows L old.now xs → Shown text params old new rows
+    → map spelled rows ≡ map columns (filter test xs)
+reads_keyed L columns spelled project is text tests params test reading tests_are old new xs rows has h =
+    columns_of spelled is.row columns is.back (filter test xs) rows
+    (shown_keyed L columns spelled project is text tests params test reading tests_are old new xs rows has h)

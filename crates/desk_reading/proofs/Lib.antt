@@ -1,5 +1,7 @@
 pub mod Answered
 pub mod Asking
+pub mod Failing
+pub mod Fits
 pub mod FormatLemmas
 pub mod FoundRows
 pub mod KeyedReadings
@@ -9,10 +11,13 @@ pub mod Loading
 pub mod LookUpReadings
 pub mod LookUpRows
 pub mod NestLemmas
+pub mod ReadValues
 pub mod Readings
 pub mod Results
 pub mod Selecting
 pub mod StatusTests
+pub mod SureTexts
+pub mod TableFailures
 pub mod Tests
 pub mod Told
 pub mod UnderLemmas

@@ -74,7 +74,8 @@ abbrev AreAbove : ℕ → List (Owned Listed) → Type 0
 AreAbove n rows = AllByRecursion (λ k. n < k.owner) rows
 
 -- what an order lists from a place on, and then higher orders, is behind a lower place
-all_behind : (tests : List Term) (n p : ℕ) (l : Listed) (ls : List Listed) (rest : List (Owned Listed)) → l.place < p → Ascends (λ k. k.place) p ls → AreAbove n rest
+all_behind : (tests : List Term) (n p : ℕ) (l : Listed) (ls : List Listed) (rest : List (Owned Listed)) → l.place < p → Ascends (λ k. k.place) p ls
+    → AreAbove n rest
     → AllByRecursion (λ k. ranks tests (record { owner = n; row = l }) k ≡ Less) (owned_by n ls ++ rest)
 all_behind tests n p l [] [] low up above = tt
 all_behind tests n p l [] (k ∷ rest) low up above =
@@ -129,15 +130,18 @@ module _ (old new : State) (T : Tables) (rows : List Row) (values : Row) (has : 
       let up = IsStrictlySortedBy-filter (ranks tests) sql ls (listed_strictly tests 0 T.orders has.rising.orders book.book.in_order.places) in
       let rows_are = shown_in_order (picked 6 tests listed_project order) placed (filter sql (map row_of ts)) (filter sql ls) rows same up answered in
       let columns = columns_of listed_in listed_params listed_columns listed_back (filter sql ls) rows rows_are in
-      rows_told listed_columns IsStoredListed listed-apart found (filter sql ls) kept (each-filter IsStoredListed sql ls book.stored.listed) (sym spells ∙ columns)
+      rows_told listed_columns IsStoredListed listed-apart found (filter sql ls) kept (each-filter IsStoredListed sql ls book.stored.listed)
+      (sym spells ∙ columns)
       ∙ filter-each IsStoredListed sql test agree ls book.stored.listed
 
+  -- what an order lists
   pub listed_by_found : (n : ℕ) → values ≡ Int (pos (bounded n)) ∷ [] → Shown select_listed_by values old new rows
       → found ≡ filter (λ l. l.owner == n) (listed_rows T.orders)
   listed_by_found n given h =
       listed select_listed_by (is_equal 1) (Int (pos (bounded n)) ∷ []) (λ l. l.owner == bounded n) (λ l. l.owner == n) listed_by_reading
       (λ t. number_test t.1.owner (bounded n)) (λ l k. same_bounded l.owner n k.order.1) given h
 
+  -- what lists an authorization
   pub listing_found : (n : ℕ) → values ≡ Int (pos (bounded n)) ∷ [] → Shown select_listing values old new rows
       → found ≡ filter (λ l. l.row.authorization == n) (listed_rows T.orders)
   listing_found n given h =

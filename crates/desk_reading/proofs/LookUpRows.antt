@@ -46,7 +46,8 @@ module _ (old new : State) (T : Tables) (rows : List Row) (values : Row) (has : 
   pub meta_found : (found : List Meta) → EachOf IsStoredMeta found → map meta_in rows ≡ map meta_columns found → values ≡ []
       → Shown select_meta values old new rows → found ≡ T.meta ∷ []
   meta_found found kept spells given h =
-      found_keyed meta_layout (λ (x : Meta). x) meta_columns IsStoredMeta meta_in meta_project meta_spelled metas-apart select_meta [] [] (λ _. true) (λ _. true)
+      found_keyed meta_layout (λ (x : Meta). x) meta_columns IsStoredMeta meta_in meta_project meta_spelled metas-apart select_meta [] [] (λ _. true)
+      (λ _. true)
       meta_reading (λ _. refl) (λ _ _. refl) old new values (T.meta ∷ []) rows found (meta_held old.now T has) book.stored.metas given h kept spells
 
   -- ---- nonces
@@ -57,7 +58,8 @@ module _ (old new : State) (T : Tables) (rows : List Row) (values : Row) (has : 
         → ((x : Nonce) → passes tests params (nonce_layout.image x) ≡ sql x) → ((x : Nonce) → IsStoredNonce x → sql x ≡ test x)
         → values ≡ params → Shown text values old new rows → found ≡ filter test T.nonces
     nonces text tests params sql test reading tests_are agree given h =
-        found_keyed nonce_layout (λ (x : Nonce). x) nonce_columns IsStoredNonce nonce_in nonce_project nonce_spelled nonces-apart text tests params sql test reading
+        found_keyed nonce_layout (λ (x : Nonce). x) nonce_columns IsStoredNonce nonce_in nonce_project nonce_spelled nonces-apart text tests params sql test
+        reading
         tests_are agree old new values T.nonces rows found (nonces_held old.now T has)
         (subst (EachOf IsStoredNonce) (sym (map-id T.nonces)) book.stored.nonces) given h kept spells
         ∙ map-id (filter test T.nonces)
@@ -85,13 +87,15 @@ module _ (old new : State) (T : Tables) (rows : List Row) (values : Row) (has : 
         → ((x : AccountRow) → passes tests params (account_layout.image x) ≡ sql x) → ((x : AccountRow) → IsStoredAccount x → sql x ≡ test x)
         → values ≡ params → Shown text values old new rows → found ≡ filter test T.accounts
     accounts text tests params sql test reading tests_are agree given h =
-        found_keyed account_layout (λ (x : AccountRow). x) account_columns IsStoredAccount account_in account_project account_spelled accounts-apart text tests params sql test
+        found_keyed account_layout (λ (x : AccountRow). x) account_columns IsStoredAccount account_in account_project account_spelled accounts-apart text
+        tests params sql test
         reading tests_are agree old new values T.accounts rows found (accounts_held old.now T has)
         (subst (EachOf IsStoredAccount) (sym (map-id T.accounts)) book.stored.accounts) given h kept spells
         ∙ map-id (filter test T.accounts)
 
     pub all_accounts_found : values ≡ [] → Shown select_accounts values old new rows → found ≡ T.accounts
-    all_accounts_found given h = accounts select_accounts [] [] (λ _. true) (λ _. true) accounts_reading (λ _. refl) (λ _ _. refl) given h ∙ filter-all T.accounts
+    all_accounts_found given h = accounts select_accounts [] [] (λ _. true) (λ _. true) accounts_reading (λ _. refl) (λ _ _. refl) given h
+        ∙ filter-all T.accounts
 
     pub accounts_numbered_found : (n : ℕ) → values ≡ Int (pos (bounded n)) ∷ [] → Shown select_accounts_numbered values old new rows
         → found ≡ accounts_numbered T n
@@ -152,7 +156,8 @@ module _ (old new : State) (T : Tables) (rows : List Row) (values : Row) (has : 
         → ((x : AuthorizationRow) → IsStoredAuthorization (without_challenges x) → sql x ≡ test x)
         → values ≡ params → Shown text values old new rows → found ≡ map without_challenges (filter test T.authorizations)
     authorizations text tests params sql test reading tests_are agree given h =
-        found_keyed authorization_layout without_challenges authorization_columns IsStoredAuthorization authorization_in authorization_project authorization_spelled
+        found_keyed authorization_layout without_challenges authorization_columns IsStoredAuthorization authorization_in authorization_project
+        authorization_spelled
         authorizations-apart text tests params sql test reading tests_are agree old new values T.authorizations rows found
         (authorizations_held old.now T has) book.stored.authorizations given h kept spells
 

@@ -1,5 +1,5 @@
 -- Results, and tests.
-use Rattle.std.proofs.Common.{◌≡◌, Bool, true, false, IsTrue, IfOk, OnOk, Result, Ok, Err, refl}
+use Rattle.std.proofs.Common.{◌≡◌, Bool, true, false, IsTrue, IfErr, IfOk, IsErrAnd, OnOk, Result, Ok, Err, refl, subst, sym}
 use Rattle.sqlite.specs.State.{State, IsUnchanged}
 use Rattle.sqlite.proofs.Callers.{unchanged_then}
 
@@ -8,8 +8,24 @@ pub read_then : {A E : Type 0} (r : Result A E) {P Q : A → Type 0} → IfOk r 
 read_then (Ok a) p f = f a p
 read_then (Err e) p f = tt
 
+-- what a failure of a result says
+pub fails_then : {A E : Type 0} (r : Result A E) {P Q : E → Type 0} → IfErr r P → ((e : E) → P e → Q e) → IfErr r Q
+fails_then (Ok a) h f = tt
+fails_then (Err e) h f = f e h
+
+-- under a condition
+pub fails_under : {A E : Type 0} (r : Result A E) {C : Type 0} (Q : E → Type 0) → (C → IfErr r Q) → IfErr r (λ e. C → Q e)
+fails_under (Ok a) Q h = tt
+fails_under (Err e) Q h = h
+
+-- an error that is passed on
+pub failed_as : {A E : Type 0} (r : Result A E) (e : E) (Q : E → Type 0) → Q e → IsErrAnd r (λ x. x ≡ e) → IfErr r Q
+failed_as (Ok a) e Q h same = tt
+failed_as (Err x) e Q h same = subst Q (sym same) h
+
 -- one call after another that was answered changed nothing
-pub unchanged_after : {A E : Type 0} (r : Result A E) (a b c : State) → IsUnchanged a b → (IsTrue b.is_open → OnOk r (IsUnchanged b c)) → OnOk r (IsUnchanged a c)
+pub unchanged_after : {A E : Type 0} (r : Result A E) (a b c : State) → IsUnchanged a b → (IsTrue b.is_open → OnOk r (IsUnchanged b c)) → OnOk r
+    (IsUnchanged a c)
 unchanged_after (Ok x) a b c p h = unchanged_then a b c p (h p.0.is_open)
 unchanged_after (Err e) a b c p h = tt
 

@@ -17,6 +17,7 @@ use Rattle.sqlite.specs.Listing.{understood, reads_listing, listing_schema, if_s
 use Rattle.sqlite.specs.State.{State, Shown, IsUnchanged, CommitsShowing}
 use Rattle.desk_reading.specs.Selecting.{IsQuery, is_select, selects}
 
+-- SELECT has no RETURNING
 none_returned : (s : Schema) (base : ℕ) (st : Statement) → is_select st ≡ true → returning s base st ≡ Ok None
 unfolding returning
 none_returned s base (written.Select q) is = refl
@@ -38,7 +39,9 @@ none_returned s base (written.Savepoint name) is = absurd (let e = is in cc)
 none_returned s base (written.Release name) is = absurd (let e = is in cc)
 none_returned s base (written.RollbackTo name) is = absurd (let e = is in cc)
 
-none_meant : (s : Schema) (p : Parsed) (base : ℕ) (found : Command × Option Returning) → is_select p.statement ≡ true → meaning s p base ≡ Ok found → found.1 ≡ None
+-- nor what it means
+none_meant : (s : Schema) (p : Parsed) (base : ℕ) (found : Command × Option Returning) → is_select p.statement ≡ true → meaning s p base ≡ Ok found
+    → found.1 ≡ None
 unfolding meaning
 none_meant s p base found is h = go (command s p.formats base p.statement) (rw (none_returned s base p.statement is) at h)
   where
@@ -46,19 +49,26 @@ none_meant s p base found is h = go (command s p.formats base p.statement) (rw (
     go (Ok c) e = cc
     go (Err f) e = absurd (let x = e in cc)
 
-none_planned : (s : Schema) (p : Parsed) (plan : List (List ℕ) × (Command × Option Returning)) → is_select p.statement ≡ true → planned s p ≡ Ok plan → plan.1.1 ≡ None
+-- nor its plan
+none_planned : (s : Schema) (p : Parsed) (plan : List (List ℕ) × (Command × Option Returning)) → is_select p.statement ≡ true → planned s p ≡ Ok plan
+    → plan.1.1 ≡ None
 unfolding planned
-none_planned s p plan is h = go (meaning s p (small p.names + small (timed s p.formats p.statement))) (none_meant s p (small p.names + small (timed s p.formats p.statement))) h
+none_planned s p plan is h = go (meaning s p (small p.names + small (timed s p.formats p.statement)))
+    (none_meant s p (small p.names + small (timed s p.formats p.statement))) h
   where
-    go : (m : Checked (Command × Option Returning)) → ((found : Command × Option Returning) → is_select p.statement ≡ true → m ≡ Ok found → found.1 ≡ None) → and_then m (λ found. Ok (timed s p.formats p.statement, found)) ≡ Ok plan → plan.1.1 ≡ None
+    go : (m : Checked (Command × Option Returning)) → ((found : Command × Option Returning) → is_select p.statement ≡ true → m ≡ Ok found → found.1 ≡ None)
+        → and_then m (λ found. Ok (timed s p.formats p.statement, found)) ≡ Ok plan → plan.1.1 ≡ None
     go (Ok m) none e = let same : plan.1 ≡ m = cc in ap (λ (x : Command × Option Returning). x.1) same ∙ none m is refl
     go (Err f) none e = absurd (let x = e in cc)
 
+-- nor what is compiled of it
 none_compiled : (s : Schema) (text : List ℕ) (c : Compiled) → selects (first text) ≡ true → compiled s text ≡ Ok c → c.returning ≡ None
 unfolding compiled
 none_compiled s text c is h = go (first text) is h
   where
-    last : (p : Parsed) (r : Checked (List (List ℕ) × (Command × Option Returning))) → ((plan : List (List ℕ) × (Command × Option Returning)) → r ≡ Ok plan → plan.1.1 ≡ None) → and_then r (λ plan. Ok (with_command p plan)) ≡ Ok c → c.returning ≡ None
+    last : (p : Parsed) (r : Checked (List (List ℕ) × (Command × Option Returning))) →
+        ((plan : List (List ℕ) × (Command × Option Returning)) → r ≡ Ok plan → plan.1.1 ≡ None) → and_then r (λ plan. Ok (with_command p plan)) ≡ Ok c
+        → c.returning ≡ None
     last p (Ok plan) none e = let same : c.returning ≡ plan.1.1 = cc in same ∙ none plan refl
     last p (Err f) none e = absurd (let x = e in cc)
 
@@ -81,10 +91,13 @@ none_understood s text c is h = elim (cases_Bool (reads_listing s text)) [
     ]
     queried (Err f) none e = absurd (let x = e in cc)
 
+-- so it commits nothing
 pub commits_none : (text : List ℕ) (params : Row) (s : State) (db : Trees) → IsQuery text → CommitsShowing text params s db → ⊥
 unfolding CommitsShowing
-commits_none text params s db is h = let none = none_understood s.now.schema text h.0 is h.1.is in let some : IsSome h.0.returning = h.2 in absurd (let e = rw none at some in cc)
+commits_none text params s db is h = let none = none_understood s.now.schema text h.0 is h.1.is in let some : IsSome h.0.returning = h.2 in absurd
+    (let e = rw none at some in cc)
 
+-- and its answer changes nothing
 pub unchanged_shown : (text : List ℕ) (params : Row) (old new : State) (rows : List Row) → IsQuery text → Shown text params old new rows → IsUnchanged old new
 unfolding Shown
 unchanged_shown text params old new rows is h = let none = none_understood old.now.schema text h.0 is h.1.is in (rw none at h.2).3

@@ -27,18 +27,23 @@ alone false = refl
 
 -- ---- numbers
 
+-- one number
 same_as : (a b : ℕ) → a ≡ b → (a == b) ≡ true
 same_as a b h = grind (arith, nat_tests)
 
+-- a lower one
 apart_below : (a b : ℕ) → a < b → (a == b) ≡ false
 apart_below a b h = grind (arith, nat_tests)
 
+-- a higher one
 apart_above : (a b : ℕ) → b < a → (a == b) ≡ false
 apart_above a b h = grind (arith, nat_tests)
 
+-- a lower one is below
 before_is : (a b : ℕ) → a < b → nat_lt a b ≡ true
 before_is a b h = grind (arith, nat_tests)
 
+-- another is not
 not_before : (a b : ℕ) → b ≤ a → nat_lt a b ≡ false
 not_before a b h = grind (arith, nat_tests)
 
@@ -58,10 +63,12 @@ lt_as a b = elim (ranked a b) [
   | inr (inr more) ↦ rw (more.ranks, not_before a b (omega (arith, more.high))) refl
 ]
 
+-- SQL's `<` of two numbers
 less_is : (m n : ℤ) → is_true (binary (Compare Lt Binary) (Int m) (Int n)) ≡ is_lt (int_cmp m n)
 unfolding binary
 less_is m n = rw (value_cmp-Int m n) (told (is_lt (int_cmp m n)))
 
+-- SQL's `=` of two texts
 text_is : (s t : List ℕ) → is_true (binary (Compare Eq Binary) (Text s) (Text t)) ≡ is_eq (slice_cmp nat_cmp s t)
 unfolding binary
 text_is s t = rw (value_cmp-Text s t) (told (is_eq (slice_cmp nat_cmp s t)))
@@ -78,6 +85,7 @@ number_test a n = alone _ ∙ is_number a n
 pub is_below : (a n : ℕ) → is_true (binary (Compare Lt Binary) (Int (pos a)) (Int (pos n))) ≡ nat_lt a n
 is_below a n = less_is (pos a) (pos n) ∙ lt_as a n
 
+-- and alone in WHERE
 pub below_test : (a n : ℕ) → (is_true (binary (Compare Lt Binary) (Int (pos a)) (Int (pos n))) && true) ≡ nat_lt a n
 below_test a n = alone _ ∙ is_below a n
 
@@ -87,6 +95,7 @@ below_test a n = alone _ ∙ is_below a n
 pub is_text : (s t : List ℕ) → is_true (binary (Compare Eq Binary) (Text s) (Text t)) ≡ bytes_eq s t
 is_text s t = text_is s t ∙ is_eq-slice_cmp s t
 
+-- and alone in WHERE
 pub text_test : (s t : List ℕ) → (is_true (binary (Compare Eq Binary) (Text s) (Text t)) && true) ≡ bytes_eq s t
 text_test s t = alone _ ∙ is_text s t
 
@@ -98,6 +107,7 @@ text_below_test s t a n = λ i. is_text s t i && below_test a n i
 
 -- ---- numbers that SQL does not have
 
+-- a number that is bounded is above the greatest of SQL
 beyond : (n : ℕ) → nat_le n 9223372036854775807 ≡ false → 9223372036854775807 < n
 beyond n h = grind (arith, nat_tests)
 
@@ -109,7 +119,8 @@ same_bounded a n low = go (nat_le n 9223372036854775807) refl
     go true is = ap (λ b. a == (if b then n else 9223372036854775807)) is
     go false is =
         let high : 9223372036854775807 < n = beyond n is in
-        ap (λ b. a == (if b then n else 9223372036854775807)) is ∙ apart_below a 9223372036854775807 (omega (arith, low)) ∙ sym (apart_below a n (omega (arith, low, high)))
+        ap (λ b. a == (if b then n else 9223372036854775807)) is ∙ apart_below a 9223372036854775807 (omega (arith, low)) ∙ sym
+        (apart_below a n (omega (arith, low, high)))
 
 -- each moment of a row is below the greatest of SQL
 pub below_bounded : (a n : ℕ) → a ≤ 2 ^ 62 → nat_lt a (bounded n) ≡ nat_lt a n
@@ -119,4 +130,5 @@ below_bounded a n low = go (nat_le n 9223372036854775807) refl
     go true is = ap (λ b. nat_lt a (if b then n else 9223372036854775807)) is
     go false is =
         let high : 9223372036854775807 < n = beyond n is in
-        ap (λ b. nat_lt a (if b then n else 9223372036854775807)) is ∙ before_is a 9223372036854775807 (omega (arith, low)) ∙ sym (before_is a n (omega (arith, low, high)))
+        ap (λ b. nat_lt a (if b then n else 9223372036854775807)) is ∙ before_is a 9223372036854775807 (omega (arith, low)) ∙ sym
+        (before_is a n (omega (arith, low, high)))

@@ -37,19 +37,19 @@ blob_back (Some b) = refl
 -- ---- rows
 
 -- `meta`
-meta_back : (c : MetaColumns) → meta_in (meta_params c) ≡ c
+pub meta_back : (c : MetaColumns) → meta_in (meta_params c) ≡ c
 meta_back c = refl
 
 -- `nonce`
-nonce_back : (c : NonceColumns) → nonce_in (nonce_params c) ≡ c
+pub nonce_back : (c : NonceColumns) → nonce_in (nonce_params c) ≡ c
 nonce_back c = refl
 
 -- `account`
-account_back : (c : AccountColumns) → account_in (account_params c) ≡ c
+pub account_back : (c : AccountColumns) → account_in (account_params c) ≡ c
 account_back c = λ i. record c { ended = number_back c.ended i; end_kind = text_back c.end_kind i }
 
 -- `ord`
-order_back : (c : OrderColumns) → order_in (order_params c) ≡ c
+pub order_back : (c : OrderColumns) → order_in (order_params c) ≡ c
 order_back c =
     λ i. record c {
       finalized = number_back c.finalized i;
@@ -61,7 +61,7 @@ order_back c =
     }
 
 -- `authz`
-authorization_back : (c : AuthzColumns) → authorization_in (authorization_params c) ≡ c
+pub authorization_back : (c : AuthzColumns) → authorization_in (authorization_params c) ≡ c
 authorization_back c = λ i. record c { ended = number_back c.ended i; end_kind = text_back c.end_kind i }
 
 -- `ord_authz`
@@ -69,7 +69,7 @@ pub listed_back : (c : OrderAuthzColumns) → listed_in (listed_params c) ≡ c
 listed_back c = refl
 
 -- `chall`
-challenge_back : (c : ChallColumns) → challenge_in (challenge_params c) ≡ c
+pub challenge_back : (c : ChallColumns) → challenge_in (challenge_params c) ≡ c
 challenge_back c =
     λ i. record c { answered = number_back c.answered i; reported = number_back c.reported i; outcome = text_back c.outcome i }
 
@@ -87,35 +87,40 @@ pub record IsSpelled {X C : Type 0} (L : Layout X) (columns : X → C) (spelled 
 abbrev pub meta_project : List Term
 meta_project = col 1 0 ∷ col 1 2 ∷ col 1 3 ∷ col 1 4 ∷ col 1 5 ∷ col 1 6 ∷ col 1 7 ∷ col 1 8 ∷ col 1 9 ∷ col 1 10 ∷ col 1 11 ∷ col 1 12 ∷ []
 
-pub meta_spelled : IsSpelled meta_layout meta_columns meta_in meta_project
+-- `meta` by its key
+abbrev pub meta_spelled : IsSpelled meta_layout meta_columns meta_in meta_project
 meta_spelled = record { row = meta_params; back = meta_back; low = λ _. refl; shows = λ _ _. refl; key = λ _. refl }
 
 -- those of `nonce`
 abbrev pub nonce_project : List Term
 nonce_project = col 1 0 ∷ col 1 2 ∷ col 1 3 ∷ []
 
-pub nonce_spelled : IsSpelled nonce_layout nonce_columns nonce_in nonce_project
+-- `nonce`
+abbrev pub nonce_spelled : IsSpelled nonce_layout nonce_columns nonce_in nonce_project
 nonce_spelled = record { row = nonce_params; back = nonce_back; low = λ _. refl; shows = λ _ _. refl; key = λ _. refl }
 
 -- those of `account`
 abbrev pub account_project : List Term
 account_project = col 1 0 ∷ col 1 2 ∷ col 1 3 ∷ col 1 4 ∷ col 1 5 ∷ col 1 6 ∷ col 1 7 ∷ []
 
-pub account_spelled : IsSpelled account_layout account_columns account_in account_project
+-- `account`
+abbrev pub account_spelled : IsSpelled account_layout account_columns account_in account_project
 account_spelled = record { row = account_params; back = account_back; low = λ _. refl; shows = λ _ _. refl; key = λ _. refl }
 
 -- those of `ord`
 abbrev pub order_project : List Term
 order_project = col 1 0 ∷ col 1 2 ∷ col 1 3 ∷ col 1 4 ∷ col 1 5 ∷ col 1 6 ∷ col 1 7 ∷ col 1 8 ∷ col 1 9 ∷ col 1 10 ∷ col 1 11 ∷ []
 
-pub order_spelled : IsSpelled order_layout order_columns order_in order_project
+-- `ord`
+abbrev pub order_spelled : IsSpelled order_layout order_columns order_in order_project
 order_spelled = record { row = order_params; back = order_back; low = λ _. refl; shows = λ _ _. refl; key = λ _. refl }
 
 -- those of `authz`
 abbrev pub authorization_project : List Term
 authorization_project = col 1 0 ∷ col 1 2 ∷ col 1 3 ∷ col 1 4 ∷ col 1 5 ∷ col 1 6 ∷ col 1 7 ∷ col 1 8 ∷ col 1 9 ∷ []
 
-pub authorization_spelled : IsSpelled authorization_layout authorization_columns authorization_in authorization_project
+-- `authz`
+abbrev pub authorization_spelled : IsSpelled authorization_layout authorization_columns authorization_in authorization_project
 authorization_spelled =
     record { row = authorization_params; back = authorization_back; low = λ _. refl; shows = λ _ _. refl; key = λ _. refl }
 
@@ -123,7 +128,8 @@ authorization_spelled =
 abbrev pub challenge_project : List Term
 challenge_project = col 1 0 ∷ col 1 2 ∷ col 1 3 ∷ col 1 4 ∷ col 1 5 ∷ col 1 6 ∷ col 1 7 ∷ col 1 8 ∷ []
 
-pub challenge_spelled : IsSpelled challenge_layout challenge_columns challenge_in challenge_project
+-- `chall`
+abbrev pub challenge_spelled : IsSpelled challenge_layout challenge_columns challenge_in challenge_project
 challenge_spelled = record { row = challenge_params; back = challenge_back; low = λ _. refl; shows = λ _ _. refl; key = λ _. refl }
 
 -- those of `ord_authz`, behind the hidden number

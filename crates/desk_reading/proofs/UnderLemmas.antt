@@ -24,9 +24,11 @@ use Rattle.desk_reading.proofs.Lists.{filter-map, map-map}
 
 -- ---- owners
 
+-- a lower number is not this one
 apart : (a b : ℕ) → a < b → (b == a) ≡ false
 apart a b h = grind (arith, nat_tests)
 
+-- nor is a higher one
 apart_above : (a b : ℕ) → a < b → (a == b) ≡ false
 apart_above a b h = grind (arith, nat_tests)
 
@@ -45,7 +47,8 @@ under_both {R} n (x ∷ xs) ys = by (x.owner == n) (under_both n xs ys)
 under_own : {R : Type 0} (n : ℕ) (rs : List R) → rows_under n (owned_by n rs) ≡ rs
 under_own n [] = refl
 under_own {R} n (r ∷ rs) =
-    ap (λ b. map (λ (o : Owned R). o.row) (cond b ((record { owner = n; row = r }) ∷ filter (λ o. o.owner == n) (owned_by n rs)) (filter (λ o. o.owner == n) (owned_by n rs))))
+    ap (λ b. map (λ (o : Owned R). o.row) (cond b ((record { owner = n; row = r }) ∷ filter (λ o. o.owner == n) (owned_by n rs))
+    (filter (λ o. o.owner == n) (owned_by n rs))))
     (eq-eqb n n refl)
     ∙ ap (λ os. r ∷ os) (under_own n rs)
 
@@ -53,7 +56,8 @@ under_own {R} n (r ∷ rs) =
 under_other : {R : Type 0} (n m : ℕ) → (m == n) ≡ false → (rs : List R) → rows_under n (owned_by m rs) ≡ []
 under_other n m is [] = refl
 under_other {R} n m is (r ∷ rs) =
-    ap (λ b. map (λ (o : Owned R). o.row) (cond b ((record { owner = m; row = r }) ∷ filter (λ o. o.owner == n) (owned_by m rs)) (filter (λ o. o.owner == n) (owned_by m rs)))) is
+    ap (λ b. map (λ (o : Owned R). o.row) (cond b ((record { owner = m; row = r }) ∷ filter (λ o. o.owner == n) (owned_by m rs))
+    (filter (λ o. o.owner == n) (owned_by m rs)))) is
     ∙ under_other n m is rs
 
 module _ {P R : Type 0} (number : P → ℕ) (children : P → List R) where
@@ -82,7 +86,8 @@ module _ {P R : Type 0} (number : P → ℕ) (children : P → List R) where
         (λ q k.
         let above : number p < number q = k.0 in
         under_both (number q) (owned_by (number p) (children p)) (child_rows number children ps)
-        ∙ ap (λ rs. rs ++ rows_under (number q) (child_rows number children ps)) (under_other (number q) (number p) (apart_above (number p) (number q) above) (children p))
+        ∙ ap (λ rs. rs ++ rows_under (number q) (child_rows number children ps))
+        (under_other (number q) (number p) (apart_above (number p) (number q) above) (children p))
         ∙ k.1)
         (each_both _ _ ps (ascends_above number (number p) (number p + 1) ps (omega arith) up.1) (each_under (number p + 1) ps up.1)),
   )
@@ -130,13 +135,17 @@ picked_of pair test part as' ps are =
 
 -- the orders that list an authorization
 pub listing_is : (T : Tables) (n : ℕ) → map (λ (l : Owned Listed). l.owner) (filter (λ l. l.row.authorization == n) (listed_rows T.orders)) ≡ orders_listing T n
-listing_is T n = sym (picked_of (λ (l : Owned Listed). (l.owner, l.row.authorization)) (λ p. p.1 == n) (λ p. p.0) (listed_rows T.orders) (places T) (places_are T.orders))
+listing_is T n = sym (picked_of (λ (l : Owned Listed). (l.owner, l.row.authorization)) (λ p. p.1 == n) (λ p. p.0) (listed_rows T.orders) (places T)
+    (places_are T.orders))
 
 -- the authorizations that an order lists
 pub listed_is : (T : Tables) (n : ℕ) → map (λ (l : Owned Listed). l.row.authorization) (filter (λ l. l.owner == n) (listed_rows T.orders)) ≡ listed_by T n
-listed_is T n = sym (picked_of (λ (l : Owned Listed). (l.owner, l.row.authorization)) (λ p. p.0 == n) (λ p. p.1) (listed_rows T.orders) (places T) (places_are T.orders))
+listed_is T n = sym (picked_of (λ (l : Owned Listed). (l.owner, l.row.authorization)) (λ p. p.0 == n) (λ p. p.1) (listed_rows T.orders) (places T)
+    (places_are T.orders))
 
 -- the authorization of a challenge
-pub owners_are : (T : Tables) (n : ℕ) → map (λ (c : Owned ChallengeRow). c.owner) (filter (λ c. c.row.number == n) (challenge_rows T.authorizations)) ≡ owners_of T n
+pub owners_are : (T : Tables) (n : ℕ) → map (λ (c : Owned ChallengeRow). c.owner) (filter (λ c. c.row.number == n) (challenge_rows T.authorizations))
+    ≡ owners_of T n
 owners_are T n =
-    sym (picked_of (λ (c : Owned ChallengeRow). (c.row.number, c.owner)) (λ p. p.0 == n) (λ p. p.1) (challenge_rows T.authorizations) (challenges T) (challenges_are T.authorizations))
+    sym (picked_of (λ (c : Owned ChallengeRow). (c.row.number, c.owner)) (λ p. p.0 == n) (λ p. p.1) (challenge_rows T.authorizations) (challenges T)
+    (challenges_are T.authorizations))

@@ -50,27 +50,31 @@ module _ (old new : State) (T : Tables) (rows : List Row) where
   pub nonces_read : (all : List NonceColumns) → Holds old.now T → Shown select_nonces [] old new rows → all ≡ map nonce_in rows
       → all ≡ map nonce_columns T.nonces
   nonces_read all has h are =
-      are ∙ whole nonce_layout nonce_columns nonce_in nonce_project nonce_spelled select_nonces nonces_reading old new T.nonces rows (nonces_held old.now T has) h
+      are ∙ whole nonce_layout nonce_columns nonce_in nonce_project nonce_spelled select_nonces nonces_reading old new T.nonces rows
+      (nonces_held old.now T has) h
 
   -- `account`
   pub accounts_read : (all : List AccountColumns) → Holds old.now T → Shown select_accounts [] old new rows → all ≡ map account_in rows
       → all ≡ map account_columns T.accounts
   accounts_read all has h are =
       are
-      ∙ whole account_layout account_columns account_in account_project account_spelled select_accounts accounts_reading old new T.accounts rows (accounts_held old.now T has) h
+      ∙ whole account_layout account_columns account_in account_project account_spelled select_accounts accounts_reading old new T.accounts rows
+      (accounts_held old.now T has) h
 
   -- `ord`
   pub orders_read : (all : List OrderColumns) → Holds old.now T → Shown select_orders [] old new rows → all ≡ map order_in rows
       → all ≡ map order_columns T.orders
   orders_read all has h are =
-      are ∙ whole order_layout order_columns order_in order_project order_spelled select_orders orders_reading old new T.orders rows (orders_held old.now T has) h
+      are ∙ whole order_layout order_columns order_in order_project order_spelled select_orders orders_reading old new T.orders rows
+      (orders_held old.now T has) h
 
   -- `authz`
   pub authorizations_read : (all : List AuthzColumns) → Holds old.now T → Shown select_authorizations [] old new rows → all ≡ map authorization_in rows
       → all ≡ map authorization_columns T.authorizations
   authorizations_read all has h are =
       are
-      ∙ whole authorization_layout authorization_columns authorization_in authorization_project authorization_spelled select_authorizations authorizations_reading
+      ∙ whole authorization_layout authorization_columns authorization_in authorization_project authorization_spelled select_authorizations
+      authorizations_reading
       old new T.authorizations rows (authorizations_held old.now T has) h
 
   -- `chall`
@@ -81,10 +85,9 @@ module _ (old new : State) (T : Tables) (rows : List Row) where
       ∙ whole challenge_layout challenge_columns challenge_in challenge_project challenge_spelled select_challenges challenges_reading
       old new (challenge_rows T.authorizations) rows (challenges_held old.now T has) h
 
-  -- `ord_authz`, in some order
-  pub listed_read : (all : List OrderAuthzColumns) → Holds old.now T → Shown select_listed [] old new rows → all ≡ map listed_in rows
-      → IsPermutation all (map listed_columns (listed_rows T.orders))
-  listed_read all has h are =
+  -- `ord_authz` is shown in some order
+  pub listed_cells_shown : Holds old.now T → Shown select_listed [] old new rows → IsPermutation (map listed_cells (listed_rows T.orders)) rows
+  listed_cells_shown has h =
       let order = by 1 ∷ by 2 ∷ [] in
       let ts = has.listed.numbered in
       let sorted_by = λ (l : Owned Listed). Int (listed_columns l).ord ∷ Int (listed_columns l).place ∷ [] in
@@ -94,9 +97,14 @@ module _ (old new : State) (T : Tables) (rows : List Row) where
       let some = shown_somehow (picked 6 [] listed_project order) (λ (l : Owned Listed). (sorted_by l, listed_cells l)) ls rows answered in
       let these : ls ≡ map row_of ts = filter-all (map row_of ts) in
       let cells = subst (λ ls. IsPermutation (map listed_cells ls) rows) these some in
-      let moved = IsPermutation-trans (map listed_cells (listed_rows T.orders)) (map listed_cells (map row_of ts)) rows
-      (IsPermutation-map listed_cells (listed_rows T.orders) (map row_of ts) (IsPermutation-sym (map row_of ts) (listed_rows T.orders) has.listed.same)) cells in
-      let told = IsPermutation-map listed_in (map listed_cells (listed_rows T.orders)) rows moved in
+      IsPermutation-trans (map listed_cells (listed_rows T.orders)) (map listed_cells (map row_of ts)) rows
+      (IsPermutation-map listed_cells (listed_rows T.orders) (map row_of ts) (IsPermutation-sym (map row_of ts) (listed_rows T.orders) has.listed.same)) cells
+
+  -- and so read
+  pub listed_read : (all : List OrderAuthzColumns) → Holds old.now T → Shown select_listed [] old new rows → all ≡ map listed_in rows
+      → IsPermutation all (map listed_columns (listed_rows T.orders))
+  listed_read all has h are =
+      let told = IsPermutation-map listed_in (map listed_cells (listed_rows T.orders)) rows (listed_cells_shown has h) in
       let first : map listed_in (map listed_cells (listed_rows T.orders)) ≡ map listed_columns (listed_rows T.orders) =
       columns_of listed_in listed_params listed_columns listed_back (listed_rows T.orders) (map listed_cells (listed_rows T.orders)) refl in
       IsPermutation-sym (map listed_columns (listed_rows T.orders)) all

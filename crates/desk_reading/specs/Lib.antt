@@ -1,4 +1,6 @@
 pub mod Bounded
+pub mod Failures
+pub mod Fitting
 pub mod Format
 pub mod Held
 pub mod Selecting

@@ -3,24 +3,31 @@ use Rattle.std.specs.Prelude.{ℕ, List, codes}
 
 -- ---- whole tables, in the order of their keys
 
+-- the row of the desk
 abbrev pub select_meta : List ℕ
 select_meta = codes "SELECT id, format, base, nonce_life, order_life, authz_life, clock, nonces, accounts, orders, authzs, challs FROM meta ORDER BY id"
 
+-- nonces
 abbrev pub select_nonces : List ℕ
 select_nonces = codes "SELECT serial, random, issued FROM nonce ORDER BY serial"
 
+-- accounts
 abbrev pub select_accounts : List ℕ
 select_accounts = codes "SELECT num, jwk, contacts, opened, ended, end_kind, status FROM account ORDER BY num"
 
+-- orders, without what they list
 abbrev pub select_orders : List ℕ
 select_orders = codes "SELECT num, account, made, expires, finalized, csr, certified, cert, failed, problem, status FROM ord ORDER BY num"
 
+-- authorizations, without their challenges
 abbrev pub select_authorizations : List ℕ
 select_authorizations = codes "SELECT num, account, name, wildcard, made, expires, ended, end_kind, status FROM authz ORDER BY num"
 
+-- what orders list
 abbrev pub select_listed : List ℕ
 select_listed = codes "SELECT ord, place, authz FROM ord_authz ORDER BY ord, place"
 
+-- challenges
 abbrev pub select_challenges : List ℕ
 select_challenges = codes "SELECT num, authz, kind, token, answered, reported, outcome, status FROM chall ORDER BY num"
 

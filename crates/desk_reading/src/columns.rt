@@ -1,6 +1,8 @@
 //! The columns of a row of an answer.
-ghost use Rattle.std.specs.Prelude.{◌≡◌, IfOk, map};
+ghost use Rattle.std.specs.Prelude.{◌≡◌, All, IfErr, IfOk, map};
 ghost use Rattle.sqlite.specs.Order.{Row as SqlRow};
+ghost use Rattle.desk_reading.specs.Failures.{IsOutOfMemory};
+ghost use Rattle.desk_reading.specs.Fitting.{FitsAccount, FitsAuthorization, FitsChallenge, FitsListed, FitsMeta, FitsNonce, FitsOrder};
 ghost use Rattle.desk_reading.specs.Spelled.{account_in, authorization_in, challenge_in, listed_in, meta_in, nonce_in, order_in};
 
 use crate::values::{bytes, bytes_or_none, number, number_or_none, text, text_or_none};
@@ -17,9 +19,13 @@ pub(crate) trait Columns: Drop {
     // The columns that a row spells.
     ghost spelled: { SqlRow → Self };
 
+    // The values of a row are of the kinds of these columns.
+    ghost Fits: { SqlRow → Type 0 };
+
     // The columns of a row.
     fn read(row: &Row) -> Result<Self, Error>
-        ensures { IfOk result (λ c. c ≡ spelled row.now) };
+        ensures read { IfOk result (λ c. c ≡ spelled row.now) }
+        ensures fails { Fits row.now → IfErr result IsOutOfMemory };
 }
 
 /// The columns of each row.
@@ -28,7 +34,8 @@ pub(crate) trait Columns: Drop {
 ///
 /// Where a row has other values, or there is no memory.
 pub(crate) fn read_all<C: Columns>(alloc: Global, rows: &[Row]) -> Result<Sequence<C>, Error>
-    ensures { IfOk result (λ all. all ≡ map C.spelled rows.now) }
+    ensures read { IfOk result (λ all. all ≡ map C.spelled rows.now) }
+    ensures fails { All C.Fits rows.now → IfErr result IsOutOfMemory }
 {
     let mut all = Vec::new(alloc);
     for row in rows {
@@ -39,6 +46,8 @@ pub(crate) fn read_all<C: Columns>(alloc: Global, rows: &[Row]) -> Result<Sequen
 
 impl Columns for MetaColumns {
     ghost spelled = { meta_in };
+
+    ghost Fits = { FitsMeta };
 
     fn read(row: &Row) -> Result<MetaColumns, Error> {
         Ok(MetaColumns {
@@ -61,6 +70,8 @@ impl Columns for MetaColumns {
 impl Columns for NonceColumns {
     ghost spelled = { nonce_in };
 
+    ghost Fits = { FitsNonce };
+
     fn read(row: &Row) -> Result<NonceColumns, Error> {
         Ok(NonceColumns {
             serial: number(row, 0)?,
@@ -72,6 +83,8 @@ impl Columns for NonceColumns {
 
 impl Columns for AccountColumns {
     ghost spelled = { account_in };
+
+    ghost Fits = { FitsAccount };
 
     fn read(row: &Row) -> Result<AccountColumns, Error> {
         Ok(AccountColumns {
@@ -88,6 +101,8 @@ impl Columns for AccountColumns {
 
 impl Columns for OrderColumns {
     ghost spelled = { order_in };
+
+    ghost Fits = { FitsOrder };
 
     fn read(row: &Row) -> Result<OrderColumns, Error> {
         Ok(OrderColumns {
@@ -109,6 +124,8 @@ impl Columns for OrderColumns {
 impl Columns for AuthzColumns {
     ghost spelled = { authorization_in };
 
+    ghost Fits = { FitsAuthorization };
+
     fn read(row: &Row) -> Result<AuthzColumns, Error> {
         Ok(AuthzColumns {
             num: number(row, 0)?,
@@ -127,6 +144,8 @@ impl Columns for AuthzColumns {
 impl Columns for OrderAuthzColumns {
     ghost spelled = { listed_in };
 
+    ghost Fits = { FitsListed };
+
     fn read(row: &Row) -> Result<OrderAuthzColumns, Error> {
         Ok(OrderAuthzColumns {
             ord: number(row, 0)?,
@@ -138,6 +157,8 @@ impl Columns for OrderAuthzColumns {
 
 impl Columns for ChallColumns {
     ghost spelled = { challenge_in };
+
+    ghost Fits = { FitsChallenge };
 
     fn read(row: &Row) -> Result<ChallColumns, Error> {
         Ok(ChallColumns {

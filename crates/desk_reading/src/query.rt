@@ -1,10 +1,11 @@
 //! Queries, and the columns of their rows.
-ghost use Rattle.std.specs.Prelude.{◌≡◌, map, IfOk, OnOk, List};
+ghost use Rattle.std.specs.Prelude.{◌≡◌, map, IfErr, IfOk, OnOk, List};
 ghost use Rattle.sqlite.specs.Order.{Row as SqlRow};
-ghost use Rattle.sqlite.specs.State.{HasCleanDisk, IsUnchanged, Shown};
+ghost use Rattle.sqlite.specs.State.{FailsToQuery, HasCleanDisk, IsUnchanged, Shown};
 ghost use Rattle.sqlite.specs.Values.{bound};
 ghost use Rattle.sqlite.specs.Held.{state};
 ghost use Rattle.desk_schema.specs.Stays.{Asks};
+ghost use Rattle.desk_reading.specs.Failures.{FailsToRead};
 ghost use Rattle.desk_reading.specs.Selecting.{IsQuery};
 
 use crate::columns::{Columns, read_all};
@@ -25,6 +26,7 @@ pub(crate) fn all_rows<S: Alter>(
 ) -> Result<Vec<Row>, Error>
     requires { IsQuery text.now }
     ensures shown { HasCleanDisk (state S.Store conn.new) → IfOk result (λ rows. Shown text.now (bound params.now) (state S.Store conn.old) (state S.Store conn.new) rows.items) }
+    ensures err { HasCleanDisk (state S.Store conn.new) → IfErr result (FailsToQuery text.now (bound params.now) (state S.Store conn.old) (state S.Store conn.new)) }
     ensures unchanged { HasCleanDisk (state S.Store conn.new) → OnOk result (IsUnchanged (state S.Store conn.old) (state S.Store conn.new)) }
     ensures asks { Asks (state S.Store conn.old) (state S.Store conn.new) }
 {
@@ -44,6 +46,7 @@ pub(crate) fn read_query<S: Alter, C: Columns>(
 ) -> Result<Sequence<C>, Error>
     requires { IsQuery text.now }
     ensures read { HasCleanDisk (state S.Store conn.new) → IfOk result (λ all. (rows : List SqlRow) × Shown text.now (bound params.now) (state S.Store conn.old) (state S.Store conn.new) rows × (all ≡ map C.spelled rows)) }
+    ensures fails { HasCleanDisk (state S.Store conn.new) → IfErr result (FailsToRead text.now (bound params.now) (state S.Store conn.old) (state S.Store conn.new) C.Fits) }
     ensures unchanged { HasCleanDisk (state S.Store conn.new) → OnOk result (IsUnchanged (state S.Store conn.old) (state S.Store conn.new)) }
     ensures asks { Asks (state S.Store conn.old) (state S.Store conn.new) }
 {

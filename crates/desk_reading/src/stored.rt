@@ -1,12 +1,14 @@
 //! The rows of all tables.
-ghost use Rattle.std.specs.Prelude.{◌≡◌, [], ◌∷◌, map, IfOk, OnOk};
+ghost use Rattle.std.specs.Prelude.{◌≡◌, [], ◌∷◌, map, IfErr, IfOk, OnOk};
 ghost use Rattle.std.specs.List.Sorted.{IsPermutation};
 ghost use Rattle.sqlite.specs.State.{HasCleanDisk, IsUnchanged};
 ghost use Rattle.sqlite.specs.Held.{state};
 ghost use Rattle.desk_columns.specs.Columns.{account_columns, authorization_columns, challenge_columns, listed_columns, meta_columns, nonce_columns, order_columns, rows_columns};
 ghost use Rattle.desk_columns.specs.Flat.{challenge_rows, flat, listed_rows};
+ghost use Rattle.desk_schema.specs.Failing.{IsFailure};
 ghost use Rattle.desk_schema.specs.Stays.{Asks};
 ghost use Rattle.stored_laws.specs.Told.{AreReorderedColumns};
+ghost use Rattle.desk_reading.specs.Failures.{HasTexts, MayRead};
 ghost use Rattle.desk_reading.specs.Held.{ForHeld};
 
 use crate::tables::{
@@ -45,6 +47,7 @@ struct AuthorizationRows {
 
 fn first_rows<S: Alter>(alloc: Global, conn: &mut Connection<S>) -> Result<FirstRows, Error>
     ensures found { ForHeld (state S.Store conn.old) (state S.Store conn.new) (λ T. IfOk result (λ all. (all.metas ≡ map meta_columns (T.meta ∷ [])) × (all.nonces ≡ map nonce_columns T.nonces) × (all.accounts ≡ map account_columns T.accounts))) }
+    ensures fails { ForHeld (state S.Store conn.old) (state S.Store conn.new) (λ T. MayRead (state S.Store conn.old) → HasTexts T → IfErr result IsFailure) }
     ensures unchanged { HasCleanDisk (state S.Store conn.new) → OnOk result (IsUnchanged (state S.Store conn.old) (state S.Store conn.new)) }
     ensures asks { Asks (state S.Store conn.old) (state S.Store conn.new) }
 {
@@ -60,6 +63,7 @@ fn first_rows<S: Alter>(alloc: Global, conn: &mut Connection<S>) -> Result<First
 
 fn order_rows<S: Alter>(alloc: Global, conn: &mut Connection<S>) -> Result<OrderRows, Error>
     ensures found { ForHeld (state S.Store conn.old) (state S.Store conn.new) (λ T. IfOk result (λ all. (all.orders ≡ map order_columns T.orders) × IsPermutation all.listed (map listed_columns (listed_rows T.orders)))) }
+    ensures fails { ForHeld (state S.Store conn.old) (state S.Store conn.new) (λ T. MayRead (state S.Store conn.old) → HasTexts T → IfErr result IsFailure) }
     ensures unchanged { HasCleanDisk (state S.Store conn.new) → OnOk result (IsUnchanged (state S.Store conn.old) (state S.Store conn.new)) }
     ensures asks { Asks (state S.Store conn.old) (state S.Store conn.new) }
 {
@@ -73,6 +77,7 @@ fn authorization_rows<S: Alter>(
     conn: &mut Connection<S>,
 ) -> Result<AuthorizationRows, Error>
     ensures found { ForHeld (state S.Store conn.old) (state S.Store conn.new) (λ T. IfOk result (λ all. (all.authorizations ≡ map authorization_columns T.authorizations) × (all.challenges ≡ map challenge_columns (challenge_rows T.authorizations)))) }
+    ensures fails { ForHeld (state S.Store conn.old) (state S.Store conn.new) (λ T. MayRead (state S.Store conn.old) → HasTexts T → IfErr result IsFailure) }
     ensures unchanged { HasCleanDisk (state S.Store conn.new) → OnOk result (IsUnchanged (state S.Store conn.old) (state S.Store conn.new)) }
     ensures asks { Asks (state S.Store conn.old) (state S.Store conn.new) }
 {
@@ -91,6 +96,7 @@ fn authorization_rows<S: Alter>(
 /// The engine's; the connection is as it was, or what was not committed is undone.
 pub fn load_stored<S: Alter>(alloc: Global, conn: &mut Connection<S>) -> Result<StoredRows, Error>
     ensures found { ForHeld (state S.Store conn.old) (state S.Store conn.new) (λ T. IfOk result (λ stored. AreReorderedColumns stored (rows_columns (flat T)))) }
+    ensures fails { ForHeld (state S.Store conn.old) (state S.Store conn.new) (λ T. MayRead (state S.Store conn.old) → HasTexts T → IfErr result IsFailure) }
     ensures unchanged { HasCleanDisk (state S.Store conn.new) → OnOk result (IsUnchanged (state S.Store conn.old) (state S.Store conn.new)) }
     ensures asks { Asks (state S.Store conn.old) (state S.Store conn.new) }
 {

@@ -1,11 +1,13 @@
 //! Whole tables.
-ghost use Rattle.std.specs.Prelude.{◌≡◌, [], ◌∷◌, map, IfOk, OnOk};
+ghost use Rattle.std.specs.Prelude.{◌≡◌, [], ◌∷◌, map, IfErr, IfOk, OnOk};
 ghost use Rattle.std.specs.List.Sorted.{IsPermutation};
 ghost use Rattle.sqlite.specs.State.{HasCleanDisk, IsUnchanged};
 ghost use Rattle.sqlite.specs.Held.{state};
 ghost use Rattle.desk_columns.specs.Columns.{account_columns, authorization_columns, challenge_columns, listed_columns, meta_columns, nonce_columns, order_columns};
 ghost use Rattle.desk_columns.specs.Flat.{challenge_rows, listed_rows};
+ghost use Rattle.desk_schema.specs.Failing.{IsFailure};
 ghost use Rattle.desk_schema.specs.Stays.{Asks};
+ghost use Rattle.desk_reading.specs.Failures.{HasTexts, MayRead};
 ghost use Rattle.desk_reading.specs.Held.{ForHeld};
 
 use crate::query::read_query;
@@ -27,6 +29,7 @@ pub fn meta_table<S: Alter>(
     conn: &mut Connection<S>,
 ) -> Result<Sequence<MetaColumns>, Error>
     ensures found { ForHeld (state S.Store conn.old) (state S.Store conn.new) (λ T. IfOk result (λ all. all ≡ map meta_columns (T.meta ∷ []))) }
+    ensures fails { ForHeld (state S.Store conn.old) (state S.Store conn.new) (λ T. MayRead (state S.Store conn.old) → HasTexts T → IfErr result IsFailure) }
     ensures unchanged { HasCleanDisk (state S.Store conn.new) → OnOk result (IsUnchanged (state S.Store conn.old) (state S.Store conn.new)) }
     ensures asks { Asks (state S.Store conn.old) (state S.Store conn.new) }
 {
@@ -48,6 +51,7 @@ pub fn nonce_table<S: Alter>(
     conn: &mut Connection<S>,
 ) -> Result<Sequence<NonceColumns>, Error>
     ensures found { ForHeld (state S.Store conn.old) (state S.Store conn.new) (λ T. IfOk result (λ all. all ≡ map nonce_columns T.nonces)) }
+    ensures fails { ForHeld (state S.Store conn.old) (state S.Store conn.new) (λ T. MayRead (state S.Store conn.old) → HasTexts T → IfErr result IsFailure) }
     ensures unchanged { HasCleanDisk (state S.Store conn.new) → OnOk result (IsUnchanged (state S.Store conn.old) (state S.Store conn.new)) }
     ensures asks { Asks (state S.Store conn.old) (state S.Store conn.new) }
 {
@@ -69,6 +73,7 @@ pub fn account_table<S: Alter>(
     conn: &mut Connection<S>,
 ) -> Result<Sequence<AccountColumns>, Error>
     ensures found { ForHeld (state S.Store conn.old) (state S.Store conn.new) (λ T. IfOk result (λ all. all ≡ map account_columns T.accounts)) }
+    ensures fails { ForHeld (state S.Store conn.old) (state S.Store conn.new) (λ T. MayRead (state S.Store conn.old) → HasTexts T → IfErr result IsFailure) }
     ensures unchanged { HasCleanDisk (state S.Store conn.new) → OnOk result (IsUnchanged (state S.Store conn.old) (state S.Store conn.new)) }
     ensures asks { Asks (state S.Store conn.old) (state S.Store conn.new) }
 {
@@ -90,6 +95,7 @@ pub fn order_table<S: Alter>(
     conn: &mut Connection<S>,
 ) -> Result<Sequence<OrderColumns>, Error>
     ensures found { ForHeld (state S.Store conn.old) (state S.Store conn.new) (λ T. IfOk result (λ all. all ≡ map order_columns T.orders)) }
+    ensures fails { ForHeld (state S.Store conn.old) (state S.Store conn.new) (λ T. MayRead (state S.Store conn.old) → HasTexts T → IfErr result IsFailure) }
     ensures unchanged { HasCleanDisk (state S.Store conn.new) → OnOk result (IsUnchanged (state S.Store conn.old) (state S.Store conn.new)) }
     ensures asks { Asks (state S.Store conn.old) (state S.Store conn.new) }
 {
@@ -111,6 +117,7 @@ pub fn authorization_table<S: Alter>(
     conn: &mut Connection<S>,
 ) -> Result<Sequence<AuthzColumns>, Error>
     ensures found { ForHeld (state S.Store conn.old) (state S.Store conn.new) (λ T. IfOk result (λ all. all ≡ map authorization_columns T.authorizations)) }
+    ensures fails { ForHeld (state S.Store conn.old) (state S.Store conn.new) (λ T. MayRead (state S.Store conn.old) → HasTexts T → IfErr result IsFailure) }
     ensures unchanged { HasCleanDisk (state S.Store conn.new) → OnOk result (IsUnchanged (state S.Store conn.old) (state S.Store conn.new)) }
     ensures asks { Asks (state S.Store conn.old) (state S.Store conn.new) }
 {
@@ -132,6 +139,7 @@ pub fn listed_table<S: Alter>(
     conn: &mut Connection<S>,
 ) -> Result<Sequence<OrderAuthzColumns>, Error>
     ensures found { ForHeld (state S.Store conn.old) (state S.Store conn.new) (λ T. IfOk result (λ all. IsPermutation all (map listed_columns (listed_rows T.orders)))) }
+    ensures fails { ForHeld (state S.Store conn.old) (state S.Store conn.new) (λ T. MayRead (state S.Store conn.old) → HasTexts T → IfErr result IsFailure) }
     ensures unchanged { HasCleanDisk (state S.Store conn.new) → OnOk result (IsUnchanged (state S.Store conn.old) (state S.Store conn.new)) }
     ensures asks { Asks (state S.Store conn.old) (state S.Store conn.new) }
 {
@@ -153,6 +161,7 @@ pub fn challenge_table<S: Alter>(
     conn: &mut Connection<S>,
 ) -> Result<Sequence<ChallColumns>, Error>
     ensures found { ForHeld (state S.Store conn.old) (state S.Store conn.new) (λ T. IfOk result (λ all. all ≡ map challenge_columns (challenge_rows T.authorizations))) }
+    ensures fails { ForHeld (state S.Store conn.old) (state S.Store conn.new) (λ T. MayRead (state S.Store conn.old) → HasTexts T → IfErr result IsFailure) }
     ensures unchanged { HasCleanDisk (state S.Store conn.new) → OnOk result (IsUnchanged (state S.Store conn.old) (state S.Store conn.new)) }
     ensures asks { Asks (state S.Store conn.old) (state S.Store conn.new) }
 {

@@ -1,6 +1,8 @@
 //! The values of a row of an answer.
-ghost use Rattle.std.specs.Prelude.{◌≡◌, IfOk};
+ghost use Rattle.std.specs.Prelude.{◌≡◌, IfErr, IfOk, option_map, string_bytes};
 ghost use Rattle.sqlite.specs.Order.{column};
+ghost use Rattle.desk_reading.specs.Failures.{IsOutOfMemory};
+ghost use Rattle.desk_reading.specs.Fitting.{HasAt, HoldsBlob, HoldsBlobOrNull, HoldsInt, HoldsIntOrNull, HoldsText, HoldsTextOrNull};
 ghost use Rattle.desk_reading.specs.Spelled.{bytes_in, bytes_or_none, number_in, number_or_none};
 
 use desk_model::{Sequence, Text};
@@ -8,40 +10,76 @@ use sqlite::{Error, Row};
 
 /// The number in a column.
 pub(crate) fn number(row: &Row, at: usize) -> Result<i64, Error>
-    ensures { IfOk result (λ n. n ≡ number_in (column row.now at)) }
+    ensures read { IfOk result (λ n. n ≡ number_in (column row.now at)) }
+    ensures fails { HasAt HoldsInt row.now at → IfErr result IsOutOfMemory }
+{
+    row.get(at)
+}
+
+// The text in a column, as a `String`.
+fn string(row: &Row, at: usize) -> Result<String, Error>
+    ensures read { IfOk result (λ t. string_bytes t ≡ bytes_in (column row.now at)) }
+    ensures fails { HasAt HoldsText row.now at → IfErr result IsOutOfMemory }
+{
+    row.get(at)
+}
+
+// The bytes in a column, as a `Vec`.
+fn byte_vec(row: &Row, at: usize) -> Result<Vec<u8>, Error>
+    ensures read { IfOk result (λ b. b.items ≡ bytes_in (column row.now at)) }
+    ensures fails { HasAt HoldsBlob row.now at → IfErr result IsOutOfMemory }
 {
     row.get(at)
 }
 
 /// The text in a column.
 pub(crate) fn text(row: &Row, at: usize) -> Result<Text, Error>
-    ensures { IfOk result (λ t. t ≡ bytes_in (column row.now at)) }
+    ensures read { IfOk result (λ t. t ≡ bytes_in (column row.now at)) }
+    ensures fails { HasAt HoldsText row.now at → IfErr result IsOutOfMemory }
 {
-    let read: String = row.get(at)?;
+    let read = string(row, at)?;
     Ok(Text::new(read))
 }
 
 /// The bytes in a column.
 pub(crate) fn bytes(row: &Row, at: usize) -> Result<Sequence<u8>, Error>
-    ensures { IfOk result (λ b. b ≡ bytes_in (column row.now at)) }
+    ensures read { IfOk result (λ b. b ≡ bytes_in (column row.now at)) }
+    ensures fails { HasAt HoldsBlob row.now at → IfErr result IsOutOfMemory }
 {
-    let read: Vec<u8> = row.get(at)?;
+    let read = byte_vec(row, at)?;
     Ok(Sequence::new(read))
 }
 
 /// The number in a column, or `None` for NULL.
 pub(crate) fn number_or_none(row: &Row, at: usize) -> Result<Option<i64>, Error>
-    ensures { IfOk result (λ o. o ≡ number_or_none (column row.now at)) }
+    ensures read { IfOk result (λ o. o ≡ number_or_none (column row.now at)) }
+    ensures fails { HasAt HoldsIntOrNull row.now at → IfErr result IsOutOfMemory }
+{
+    row.get(at)
+}
+
+// The text in a column, as a `String`, or `None` for NULL.
+fn string_or_none(row: &Row, at: usize) -> Result<Option<String>, Error>
+    ensures read { IfOk result (λ o. option_map string_bytes o ≡ bytes_or_none (column row.now at)) }
+    ensures fails { HasAt HoldsTextOrNull row.now at → IfErr result IsOutOfMemory }
+{
+    row.get(at)
+}
+
+// The bytes in a column, as a `Vec`, or `None` for NULL.
+fn byte_vec_or_none(row: &Row, at: usize) -> Result<Option<Vec<u8>>, Error>
+    ensures read { IfOk result (λ o. option_map (λ b. b.items) o ≡ bytes_or_none (column row.now at)) }
+    ensures fails { HasAt HoldsBlobOrNull row.now at → IfErr result IsOutOfMemory }
 {
     row.get(at)
 }
 
 /// The text in a column, or `None` for NULL.
 pub(crate) fn text_or_none(row: &Row, at: usize) -> Result<Option<Text>, Error>
-    ensures { IfOk result (λ o. o ≡ bytes_or_none (column row.now at)) }
+    ensures read { IfOk result (λ o. o ≡ bytes_or_none (column row.now at)) }
+    ensures fails { HasAt HoldsTextOrNull row.now at → IfErr result IsOutOfMemory }
 {
-    let read: Option<String> = row.get(at)?;
-    match read {
+    match string_or_none(row, at)? {
         Some(found) => Ok(Some(Text::new(found))),
         None => Ok(None),
     }
@@ -49,10 +87,10 @@ pub(crate) fn text_or_none(row: &Row, at: usize) -> Result<Option<Text>, Error>
 
 /// The bytes in a column, or `None` for NULL.
 pub(crate) fn bytes_or_none(row: &Row, at: usize) -> Result<Option<Sequence<u8>>, Error>
-    ensures { IfOk result (λ o. o ≡ bytes_or_none (column row.now at)) }
+    ensures read { IfOk result (λ o. o ≡ bytes_or_none (column row.now at)) }
+    ensures fails { HasAt HoldsBlobOrNull row.now at → IfErr result IsOutOfMemory }
 {
-    let read: Option<Vec<u8>> = row.get(at)?;
-    match read {
+    match byte_vec_or_none(row, at)? {
         Some(found) => Ok(Some(Sequence::new(found))),
         None => Ok(None),
     }

@@ -131,7 +131,8 @@ listed_after x orders ts after rising up same apart apart_after kept placed = go
         → IsPermutation (map row_of after) (listed_rows (put number_of x orders))
     go None is k =
         let none = λ (l : Owned Listed) (h : Has (owned_by x.number x.listed) l) (t : ℕ × Owned Listed) (in_t : Has ts t).
-        let there = has_through (listed_rows orders) (map row_of ts) t.1 (IsPermutation-sym (map row_of ts) (listed_rows orders) same) (has_image row_of ts t in_t) in
+        let back = IsPermutation-sym (map row_of ts) (listed_rows orders) same in
+        let there = has_through (listed_rows orders) (map row_of ts) t.1 back (has_image row_of ts t in_t) in
         owners_apart l t.1 (λ e. none_own x orders is t.1 there (sym e ∙ owned_are x.number x.listed l h)) in
         let grown = new_rows (owned_by x.number x.listed) ts after up (own_apart x orders apart_after) none placed in
         subst (λ ls. IsPermutation ls (listed_rows (put number_of x orders))) (sym grown)

@@ -52,7 +52,8 @@ module _ {P C : Type 0} (parent : P → ℕ) (children : P → List C) (key : C 
         let is = put_behind parent x p ps less.low in
         let a : Ascends key n (children p ++ of_all (put parent x ps)) = subst (λ l. Ascends key n (of_all l)) is up in
         let parts = above_others n x ps (children p) a in
-        let later = λ (q : P) (h : find (λ p. parent p == parent x) ps ≡ Some q). same q (find_later parent (parent x) p ps (λ e. omega (arith, less.low, e)) ∙ h) in
+        let past = find_later parent (parent x) p ps (λ e. omega (arith, less.low, e)) in
+        let later = λ (q : P) (h : find (λ p. parent p == parent x) ps ≡ Some q). same q (past ∙ h) in
         puts_behind_all key (children p) (children x) (of_all ps) parts.0
         ∙ ap (λ l. children p ++ l) (children_put n x ps later parts.1)
         ∙ sym (ap of_all is)

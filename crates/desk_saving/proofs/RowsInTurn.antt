@@ -26,7 +26,8 @@ use Rattle.desk_tables.specs.Layouts.{HasRows, Layout}
 -- ---- one row
 
 -- what an order lists, by its columns
-pub places_typed : (columns : OrderAuthzColumns) (row : Owned Listed) (old new : State) → columns ≡ listed_columns row → Advances old new (PlacesColumns columns)
+pub places_typed : (columns : OrderAuthzColumns) (row : Owned Listed) (old new : State) → columns ≡ listed_columns row
+    → Advances old new (PlacesColumns columns)
     → Advances old new (Places row)
 places_typed columns row old new are = advances_as old new (PlacesColumns columns) (Places row) (λ does. does row (sym are))
 

@@ -47,9 +47,9 @@ pub fn make_tables<S: Alter>(
     ensures idle { conn.new.in_transaction ≡ false }
     ensures ok { HasCleanDisk (state S.Store conn.new) → OnOk result (HasCommitted (state S.Store conn.old) (state S.Store conn.new) (MakesDesk meta.now)) }
     ensures err { HasCleanDisk (state S.Store conn.new) → OnErr result (GoesBack (state S.Store conn.old) (state S.Store conn.new)) }
-    ensures fits { FitsMeta meta.now → IfErr result IsNotTooLarge }
     ensures before { IfErr result (λ why. IsBeforeCommit why → Survives (state S.Store conn.old) (state S.Store conn.new) (λ _. ⊥)) }
     ensures left { Survives (state S.Store conn.old) (state S.Store conn.new) (IsLeft (MakesDesk meta.now (state S.Store conn.old).now)) }
+    ensures fits { FitsMeta meta.now → IfErr result IsNotTooLarge }
 {
     let mut tx = conn.transaction();
     define_desk(alloc, &mut tx, meta)?;

@@ -29,9 +29,9 @@ pub fn save_all<S: Alter>(
     ensures idle { conn.new.in_transaction ≡ false }
     ensures ok { HasCleanDisk (state S.Store conn.new) → OnOk result (HasCommitted (state S.Store conn.old) (state S.Store conn.new) (Saves changes.now)) }
     ensures err { HasCleanDisk (state S.Store conn.new) → OnErr result (GoesBack (state S.Store conn.old) (state S.Store conn.new)) }
-    ensures fits { EachOf FitsColumns changes.now → IfErr result IsNotTooLarge }
     ensures before { IfErr result (λ why. IsBeforeCommit why → Survives (state S.Store conn.old) (state S.Store conn.new) (λ _. ⊥)) }
     ensures left { Survives (state S.Store conn.old) (state S.Store conn.new) (IsLeft (Saves changes.now (state S.Store conn.old).now)) }
+    ensures fits { EachOf FitsColumns changes.now → IfErr result IsNotTooLarge }
 {
     let mut tx = conn.transaction();
     put_changes(alloc, &mut tx, changes)?;

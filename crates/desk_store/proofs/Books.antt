@@ -1,6 +1,6 @@
 -- What a desk's tables are to a file.
-use Rattle.std.proofs.Common.{◌≡◌, Result, Ok, Err, sym, subst}
-use Rattle.std.specs.Prelude.{IfOk}
+use Rattle.std.proofs.Common.{◌≡◌, Result, Ok, Err, inl, inr, sym, subst}
+use Rattle.std.specs.Prelude.{◌⊎◌, IfErr, IfOk}
 use Rattle.sqlite.specs.Effect.{Database}
 use Rattle.sqlite.specs.State.{State}
 use Rattle.desk_columns.specs.Columns.{rows_columns}
@@ -8,12 +8,18 @@ use Rattle.desk_columns.specs.Flat.{flat}
 use Rattle.desk_columns.specs.declared.columns.StoredRows.{StoredRows}
 use Rattle.desk_model.specs.History.{clock}
 use Rattle.desk_model.specs.Tables.{Tables}
+use Rattle.desk_reading.specs.Failures.{HasTexts, MayRead}
 use Rattle.desk_reading.specs.StoredBook.{IsStoredBook}
+use Rattle.desk_storage.specs.declared.fault.StorageFault.TheVariants.{Memory}
 use Rattle.desk_store.specs.Desks.{HasDesk, IsDesk}
+use Rattle.desk_store.specs.Making.{IsOfStorage}
+use Rattle.desk_store.specs.declared.open_fault.OpenFault.{OpenFault}
+use Rattle.desk_store.specs.declared.open_fault.OpenFault.TheVariants.{NotADesk, Storage}
 use Rattle.desk_tables.specs.Holds.{Holds}
 use Rattle.stored_rows.specs.IsBook.{IsBookOfStored}
 use Rattle.stored_laws.proofs.Books.{tables_book}
 use Rattle.stored_laws.proofs.Columns.{picture_told}
+use Rattle.stored_laws.proofs.FlatTexts.{tables_are_texts}
 use Rattle.stored_laws.proofs.Rows.{picture_stored}
 use Rattle.stored_laws.specs.Told.{AreReorderedColumns, IsOnlyBookOf}
 
@@ -34,3 +40,19 @@ pub book_told : {E : Type 0} (s : State) (stored : StoredRows) (made : Result Ta
     → ((T : Tables) → Holds s.now T → AreReorderedColumns stored (rows_columns (flat T))) → IfOk made (λ book. (T : Tables) → HasDesk s T → book ≡ T)
 book_told s stored (Ok book) is told = λ T has. (only_book s.now T has.desk stored (told T has.desk.holds)).only book is
 book_told s stored (Err why) is told = tt
+
+-- its texts are UTF-8
+pub desk_texts : (db : Database) (T : Tables) → IsDesk db T → HasTexts T
+desk_texts db T desk = subst HasTexts (sym desk.is_picture) (tables_are_texts desk.history desk.legal.each (clock desk.history))
+
+-- it may be read
+pub may_read : (s : State) (T : Tables) → HasDesk s T → MayRead s
+may_read s T has = record { is_open = has.is_open; unlimited = has.unlimited }
+
+-- there is one, so only memory can have failed
+pub book_fails : (s : State) (stored : StoredRows) (made : Result Tables OpenFault)
+    → IfErr made (λ why. (why ≡ Storage Memory) ⊎ ((why ≡ NotADesk) × ((T : Tables) → IsBookOfStored stored T → ⊥)))
+    → ((T : Tables) → Holds s.now T → AreReorderedColumns stored (rows_columns (flat T))) → IfErr made (λ why. (T : Tables) → HasDesk s T → IsOfStorage why)
+book_fails s stored (Ok book) fault told = tt
+book_fails s stored (Err why) (inl is) told = λ T has. (Memory, is)
+book_fails s stored (Err why) (inr none) told = λ T has. absurd (none.1 T (only_book s.now T has.desk stored (told T has.desk.holds)).book)

@@ -1,4 +1,5 @@
 pub mod Books
 pub mod NewDesks
+pub mod OpeningFaults
 pub mod SavedDesks
 pub mod Standing

@@ -8,6 +8,7 @@ ghost use Rattle.desk_schema.specs.Stays.{Asks};
 ghost use Rattle.desk_storage.specs.declared.fault.StorageFault.TheVariants.{Memory as memory};
 ghost use Rattle.desk_store.specs.Causes.{IsOfOpening, cause_of};
 ghost use Rattle.desk_store.specs.Desks.{HasDesk};
+ghost use Rattle.desk_store.specs.Making.{IsOfStorage};
 ghost use Rattle.desk_store.specs.declared.open_fault.OpenFault.TheVariants.{NewerFormat as newer_format, NotADesk as not_a_desk, Storage as of_storage};
 ghost use Rattle.stored_rows.specs.IsBook.{IsBookOfStored};
 
@@ -40,6 +41,7 @@ fn check_format<S: Alter>(conn: &mut Connection<S>) -> Result<(), OpenFault>
     ensures known { HasCleanDisk (state S.Store conn.new) → OnOk result (ShowsFormats (state S.Store conn.old) (state S.Store conn.new) (λ rows. ¬ IsNewer rows)) }
     ensures newer { HasCleanDisk (state S.Store conn.new) → result ≡ Err newer_format → ShowsFormats (state S.Store conn.old) (state S.Store conn.new) IsNewer }
     ensures unchanged { HasCleanDisk (state S.Store conn.new) → OnOk result (IsUnchanged (state S.Store conn.old) (state S.Store conn.new)) }
+    ensures desk { HasCleanDisk (state S.Store conn.new) → IfErr result (λ why. (T : Tables) → HasDesk (state S.Store conn.old) T → IsOfStorage why) }
     ensures answering { HasCleanDisk (state S.Store conn.new) → result ≡ Err (of_storage memory) → IsTrue (state S.Store conn.new).is_open }
     ensures asks { Asks (state S.Store conn.old) (state S.Store conn.new) }
 {
@@ -73,12 +75,29 @@ pub(crate) fn read_book<S: Alter>(
 ) -> Result<Book, OpenFault>
     ensures book { HasCleanDisk (state S.Store conn.new) → IfOk result (λ book. (T : Tables) → HasDesk (state S.Store conn.old) T → book ≡ T) }
     ensures unchanged { HasCleanDisk (state S.Store conn.new) → OnOk result (IsUnchanged (state S.Store conn.old) (state S.Store conn.new)) }
+    ensures desk { HasCleanDisk (state S.Store conn.new) → IfErr result (λ why. (T : Tables) → HasDesk (state S.Store conn.old) T → IsOfStorage why) }
     ensures answering { HasCleanDisk (state S.Store conn.new) → result ≡ Err (of_storage memory) → IsTrue (state S.Store conn.new).is_open }
     ensures asks { Asks (state S.Store conn.old) (state S.Store conn.new) }
 {
     match load_stored(alloc, conn) {
         Ok(stored) => book_of(alloc, stored),
         Err(error) => Err(opening_fault(conn, error)),
+    }
+}
+
+/// That the indexes are there, and that the rows are a book's.
+fn check_rows<S: Alter>(alloc: Global, conn: &mut Connection<S>) -> Result<(), OpenFault>
+    ensures unchanged { HasCleanDisk (state S.Store conn.new) → OnOk result (IsUnchanged (state S.Store conn.old) (state S.Store conn.new)) }
+    ensures desk { HasCleanDisk (state S.Store conn.new) → IfErr result (λ why. (T : Tables) → HasDesk (state S.Store conn.old) T → IsOfStorage why) }
+    ensures answering { HasCleanDisk (state S.Store conn.new) → result ≡ Err (of_storage memory) → IsTrue (state S.Store conn.new).is_open }
+    ensures asks { Asks (state S.Store conn.old) (state S.Store conn.new) }
+{
+    if !has_indexes(conn.schema()) {
+        return Err(OpenFault::NotADesk);
+    }
+    match read_book(alloc, conn) {
+        Ok(_) => Ok(()),
+        Err(fault) => Err(fault),
     }
 }
 
@@ -90,13 +109,12 @@ pub(crate) fn read_book<S: Alter>(
 /// or no book has these rows; `Storage` where the store failed.
 pub(crate) fn check_desk<S: Alter>(alloc: Global, conn: &mut Connection<S>) -> Result<(), OpenFault>
     ensures unchanged { HasCleanDisk (state S.Store conn.new) → OnOk result (IsUnchanged (state S.Store conn.old) (state S.Store conn.new)) }
+    ensures desk { HasCleanDisk (state S.Store conn.new) → IfErr result (λ why. (T : Tables) → HasDesk (state S.Store conn.old) T → IsOfStorage why) }
     ensures answering { HasCleanDisk (state S.Store conn.new) → result ≡ Err (of_storage memory) → IsTrue (state S.Store conn.new).is_open }
     ensures asks { Asks (state S.Store conn.old) (state S.Store conn.new) }
 {
-    check_format(conn)?;
-    if !has_indexes(conn.schema()) {
-        return Err(OpenFault::NotADesk);
+    match check_format(conn) {
+        Ok(()) => check_rows(alloc, conn),
+        Err(fault) => Err(fault),
     }
-    read_book(alloc, conn)?;
-    Ok(())
 }

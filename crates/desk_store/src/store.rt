@@ -85,6 +85,7 @@ impl<S: Alter> Store<S> {
         ensures asks { MatchResult result (λ store. Asks (state S.Store conn) (state S.Store store.conn)) (λ un. Asks (state S.Store conn) (state S.Store un.conn)) }
         ensures unchanged { IfOk result (λ store. HasCleanDisk (state S.Store store.conn) → IsUnchanged (state S.Store conn) (state S.Store store.conn)) }
         ensures kept { IfOk result (λ store. HasCleanDisk (state S.Store store.conn) → (T : Tables) → HasDesk (state S.Store conn) T → Keeps (store_sight S.Store) store T) }
+        ensures desk { IfErr result (λ un. HasCleanDisk (state S.Store un.conn) → (T : Tables) → HasDesk (state S.Store conn) T → IsOfStorage un.fault) }
         ensures answering { IfErr result (λ un. HasCleanDisk (state S.Store un.conn) → un.fault ≡ of_storage memory → IsTrue (state S.Store un.conn).is_open) }
     {
         let mut conn = conn;

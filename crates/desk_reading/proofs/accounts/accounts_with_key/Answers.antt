@@ -12,4 +12,5 @@ find_rows-requires g c = accounts_with_key_reading.selecting
 pub returns-clause-found : goal.returns-clause-found
 returns-clause-found g c clean T has book =
     read_then c.find_rows.result (c.find_rows.ensures.read clean) (λ found it.
-    accounts_with_key_found (state g.S.Store c.args.conn.now) (state g.S.Store c.find_rows.new.conn) T it.0 _ has book found.items it.2 it.3 c.args.key.now (c.text_param-params.ensures ∙ ap (λ t. Text t ∷ []) c.canonical.ensures.canonical) it.1)
+    accounts_with_key_found (state g.S.Store c.args.conn.now) (state g.S.Store c.find_rows.new.conn) T it.0 _ has book found.items it.2 it.3 c.args.key.now
+    (c.text_param-params.ensures ∙ ap (λ t. Text t ∷ []) c.canonical.ensures.canonical) it.1)

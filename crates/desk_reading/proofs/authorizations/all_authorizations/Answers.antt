@@ -19,7 +19,8 @@ returns-clause-found g c clean T has book =
     let it = c.in_ok-heads.ensures.read clean_one in
     let same = c.in_ok-heads.ensures.unchanged clean_one in
     let heads = all_authorizations_found before one T it.0 _ has book c.in_ok-heads.heads.items it.2 it.3 refl it.1 in
-    c.nest_challenges.ensures.found clean T (holds_still before one T same has) book same.0.is_open _ (authorizations_have 0 T.authorizations has.rising.authorizations) heads
+    c.nest_challenges.ensures.found clean T (holds_still before one T same has) book same.0.is_open _
+    (authorizations_have 0 T.authorizations has.rising.authorizations) heads
 
 pub returns-clause-unchanged : goal.returns-clause-unchanged
 returns-clause-unchanged g c clean =

@@ -19,8 +19,10 @@ returns-clause-found g c clean T has book =
     let clean_one : HasCleanDisk one = omega (arith, clean, c.nest_challenges.ensures.asks.survives.clean) in
     let it = c.in_ok-heads.ensures.read clean_one in
     let same = c.in_ok-heads.ensures.unchanged clean_one in
-    let heads = authorizations_numbered_found before one T it.0 _ has book c.in_ok-heads.heads.items it.2 it.3 c.args.number c.number_param-params.ensures it.1 in
-    c.nest_challenges.ensures.found clean T (holds_still before one T same has) book same.0.is_open _ (each-filter _ _ T.authorizations (authorizations_have 0 T.authorizations has.rising.authorizations)) heads
+    let heads = authorizations_numbered_found before one T it.0 _ has book c.in_ok-heads.heads.items it.2 it.3 c.args.number c.number_param-params.ensures
+    it.1 in
+    c.nest_challenges.ensures.found clean T (holds_still before one T same has) book same.0.is_open _
+    (each-filter _ _ T.authorizations (authorizations_have 0 T.authorizations has.rising.authorizations)) heads
 
 pub returns-clause-unchanged : goal.returns-clause-unchanged
 returns-clause-unchanged g c clean =

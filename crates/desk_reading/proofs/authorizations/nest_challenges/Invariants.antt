@@ -15,7 +15,8 @@ abbrev pub invariant-loop-head : goal.invariant-loop-head
 invariant-loop-head g l = record {
   whole : l.fn.heads.items ≡ l.yielded ++ into_iter_items l.head-iterator;
   found : ForHeld (state g.S.Store l.fn.conn) (state g.S.Store l.conn) (λ T. IsStoredBook T → IsTrue (state g.S.Store l.fn.conn).is_open
-      → AreFilled (λ (a : AuthorizationRow). a.number) (λ (a : AuthorizationRow). a.challenges) (λ n. rows_under n (challenge_rows T.authorizations)) without_challenges l.yielded l.rows.items);
+      → AreFilled (λ (a : AuthorizationRow). a.number) (λ (a : AuthorizationRow). a.challenges)
+      (λ n. rows_under n (challenge_rows T.authorizations)) without_challenges l.yielded l.rows.items);
   unchanged : HasCleanDisk (state g.S.Store l.conn) → IsTrue (state g.S.Store l.fn.conn).is_open
       → IsUnchanged (state g.S.Store l.fn.conn) (state g.S.Store l.conn);
   asks : Asks (state g.S.Store l.fn.conn) (state g.S.Store l.conn);

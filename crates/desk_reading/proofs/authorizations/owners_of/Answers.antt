@@ -11,6 +11,7 @@ find_rows-requires g c = challenges_numbered_reading.selecting
 pub returns-clause-found : goal.returns-clause-found
 returns-clause-found g c clean T has book =
     let it = c.in_ok-rows.ensures.read clean in
-    let found = challenges_numbered_found (state g.S.Store c.args.conn.now) (state g.S.Store c.find_rows.new.conn) T it.0 _ has book c.in_ok-rows.rows.items it.2 it.3
+    let found = challenges_numbered_found (state g.S.Store c.args.conn.now)
+    (state g.S.Store c.find_rows.new.conn) T it.0 _ has book c.in_ok-rows.rows.items it.2 it.3
     c.args.challenge c.number_param-params.ensures it.1 in
     c.in_ok-owners.ensures ∙ ap (map (λ c. c.owner)) found ∙ owners_are T c.args.challenge

@@ -1,7 +1,9 @@
 use Rattle.std.proofs.Common.{IsTrue, sym, ◌∙◌}
 use Rattle.sqlite.specs.Held.{state}
 use Rattle.desk_reading.proofs.FormatLemmas.{never_newer}
-use Rattle.desk_reading.proofs.Results.{not_true}
+use Rattle.desk_schema.specs.Failing.{IsFailure}
+use Rattle.desk_reading.proofs.Results.{failed_as, not_true}
+use Rattle.desk_reading.proofs.TableFailures.{format_fails}
 use Rattle.desk_reading.proofs.format.is_newer.Goals as goal
 
 pub returns-clause-newer : goal.returns-clause-newer
@@ -21,3 +23,9 @@ returns-clause-known g c clean not_told = (
       let told : IsTrue c.is_newer_row.result = c.is_newer_row.ensures.1 (rw (← c.deref.ensures.value) at newer) in
       absurd (let e = sym told ∙ not_told in cc),
 )
+
+pub returns-in_err-rows-clause-fails : goal.returns-in_err-rows-clause-fails
+returns-in_err-rows-clause-fails g c clean T has may =
+    failed_as c.from_residual.result c.in_err-rows.field-0.0 IsFailure
+    (format_fails (state g.S.Store c.args.conn.now) (state g.S.Store c.formats.new.conn) T c.in_err-rows.field-0.0 has may (c.in_err-rows.ensures.err clean))
+    c.from_residual.ensures.1

@@ -1,4 +1,4 @@
-use Rattle.std.proofs.Common.{length, ◌≡◌, [], ◌∷◌, ◌++◌, ◌∙◌, ap, append-nil, append_assoc, arith, refl, sym}
+use Rattle.std.proofs.Common.{◌≡◌, ◌∙◌, length, arith, refl}
 use Rattle.std.specs.Vec.Iter.{into_iter_items}
 use Rattle.sqlite.proofs.Callers.{unchanged_then}
 use Rattle.sqlite.specs.Held.{state}
@@ -8,7 +8,7 @@ use Rattle.desk_model.specs.declared.rows.OrderRow.{OrderRow}
 use Rattle.desk_schema.proofs.StaysLemmas.{asks_then}
 use Rattle.desk_tables.proofs.Holding.{holds_still}
 use Rattle.desk_reading.specs.Under.{rows_under}
-use Rattle.desk_reading.proofs.NestLemmas.{filled_more, no_items}
+use Rattle.desk_reading.proofs.NestLemmas.{filled_more, whole_done, whole_more}
 use Rattle.desk_reading.proofs.orders.nest_listed.Goals as goal
 
 pub loop-head-preserved : goal.loop-head-preserved
@@ -19,17 +19,15 @@ loop-head-preserved g c =
     let before = c.loop-head.invariant in
     let after = c.in_ok-listed.ensures in
     record {
-      whole =
-          before.whole
-          ∙ ap (λ l. c.loop-head.yielded ++ l) c.in-Some.ensures.steps.0
-          ∙ sym (append_assoc c.loop-head.yielded (c.in-Some.head ∷ []) (into_iter_items c.next.new.self));
+      whole = whole_more c.args.heads.items c.loop-head.yielded (into_iter_items c.loop-head.head-iterator) (into_iter_items c.next.new.self)
+          c.in-Some.head before.whole c.in-Some.ensures.steps.0;
       found = λ clean T has book open_.
           let clean_old : HasCleanDisk old = omega (arith, clean, after.asks.survives.clean) in
           filled_more (λ (o : OrderRow). o.number) (λ (o : OrderRow). o.listed) (λ n. rows_under n (listed_rows T.orders)) without_listed
-          (λ (o : OrderRow) ls. record o { listed = ls }) (λ _. refl) (λ _. refl) c.loop-head.yielded c.loop-head.rows.items _ c.in-Some.head c.in_ok-listed.listed.items
-          (before.found clean_old T has book open_)
-          (after.found clean T (holds_still first old T (before.unchanged clean_old open_) has) book)
-          (c.in_ok-push.ensures.items ∙ ap (λ ks. c.loop-head.rows.items ++ (record c.in-Some.head { listed = ks }) ∷ []) c.new.ensures);
+          (λ (o : OrderRow) ls. record o { listed = ls }) (λ _. refl) (λ _. refl) c.loop-head.yielded c.loop-head.rows.items c.push.new.self.items
+          c.in-Some.head
+          c.in_ok-listed.listed.items c.new.result (before.found clean_old T has book open_)
+          (after.found clean T (holds_still first old T (before.unchanged clean_old open_) has) book) c.new.ensures c.in_ok-push.ensures.items;
       unchanged = λ clean open_.
           let clean_old : HasCleanDisk old = omega (arith, clean, after.asks.survives.clean) in
           unchanged_then first old new (before.unchanged clean_old open_) (after.unchanged clean);
@@ -38,7 +36,7 @@ loop-head-preserved g c =
 
 pub returns-clause-found : goal.returns-clause-found
 returns-clause-found g c clean T has book open_ rows own are =
-    let empty : length (into_iter_items c.loop-head.head-iterator) ≡ 0 = omega (arith, c.loop-head.head-iterator.rest.ok, c.in-None.ensures.steps.0) in
-    let none = no_items (into_iter_items c.loop-head.head-iterator) empty in
-    let all : c.loop-head.yielded ≡ c.args.heads.items = sym (c.loop-head.invariant.whole ∙ ap (λ l. c.loop-head.yielded ++ l) none ∙ append-nil c.loop-head.yielded) in
+    let rest = into_iter_items c.loop-head.head-iterator in
+    let none : length rest ≡ 0 = omega (arith, c.loop-head.head-iterator.rest.ok, c.in-None.ensures.steps.0) in
+    let all = whole_done c.args.heads.items c.loop-head.yielded rest c.loop-head.invariant.whole none in
     c.loop-head.invariant.found clean T has book open_ rows own (all ∙ are)

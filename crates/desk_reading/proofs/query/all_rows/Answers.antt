@@ -11,6 +11,7 @@ returns-clause-unchanged g c clean =
 pub returns-clause-asks : goal.returns-clause-asks
 returns-clause-asks g c = record {
   survives = survives_weaker _ _ _ _ (λ _ db may. commits_none c.args.text.now (bound c.args.params.now) _ db c.requires may) c.query_all.ensures.survives;
-  stays = λ clean. stays_queried c.query_all.result _ _ c.args.text.now (bound c.args.params.now) c.requires (c.query_all.ensures.ok clean) (c.query_all.ensures.err clean);
+  stays = λ clean. stays_queried c.query_all.result _ _ c.args.text.now (bound c.args.params.now) c.requires (c.query_all.ensures.ok clean)
+      (c.query_all.ensures.err clean);
   idle = c.query_all.ensures.mode;
 }

@@ -2,8 +2,40 @@ use Rattle.std.proofs.Common.{arith}
 use Rattle.sqlite.specs.Held.{state}
 use Rattle.sqlite.specs.State.{HasCleanDisk}
 use Rattle.desk_tables.proofs.Holding.{holds_still}
+use Rattle.desk_schema.specs.Failing.{IsFailure}
+use Rattle.desk_reading.proofs.Failing.{may_read_still}
+use Rattle.desk_reading.proofs.Results.{failed_as}
 use Rattle.desk_reading.proofs.Loading.{reordered}
 use Rattle.desk_reading.proofs.stored.load_stored.Goals as goal
+
+pub returns-in_err-of_orders-clause-fails : goal.returns-in_err-of_orders-clause-fails
+returns-in_err-of_orders-clause-fails g c clean T has may texts =
+    let before = state g.S.Store c.args.conn.now in
+    let after_first = state g.S.Store c.first_rows.new.conn in
+    let clean_first : HasCleanDisk after_first = omega (arith, clean, c.in_err-of_orders.ensures.asks.survives.clean) in
+    let same_first = c.in_ok-first.ensures.unchanged clean_first in
+    let has_first = holds_still before after_first T same_first has in
+    let may_first = may_read_still before after_first same_first c.in_ok-first.ensures.asks may in
+    failed_as c.from_residual-in_err-of_orders.result c.in_err-of_orders.field-0.0 IsFailure
+    (c.in_err-of_orders.ensures.fails clean T has_first may_first texts)
+    c.from_residual-in_err-of_orders.ensures.1
+
+pub returns-in_err-of_authorizations-clause-fails : goal.returns-in_err-of_authorizations-clause-fails
+returns-in_err-of_authorizations-clause-fails g c clean T has may texts =
+    let before = state g.S.Store c.args.conn.now in
+    let after_first = state g.S.Store c.first_rows.new.conn in
+    let after_of_orders = state g.S.Store c.order_rows.new.conn in
+    let clean_of_orders : HasCleanDisk after_of_orders = omega (arith, clean, c.in_err-of_authorizations.ensures.asks.survives.clean) in
+    let clean_first : HasCleanDisk after_first = omega (arith, clean_of_orders, c.in_ok-of_orders.ensures.asks.survives.clean) in
+    let same_first = c.in_ok-first.ensures.unchanged clean_first in
+    let has_first = holds_still before after_first T same_first has in
+    let may_first = may_read_still before after_first same_first c.in_ok-first.ensures.asks may in
+    let same_of_orders = c.in_ok-of_orders.ensures.unchanged clean_of_orders in
+    let has_of_orders = holds_still after_first after_of_orders T same_of_orders has_first in
+    let may_of_orders = may_read_still after_first after_of_orders same_of_orders c.in_ok-of_orders.ensures.asks may_first in
+    failed_as c.from_residual-in_err-of_authorizations.result c.in_err-of_authorizations.field-0.0 IsFailure
+    (c.in_err-of_authorizations.ensures.fails clean T has_of_orders may_of_orders texts)
+    c.from_residual-in_err-of_authorizations.ensures.1
 
 pub returns-clause-found : goal.returns-clause-found
 returns-clause-found g c clean T has =

@@ -1,6 +1,7 @@
 use Rattle.sqlite.specs.Held.{state}
 use Rattle.desk_reading.proofs.Readings.{meta_reading}
-use Rattle.desk_reading.proofs.Results.{read_then}
+use Rattle.desk_reading.proofs.Results.{fails_then, read_then}
+use Rattle.desk_reading.proofs.TableFailures.{meta_fails}
 use Rattle.desk_reading.proofs.WholeTables.{meta_read}
 use Rattle.desk_reading.proofs.tables.meta_table.Goals as goal
 
@@ -11,3 +12,8 @@ pub returns-clause-found : goal.returns-clause-found
 returns-clause-found g c clean T has =
     read_then c.read_query.result (c.read_query.ensures.read clean) (λ all it.
     meta_read (state g.S.Store c.args.conn.now) (state g.S.Store c.read_query.new.conn) T it.0 all has it.1 it.2)
+
+pub returns-clause-fails : goal.returns-clause-fails
+returns-clause-fails g c clean T has may texts =
+    fails_then c.read_query.result (c.read_query.ensures.fails clean) (λ e it.
+    meta_fails (state g.S.Store c.args.conn.now) (state g.S.Store c.read_query.new.conn) T e has may texts it)

@@ -10,6 +10,7 @@ use Rattle.desk_saving.proofs.children.put_challenges.Given as goal
 abbrev pub invariant-loop-row : goal.invariant-loop-row
 invariant-loop-row g l = record {
   same : l.tx.conn.ghost_name ≡ l.fn.tx.conn.ghost_name;
-  advances : Advances (state g.S.Store l.fn.tx.conn.now) (state g.S.Store l.tx.conn.now) (PutsAll challenge_layout (owned_by l.fn.authorization (take l.row-index l.rows)));
+  advances : Advances (state g.S.Store l.fn.tx.conn.now) (state g.S.Store l.tx.conn.now)
+      (PutsAll challenge_layout (owned_by l.fn.authorization (take l.row-index l.rows)));
   survives : Survives (state g.S.Store l.fn.tx.conn.now) (state g.S.Store l.tx.conn.now) (λ _. ⊥);
 }

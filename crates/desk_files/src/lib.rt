@@ -1,0 +1,6 @@
+//! Desks in files.
+#![tactic(auto)]
+
+mod files;
+
+pub use files::{DeskFile, close, make, open};

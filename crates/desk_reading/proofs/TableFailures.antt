@@ -1,0 +1,97 @@
+-- The readings of whole tables fail for memory or the disk alone.
+use Rattle.std.proofs.Common.{ℕ, List, [], ◌∷◌, map, true, refl, ap, subst, ◌∙◌}
+use Rattle.std.proofs.lemmas.List.Sorted.{All-permutation}
+use Rattle.sqlite_value.specs.Order.{Row}
+use Rattle.sqlite_sql.specs.Term.{Term, col}
+use Rattle.sqlite.specs.State.{State, FailsToQuery}
+use Rattle.sqlite.specs.declared.error.Error.{Error}
+use Rattle.desk_columns.specs.Columns.{account_columns, authorization_columns, challenge_columns, listed_columns, meta_columns, nonce_columns, order_columns}
+use Rattle.desk_columns.specs.Flat.{challenge_rows, listed_rows, without_challenges, without_listed}
+use Rattle.desk_columns.specs.TextColumns.{HasTextAccount, HasTextAuthorization, HasTextChallenge, HasTextMeta, HasTextOrder}
+use Rattle.desk_laws.proofs.Basics.{each_all}
+use Rattle.desk_model.specs.Kept.{EachOf}
+use Rattle.desk_model.specs.Tables.{Tables}
+use Rattle.desk_schema.specs.Failing.{IsFailure}
+use Rattle.desk_tables.specs.Holds.{Holds}
+use Rattle.desk_tables.specs.Images.{listed_cells, listed_params}
+use Rattle.desk_tables.specs.Layouts.{HasRows, Layout, account_layout, authorization_layout, challenge_layout, meta_layout, nonce_layout, order_layout}
+use Rattle.desk_tables.proofs.Holding.{accounts_held, authorizations_held, challenges_held, meta_held, nonces_held, orders_held}
+use Rattle.desk_reading.specs.Failures.{FailsToRead, HasTexts, MayRead}
+use Rattle.desk_reading.specs.Fitting.{FitsAccount, FitsAuthorization, FitsChallenge, FitsListed, FitsMeta, FitsNonce, FitsOrder}
+use Rattle.desk_reading.specs.Spelled.{account_in, authorization_in, challenge_in, meta_in, nonce_in, order_in}
+use Rattle.desk_reading.specs.Texts.{select_accounts, select_authorizations, select_challenges, select_format, select_listed, select_meta, select_nonces, select_orders}
+use Rattle.desk_reading.proofs.Answered.{IsReading, by}
+use Rattle.desk_reading.proofs.Failing.{IsSure, query_fails, reading_fails}
+use Rattle.desk_reading.proofs.Fits.{account_fits, all_fit, authorization_fits, challenge_fits, listed_fits, meta_fits, nonce_fits, order_fits}
+use Rattle.desk_reading.proofs.KeyedReadings.{shown_keyed}
+use Rattle.desk_reading.proofs.Lists.{filter-all, map-map}
+use Rattle.desk_reading.proofs.Readings.{accounts_reading, authorizations_reading, challenges_reading, format_reading, listed_reading, meta_reading, nonces_reading, orders_reading}
+use Rattle.desk_reading.proofs.SureTexts.{accounts_sure, authorizations_sure, challenges_sure, format_sure, listed_sure, meta_sure, nonces_sure, orders_sure}
+use Rattle.desk_reading.proofs.Told.{IsSpelled, account_project, account_spelled, authorization_project, authorization_spelled, challenge_project, challenge_spelled, listed_project, meta_project, meta_spelled, nonce_project, nonce_spelled, order_project, order_spelled}
+use Rattle.desk_reading.proofs.WholeTables.{listed_cells_shown}
+
+-- the reading of a table by number
+keyed_fails : {X C : Type 0} (L : Layout X) (columns : X → C) (spelled : Row → C) (project : List Term) → (is : IsSpelled L columns spelled project)
+    → (text : List ℕ) → IsReading text L.table.tree [] project (by 0 ∷ []) → IsSure text L.table.tree project (by 0 ∷ [])
+    → (HasText : C → Type 0) (Fits : Row → Type 0) → ((c : C) → HasText c → Fits (is.row c))
+    → (old new : State) (xs : List X) (e : Error) → HasRows L old.now xs → MayRead old → EachOf HasText (map columns xs)
+    → FailsToRead text [] old new Fits e → IsFailure e
+keyed_fails L columns spelled project is text reading sure HasText Fits fits old new xs e has may texts =
+    reading_fails text L.table.tree project (by 0 ∷ []) reading sure old new has.schema e Fits may (λ rows h.
+    all_fit columns is.row HasText Fits fits xs rows texts
+    (shown_keyed L columns spelled project is text [] [] (λ _. true) reading (λ _. refl) old new xs rows has h
+    ∙ ap (map (λ x. is.row (columns x))) (filter-all xs)))
+
+module _ (old new : State) (T : Tables) (e : Error) (has : Holds old.now T) (may : MayRead old) (texts : HasTexts T) where
+  -- `meta`
+  pub meta_fails : FailsToRead select_meta [] old new FitsMeta e → IsFailure e
+  meta_fails =
+      keyed_fails meta_layout meta_columns meta_in meta_project meta_spelled select_meta meta_reading meta_sure HasTextMeta FitsMeta
+      meta_fits old new (T.meta ∷ []) e (meta_held old.now T has) may (texts.metas)
+
+  -- `nonce`
+  pub nonces_fails : FailsToRead select_nonces [] old new FitsNonce e → IsFailure e
+  nonces_fails =
+      keyed_fails nonce_layout nonce_columns nonce_in nonce_project nonce_spelled select_nonces nonces_reading nonces_sure (λ _. Unit {0}) FitsNonce
+      nonce_fits old new (T.nonces) e (nonces_held old.now T has) may (each_all (λ _. Unit {0}) (map nonce_columns (T.nonces)) (λ _. tt))
+
+  -- `account`
+  pub accounts_fails : FailsToRead select_accounts [] old new FitsAccount e → IsFailure e
+  accounts_fails =
+      keyed_fails account_layout account_columns account_in account_project account_spelled select_accounts accounts_reading accounts_sure HasTextAccount
+      FitsAccount
+      account_fits old new (T.accounts) e (accounts_held old.now T has) may (texts.accounts)
+
+  -- `ord`
+  pub orders_fails : FailsToRead select_orders [] old new FitsOrder e → IsFailure e
+  orders_fails =
+      keyed_fails order_layout order_columns order_in order_project order_spelled select_orders orders_reading orders_sure HasTextOrder FitsOrder
+      order_fits old new (T.orders) e (orders_held old.now T has) may (subst (EachOf HasTextOrder) (map-map order_columns without_listed T.orders) texts.orders)
+
+  -- `authz`
+  pub authorizations_fails : FailsToRead select_authorizations [] old new FitsAuthorization e → IsFailure e
+  authorizations_fails =
+      keyed_fails authorization_layout authorization_columns authorization_in authorization_project authorization_spelled select_authorizations
+      authorizations_reading authorizations_sure HasTextAuthorization FitsAuthorization
+      authorization_fits old new (T.authorizations) e (authorizations_held old.now T has) may
+      (subst (EachOf HasTextAuthorization) (map-map authorization_columns without_challenges T.authorizations) texts.authzs)
+
+  -- `chall`
+  pub challenges_fails : FailsToRead select_challenges [] old new FitsChallenge e → IsFailure e
+  challenges_fails =
+      keyed_fails challenge_layout challenge_columns challenge_in challenge_project challenge_spelled select_challenges challenges_reading challenges_sure
+      HasTextChallenge FitsChallenge
+      challenge_fits old new (challenge_rows T.authorizations) e (challenges_held old.now T has) may (texts.challs)
+
+  -- `ord_authz`
+  pub listed_fails : FailsToRead select_listed [] old new FitsListed e → IsFailure e
+  listed_fails =
+      reading_fails select_listed 6 listed_project (by 1 ∷ by 2 ∷ []) listed_reading listed_sure old new has.schema e FitsListed may (λ rows h.
+      let ls = listed_rows T.orders in
+      let all = all_fit listed_columns listed_params (λ _. Unit {0}) FitsListed listed_fits ls (map listed_cells ls)
+      (each_all (λ _. Unit {0}) (map listed_columns ls) (λ _. tt)) refl in
+      All-permutation FitsListed (map listed_cells ls) rows (listed_cells_shown old new T rows has h) all)
+
+-- the format
+pub format_fails : (old new : State) (T : Tables) (e : Error) → Holds old.now T → MayRead old → FailsToQuery select_format [] old new e → IsFailure e
+format_fails old new T e has may = query_fails select_format 0 (col 1 2 ∷ []) [] format_reading format_sure old new has.schema e may

@@ -1,0 +1,20 @@
+use Rattle.std.proofs.Common.{arith}
+use Rattle.sqlite.specs.Held.{state}
+use Rattle.sqlite.specs.State.{HasCleanDisk}
+use Rattle.desk_tables.proofs.Holding.{holds_still}
+use Rattle.desk_schema.specs.Failing.{IsFailure}
+use Rattle.desk_reading.proofs.Failing.{may_read_still}
+use Rattle.desk_reading.proofs.Results.{failed_as}
+use Rattle.desk_reading.proofs.stored.authorization_rows.Goals as goal
+
+pub returns-in_err-challenges-clause-fails : goal.returns-in_err-challenges-clause-fails
+returns-in_err-challenges-clause-fails g c clean T has may texts =
+    let before = state g.S.Store c.args.conn.now in
+    let after_authorizations = state g.S.Store c.authorization_table.new.conn in
+    let clean_authorizations : HasCleanDisk after_authorizations = omega (arith, clean, c.in_err-challenges.ensures.asks.survives.clean) in
+    let same_authorizations = c.in_ok-authorizations.ensures.unchanged clean_authorizations in
+    let has_authorizations = holds_still before after_authorizations T same_authorizations has in
+    let may_authorizations = may_read_still before after_authorizations same_authorizations c.in_ok-authorizations.ensures.asks may in
+    failed_as c.from_residual-in_err-challenges.result c.in_err-challenges.field-0.0 IsFailure
+    (c.in_err-challenges.ensures.fails clean T has_authorizations may_authorizations texts)
+    c.from_residual-in_err-challenges.ensures.1

@@ -1,0 +1,19 @@
+use Rattle.std.proofs.Common.{arith}
+use Rattle.sqlite.specs.Held.{state}
+use Rattle.sqlite.specs.State.{HasCleanDisk}
+use Rattle.desk_tables.proofs.Holding.{holds_still}
+use Rattle.desk_schema.specs.Failing.{IsFailure}
+use Rattle.desk_reading.proofs.Failing.{may_read_still}
+use Rattle.desk_reading.proofs.Results.{failed_as}
+use Rattle.desk_reading.proofs.stored.order_rows.Goals as goal
+
+pub returns-in_err-listed-clause-fails : goal.returns-in_err-listed-clause-fails
+returns-in_err-listed-clause-fails g c clean T has may texts =
+    let before = state g.S.Store c.args.conn.now in
+    let after_orders = state g.S.Store c.order_table.new.conn in
+    let clean_orders : HasCleanDisk after_orders = omega (arith, clean, c.in_err-listed.ensures.asks.survives.clean) in
+    let same_orders = c.in_ok-orders.ensures.unchanged clean_orders in
+    let has_orders = holds_still before after_orders T same_orders has in
+    let may_orders = may_read_still before after_orders same_orders c.in_ok-orders.ensures.asks may in
+    failed_as c.from_residual-in_err-listed.result c.in_err-listed.field-0.0 IsFailure (c.in_err-listed.ensures.fails clean T has_orders may_orders texts)
+    c.from_residual-in_err-listed.ensures.1

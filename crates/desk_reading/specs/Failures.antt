@@ -1,0 +1,29 @@
+-- Why a reading of a desk's tables fails.
+use Rattle.std.specs.Prelude.{◌≡◌, ◌⊎◌, ℕ, All, IsTrue, List, None}
+use Rattle.sqlite.specs.Order.{Row}
+use Rattle.sqlite.specs.State.{State, FailsToQuery, Shown}
+use Rattle.sqlite.specs.declared.error.Error.{Error}
+use Rattle.sqlite.specs.declared.error.Error.TheVariants.{SqliteFailure}
+use Rattle.sqlite.specs.declared.error.ErrorCode.TheVariants.{OutOfMemory}
+use Rattle.desk_columns.specs.Columns.{rows_columns}
+use Rattle.desk_columns.specs.Flat.{flat}
+use Rattle.desk_columns.specs.TextColumns.{ColumnsAreTexts}
+use Rattle.desk_model.specs.Tables.{Tables}
+
+-- memory was refused
+abbrev pub IsOutOfMemory : Error → Type 0
+IsOutOfMemory e = e ≡ SqliteFailure OutOfMemory
+
+-- the connection is open, and its queries may take as many steps as they need
+pub record MayRead (s : State) : Type 0 where
+  pub is_open : IsTrue s.is_open
+  pub unlimited : s.step_limit ≡ None
+
+-- the texts of the rows are UTF-8, as those of each legal history are
+abbrev pub HasTexts : Tables → Type 0
+HasTexts T = ColumnsAreTexts (rows_columns (flat T))
+
+-- the query failed, or it showed rows, and where each of these fits there was no memory for what was read
+abbrev pub FailsToRead : List ℕ → Row → State → State → (Row → Type 0) → Error → Type 0
+FailsToRead text params old new Fits e =
+    FailsToQuery text params old new e ⊎ ((rows : List Row) × Shown text params old new rows × (All Fits rows → IsOutOfMemory e))

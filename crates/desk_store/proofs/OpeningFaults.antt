@@ -1,0 +1,42 @@
+-- Why the opening of a desk fails.
+use Rattle.std.proofs.Common.{◌≡◌, Result, Ok, Err, inl, inr, true, false, Bool, subst, ap, sym, ◌∙◌}
+use Rattle.std.specs.Prelude.{IfErr}
+use Rattle.sqlite.specs.State.{State, IsUnchanged}
+use Rattle.sqlite.specs.Schema.{Schema}
+use Rattle.sqlite_schema.specs.Names.{same_name}
+use Rattle.desk_model.specs.Tables.{Tables}
+use Rattle.desk_schema.specs.Names.{has_all_indexes}
+use Rattle.desk_schema.specs.Schema.{desk_schema}
+use Rattle.desk_store.specs.Desks.{HasDesk}
+use Rattle.desk_store.proofs.Standing.{desk_unchanged}
+use Rattle.sqlite.specs.declared.error.Error.{Error}
+use Rattle.desk_schema.specs.Failing.{IsFailure}
+use Rattle.desk_storage.specs.declared.fault.StorageFault.TheVariants as fault
+use Rattle.desk_store.specs.Causes.{IsOfOpening, cause_of}
+use Rattle.desk_store.specs.Making.{IsOfStorage}
+use Rattle.desk_store.specs.declared.faults.Cause.TheVariants as cause
+use Rattle.desk_store.specs.declared.open_fault.OpenFault.{OpenFault}
+
+-- a failure of memory or of the disk is the store's
+pub failure_is_storage : (error : Error) (why : OpenFault) → IsFailure error → IsOfOpening (cause_of error) why → IsOfStorage why
+failure_is_storage error why (inl memory) is = of_memory (subst (λ e. IsOfOpening (cause_of e) why) memory is) where
+  of_memory : IsOfOpening cause.Memory why → IsOfStorage why
+  of_memory (inl goes_on) = (fault.Memory, goes_on)
+  of_memory (inr shut) = (fault.Reopen, shut)
+failure_is_storage error why (inr (inl io)) is = (fault.Device, subst (λ e. IsOfOpening (cause_of e) why) io is)
+failure_is_storage error why (inr (inr (inl corrupt))) is = (fault.Device, subst (λ e. IsOfOpening (cause_of e) why) corrupt is)
+failure_is_storage error why (inr (inr (inr full))) is = (fault.Device, subst (λ e. IsOfOpening (cause_of e) why) full is)
+
+-- so is one after a call that changed nothing
+pub fails_later : {R : Type 0} (old mid : State) (result : Result R OpenFault) → mid.step_limit ≡ old.step_limit → IsUnchanged old mid
+    → IfErr result (λ why. (T : Tables) → HasDesk mid T → IsOfStorage why) → IfErr result (λ why. (T : Tables) → HasDesk old T → IsOfStorage why)
+fails_later old mid (Ok done) limit same fault = tt
+fails_later old mid (Err why) limit same fault = λ T has. fault T (desk_unchanged old mid T limit same has)
+
+-- a desk lacks no index
+pub lacks_none : (schema : Schema) (found : Bool) → found ≡ has_all_indexes schema → schema ≡ desk_schema → found ≡ false → ⊥
+unfolding same_name
+lacks_none schema found is of_desk none =
+    let all : found ≡ true = is ∙ ap has_all_indexes of_desk in
+    let never : true ≡ false = sym all ∙ none in
+    absurd (cc never)
