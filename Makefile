@@ -46,6 +46,10 @@ test: edits
 		diff $${calls%.jsonl}.expected bin/output && diff $${calls%.jsonl}.errors bin/errors || exit 1; \
 	done; rm -f bin/output bin/errors
 	@echo 'The replies are the expected ones.'
+	@echo 'Trying the program over files: the same batches, whole and cut in two, and what ends a command.'
+	@python3 scripts/files.py bin/desk
+	@echo 'Stopping the program at each write to a file.'
+	@python3 scripts/stops.py bin/desk
 
 planted:
 	@$(HAS_RT)

@@ -13,6 +13,7 @@ use Rattle.desk_lives.proofs.Nonces.{nonces_serve_once}
 use Rattle.desk_lives.proofs.Extends.{acknowledged_stays, histories_are_legal, histories_are_of_calls, life_before, replies_are_decided}
 use Rattle.desk_storage.specs.Sight.{Sight, Keeps, Opens}
 use Rattle.desk_calls.specs.Answers.{Exits, IsEither}
+use Rattle.desk_calls.proofs.Policies.{policy_stays}
 use Rattle.desk_calls.specs.Seen.{Place, runs, rests, Seen, seen_reply, seen_fault, seen_stop, seen_end, seen_open, seen_failure, place_after, told_by, replied, IsExit, IsExitInPlace, IsExitOfStop, MaySee, MaySeeOn, MaySeeOff, IsSeen, IsAt, RunsIn, SeenIsLived, Follows, AreKeptOf, SeenIsOfCalls, RepliesAreKept, NonceServesOnce, NoncesSeenOnce, EndedSeenStays}
 use Rattle.desk_calls.specs.declared.fault.DeskFault.{DeskFault}
 use Rattle.desk_calls.specs.declared.fault.DeskFault.TheVariants as deskfault
@@ -218,6 +219,7 @@ module _ {S C : Type 0} (v : Sight S C) where
         kept = kept_of start seen h.life h.says;
         legal = subst Legal made (histories_are_legal start h.life h.lives);
         at = subst (λ F. IsAt v F (place_after first seen)) made h.at;
+        policy = policy_stays start (kept_calls h.life) is (subst Legal made (histories_are_legal start h.life h.lives));
       }
 
   -- what a reply promises

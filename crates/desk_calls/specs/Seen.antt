@@ -1,6 +1,7 @@
 -- What may be seen of a desk over time, and that it is a life.
 use Rattle.std.specs.Prelude.{ℕ, ◌≡◌, ◌⊎◌, List, [], ◌∷◌, ◌++◌, Bool, false, Result, Ok, Err, IsTrue}
 use Rattle.desk_model.specs.Entry.{History}
+use Rattle.desk_model.specs.History.{terms}
 use Rattle.desk_model.specs.Legal.{Legal}
 use Rattle.desk_model.specs.Tables.{picture}
 use Rattle.desk_model.specs.Decide.{decide}
@@ -166,12 +167,13 @@ module _ {S C : Type 0} (v : Sight S C) where
   -- ---- the headline, of what is seen
 
   -- what is there in the end is the picture of the making of the desk with the entries of some calls, each call's whole: of those that
-  -- were answered and of some that a stop cut off, and of no other
+  -- were answered and of some that a stop cut off, and of no other; the policy is the one that it was made with
   pub record IsOfCalls (start : History) (first : Place S C) (seen : List (Seen S C)) : Type 0 where
     pub calls : List Call
     pub kept : AreKeptOf seen calls
     pub legal : Legal (made_by start calls)
     pub at : IsAt (made_by start calls) (place_after first seen)
+    pub policy : terms (made_by start calls) ≡ terms start
 
   -- whatever is seen, it is so of the end
   abbrev pub SeenIsOfCalls : Type 0

@@ -1,5 +1,6 @@
 //! One desk, which answers calls one after the other.
-ghost use Rattle.std.specs.Prelude.{◌≡◌, ◌<◌, ◌↔◌, IsTrue, true, false, Err, IfErr, Some, []};
+ghost use Rattle.std.specs.Prelude.{◌≡◌, ◌<◌, ◌↔◌, IsTrue, true, false, Err, IfErr, IfOk, MatchResult, Some, []};
+ghost use Rattle.desk_storage.specs.Sight.{FailsToRead, ForTables, Stands};
 ghost use Rattle.desk_calls.specs.declared.fault.DeskFault.TheVariants as fault;
 ghost use Rattle.desk_calls.specs.Answers.{Answers, is_closed_after};
 ghost use Rattle.desk_calls.specs.Faults.{IsMet};
@@ -8,16 +9,24 @@ ghost use Rattle.desk_calls.specs.Runs.{Runs, RunsAs};
 use crate::fault::DeskFault;
 use crate::forms::keep_form;
 use desk_decisions::decide;
-use desk_model::{Call, LAST_MOMENT, Reply};
-use desk_storage::Storage;
+use desk_model::{Call, LAST_MOMENT, Policy, Reply};
+use desk_storage::{Storage, StorageFault};
 use std::alloc::Global;
 use std::marker::Model;
 
-/// A desk over a store, which contracts see as the store and whether the desk is closed.
+/// A desk over a store, which contracts see as the store, the policy, and whether the desk is closed.
 #[derive(Drop)]
 pub struct Desk<K: Storage + Drop> {
     store: K,
+    policy: Policy,
     is_closed: bool,
+}
+
+/// Why there is no desk, and the store that was given.
+#[derive(Drop)]
+pub struct Unadopted<K: Storage + Drop> {
+    pub fault: StorageFault,
+    pub store: K,
 }
 
 impl<K: Storage + Drop> Model for Desk<K> {
@@ -25,7 +34,7 @@ impl<K: Storage + Drop> Model for Desk<K> {
 
     ghost Value = { DeskState K };
 
-    ghost view = { λ desk. record { store = desk.store; is_closed = desk.is_closed } };
+    ghost view = { λ desk. record { store = desk.store; policy = desk.policy; is_closed = desk.is_closed } };
 }
 
 /// The reply to a call, over an open store.
@@ -46,15 +55,35 @@ fn attempt<K: Storage + Drop>(alloc: Global, store: &mut K, call: &Call) -> Resu
 }
 
 impl<K: Storage + Drop> Desk<K> {
-    /// A desk over a store that is open.
-    pub fn adopt(store: K) -> Desk<K>
-        ensures store { result.store ≡ store }
-        ensures opened { result.is_closed ≡ false }
+    /// A desk over a store that is open, which is asked for the desk's policy.
+    ///
+    /// # Errors
+    ///
+    /// The fault of the store, which comes back with it.
+    pub fn adopt(alloc: Global, store: K) -> Result<Desk<K>, Unadopted<K>>
+        ensures reads { MatchResult result
+            (λ desk. Stands K.Storage.sight store desk.store)
+            (λ un. FailsToRead K.Storage.sight store un.store un.fault) }
+        ensures policy { IfOk result (λ desk. ForTables K.Storage.sight store desk.store (λ T. desk.policy ≡ T.meta.policy)) }
+        ensures opened { IfOk result (λ desk. desk.is_closed ≡ false) }
+        ensures met { IfErr result (λ un. K.Storage.may_meet un.fault) }
     {
-        Desk {
-            store,
-            is_closed: false,
+        let mut store = store;
+        match store.policy(alloc) {
+            Ok(policy) => Ok(Desk {
+                store,
+                policy,
+                is_closed: false,
+            }),
+            Err(fault) => Err(Unadopted { fault, store }),
         }
+    }
+
+    /// What each URL of the desk begins with, in a closed desk too.
+    pub fn base(&self) -> &str
+        ensures { result.now ≡ self.now.policy.base }
+    {
+        self.policy.base()
     }
 
     /// The store of the desk.
@@ -63,6 +92,7 @@ impl<K: Storage + Drop> Desk<K> {
     {
         let Desk {
             store,
+            policy: _,
             is_closed: _,
         } = self;
         store
@@ -80,6 +110,7 @@ impl<K: Storage + Drop> Desk<K> {
         ensures met { self.old.is_closed ≡ false → IfErr result (IsMet K.Storage.may_meet) }
         ensures exit { self.old.is_closed ≡ false → Answers K.Storage.sight call.now self.old.store self.new.store result }
         ensures flag { self.old.is_closed ≡ false → self.new.is_closed ≡ is_closed_after result }
+        ensures policy { self.new.policy ≡ self.old.policy }
     {
         if self.is_closed {
             return Err(DeskFault::Reopen);
@@ -103,6 +134,7 @@ impl<K: Storage + Drop> Desk<K> {
         ensures closed { IsTrue self.old.is_closed → (result.0.items ≡ []) × (result.1 ≡ Some fault.Reopen) × (self.new ≡ self.old) }
         ensures exit { self.old.is_closed ≡ false → Runs K.Storage.sight calls.now self.old.store self.new.store result.0.items result.1 }
         ensures chain { self.old.is_closed ≡ false → RunsAs K.Storage.sight self.old.store calls.now result.0.items result.1 self.new.store }
+        ensures policy { self.new.policy ≡ self.old.policy }
     {
         if self.is_closed {
             return (Vec::new(alloc), Some(DeskFault::Reopen));
@@ -113,7 +145,8 @@ impl<K: Storage + Drop> Desk<K> {
     // The replies to the calls before the first fault, and the fault.
     fn answer_all(&mut self, alloc: Global, calls: &[Call]) -> (Vec<Reply>, Option<DeskFault>)
         requires { self.old.is_closed ≡ false }
-        ensures { RunsAs K.Storage.sight self.old.store calls.now result.0.items result.1 self.new.store }
+        ensures chain { RunsAs K.Storage.sight self.old.store calls.now result.0.items result.1 self.new.store }
+        ensures policy { self.new.policy ≡ self.old.policy }
     {
         let mut replies = Vec::new(alloc);
         for call in calls {

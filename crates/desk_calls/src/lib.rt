@@ -7,7 +7,7 @@ mod forms;
 mod laws;
 mod memory;
 
-pub use desk::Desk;
+pub use desk::{Desk, Unadopted};
 pub use fault::DeskFault;
 pub use laws::stores_live;
 pub use memory::Memory;

@@ -63,6 +63,10 @@ impl Storage for Memory {
 
     ghost may_meet = { λ why. why ≡ memory_fault };
 
+    fn policy(&mut self, alloc: Global) -> Result<Policy, StorageFault> {
+        Ok(self.book.meta().policy.clone()?)
+    }
+
     // A book in memory is never out of reach: each fault of looking things up is that of memory.
     fn load_part(&mut self, alloc: Global, call: &Call) -> Result<Book, StorageFault> {
         match load_part(alloc, &mut self.book, call) {

@@ -1,28 +1,15 @@
 //! A desk's tables in a file, and its log beside it.
-ghost use Rattle.std.specs.Prelude.{IfOk};
-ghost use Rattle.sqlite.specs.Held.{IsNew};
-
+use crate::closing::close_from;
+use crate::fault::{DEVICE, MEMORY};
+use crate::opening::{make_from, open_from};
 use desk_model::{Clock, Policy};
-use desk_storage::StorageFault;
 use desk_store::{OpenFault, Store};
-use sqlite::{Connection, Error, ErrorCode, FileFrom, FileStore, Wary};
+use sqlite::{FileFrom, FileStore, Wary};
 use std::fs;
 use std::io::ErrorKind;
 
 /// What the engine keeps of a file. It takes nothing for granted of bytes whose write was cut off.
 pub type DeskFile = FileStore<FileFrom<Wary>>;
-
-const MEMORY: OpenFault = OpenFault::Storage(StorageFault::Memory);
-
-const DEVICE: OpenFault = OpenFault::Storage(StorageFault::Device);
-
-// The fault of a file that is not opened or closed.
-fn file_fault(error: Error) -> OpenFault {
-    match error {
-        Error::SqliteFailure(ErrorCode::OutOfMemory) => MEMORY,
-        _ => DEVICE,
-    }
-}
 
 // Whether there is a file with bytes at the path.
 fn holds_bytes(rt: &HostRuntime, path: &str) -> Result<bool, OpenFault> {
@@ -36,16 +23,6 @@ fn holds_bytes(rt: &HostRuntime, path: &str) -> Result<bool, OpenFault> {
     }
 }
 
-// A connection to the file, which is made where there is none.
-fn connect(rt: &HostRuntime, path: &str) -> Result<Connection<DeskFile>, OpenFault>
-    ensures { IfOk result IsNew }
-{
-    match Connection::open_from(rt, path, false, Wary) {
-        Ok(conn) => Ok(conn),
-        Err((error, _)) => Err(file_fault(error)),
-    }
-}
-
 /// Makes a desk with a policy, at moment 0, in a new file.
 ///
 /// # Errors
@@ -55,10 +32,9 @@ pub fn make(rt: &HostRuntime, path: &str, policy: Policy) -> Result<(), OpenFaul
     if holds_bytes(rt, path)? {
         return Err(OpenFault::NotADesk);
     }
-    let conn = connect(rt, path)?;
-    match Store::make(rt.alloc(), conn, policy, Clock::at(0)) {
+    match make_from(rt, path, Wary, policy, Clock::at(0)) {
         Ok(store) => close(store),
-        Err(unopened) => Err(unopened.fault),
+        Err(unmade) => Err(unmade.fault),
     }
 }
 
@@ -72,8 +48,7 @@ pub fn open(rt: &HostRuntime, path: &str) -> Result<Store<DeskFile>, OpenFault> 
     if !holds_bytes(rt, path)? {
         return Err(OpenFault::NotADesk);
     }
-    let conn = connect(rt, path)?;
-    match Store::open(rt.alloc(), conn) {
+    match open_from(rt, path, Wary) {
         Ok(store) => Ok(store),
         Err(unopened) => Err(unopened.fault),
     }
@@ -85,8 +60,8 @@ pub fn open(rt: &HostRuntime, path: &str) -> Result<Store<DeskFile>, OpenFault> 
 ///
 /// `Storage` where the copy failed: the log then stands beside the file, and the next opening reads both.
 pub fn close(store: Store<DeskFile>) -> Result<(), OpenFault> {
-    match store.close().close() {
-        Ok(()) => Ok(()),
-        Err(error) => Err(file_fault(error)),
+    match close_from(store) {
+        Ok(_) => Ok(()),
+        Err((fault, _)) => Err(fault),
     }
 }

@@ -1,5 +1,5 @@
 -- What may be said of what keeps the tables of a desk: rows in memory, or a file behind a disk.
-use Rattle.std.specs.Prelude.{◌≡◌, Result, OnOk, IfErr}
+use Rattle.std.specs.Prelude.{◌≡◌, Result, Err, OnOk, IfErr}
 use Rattle.desk_model.specs.Tables.{Tables}
 use Rattle.desk_storage.specs.declared.fault.StorageFault.{StorageFault}
 use Rattle.desk_storage.specs.declared.fault.StorageFault.TheVariants as fault
@@ -41,6 +41,10 @@ module _ {S C : Type 0} (v : Sight S C) where
     pub left : v.is_honest new → (c : C) → v.leaves new c → v.leaves old c
     pub tables : OnOk result (HasStill old new)
     pub without_memory : IfErr result (λ why. why ≡ fault.Memory → HasStill old new)
+
+  -- a call that looks things up failed so, and changed nothing
+  abbrev pub FailsToRead : S → S → StorageFault → Type 0
+  FailsToRead old new why = Reads {R = Unit {0}} old new (Err why)
 
   -- a store that was opened on this content has its tables
   abbrev pub Opens : C → S → Type 0

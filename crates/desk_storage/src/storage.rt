@@ -1,12 +1,12 @@
 //! A store of the tables of a desk.
-ghost use Rattle.std.specs.Prelude.{IfErr};
+ghost use Rattle.std.specs.Prelude.{◌≡◌, IfErr, IfOk};
 ghost use Rattle.desk_storage.specs.declared.fault.StorageFault.{StorageFault as Fault};
-ghost use Rattle.desk_storage.specs.Sight.{Sight};
+ghost use Rattle.desk_storage.specs.Sight.{ForTables, Reads, Sight};
 ghost use Rattle.desk_storage.specs.Storing.{Loads, Saves};
 
 use crate::fault::StorageFault;
 use desk_book::Book;
-use desk_model::{Call, Change};
+use desk_model::{Call, Change, Policy};
 use std::alloc::Global;
 
 /// A store of the tables of a desk.
@@ -19,6 +19,16 @@ pub trait Storage {
 
     // The faults that the store may meet.
     ghost may_meet: { Fault → Type 0 };
+
+    /// The policy that the desk was made with.
+    ///
+    /// # Errors
+    ///
+    /// As `load_part`.
+    fn policy(&mut self, alloc: Global) -> Result<Policy, StorageFault>
+        ensures reads { Reads sight self.old self.new result }
+        ensures found { ForTables sight self.old self.new (λ T. IfOk result (λ policy. policy ≡ T.meta.policy)) }
+        ensures met { IfErr result may_meet };
 
     /// A book of the rows that the call touches, and maybe more.
     ///

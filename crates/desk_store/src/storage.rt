@@ -2,8 +2,8 @@
 use crate::faults::saving_fault;
 use crate::store::Store;
 use desk_book::Book;
-use desk_loading::load_part;
-use desk_model::{Call, Change};
+use desk_loading::{LookUps, load_part};
+use desk_model::{Call, Change, Policy};
 use desk_saving::save_all;
 use desk_storage::{Storage, StorageFault};
 use sqlite::Alter;
@@ -18,6 +18,13 @@ impl<S: Alter> Storage for Store<S> {
     ghost sight = { store_sight S.Store };
 
     ghost may_meet = { λ _. Unit {0} };
+
+    fn policy(&mut self, alloc: Global) -> Result<Policy, StorageFault> {
+        match self.meta_row(alloc) {
+            Ok(meta) => Ok(meta.policy),
+            Err(fault) => Err(fault),
+        }
+    }
 
     fn load_part(&mut self, alloc: Global, call: &Call) -> Result<Book, StorageFault> {
         load_part(alloc, self, call)

@@ -1,4 +1,7 @@
 pub mod Numbers
-pub mod OneResource
+pub mod Finding
+pub mod Resources
+pub mod Inserted
 pub mod Places
+pub mod Seeking
 pub mod Spelled

@@ -1,5 +1,5 @@
 -- What a request asks, by its method, its path and its body.
-use Rattle.std.specs.Prelude.{◌≡◌, ℕ, Bool, true, false, ◌&&◌, List, [], codes, bytes_eq, Option, Some, None, option_map}
+use Rattle.std.specs.Prelude.{◌≡◌, ℕ, Bool, true, false, ◌&&◌, List, [], codes, bytes_eq, Option, Some, None, option_map, IsUtf8, ◌⊎◌}
 use Rattle.desk_model.specs.declared.refusal.Refusal.{Refusal}
 use Rattle.desk_model.specs.Refusals.{refusal_of}
 use Rattle.desk_model.specs.declared.refusal.Refusal.TheVariants as refusal
@@ -14,6 +14,8 @@ use Rattle.desk_model.specs.declared.reply.Reply.{Reply}
 use Rattle.requests.specs.Envelopes.{Envelope, IsEnvelopeText, IsSigned}
 use Rattle.requests.specs.Offices.{finding, order_problem}
 use Rattle.requests.specs.Routes.{IsResourceAt, has_index, is_visible, methods_of, serves}
+use Rattle.requests.specs.declared.request.Place.{Place}
+use Rattle.requests.specs.declared.request.Place.TheVariants as place
 use Rattle.requests.specs.declared.request.Request.{Request}
 use Rattle.requests.specs.declared.request.Request.TheVariants as request
 use Rattle.requests.specs.declared.routes.OfficeResource.{OfficeResource}
@@ -54,6 +56,31 @@ IsAskOf resource.Directory method text asked = asked ≡ Some ask.Directory
 IsAskOf resource.NewNonce method text asked = asked ≡ Some (ask.NewNonce (bytes_eq method (codes "HEAD")))
 IsAskOf (resource.Signed target) method text asked = IsSignedAsk target text asked
 IsAskOf (resource.Office o) method text asked = asked ≡ office_ask o text
+
+-- the order whose certificate a body is
+abbrev pub certified_order : Resource → Option ℕ
+certified_order (resource.Office (office.Certify order)) = Some order
+certified_order _ = None
+
+-- what a body asks that is to be text: UTF-8, or it asks nothing
+abbrev pub IsTextAsk : Resource → List ℕ → List ℕ → Option Ask → Type 0
+IsTextAsk r method body asked = (IsUtf8 body × IsAskOf r method body asked) ⊎ ((IsUtf8 body → ⊥) × (asked ≡ None))
+
+-- a certificate is the bytes as they are, all else is text
+abbrev pub IsAskBy : Option ℕ → Resource → List ℕ → List ℕ → Option Ask → Type 0
+IsAskBy (Some order) r method body asked = asked ≡ certify_ask order body
+IsAskBy None r method body asked = IsTextAsk r method body asked
+
+-- what a request asks of a resource by the bytes of its body; a certificate may be any bytes
+abbrev pub IsAskIn : Resource → List ℕ → List ℕ → Option Ask → Type 0
+IsAskIn r method body asked = IsAskBy (certified_order r) r method body asked
+
+-- where a request of this method and path goes
+abbrev pub IsPlace : List ℕ → List ℕ → Place → Type 0
+IsPlace method path (place.Served r) = IsResourceAt path r × (serves (methods_of r) method ≡ true)
+IsPlace method path place.NotHere = (r : Resource) → IsResourceAt path r → ⊥
+IsPlace method path (place.NotServed methods) =
+    (r : Resource) × IsResourceAt path r × (methods ≡ methods_of r) × (serves (methods_of r) method ≡ false)
 
 -- ---- requests
 

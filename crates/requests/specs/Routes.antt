@@ -1,7 +1,6 @@
 -- The resources of the desk: their paths, and the methods that they serve.
-use Rattle.std.specs.Prelude.{◌≡◌, ℕ, ◌≤◌, ◌^◌, ◌++◌, Bool, false, not, ◌&&◌, ◌||◌, nat_eq, nat_le, List, codes, bytes_eq, decimal}
+use Rattle.std.specs.Prelude.{◌≡◌, ℕ, ◌≤◌, ◌^◌, ◌++◌, Bool, true, false, not, ◌&&◌, ◌||◌, nat_eq, nat_le, List, [], codes, bytes_eq, decimal}
 use Rattle.std.specs.List.{list_all, starts_with}
-use Rattle.desk_model.specs.declared.call.Target.{Target}
 use Rattle.desk_model.specs.declared.call.Target.TheVariants as target
 use Rattle.desk_model.specs.declared.reply.Allow.{Allow}
 use Rattle.desk_model.specs.declared.reply.Allow.TheVariants as allow
@@ -9,6 +8,8 @@ use Rattle.requests.specs.declared.routes.OfficeResource.{OfficeResource}
 use Rattle.requests.specs.declared.routes.OfficeResource.TheVariants as office
 use Rattle.requests.specs.declared.routes.Resource.{Resource}
 use Rattle.requests.specs.declared.routes.Resource.TheVariants as resource
+use Rattle.requests.specs.declared.routes.Route.{Route}
+use Rattle.requests.specs.declared.routes.Route.TheVariants as route
 
 -- ---- paths
 
@@ -24,33 +25,75 @@ pub record HasNumber (path before : List ℕ) (n : ℕ) (after : List ℕ) : Typ
   pub place : path ≡ before ++ (text ++ after)
   pub number : IsNumberText text n
 
--- what signed requests are sent to (RFC 8555, 7.1)
-abbrev pub IsTargetAt : List ℕ → Target → Type 0
-IsTargetAt path target.NewAccount = path ≡ codes "/new-account"
-IsTargetAt path target.NewOrder = path ≡ codes "/new-order"
-IsTargetAt path (target.Account n) = HasNumber path (codes "/account/") n (codes "")
-IsTargetAt path (target.Orders n) = HasNumber path (codes "/account/") n (codes "/orders")
-IsTargetAt path (target.Order n) = HasNumber path (codes "/order/") n (codes "")
-IsTargetAt path (target.Finalize n) = HasNumber path (codes "/order/") n (codes "/finalize")
-IsTargetAt path (target.Cert n) = HasNumber path (codes "/cert/") n (codes "")
-IsTargetAt path (target.Authz n) = HasNumber path (codes "/authz/") n (codes "")
-IsTargetAt path (target.Chall n) = HasNumber path (codes "/chall/") n (codes "")
+-- ---- routes
 
--- what the validator and the signing office are served
-abbrev pub IsOfficeResourceAt : List ℕ → OfficeResource → Type 0
-IsOfficeResourceAt path (office.Key n) = HasNumber path (codes "/office/key/") n (codes "")
-IsOfficeResourceAt path office.ChallengeWork = path ≡ codes "/office/challenges"
-IsOfficeResourceAt path office.OrderWork = path ≡ codes "/office/orders"
-IsOfficeResourceAt path (office.Report n) = HasNumber path (codes "/office/report/") n (codes "")
-IsOfficeResourceAt path (office.Certify n) = HasNumber path (codes "/office/certify/") n (codes "")
-IsOfficeResourceAt path (office.FailOrder n) = HasNumber path (codes "/office/fail/") n (codes "")
+-- the text of a path of this route before its number, or all of it (RFC 8555, 7.1)
+abbrev pub prefix : Route → List ℕ
+prefix route.Directory = codes "/directory"
+prefix route.NewNonce = codes "/new-nonce"
+prefix route.NewAccount = codes "/new-account"
+prefix route.NewOrder = codes "/new-order"
+prefix route.Account = codes "/account/"
+prefix route.Orders = codes "/account/"
+prefix route.Order = codes "/order/"
+prefix route.Finalize = codes "/order/"
+prefix route.Cert = codes "/cert/"
+prefix route.Authz = codes "/authz/"
+prefix route.Chall = codes "/chall/"
+prefix route.Key = codes "/office/key/"
+prefix route.ChallengeWork = codes "/office/challenges"
+prefix route.OrderWork = codes "/office/orders"
+prefix route.Report = codes "/office/report/"
+prefix route.Certify = codes "/office/certify/"
+prefix route.FailOrder = codes "/office/fail/"
 
--- the path leads to the resource
-abbrev pub IsResourceAt : List ℕ → Resource → Type 0
-IsResourceAt path resource.Directory = path ≡ codes "/directory"
-IsResourceAt path resource.NewNonce = path ≡ codes "/new-nonce"
-IsResourceAt path (resource.Signed t) = IsTargetAt path t
-IsResourceAt path (resource.Office o) = IsOfficeResourceAt path o
+-- and the text behind the number
+abbrev pub suffix : Route → List ℕ
+suffix route.Orders = codes "/orders"
+suffix route.Finalize = codes "/finalize"
+suffix _ = []
+
+-- whether a path of this route has a number
+abbrev pub is_numbered : Route → Bool
+is_numbered route.Directory = false
+is_numbered route.NewNonce = false
+is_numbered route.NewAccount = false
+is_numbered route.NewOrder = false
+is_numbered route.ChallengeWork = false
+is_numbered route.OrderWork = false
+is_numbered _ = true
+
+-- the path is of this route: its text, with a number in decimal where it has one (0 stands for none)
+abbrev pub IsPathText : Bool → List ℕ → Route → ℕ → Type 0
+IsPathText false path r n = (path ≡ prefix r) × (n ≡ 0)
+IsPathText true path r n = HasNumber path (prefix r) n (suffix r)
+
+-- the resource of a route and a number
+abbrev pub resource_of : Route → ℕ → Resource
+resource_of route.Directory n = resource.Directory
+resource_of route.NewNonce n = resource.NewNonce
+resource_of route.NewAccount n = resource.Signed target.NewAccount
+resource_of route.NewOrder n = resource.Signed target.NewOrder
+resource_of route.Account n = resource.Signed (target.Account n)
+resource_of route.Orders n = resource.Signed (target.Orders n)
+resource_of route.Order n = resource.Signed (target.Order n)
+resource_of route.Finalize n = resource.Signed (target.Finalize n)
+resource_of route.Cert n = resource.Signed (target.Cert n)
+resource_of route.Authz n = resource.Signed (target.Authz n)
+resource_of route.Chall n = resource.Signed (target.Chall n)
+resource_of route.Key n = resource.Office (office.Key n)
+resource_of route.ChallengeWork n = resource.Office office.ChallengeWork
+resource_of route.OrderWork n = resource.Office office.OrderWork
+resource_of route.Report n = resource.Office (office.Report n)
+resource_of route.Certify n = resource.Office (office.Certify n)
+resource_of route.FailOrder n = resource.Office (office.FailOrder n)
+
+-- the path leads to the resource: it is the text of a route that does
+pub record IsResourceAt (path : List ℕ) (x : Resource) : Type 0 where
+  pub route : Route
+  pub number : ℕ
+  pub text : IsPathText (is_numbered route) path route number
+  pub leads : x ≡ resource_of route number
 
 -- a printable character of ASCII, and no space
 abbrev pub is_visible_byte : ℕ → Bool

@@ -5,7 +5,9 @@ mod envelopes;
 mod lines;
 mod offices;
 mod request;
+mod router;
 mod routes;
 
 pub use lines::{LineFault, LineRequest, read_line, reply_line};
-pub use request::{Request, read_request};
+pub use request::{Place, Request, ask_in, place_of, read_request, refusal_reply, refused};
+pub use routes::{OfficeResource, Resource, has_index, methods_of};

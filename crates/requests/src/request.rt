@@ -1,6 +1,6 @@
 //! From a request's method, path and body to what is asked.
 ghost use Rattle.std.specs.Prelude.{◌≡◌, None, IfOk};
-ghost use Rattle.requests.specs.Request.{IsAskOf, IsRequest, IsSignedAsk, are_visible, certify_ask, fail_ask, office_ask, refused_request, report_ask};
+ghost use Rattle.requests.specs.Request.{IsAskIn, IsAskOf, IsPlace, IsRequest, IsSignedAsk, IsTextAsk, are_visible, certified_order, certify_ask, fail_ask, office_ask, refused_request, report_ask};
 
 use crate::envelopes::signed_in;
 use crate::offices::{finding, order_problem};
@@ -34,16 +34,88 @@ pub fn read_request(
         return Ok(refused(alloc, Refusal::Malformed, Allow::No, true));
     }
     let index = has_index(path);
-    let Some(resource) = resource_at(path) else {
-        return Ok(refused(alloc, Refusal::NotFound, Allow::No, index));
+    match place_of(alloc, method, path)? {
+        Place::NotHere => Ok(refused(alloc, Refusal::NotFound, Allow::No, index)),
+        Place::NotServed(methods) => Ok(refused(alloc, Refusal::MethodNotAllowed, methods, index)),
+        Place::Served(resource) => match ask_of(alloc, resource, method, body)? {
+            Some(ask) => Ok(Request::Asks(ask)),
+            None => Ok(refused(alloc, Refusal::Malformed, Allow::No, index)),
+        },
+    }
+}
+
+/// Where a request of a method and a path goes.
+#[derive(Clone, Copy, Debug, PartialEq, Eq)]
+pub enum Place {
+    /// To a resource that serves the method.
+    Served(Resource),
+    /// No resource has the path.
+    NotHere,
+    /// The path's resource serves these methods, and not this one.
+    NotServed(Allow),
+}
+
+/// Where a request of this method and path goes (RFC 8555, 7.1).
+///
+/// # Errors
+///
+/// Where there is no memory for the routes.
+pub fn place_of(alloc: Global, method: &str, path: &str) -> Result<Place, AllocError>
+    ensures { IfOk result (λ p. IsPlace method.now path.now p) }
+{
+    let Some(resource) = resource_at(alloc, path)? else {
+        return Ok(Place::NotHere);
     };
     let methods = methods_of(resource);
-    if !serves(methods, method) {
-        return Ok(refused(alloc, Refusal::MethodNotAllowed, methods, index));
+    if serves(methods, method) {
+        Ok(Place::Served(resource))
+    } else {
+        Ok(Place::NotServed(methods))
     }
-    match ask_of(alloc, resource, method, body)? {
-        Some(ask) => Ok(Request::Asks(ask)),
-        None => Ok(refused(alloc, Refusal::Malformed, Allow::No, index)),
+}
+
+/// What a request asks of a resource that serves its method, by the bytes of its body, or `None` where these are none
+/// for it: JSON is UTF-8, a certificate may be any bytes.
+///
+/// # Errors
+///
+/// Where there is no memory for it.
+pub fn ask_in(
+    alloc: Global,
+    resource: Resource,
+    method: &str,
+    body: &[u8],
+) -> Result<Option<Ask>, AllocError>
+    ensures { IfOk result (λ o. IsAskIn resource method.now body.now o) }
+{
+    match certified_order(resource) {
+        Some(order) => certify_ask(alloc, order, body),
+        None => text_ask(alloc, resource, method, body),
+    }
+}
+
+// The order whose certificate a body is.
+fn certified_order(resource: Resource) -> Option<u64>
+    ensures { result ≡ certified_order resource }
+{
+    match resource {
+        Resource::Office(OfficeResource::Certify(order)) => Some(order),
+        _ => None,
+    }
+}
+
+// What a request asks whose body is text.
+fn text_ask(
+    alloc: Global,
+    resource: Resource,
+    method: &str,
+    body: &[u8],
+) -> Result<Option<Ask>, AllocError>
+    ensures { IfOk result (λ o. IsTextAsk resource method.now body.now o) }
+{
+    match str::from_utf8(body) {
+        Ok(text) => ask_of(alloc, resource, method, text),
+        Err(_) => Ok(None),
     }
 }
 
@@ -96,7 +168,7 @@ fn office_ask(
         OfficeResource::ChallengeWork => Ok(Some(Ask::ChallengeWork)),
         OfficeResource::OrderWork => Ok(Some(Ask::OrderWork)),
         OfficeResource::Report(challenge) => report_ask(alloc, challenge, body),
-        OfficeResource::Certify(order) => certify_ask(alloc, order, body),
+        OfficeResource::Certify(order) => certify_ask(alloc, order, body.as_bytes()),
         OfficeResource::FailOrder(order) => fail_ask(alloc, order, body),
     }
 }
@@ -112,11 +184,11 @@ fn report_ask(alloc: Global, challenge: u64, body: &str) -> Result<Option<Ask>, 
 }
 
 // The certificate of this order: the bytes of the body.
-fn certify_ask(alloc: Global, order: u64, body: &str) -> Result<Option<Ask>, AllocError>
+fn certify_ask(alloc: Global, order: u64, body: &[u8]) -> Result<Option<Ask>, AllocError>
     ensures { IfOk result (λ o. o ≡ certify_ask order body.now) }
 {
     let mut bytes = Vec::new(alloc);
-    bytes.extend_from_slice(body.as_bytes())?;
+    bytes.extend_from_slice(body)?;
     Ok(Some(Ask::Certify {
         order,
         bytes: Sequence::new(bytes),
@@ -133,11 +205,18 @@ fn fail_ask(alloc: Global, order: u64, body: &str) -> Result<Option<Ask>, AllocE
     }
 }
 
-// The refusal of a request that is no call.
-fn refused(alloc: Global, refusal: Refusal, allow: Allow, index: bool) -> Request
+/// The refusal of a request that is no call.
+pub fn refused(alloc: Global, refusal: Refusal, allow: Allow, index: bool) -> Request
     ensures { result ≡ Request.Refused (refused_request refusal allow index) }
 {
-    Request::Refused(Reply {
+    Request::Refused(refusal_reply(alloc, refusal, allow, index))
+}
+
+/// The reply that refuses a request, without a nonce.
+pub fn refusal_reply(alloc: Global, refusal: Refusal, allow: Allow, index: bool) -> Reply
+    ensures { result ≡ refused_request refusal allow index }
+{
+    Reply {
         status: refusal.status(),
         location: None,
         up: None,
@@ -148,5 +227,5 @@ fn refused(alloc: Global, refusal: Refusal, allow: Allow, index: bool) -> Reques
             allow,
             index,
         }),
-    })
+    }
 }

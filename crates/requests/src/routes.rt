@@ -1,9 +1,11 @@
 //! The resources of the desk: their paths, and the methods that they serve.
-ghost use Rattle.std.specs.Prelude.{◌≡◌, ◌≢◌, ◌++◌, ◌↔◌, ℕ, List, MatchOption, IsTrue, slice_index};
+ghost use Rattle.std.specs.Prelude.{◌≡◌, ◌≢◌, ◌++◌, ◌↔◌, ℕ, List, Some, IfOk, MatchOption, IsTrue, slice_index};
 ghost use Rattle.std.specs.Int.{IsInRange};
-ghost use Rattle.requests.specs.Routes.{HasNumber, IsNumberText, IsTargetAt, IsOfficeResourceAt, IsResourceAt, methods_of, serves, has_index, is_inside, is_visible, is_visible_byte};
+ghost use Rattle.requests.specs.Routes.{HasNumber, IsNumberText, IsPathText, IsResourceAt, has_index, is_inside, is_numbered, is_visible, is_visible_byte, methods_of, prefix, resource_of, serves, suffix};
 
+use crate::router::route_at;
 use desk_model::{Allow, Target};
+use std::alloc::{AllocError, Global};
 
 // The greatest number of an object.
 const LAST_NUMBER: u64 = 1 << 62;
@@ -30,83 +32,132 @@ pub enum OfficeResource {
     FailOrder(u64),
 }
 
+/// A form of paths, whose number is left open where they have one.
+#[derive(Clone, Copy, Debug, PartialEq, Eq)]
+pub(crate) enum Route {
+    Directory,
+    NewNonce,
+    NewAccount,
+    NewOrder,
+    Account,
+    Orders,
+    Order,
+    Finalize,
+    Cert,
+    Authz,
+    Chall,
+    Key,
+    ChallengeWork,
+    OrderWork,
+    Report,
+    Certify,
+    FailOrder,
+}
+
 /// The resource at this path, or `None` where there is none (RFC 8555, 7.1).
-pub(crate) fn resource_at(path: &str) -> Option<Resource>
-    ensures there { MatchOption result ((r : Resource) → ¬ (IsResourceAt path.now r)) (λ r. IsResourceAt path.now r) }
-    ensures one { (r : Resource) → IsResourceAt path.now r → result ≡ Some r }
+///
+/// # Errors
+///
+/// Where there is no memory for the routes.
+pub(crate) fn resource_at(alloc: Global, path: &str) -> Result<Option<Resource>, AllocError>
+    ensures there { IfOk result (λ o. MatchOption o ((r : Resource) → ¬ (IsResourceAt path.now r)) (λ r. IsResourceAt path.now r)) }
+    ensures one { IfOk result (λ o. (r : Resource) → IsResourceAt path.now r → o ≡ Some r) }
 {
-    if is_text(path, "/directory") {
-        return Some(Resource::Directory);
-    }
-    if is_text(path, "/new-nonce") {
-        return Some(Resource::NewNonce);
-    }
-    if let Some(target) = target_at(path) {
-        return Some(Resource::Signed(target));
-    }
-    match office_resource_at(path) {
-        Some(resource) => Some(Resource::Office(resource)),
-        None => None,
+    let Some(route) = route_at(alloc, path)? else {
+        return Ok(None);
+    };
+    match number_at(path, route) {
+        Some(number) => Ok(Some(resource_of(route, number))),
+        None => Ok(None),
     }
 }
 
-// The target of signed requests at this path.
-fn target_at(path: &str) -> Option<Target>
-    ensures { MatchOption result ((t : Target) → ¬ (IsTargetAt path.now t)) (λ t. IsTargetAt path.now t) }
+// The number of a path of this route, 0 where its paths have none, or `None` where it is not of this route.
+fn number_at(path: &str, route: Route) -> Option<u64>
+    ensures { MatchOption result ((n : ℕ) → ¬ (IsPathText (is_numbered route) path.now route n)) (λ n. IsPathText (is_numbered route) path.now route n) }
 {
-    if is_text(path, "/new-account") {
-        return Some(Target::NewAccount);
+    if is_numbered(route) {
+        return number_between(path, prefix_of(route), suffix_of(route));
     }
-    if is_text(path, "/new-order") {
-        return Some(Target::NewOrder);
+    if path == prefix_of(route) {
+        Some(0)
+    } else {
+        None
     }
-    if let Some(number) = number_between(path, "/account/", "") {
-        return Some(Target::Account(number));
-    }
-    if let Some(number) = number_between(path, "/account/", "/orders") {
-        return Some(Target::Orders(number));
-    }
-    if let Some(number) = number_between(path, "/order/", "") {
-        return Some(Target::Order(number));
-    }
-    if let Some(number) = number_between(path, "/order/", "/finalize") {
-        return Some(Target::Finalize(number));
-    }
-    if let Some(number) = number_between(path, "/cert/", "") {
-        return Some(Target::Cert(number));
-    }
-    if let Some(number) = number_between(path, "/authz/", "") {
-        return Some(Target::Authz(number));
-    }
-    if let Some(number) = number_between(path, "/chall/", "") {
-        return Some(Target::Chall(number));
-    }
-    None
 }
 
-// The resource for the validator and the signing office at this path.
-fn office_resource_at(path: &str) -> Option<OfficeResource>
-    ensures { MatchOption result ((o : OfficeResource) → ¬ (IsOfficeResourceAt path.now o)) (λ o. IsOfficeResourceAt path.now o) }
+// The text of a route's paths before their number, or all of it.
+fn prefix_of(route: Route) -> &'static str
+    ensures { result.now ≡ prefix route }
 {
-    if is_text(path, "/office/challenges") {
-        return Some(OfficeResource::ChallengeWork);
+    match route {
+        Route::Directory => "/directory",
+        Route::NewNonce => "/new-nonce",
+        Route::NewAccount => "/new-account",
+        Route::NewOrder => "/new-order",
+        Route::Account | Route::Orders => "/account/",
+        Route::Order | Route::Finalize => "/order/",
+        Route::Cert => "/cert/",
+        Route::Authz => "/authz/",
+        Route::Chall => "/chall/",
+        Route::Key => "/office/key/",
+        Route::ChallengeWork => "/office/challenges",
+        Route::OrderWork => "/office/orders",
+        Route::Report => "/office/report/",
+        Route::Certify => "/office/certify/",
+        Route::FailOrder => "/office/fail/",
     }
-    if is_text(path, "/office/orders") {
-        return Some(OfficeResource::OrderWork);
+}
+
+// The text behind the number of a route's paths.
+fn suffix_of(route: Route) -> &'static str
+    ensures { result.now ≡ suffix route }
+{
+    match route {
+        Route::Orders => "/orders",
+        Route::Finalize => "/finalize",
+        _ => "",
     }
-    if let Some(number) = number_between(path, "/office/key/", "") {
-        return Some(OfficeResource::Key(number));
+}
+
+// Whether a route's paths have a number.
+fn is_numbered(route: Route) -> bool
+    ensures { result ≡ is_numbered route }
+{
+    match route {
+        Route::Directory
+        | Route::NewNonce
+        | Route::NewAccount
+        | Route::NewOrder
+        | Route::ChallengeWork
+        | Route::OrderWork => false,
+        _ => true,
     }
-    if let Some(number) = number_between(path, "/office/report/", "") {
-        return Some(OfficeResource::Report(number));
+}
+
+// The resource of a route, with its number where it has one.
+fn resource_of(route: Route, number: u64) -> Resource
+    ensures { result ≡ resource_of route number }
+{
+    match route {
+        Route::Directory => Resource::Directory,
+        Route::NewNonce => Resource::NewNonce,
+        Route::NewAccount => Resource::Signed(Target::NewAccount),
+        Route::NewOrder => Resource::Signed(Target::NewOrder),
+        Route::Account => Resource::Signed(Target::Account(number)),
+        Route::Orders => Resource::Signed(Target::Orders(number)),
+        Route::Order => Resource::Signed(Target::Order(number)),
+        Route::Finalize => Resource::Signed(Target::Finalize(number)),
+        Route::Cert => Resource::Signed(Target::Cert(number)),
+        Route::Authz => Resource::Signed(Target::Authz(number)),
+        Route::Chall => Resource::Signed(Target::Chall(number)),
+        Route::Key => Resource::Office(OfficeResource::Key(number)),
+        Route::ChallengeWork => Resource::Office(OfficeResource::ChallengeWork),
+        Route::OrderWork => Resource::Office(OfficeResource::OrderWork),
+        Route::Report => Resource::Office(OfficeResource::Report(number)),
+        Route::Certify => Resource::Office(OfficeResource::Certify(number)),
+        Route::FailOrder => Resource::Office(OfficeResource::FailOrder(number)),
     }
-    if let Some(number) = number_between(path, "/office/certify/", "") {
-        return Some(OfficeResource::Certify(number));
-    }
-    if let Some(number) = number_between(path, "/office/fail/", "") {
-        return Some(OfficeResource::FailOrder(number));
-    }
-    None
 }
 
 // The number of an object that a path has between these texts.
@@ -152,7 +203,7 @@ fn begins_a_number(text: &[u8]) -> bool
 }
 
 /// The methods that a resource serves.
-pub(crate) fn methods_of(resource: Resource) -> Allow
+pub fn methods_of(resource: Resource) -> Allow
     ensures { result ≡ methods_of resource }
 {
     match resource {
@@ -179,7 +230,7 @@ pub(crate) fn serves(methods: Allow, method: &str) -> bool
 }
 
 /// Whether a reply at this path has the link to the directory.
-pub(crate) fn has_index(path: &str) -> bool
+pub fn has_index(path: &str) -> bool
     ensures { result ≡ has_index path.now }
 {
     path != "/directory" && !is_inside(path)
@@ -204,11 +255,4 @@ fn is_visible_byte(b: u8) -> bool
     ensures { result ≡ is_visible_byte b }
 {
     b >= 33 && b <= 126
-}
-
-// Whether two texts are the same.
-fn is_text(text: &str, other: &str) -> bool
-    ensures { IsTrue result ↔ (text.now ≡ other.now) }
-{
-    text == other
 }

@@ -1,0 +1,172 @@
+//! Batches: a call a line in, a reply a line out.
+ghost use Rattle.std.specs.Prelude.{◌≤◌, MatchResult};
+ghost use Rattle.batches.specs.Said.{Says, SaysNothing, RepliesTo, DeclinesTo};
+
+use desk_calls::{Desk, DeskFault};
+use desk_model::Reply;
+use desk_storage::Storage;
+use requests::{LineFault, LineRequest, read_line, reply_line};
+use std::alloc::Global;
+use std::fmt;
+use std::io::{self, BufRead, BufReader, ErrorKind, Read, Write};
+
+/// Why a line is not answered.
+#[derive(Clone, Copy, Debug, PartialEq, Eq)]
+pub enum AnswerFault {
+    /// The line is no call.
+    NotACall,
+    /// The desk declined the call.
+    Desk(DeskFault),
+    /// A growth was refused outside the desk, which is unchanged or as its answer left it.
+    Memory,
+}
+
+/// Why a batch ends before its input does.
+#[derive(Clone, Copy, Debug, PartialEq, Eq)]
+enum BatchFault {
+    Input,
+    Output,
+    /// The line of this number, from 1, is no call.
+    NotACall(u64),
+    Desk(DeskFault),
+}
+
+impl fmt::Display for BatchFault {
+    fn fmt<W: fmt::Write>(&self, f: &mut fmt::Formatter<W>) -> fmt::Result {
+        match self {
+            BatchFault::Input => write!(f, "input"),
+            BatchFault::Output => write!(f, "output"),
+            BatchFault::NotACall(number) => write!(f, "line {number}: not a call"),
+            BatchFault::Desk(fault) => write!(f, "{fault}"),
+        }
+    }
+}
+
+/// The output line for the call that a line spells, or for the refusal of its request.
+///
+/// # Errors
+///
+/// `NotACall` where the line spells none, `Desk` where the desk declines the call, `Memory` where there is no
+/// memory beside the desk's own.
+pub fn batch_line<K: Storage + Drop>(
+    alloc: Global,
+    desk: &mut Desk<K>,
+    line: &[u8],
+) -> Result<Vec<u8>, AnswerFault>
+    ensures { MatchResult result
+        (λ said. Says K.Storage.sight desk.old line.now said.items desk.new)
+        (λ fault. SaysNothing K.Storage.sight desk.old line.now fault desk.new) }
+{
+    let asked = match read_line(alloc, line) {
+        Ok(asked) => asked,
+        Err(LineFault::NotACall) => return Err(AnswerFault::NotACall),
+        Err(LineFault::Memory) => return Err(AnswerFault::Memory),
+    };
+    let reply = match reply_to(alloc, desk, asked) {
+        Ok(reply) => reply,
+        Err(fault) => return Err(AnswerFault::Desk(fault)),
+    };
+    match reply_line(alloc, &reply) {
+        Ok(text) => Ok(text.into_bytes()),
+        Err(_) => Err(AnswerFault::Memory),
+    }
+}
+
+// The reply to what a line asks.
+fn reply_to<K: Storage + Drop>(
+    alloc: Global,
+    desk: &mut Desk<K>,
+    asked: LineRequest,
+) -> Result<Reply, DeskFault>
+    ensures { MatchResult result
+        (λ reply. RepliesTo K.Storage.sight desk.old asked reply desk.new)
+        (λ fault. DeclinesTo K.Storage.sight desk.old asked fault desk.new) }
+{
+    match asked {
+        LineRequest::Call(call) => desk.answer(alloc, &call),
+        LineRequest::Refused(reply) => Ok(reply),
+    }
+}
+
+/// Answers the lines of a reader on a writer, each before the next is read, and gives the exit status: 0, or 1
+/// after a line on `errors` that says why the rest is not answered.
+pub fn batch<K: Storage + Drop, R: Read + Drop, W: Write, E: Write>(
+    alloc: Global,
+    reader: R,
+    writer: &mut W,
+    errors: &mut E,
+    desk: &mut Desk<K>,
+) -> u8
+    ensures { result ≤ 1 }
+{
+    match answer_lines(alloc, reader, writer, desk) {
+        Ok(()) => 0,
+        Err(fault) => {
+            let _ = writeln!(errors, "desk: {fault}");
+            1
+        }
+    }
+}
+
+fn answer_lines<K: Storage + Drop, R: Read + Drop, W: Write>(
+    alloc: Global,
+    reader: R,
+    writer: &mut W,
+    desk: &mut Desk<K>,
+) -> Result<(), BatchFault> {
+    let Ok(mut reader) = BufReader::new(alloc, reader) else {
+        return Err(BatchFault::Desk(DeskFault::Memory));
+    };
+    let mut line = Vec::new(alloc);
+    for number in 1..u64::MAX {
+        if !next_line(&mut reader, &mut line)? {
+            return Ok(());
+        }
+        answer_line(alloc, desk, number, line.as_slice(), writer)?;
+    }
+    Ok(())
+}
+
+// Reads the next line, without its end, and tells whether there was one.
+fn next_line<R: BufRead>(reader: &mut R, line: &mut Vec<u8>) -> Result<bool, BatchFault> {
+    line.clear();
+    match reader.read_until(b'\n', line) {
+        Ok(0) => Ok(false),
+        Ok(_) => {
+            if line.last() == Some(&b'\n') {
+                line.pop();
+            }
+            Ok(true)
+        }
+        Err(error) => Err(if error.kind() == ErrorKind::OutOfMemory {
+            BatchFault::Desk(DeskFault::Memory)
+        } else {
+            BatchFault::Input
+        }),
+    }
+}
+
+// Answers the line of this number, from 1.
+fn answer_line<K: Storage + Drop, W: Write>(
+    alloc: Global,
+    desk: &mut Desk<K>,
+    number: u64,
+    line: &[u8],
+    writer: &mut W,
+) -> Result<(), BatchFault> {
+    match batch_line(alloc, desk, line) {
+        Ok(said) => match write_line(writer, said.as_slice()) {
+            Ok(()) => Ok(()),
+            Err(_) => Err(BatchFault::Output),
+        },
+        Err(AnswerFault::NotACall) => Err(BatchFault::NotACall(number)),
+        Err(AnswerFault::Desk(fault)) => Err(BatchFault::Desk(fault)),
+        Err(AnswerFault::Memory) => Err(BatchFault::Desk(DeskFault::Memory)),
+    }
+}
+
+fn write_line<W: Write>(writer: &mut W, line: &[u8]) -> io::Result<()> {
+    writer.write_all(line)?;
+    writer.write_all(b"\n")?;
+    writer.flush()
+}

@@ -1,0 +1,48 @@
+-- What closing leaves of a desk.
+use Rattle.std.proofs.Common.{◌≡◌, [], refl, subst}
+use Rattle.std.proofs.Math.Logic.{∥∥₁_map}
+use Rattle.sqlite_disk.specs.declared.Disk as disk
+use Rattle.sqlite_disk.specs.declared.Files.{Files}
+use Rattle.sqlite_store.specs.declared.store.FileStore.{FileStore}
+use Rattle.sqlite_store.specs.Laws.{stays_at}
+use Rattle.sqlite.specs.Closing.{HoldsAlone, IsCopied}
+use Rattle.sqlite.specs.Effect.{Database}
+use Rattle.sqlite.specs.FileStore.{recovers}
+use Rattle.sqlite.specs.Files.{file_state}
+use Rattle.sqlite.specs.Held.{Held}
+use Rattle.sqlite.specs.Recovery.{Image}
+use Rattle.sqlite.specs.Tree.{Trees}
+use Rattle.sqlite.specs.WalFiles.{outcomes}
+use Rattle.desk_model.specs.Tables.{Tables}
+use Rattle.desk_store.specs.Desks.{AreOfDesk, HasDesk, IsDesk}
+use Rattle.desk_store.specs.declared.store.Store.{Store}
+use Rattle.desk_openings.specs.LeftFiles.{LeavesFound}
+use Rattle.desk_files.specs.Closing.{HasClosed, IsInFile}
+
+-- bytes that hold the trees of a desk
+in_file : (image : Image) (trees : Trees) (T : Tables) → HoldsAlone image trees → AreOfDesk trees T → IsInFile image T
+in_file image trees T holds desk = record {
+  both = ∥∥₁_map holds.both (λ held. (record { image = image; trees = trees; holds = held }, refl, desk));
+  alone = ∥∥₁_map holds.alone (λ held. (record { image = record image { log = [] }; trees = trees; holds = held }, refl, desk));
+}
+
+-- what a stop leaves of the same connection
+pub left_of : {D : Type 0} {g : disk.Ghosts D} (trees : Trees) (conn same : Held (FileStore D g)) → conn ≡ same → recovers conn.store trees → recovers same.store trees
+left_of {D} {g} trees conn same is = subst (λ (h : Held (FileStore D g)). recovers h.store trees) is
+
+module _ {D : Type 0} {g : disk.Ghosts D} (store : Store (FileStore D g)) (files : Files D) (copied : IsCopied store.conn files) where
+  -- the desk is in the file
+  pub has_closed : (T : Tables) → HasDesk (file_state store.conn) T → HasClosed g files T
+  has_closed T has =
+      let committed = (file_state store.conn).committed in
+      let desk : AreOfDesk committed.trees T = (committed, refl, subst (λ (db : Database). IsDesk db T) has.settled has.desk) in
+      record {
+        now = in_file _ committed.trees T copied.seen desk;
+        left = λ image may. in_file image committed.trees T (copied.left image may) desk;
+      }
+
+  -- what is left is what a stop could leave
+  pub ends_as_stop : ((file : D) → g.may_leave file (g.seen file)) → (image : Image) → outcomes g files.log files.db image → LeavesFound store image
+  ends_as_stop stays image may =
+      ∥∥₁_map (copied.left image may).both (λ held.
+      (record { image = image; trees = (file_state store.conn).committed.trees; holds = held }, refl, stays_at store.conn.store stays copied.was_open))

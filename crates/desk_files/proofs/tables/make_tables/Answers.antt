@@ -1,0 +1,36 @@
+use Rattle.std.proofs.Common.{◌≡◌, ◌≤◌, false, inl, inr, refl, subst, sym, le_refl}
+use Rattle.sqlite.specs.Held.{state}
+use Rattle.sqlite.specs.View.{doubt}
+use Rattle.desk_schema.specs.Names.{uses_names}
+use Rattle.desk_files.proofs.Opened.{by_cases}
+use Rattle.desk_files.proofs.tables.make_tables.Goals as goal
+
+pub returns-in-Ok-clause-honest : goal.returns-in-Ok-clause-honest
+returns-in-Ok-clause-honest g c =
+    let old = state g.A.Store c.args.conn in
+    by_cases (uses_names old.now.schema) _ (λ is. absurd (let e = c.in-Ok.ensures.taken is in cc)) (λ is. (c.in-Ok.ensures.left is).clean)
+
+pub returns-in-Err-clause-honest : goal.returns-in-Err-clause-honest
+returns-in-Err-clause-honest g c =
+    let old = state g.A.Store c.args.conn in
+    by_cases (uses_names old.now.schema) _
+    (λ is.
+    let e = c.in-Err.ensures.taken is in
+    let same : c.in-Err.unmade.conn ≡ c.args.conn = cc in
+    subst (λ conn. doubt old.is_clean ≤ doubt (state g.A.Store conn).is_clean) (sym same) (le_refl _)) (λ is. (c.in-Err.ensures.left is).clean)
+
+pub returns-in-Ok-clause-made : goal.returns-in-Ok-clause-made
+returns-in-Ok-clause-made g c clean none unlimited =
+    let it = c.in-Ok.ensures.made clean none unlimited in
+    record { tables = it.desk; left = it.left }
+
+pub returns-in-Err-clause-unmade : goal.returns-in-Err-clause-unmade
+returns-in-Err-clause-unmade g c clean none is_open =
+    let free = subst (λ schema. uses_names schema ≡ false) (sym none) refl in
+    record {
+      fault = c.in-Err.ensures.free free;
+      left = λ trees may. elim ((c.in-Err.ensures.left free).crash clean trees may) [
+        | inl was ↦ inl (g.met.A.Store.settled c.args.conn.store trees is_open was)
+        | inr made ↦ inr (made none)
+      ];
+    }

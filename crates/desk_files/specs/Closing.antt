@@ -1,0 +1,32 @@
+-- What closing the two files of a desk leaves.
+use Rattle.std.specs.Prelude.{[]}
+use Rattle.sqlite_disk.specs.declared.Disk as disk
+use Rattle.sqlite_disk.specs.declared.Files.{Files}
+use Rattle.sqlite_store.specs.declared.store.FileStore.{FileStore}
+use Rattle.sqlite.specs.Files.{file_state, image_of}
+use Rattle.sqlite.specs.Recovery.{Image}
+use Rattle.sqlite.specs.WalFiles.{outcomes}
+use Rattle.sqlite.specs.WalReads.{AreClean}
+use Rattle.desk_model.specs.Tables.{Tables}
+use Rattle.desk_store.specs.Desks.{HasDesk}
+use Rattle.desk_store.specs.declared.store.Store.{Store}
+use Rattle.desk_openings.specs.LeftFiles.{HoldDesk, LeavesFound}
+
+-- the desk is in the two files, and in the database file without its log
+pub record IsInFile (image : Image) (T : Tables) : Type 0 where
+  pub both : HoldDesk image T
+  pub alone : HoldDesk (record image { log = [] }) T
+
+-- the desk that the store had is in the file, as it reads now and as a stop leaves it
+pub record HasClosed {D : Type 0} (g : disk.Ghosts D) (files : Files D) (T : Tables) : Type 0 where
+  pub now : IsInFile (image_of g files) T
+  pub left : (image : Image) → outcomes g files.log files.db image → IsInFile image T
+
+module _ {D : Type 0} {g : disk.Ghosts D} where
+  -- whatever desk the store had
+  abbrev pub KeepsInFile : Store (FileStore D g) → Files D → Type 0
+  KeepsInFile store files = AreClean g files.log files.db → (T : Tables) → HasDesk (file_state store.conn) T → HasClosed g files T
+
+  -- the store left its files so: what they hold now, and after a stop, is what a stop could leave of the store
+  abbrev pub EndsAsStop : Store (FileStore D g) → Files D → Type 0
+  EndsAsStop store files = AreClean g files.log files.db → (image : Image) → outcomes g files.log files.db image → LeavesFound store image

@@ -1,0 +1,48 @@
+-- What making and opening the desk of two files gives.
+use Rattle.std.specs.Prelude.{◌≡◌, ◌⊎◌, [], ℕ}
+use Rattle.sqlite_disk.specs.declared.Disk as disk
+use Rattle.sqlite_store.specs.declared.store.FileStore.{FileStore}
+use Rattle.sqlite.specs.Files.{IsEmpty, file_state}
+use Rattle.sqlite.specs.Held.{Held}
+use Rattle.sqlite.specs.Recovery.{Image}
+use Rattle.sqlite.specs.State.{State, HasCleanDisk}
+use Rattle.sqlite.specs.Tree.{Trees}
+use Rattle.desk_model.specs.Tables.{Tables, picture}
+use Rattle.desk_model.specs.Terms.{Terms}
+use Rattle.desk_storage.specs.Sight.{Keeps, Opens}
+use Rattle.desk_store.specs.Desks.{AreOfDesk}
+use Rattle.desk_store.specs.Making.{IsOfStorage, first_history}
+use Rattle.desk_store.specs.declared.open_fault.OpenFault.{OpenFault}
+use Rattle.desk_store.specs.declared.store.Store.{Store}
+use Rattle.desk_openings.specs.LeftFiles.{LeftFiles, file_sight}
+
+-- a making that failed: the fault is the store's, and a stop leaves what was there, or the new desk
+pub record LeavesNewDesk (policy : Terms) (at : ℕ) (Was : Trees → Type 0) (why : OpenFault) (s : State) : Type 0 where
+  pub fault : IsOfStorage why
+  pub left : (trees : Trees) → s.may_leave trees → Was trees ⊎ AreOfDesk trees (picture (first_history policy at))
+
+module _ {D : Type 0} {g : disk.Ghosts D} where
+  -- whatever desk the bytes held, the store has it
+  abbrev pub OpensFiles : Image → Store (FileStore D g) → Type 0
+  OpensFiles image store = (file_sight g).is_honest store → (files : LeftFiles) → files.image ≡ image → Opens (file_sight g) files store
+
+  -- where the bytes held a desk, the fault is the store's
+  abbrev pub RefusesNoDesk : Image → OpenFault → Held (FileStore D g) → Type 0
+  RefusesNoDesk image why conn =
+      HasCleanDisk (file_state conn) → (files : LeftFiles) → files.image ≡ image → (T : Tables) → (file_sight g).has files T → IsOfStorage why
+
+  -- a stop leaves the database that the bytes held, and no other
+  abbrev pub LeavesAsFound : Image → Held (FileStore D g) → Type 0
+  LeavesAsFound image conn =
+      HasCleanDisk (file_state conn) → (files : LeftFiles) → files.image ≡ image → (trees : Trees) → (file_state conn).may_leave trees
+      → trees ≡ files.trees
+
+  -- in a database file without bytes there is the new desk, and that alone
+  abbrev pub MakesFiles : Terms → ℕ → Image → Store (FileStore D g) → Type 0
+  MakesFiles policy at image store =
+      (file_sight g).is_honest store → image.db ≡ [] → Keeps (file_sight g) store (picture (first_history policy at))
+
+  -- a making that failed there leaves an empty database, or the new desk
+  abbrev pub FailsToMake : Terms → ℕ → Image → OpenFault → Held (FileStore D g) → Type 0
+  FailsToMake policy at image why conn =
+      HasCleanDisk (file_state conn) → image.db ≡ [] → LeavesNewDesk policy at IsEmpty why (file_state conn)

@@ -1,0 +1,31 @@
+//! The end of a desk over two files.
+ghost use Rattle.std.specs.Prelude.{◌≡◌, IfErr, IfOk};
+ghost use Rattle.sqlite.specs.FileStore.{recovers, view};
+ghost use Rattle.sqlite.specs.Tree.{Trees};
+ghost use Rattle.sqlite.specs.View.{IsClean};
+ghost use Rattle.desk_files.specs.Closing.{EndsAsStop, KeepsInFile};
+ghost use Rattle.desk_store.specs.Making.{IsOfStorage};
+
+use crate::fault::file_fault;
+use desk_store::{OpenFault, Store};
+use sqlite::{FileStore, Files};
+use sqlite_disk::Disk;
+
+/// Copies the log into the database file, and gives both files back.
+///
+/// # Errors
+///
+/// `Storage` where the copy failed: a stop then leaves no more than it did, and the next opening reads both files.
+pub fn close_from<D: Disk + Drop>(
+    store: Store<FileStore<D>>,
+) -> Result<Files<D>, (OpenFault, FileStore<D>)>
+    ensures closed { IfOk result (KeepsInFile store) }
+    ensures ended { IfOk result (EndsAsStop store) }
+    ensures fault { IfErr result (λ e. IsOfStorage e.0) }
+    ensures left { IfErr result (λ e. (trees : Trees) → recovers e.1 trees → recovers store.conn.store trees) }
+{
+    match store.close().close_files() {
+        Ok(files) => Ok(files),
+        Err((error, last)) => Err((file_fault(error), last)),
+    }
+}

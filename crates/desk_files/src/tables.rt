@@ -1,0 +1,58 @@
+//! Desks over a connection, and what a stop leaves where they are not opened or made.
+ghost use Rattle.std.specs.Prelude.{◌≡◌, ◌≤◌, false, None, IfErr, IfOk, IsTrue, MatchResult};
+ghost use Rattle.sqlite.specs.Held.{state};
+ghost use Rattle.sqlite.specs.State.{HasCleanDisk};
+ghost use Rattle.sqlite.specs.Tree.{Trees};
+ghost use Rattle.sqlite.specs.View.{doubt};
+ghost use Rattle.desk_model.specs.Tables.{Tables, picture};
+ghost use Rattle.desk_schema.specs.Schema.{no_schema};
+ghost use Rattle.desk_storage.specs.Sight.{Keeps};
+ghost use Rattle.desk_store.specs.Desks.{HasDesk, store_sight};
+ghost use Rattle.desk_store.specs.Making.{IsOfStorage, first_history};
+ghost use Rattle.desk_files.specs.Opening.{LeavesNewDesk};
+
+use desk_model::{Clock, Policy};
+use desk_store::{Store, Unopened};
+use sqlite::{Alter, Connection};
+use std::alloc::Global;
+
+/// Opens the desk of a connection; `Store::open` says when not.
+pub(crate) fn open_tables<A: Alter>(
+    alloc: Global,
+    conn: Connection<A>,
+) -> Result<Store<A>, Unopened<A>>
+    ensures honest { MatchResult result
+        (λ store. doubt (state A.Store conn).is_clean ≤ doubt (state A.Store store.conn).is_clean)
+        (λ un. doubt (state A.Store conn).is_clean ≤ doubt (state A.Store un.conn).is_clean) }
+    ensures opened { IfOk result (λ store. HasCleanDisk (state A.Store store.conn) → (T : Tables) → HasDesk (state A.Store conn) T → Keeps (store_sight A.Store) store T) }
+    ensures unopened { IfErr result (λ un. HasCleanDisk (state A.Store un.conn) → (T : Tables) → HasDesk (state A.Store conn) T → IsOfStorage un.fault) }
+    ensures left { IfErr result (λ un. HasCleanDisk (state A.Store un.conn) → IsTrue (state A.Store conn).is_open → (trees : Trees)
+        → (state A.Store un.conn).may_leave trees → trees ≡ (state A.Store conn).committed.trees) }
+{
+    match Store::open(alloc, conn) {
+        Ok(store) => Ok(store),
+        Err(unopened) => Err(unopened),
+    }
+}
+
+/// Makes a desk in the database of a connection; `Store::make` says when not.
+pub(crate) fn make_tables<A: Alter>(
+    alloc: Global,
+    conn: Connection<A>,
+    policy: Policy,
+    at: Clock,
+) -> Result<Store<A>, Unopened<A>>
+    requires idle { conn.in_transaction ≡ false }
+    ensures honest { MatchResult result
+        (λ store. doubt (state A.Store conn).is_clean ≤ doubt (state A.Store store.conn).is_clean)
+        (λ un. doubt (state A.Store conn).is_clean ≤ doubt (state A.Store un.conn).is_clean) }
+    ensures made { IfOk result (λ store. HasCleanDisk (state A.Store store.conn) → (state A.Store conn).now.schema ≡ no_schema
+        → (state A.Store conn).step_limit ≡ None → Keeps (store_sight A.Store) store (picture (first_history policy at))) }
+    ensures unmade { IfErr result (λ un. HasCleanDisk (state A.Store un.conn) → (state A.Store conn).now.schema ≡ no_schema
+        → IsTrue (state A.Store conn).is_open → LeavesNewDesk policy at (λ trees. trees ≡ (state A.Store conn).committed.trees) un.fault (state A.Store un.conn)) }
+{
+    match Store::make(alloc, conn, policy, at) {
+        Ok(store) => Ok(store),
+        Err(unmade) => Err(unmade),
+    }
+}

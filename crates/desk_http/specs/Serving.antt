@@ -1,0 +1,129 @@
+-- What serving one request does: what is written, and what the desk then is.
+use Rattle.std.specs.Prelude.{◌≡◌, ◌⊎◌, ◌<◌, ◌↔◌, ℕ, Bool, true, false, List, Option, Some, None, Result, Ok, Err, IfErr, IfSome, IsTrue}
+use Rattle.std.specs.Io.KnownBytes.{Appends, Keeps}
+use Rattle.std.specs.declared.alloc.AllocError.{AllocError}
+use Rattle.desk_model.specs.declared.call.Ask.{Ask}
+use Rattle.desk_model.specs.declared.call.Call.{Call}
+use Rattle.desk_model.specs.declared.refusal.Refusal.TheVariants as refusal
+use Rattle.desk_model.specs.declared.reply.Allow.TheVariants as allow
+use Rattle.desk_model.specs.declared.reply.Reply.{Reply}
+use Rattle.desk_storage.specs.Sight.{Sight}
+use Rattle.desk_storage.specs.declared.fault.StorageFault.{StorageFault}
+use Rattle.desk_calls.specs.Answers.{Answers, is_closed_after}
+use Rattle.desk_calls.specs.Faults.{IsMet}
+use Rattle.desk_calls.specs.State.{DeskState}
+use Rattle.desk_calls.specs.declared.fault.DeskFault.{DeskFault}
+use Rattle.desk_calls.specs.declared.fault.DeskFault.TheVariants as deskfault
+use Rattle.requests.specs.Request.{refused_request}
+use Rattle.requests.specs.declared.request.Request.{Request}
+use Rattle.requests.specs.declared.request.Request.TheVariants as request
+use Rattle.http_replies.specs.Replies.{reply_bytes}
+use Rattle.http_requests.specs.Spelled.{IsManner, Spells}
+use Rattle.http_requests.specs.declared.call.Manner.{Manner}
+use Rattle.desk_http.specs.declared.serving.Cause.{Cause}
+use Rattle.desk_http.specs.declared.serving.Cause.TheVariants as cause
+use Rattle.desk_http.specs.declared.serving.IoFault.{IoFault}
+use Rattle.desk_http.specs.declared.serving.IoFault.TheVariants as iofault
+use Rattle.desk_http.specs.declared.serving.Served.{Served}
+
+-- the call of a request that asks this
+abbrev pub call_of : ℕ → List ℕ → Ask → Call
+call_of at random what = record { at = at; random = random; ask = what }
+
+-- the input, where it is known, is this request
+abbrev pub Spelled : Option (List ℕ) → Request → Type 0
+Spelled known q = IfSome known (λ input. Spells input q)
+
+-- ---- what is written in place of a reply: that the desk could not act, or nothing where memory for it was refused
+
+-- whether it has the link to the directory: by the path, which is not known where memory was refused in reading the call
+abbrev pub index_for : Cause → Manner → Bool
+index_for cause.Reading manner = true
+index_for _ manner = manner.index
+
+-- refusal 15 without a nonce, or nothing
+abbrev pub Tells : List ℕ → Bool → Bool → Option (List ℕ) → Option (List ℕ) → Bool → Type 0
+Tells base index head_only before after true =
+    Appends before after (reply_bytes base (refused_request refusal.ServerInternal allow.No index) head_only)
+Tells base index head_only before after false = Keeps before after
+
+-- ---- the desk
+
+module _ {S C : Type 0} (v : Sight S C) (may_meet : StorageFault → Type 0) where
+  -- what a desk promises of a call (`desk_calls::Desk::answer`)
+  pub record IsAnswer (call : Call) (old new : DeskState S) (result : Result Reply DeskFault) : Type 0 where
+    pub closed : IsTrue old.is_closed → (result ≡ Err deskfault.Reopen) × (new ≡ old)
+    pub late : old.is_closed ≡ false → (result ≡ Err deskfault.Moment) ↔ (250000000000 < call.at)
+    pub unmade : 250000000000 < call.at → new ≡ old
+    pub met : old.is_closed ≡ false → IfErr result (IsMet may_meet)
+    pub exit : old.is_closed ≡ false → Answers v call old.store new.store result
+    pub flag : old.is_closed ≡ false → new.is_closed ≡ is_closed_after result
+    pub policy : new.policy ≡ old.policy
+
+  module _ (at : ℕ) (random : List ℕ) where
+    -- the answer to a request: the desk's to its call, or its refusal, and then nothing changed
+    abbrev pub Responds : DeskState S → Request → Result Reply DeskFault → DeskState S → Type 0
+    Responds old (request.Asks what) result new = IsAnswer (call_of at random what) old new result
+    Responds old (request.Refused reply) result new = (result ≡ Ok reply) × (new ≡ old)
+
+    -- ---- one request, of a reader whose bytes may be known
+
+    -- the input's request had this answer
+    pub record HasAnswer (known : Option (List ℕ)) (old new : DeskState S) (result : Result Reply DeskFault) : Type 0 where
+      pub request : Request
+      pub spelled : Spelled known request
+      pub responds : Responds old request result new
+
+    -- why the request did not have its reply written, and what the desk then is
+    abbrev pub Fails : Option (List ℕ) → DeskState S → DeskState S → Cause → Type 0
+    Fails known old new (cause.Desk why) = HasAnswer known old new (Err why)
+    Fails known old new cause.Reading = new ≡ old
+    Fails known old new cause.Text = (reply : Reply) × HasAnswer known old new (Ok reply)
+
+    -- the reply was written, or in its place that the desk could not act
+    abbrev pub ServesBy : List ℕ → Option (List ℕ) → Option (List ℕ) → Option (List ℕ) → DeskState S → DeskState S → Manner
+        → Option Cause → Bool → Type 0
+    ServesBy base known before after old new manner None written =
+        (reply : Reply) × HasAnswer known old new (Ok reply) × Appends before after (reply_bytes base reply manner.head_only) × (written ≡ true)
+    ServesBy base known before after old new manner (Some why) written =
+        Fails known old new why × Tells base (index_for why manner) manner.head_only before after written
+
+    -- what was served: how the reply is written is the input's, too
+    abbrev pub Serves : List ℕ → Option (List ℕ) → Option (List ℕ) → Option (List ℕ) → DeskState S → DeskState S → Served → Type 0
+    Serves base known before after old new served =
+        (manner : Manner) × IfSome known (λ input. IsManner input manner)
+        × ServesBy base known before after old new manner served.cause served.written
+
+    -- the desk is as it was, or as its answer to the input's request left it
+    abbrev pub IsLeft : Option (List ℕ) → DeskState S → DeskState S → Type 0
+    IsLeft known old new = (new ≡ old) ⊎ ((result : Result Reply DeskFault) × HasAnswer known old new result)
+
+    -- where the reader fails nothing is done; where the writer fails the desk is as its answer left it
+    abbrev pub Breaks : Option (List ℕ) → Option (List ℕ) → Option (List ℕ) → DeskState S → DeskState S → IoFault → Type 0
+    Breaks known before after old new iofault.Read = (new ≡ old) × Keeps before after
+    Breaks known before after old new iofault.Write = IsLeft known old new
+
+    -- ---- steps
+
+    -- the request that was read had this answer
+    pub record ReadAnswer (read : Result Request AllocError) (old new : DeskState S) (result : Result Reply DeskFault) : Type 0 where
+      pub request : Request
+      pub is_read : read ≡ Ok request
+      pub responds : Responds old request result new
+
+    -- the text is that of the reply to the request that was read
+    abbrev pub Says : List ℕ → Result Request AllocError → Bool → List ℕ → DeskState S → DeskState S → Type 0
+    Says base read head_only text old new =
+        (reply : Reply) × ReadAnswer read old new (Ok reply) × (text ≡ reply_bytes base reply head_only)
+
+    -- why there is no text
+    abbrev pub LacksText : Result Request AllocError → Cause → DeskState S → DeskState S → Type 0
+    LacksText read (cause.Desk why) old new = ReadAnswer read old new (Err why)
+    LacksText read cause.Reading old new = new ≡ old
+    LacksText read cause.Text old new = (reply : Reply) × ReadAnswer read old new (Ok reply)
+
+    -- why there is no reply
+    abbrev pub LacksReply : Request → Cause → DeskState S → DeskState S → Type 0
+    LacksReply q (cause.Desk why) old new = Responds old q (Err why) new
+    LacksReply q cause.Reading old new = new ≡ old
+    LacksReply q cause.Text old new = ⊥

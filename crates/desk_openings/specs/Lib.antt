@@ -1,0 +1,2 @@
+pub mod LeftFiles
+pub mod Openings

@@ -1,0 +1,39 @@
+-- From what a stop left to the next opening.
+use Rattle.std.specs.Prelude.{◌≡◌, []}
+use Rattle.sqlite_disk.specs.declared.Disk as disk
+use Rattle.sqlite_store.specs.declared.store.FileStore.{FileStore}
+use Rattle.sqlite.specs.Files.{IsEmpty, IsOpened, file_state}
+use Rattle.sqlite.specs.Held.{Held, IsNew}
+use Rattle.sqlite.specs.Recovery.{Image}
+use Rattle.sqlite.specs.Start.{FindsIn}
+use Rattle.sqlite.specs.Tree.{Trees}
+use Rattle.desk_model.specs.Tables.{Tables}
+use Rattle.desk_schema.specs.Schema.{no_schema}
+use Rattle.desk_store.specs.Desks.{HasDesk}
+use Rattle.desk_store.specs.declared.store.Store.{Store}
+use Rattle.desk_openings.specs.LeftFiles.{LeftFiles, IsNumbered, LeavesDesks, LeavesFound, MayLeave, file_sight}
+
+module _ {D : Type 0} (g : disk.Ghosts D) where
+  -- whatever bytes a stop leaves of a store that leaves desks, they hold a database that the store's sight lets it leave
+  abbrev pub LeftFilesAreFound : Type 0
+  LeftFilesAreFound =
+      (store : Store (FileStore D g)) → IsNumbered store.conn → LeavesDesks store → (image : Image) → MayLeave store.conn image
+      → LeavesFound store image
+
+  -- whatever bytes a stop leaves of a connection that leaves this database alone, they hold it
+  abbrev pub KeptFilesAreFound : Type 0
+  KeptFilesAreFound =
+      (conn : Held (FileStore D g)) (files : LeftFiles) → IsNumbered conn → ((trees : Trees) → (file_state conn).may_leave trees → trees ≡ files.trees)
+      → (image : Image) → MayLeave conn image → ∥ ((after : LeftFiles) × (after.image ≡ image) × (after.trees ≡ files.trees)) ∥₁
+
+  -- a connection that was newly opened on files with these tables has them
+  abbrev pub FoundFilesAreOpened : Type 0
+  FoundFilesAreOpened =
+      (conn : Held (FileStore D g)) (files : LeftFiles) (T : Tables) → IsNew conn → IsOpened conn → FindsIn files.image (file_state conn)
+      → (file_sight g).has files T → HasDesk (file_state conn) T
+
+  -- a connection that was newly opened on a database file without bytes has no object and no row
+  abbrev pub EmptyFilesAreOpened : Type 0
+  EmptyFilesAreOpened =
+      (conn : Held (FileStore D g)) (image : Image) → image.db ≡ [] → IsOpened conn → FindsIn image (file_state conn)
+      → ((file_state conn).now.schema ≡ no_schema) × IsEmpty (file_state conn).committed.trees

@@ -1,0 +1,19 @@
+//! The life of a desk over two files.
+#![tactic(auto)]
+
+ghost use Rattle.desk_calls.specs.Seen.{EndedSeenStays, NoncesSeenOnce, RepliesAreKept, SeenIsLived, SeenIsOfCalls};
+ghost use Rattle.desk_openings.specs.LeftFiles.{file_sight};
+ghost use Rattle.file_lives.specs.SeenFiles.{FilesAreSeen};
+
+use sqlite_disk::Disk;
+
+/// What is seen of a desk over two files, with the bytes that stops leave and openings find, is seen of a store whose
+/// stops leave tables; so it is a life, and what is promised of lives holds of it.
+pub fn files_live<D: Disk>()
+    ensures seen { FilesAreSeen D.Disk }
+    ensures lived { SeenIsLived (file_sight D.Disk) }
+    ensures of_calls { SeenIsOfCalls (file_sight D.Disk) }
+    ensures kept { RepliesAreKept (file_sight D.Disk) }
+    ensures nonces { NoncesSeenOnce (file_sight D.Disk) }
+    ensures ended { EndedSeenStays (file_sight D.Disk) }
+{}

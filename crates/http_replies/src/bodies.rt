@@ -1,0 +1,92 @@
+//! The bodies of replies.
+ghost use Rattle.std.specs.Prelude.{◌≡◌, ◌++◌, IfOk, OnOk, Bool, is_some, string_bytes};
+ghost use Rattle.serde_json.specs.Written.{compact_text};
+ghost use Rattle.desk_model.specs.Refusals.{problem_document};
+ghost use Rattle.http_replies.specs.Replies.{body_allow, body_bytes, body_fields, has_body, has_index, is_new_nonce};
+
+use crate::writing::{put_allow, put_content};
+use desk_model::{Body, Document, Problem, Reply};
+use refusals::problem_document;
+use std::alloc::{AllocError, Global};
+
+/// The bytes of a body.
+pub(crate) fn body_bytes(alloc: Global, body: &Body) -> Result<Vec<u8>, AllocError>
+    ensures { IfOk result (λ t. t.items ≡ body_bytes body.now) }
+{
+    match body {
+        Body::Empty => Ok(Vec::new(alloc)),
+        Body::Json(document) => document_text(alloc, document),
+        Body::Problem(problem) => problem_text(alloc, problem),
+        Body::Certificate(bytes) => Vec::from_slice(alloc, bytes.as_slice()),
+    }
+}
+
+// The text of a JSON document.
+fn document_text(alloc: Global, document: &Document) -> Result<Vec<u8>, AllocError>
+    ensures { IfOk result (λ t. t.items ≡ compact_text document.now) }
+{
+    let text = document.value().to_string(alloc)?;
+    Ok(text.into_bytes())
+}
+
+// The text of a refusal's document.
+fn problem_text(alloc: Global, problem: &Problem) -> Result<Vec<u8>, AllocError>
+    ensures { IfOk result (λ t. t.items ≡ compact_text (problem_document problem.now)) }
+{
+    let document = problem_document(alloc, problem)?;
+    document_text(alloc, &document)
+}
+
+/// The fields that say how long a body is, and of what kind.
+pub(crate) fn put_body_fields(
+    alloc: Global,
+    out: &mut Vec<u8>,
+    body: &Body,
+    len: usize,
+) -> Result<(), AllocError>
+    ensures { OnOk result (out.new.items ≡ out.old.items ++ body_fields body.now len) }
+{
+    match body {
+        Body::Empty => Ok(()),
+        Body::Json(_) => put_content(alloc, out, len, "application/json"),
+        Body::Problem(_) => put_content(alloc, out, len, "application/problem+json"),
+        Body::Certificate(_) => put_content(alloc, out, len, "application/pem-certificate-chain"),
+    }
+}
+
+/// The field with the methods that a path serves, where a refusal has them.
+pub(crate) fn put_body_allow(out: &mut Vec<u8>, body: &Body) -> Result<(), AllocError>
+    ensures { OnOk result (out.new.items ≡ out.old.items ++ body_allow body.now) }
+{
+    match body {
+        Body::Problem(problem) => put_allow(out, problem.allow),
+        _ => Ok(()),
+    }
+}
+
+// Whether a reply has a body.
+fn has_body(body: &Body) -> bool
+    ensures { result ≡ has_body body.now }
+{
+    match body {
+        Body::Empty => false,
+        _ => true,
+    }
+}
+
+/// Whether a reply gives a nonce that was asked for (RFC 8555, 7.2).
+pub(crate) fn is_new_nonce(reply: &Reply) -> bool
+    ensures { result ≡ is_new_nonce reply.now }
+{
+    !has_body(&reply.body) && reply.nonce.is_some()
+}
+
+/// Whether the link to the directory stands (RFC 8555, 7.1).
+pub(crate) fn has_index(body: &Body, nonce: bool) -> bool
+    ensures { result ≡ has_index body.now nonce }
+{
+    match body {
+        Body::Problem(problem) => problem.index,
+        _ => nonce,
+    }
+}

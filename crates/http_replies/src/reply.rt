@@ -1,0 +1,54 @@
+//! Replies as bytes.
+ghost use Rattle.std.specs.Prelude.{◌≡◌, ◌++◌, IfOk, OnOk};
+ghost use Rattle.http_replies.specs.Replies.{first_lines, last_lines, reply_bytes};
+
+use crate::bodies::{body_bytes, has_index, is_new_nonce, put_body_allow, put_body_fields};
+use crate::writing::{put_cache, put_end, put_field, put_field_if, put_index, put_status, put_up};
+use desk_model::Reply;
+use std::alloc::{AllocError, Global};
+
+/// The bytes of a reply, whose link to the directory is at this base; for a request by HEAD, its head alone
+/// (RFC 9112, 2.1; RFC 9110, 9.3.2).
+///
+/// # Errors
+///
+/// Where there is no memory for them.
+pub fn reply_text(
+    alloc: Global,
+    base: &str,
+    reply: &Reply,
+    head_only: bool,
+) -> Result<Vec<u8>, AllocError>
+    ensures { IfOk result (λ t. t.items ≡ reply_bytes base.now reply.now head_only) }
+{
+    let body = body_bytes(alloc, &reply.body)?;
+    let mut out = Vec::new(alloc);
+    put_first(alloc, &mut out, reply, body.len())?;
+    put_last(&mut out, base, reply)?;
+    if !head_only {
+        out.extend_from_slice(&body)?;
+    }
+    Ok(out)
+}
+
+// The status line and the fields up to those of the body.
+fn put_first(alloc: Global, out: &mut Vec<u8>, reply: &Reply, len: usize) -> Result<(), AllocError>
+    ensures { OnOk result (out.new.items ≡ out.old.items ++ first_lines reply.now len) }
+{
+    put_status(alloc, out, reply.status)?;
+    put_field(out, "Connection", "close")?;
+    put_body_allow(out, &reply.body)?;
+    put_cache(out, is_new_nonce(reply))?;
+    put_body_fields(alloc, out, &reply.body, len)
+}
+
+// The links, the place and the nonce, and the empty line.
+fn put_last(out: &mut Vec<u8>, base: &str, reply: &Reply) -> Result<(), AllocError>
+    ensures { OnOk result (out.new.items ≡ out.old.items ++ last_lines base.now reply.now) }
+{
+    put_index(out, has_index(&reply.body, reply.nonce.is_some()), base)?;
+    put_up(out, &reply.up)?;
+    put_field_if(out, "Location", &reply.location)?;
+    put_field_if(out, "Replay-Nonce", &reply.nonce)?;
+    put_end(out)
+}

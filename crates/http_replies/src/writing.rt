@@ -1,0 +1,155 @@
+//! Pieces of a message, one behind the other.
+ghost use Rattle.std.specs.Prelude.{◌≡◌, ◌++◌, OnOk, decimal};
+ghost use Rattle.http_replies.specs.Replies.{allow_field, cache_line, content_fields, crlf, field, field_if, index_line, link, phrase, status_line, up_link};
+
+use desk_model::{Allow, Text};
+use std::alloc::{AllocError, Global};
+
+// The phrase of a status (RFC 9110, 15).
+fn phrase_of(status: u16) -> &'static str
+    ensures { result.now ≡ phrase status }
+{
+    match status {
+        200 => "OK",
+        201 => "Created",
+        204 => "No Content",
+        400 => "Bad Request",
+        401 => "Unauthorized",
+        403 => "Forbidden",
+        404 => "Not Found",
+        405 => "Method Not Allowed",
+        409 => "Conflict",
+        413 => "Payload Too Large",
+        500 => "Internal Server Error",
+        _ => "",
+    }
+}
+
+// A text.
+fn put(out: &mut Vec<u8>, text: &str) -> Result<(), AllocError>
+    ensures { OnOk result (out.new.items ≡ out.old.items ++ text.now) }
+{
+    out.extend_from_slice(text.as_bytes())
+}
+
+// A number in decimal.
+fn put_number(alloc: Global, out: &mut Vec<u8>, number: usize) -> Result<(), AllocError>
+    ensures { OnOk result (out.new.items ≡ out.old.items ++ decimal number) }
+{
+    let text = format!(in alloc; "{number}")?;
+    put(out, text.as_str())
+}
+
+/// A field.
+pub(crate) fn put_field(out: &mut Vec<u8>, name: &str, value: &str) -> Result<(), AllocError>
+    ensures { OnOk result (out.new.items ≡ out.old.items ++ field name.now value.now) }
+{
+    put(out, name)?;
+    put(out, ": ")?;
+    put(out, value)?;
+    put(out, "\r\n")
+}
+
+/// A field, where there is a value.
+pub(crate) fn put_field_if(
+    out: &mut Vec<u8>,
+    name: &str,
+    value: &Option<Text>,
+) -> Result<(), AllocError>
+    ensures { OnOk result (out.new.items ≡ out.old.items ++ field_if name.now value.now) }
+{
+    match value {
+        None => Ok(()),
+        Some(value) => put_field(out, name, value.as_str()),
+    }
+}
+
+// A link to a path after the base (RFC 8288, 3).
+fn put_link(out: &mut Vec<u8>, base: &str, path: &str, kind: &str) -> Result<(), AllocError>
+    ensures { OnOk result (out.new.items ≡ out.old.items ++ link (base.now ++ path.now) kind.now) }
+{
+    put(out, "Link: <")?;
+    put(out, base)?;
+    put(out, path)?;
+    put(out, ">;rel=\"")?;
+    put(out, kind)?;
+    put(out, "\"")?;
+    put(out, "\r\n")
+}
+
+/// The status line (RFC 9112, 4).
+pub(crate) fn put_status(alloc: Global, out: &mut Vec<u8>, status: u16) -> Result<(), AllocError>
+    ensures { OnOk result (out.new.items ≡ out.old.items ++ status_line status) }
+{
+    put(out, "HTTP/1.1 ")?;
+    put_number(alloc, out, usize::from(status))?;
+    put(out, " ")?;
+    put(out, phrase_of(status))?;
+    put(out, "\r\n")
+}
+
+/// The field with the methods that a path serves (RFC 9110, 10.2.1).
+pub(crate) fn put_allow(out: &mut Vec<u8>, allow: Allow) -> Result<(), AllocError>
+    ensures { OnOk result (out.new.items ≡ out.old.items ++ allow_field allow) }
+{
+    match allow {
+        Allow::No => Ok(()),
+        Allow::Get => put_field(out, "Allow", "GET"),
+        Allow::GetHead => put_field(out, "Allow", "GET, HEAD"),
+        Allow::Post => put_field(out, "Allow", "POST"),
+    }
+}
+
+/// The length and the kind of a body (RFC 9110, 8.3, 8.6).
+pub(crate) fn put_content(
+    alloc: Global,
+    out: &mut Vec<u8>,
+    len: usize,
+    kind: &str,
+) -> Result<(), AllocError>
+    ensures { OnOk result (out.new.items ≡ out.old.items ++ content_fields len kind.now) }
+{
+    put(out, "Content-Length: ")?;
+    put_number(alloc, out, len)?;
+    put(out, "\r\n")?;
+    put_field(out, "Content-Type", kind)
+}
+
+/// The field that keeps a reply from caches (RFC 8555, 7.2).
+pub(crate) fn put_cache(out: &mut Vec<u8>, stands: bool) -> Result<(), AllocError>
+    ensures { OnOk result (out.new.items ≡ out.old.items ++ cache_line stands) }
+{
+    if stands {
+        put_field(out, "Cache-Control", "no-store")
+    } else {
+        Ok(())
+    }
+}
+
+/// The link to the directory (RFC 8555, 7.1).
+pub(crate) fn put_index(out: &mut Vec<u8>, stands: bool, base: &str) -> Result<(), AllocError>
+    ensures { OnOk result (out.new.items ≡ out.old.items ++ index_line stands base.now) }
+{
+    if stands {
+        put_link(out, base, "/directory", "index")
+    } else {
+        Ok(())
+    }
+}
+
+/// The link to a challenge's authorization (RFC 8555, 7.5.1).
+pub(crate) fn put_up(out: &mut Vec<u8>, up: &Option<Text>) -> Result<(), AllocError>
+    ensures { OnOk result (out.new.items ≡ out.old.items ++ up_link up.now) }
+{
+    match up {
+        None => Ok(()),
+        Some(target) => put_link(out, target.as_str(), "", "up"),
+    }
+}
+
+/// The empty line behind the fields.
+pub(crate) fn put_end(out: &mut Vec<u8>) -> Result<(), AllocError>
+    ensures { OnOk result (out.new.items ≡ out.old.items ++ crlf) }
+{
+    put(out, "\r\n")
+}

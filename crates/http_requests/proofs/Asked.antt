@@ -1,0 +1,50 @@
+-- From a plan and a body to the request.
+use Rattle.httparse.specs.Spans.{header_bytes}
+use Rattle.httparse.specs.declared.spans.HeaderSpan.{HeaderSpan}
+use Rattle.std.proofs.Common.{◌≡◌, ℕ, List, ◌++◌, map, Option, Some, None, Result, Ok, Err, sym, subst}
+use Rattle.std.specs.Prelude.{IfOk, IfSome}
+use Rattle.requests.specs.Request.{IsAskIn}
+use Rattle.requests.specs.Routes.{has_index}
+use Rattle.requests.specs.declared.request.Request.{Request}
+use Rattle.requests.specs.declared.request.Request.TheVariants as request
+use Rattle.requests.specs.declared.routes.Resource.{Resource}
+use Rattle.http_requests.specs.Framing.{framing_for}
+use Rattle.http_requests.specs.Heard.{IsAnswerTo, IsBody}
+use Rattle.http_requests.specs.Spelled.{IsRequestWith, IsServed, cut_short, unread, asked}
+use Rattle.http_requests.specs.declared.framing.Framing.TheVariants as frame
+
+-- what a served request asks by its body
+pub request_by_body : (method path : List ℕ) (fields : List (List ℕ × List ℕ)) (rest : List ℕ) (r : Resource) (n : ℕ) (body : Option (List ℕ)) (q : Request)
+    → IsServed method path r → framing_for r fields ≡ frame.Takes n → IsBody rest n body → IsAnswerTo r method (has_index path) body q
+    → IsRequestWith method path fields rest q
+request_by_body method path fields rest r n None q s e b a =
+    let P : Request → Type 0 = λ x. IsRequestWith method path fields rest x in
+    subst P (sym a) (cut_short r n s e b)
+request_by_body method path fields rest r n (Some body) (request.Asks what) s e b a =
+    asked r n what s e b.0 (subst (λ (x : List ℕ). IsAskIn r method x (Some what)) b.1 a)
+request_by_body method path fields rest r n (Some body) (request.Refused reply) s e b a =
+    rw (a.1) (unread r n s e b.0 (subst (λ (x : List ℕ). IsAskIn r method x None) b.1 a.0))
+
+-- the same of what the reader has left, and where memory was found
+pub request_behind : {E : Type 0} (known : Option (List ℕ)) (method path : List ℕ) (fields : List (List ℕ × List ℕ)) (begun : List ℕ) (r : Resource) (n : ℕ)
+    (body : Option (List ℕ)) (res : Result Request E)
+    → IsServed method path r → framing_for r fields ≡ frame.Takes n → IfSome known (λ left. IsBody (begun ++ left) n body)
+    → IfOk res (λ q. IsAnswerTo r method (has_index path) body q)
+    → IfOk res (λ q. IfSome known (λ left. IsRequestWith method path fields (begun ++ left) q))
+request_behind {E} known method path fields begun r n body (Err x) s e b a = tt
+request_behind {E} None method path fields begun r n body (Ok q) s e b a = tt
+request_behind {E} (Some left) method path fields begun r n body (Ok q) s e b a =
+    request_by_body method path fields (begun ++ left) r n body q s e b a
+
+-- what is read with these parts is read with equal ones
+pub behind_is : {E F : Type 0} (known : Option (List ℕ)) (buffer : List ℕ) (res : Result (Result Request E) F)
+    (m n p q : List ℕ) (hs ks : List HeaderSpan) (b d : List ℕ) → m ≡ n → p ≡ q → hs ≡ ks → b ≡ d
+    → IfOk res (λ r. IfOk r (λ x. IfSome known (λ left. IsRequestWith m p (map (header_bytes buffer) hs) (b ++ left) x)))
+    → IfOk res (λ r. IfOk r (λ x. IfSome known (λ left. IsRequestWith n q (map (header_bytes buffer) ks) (d ++ left) x)))
+behind_is known buffer res m n p q hs ks b d e f g h is =
+    let At : List ℕ → List ℕ → List HeaderSpan → List ℕ → Type 0 = λ v w xs y.
+    IfOk res (λ r. IfOk r (λ x. IfSome known (λ left. IsRequestWith v w (map (header_bytes buffer) xs) (y ++ left) x))) in
+    let one : At n p hs b = subst (λ (v : List ℕ). At v p hs b) e is in
+    let two : At n q hs b = subst (λ (v : List ℕ). At n v hs b) f one in
+    let three : At n q ks b = subst (λ (v : List HeaderSpan). At n q v b) g two in
+    subst (λ (v : List ℕ). At n q ks v) h three

@@ -1,0 +1,44 @@
+-- The values of a name, with one field more; tokens.
+use Rattle.std.proofs.Common.{◌≡◌, ◌<◌, ◌≤◌, ◌+◌, length, take, get_or, add-one, arith, ℕ, Bool, true, false, List, [], ◌∷◌, ◌++◌, map, refl, ap, ◌∙◌, sym}
+use Rattle.std.specs.List.{filter}
+use Rattle.std.specs.Prelude.{if◌then◌else◌}
+use Rattle.std.proofs.lemmas.List.{map-append}
+use Rattle.std.proofs.lemmas.List.Elements.{filter-append}
+use Rattle.std.proofs.Math.Seq.{take-suc}
+use Rattle.std.specs.Prelude.{All}
+use Rattle.httparse.specs.Spans.{header_bytes, span_bytes, IsHeaderWithin}
+use Rattle.httparse.specs.declared.spans.HeaderSpan.{HeaderSpan}
+use Rattle.httparse.specs.Grammar as grammar
+use Rattle.http_header.specs.Token as token
+use Rattle.http_requests.specs.Framing.{values_of, same_name}
+
+-- the values of one field, or of none
+one_value : (b : Bool) (p : List ℕ × List ℕ) → map (λ (f : List ℕ × List ℕ). f.1) (if b then p ∷ [] else []) ≡ (if b then p.1 ∷ [] else [])
+one_value true p = refl
+one_value false p = refl
+
+-- the values of one field more
+pub values_snoc : (name : List ℕ) (fields : List (List ℕ × List ℕ)) (p : List ℕ × List ℕ)
+    → values_of name (fields ++ p ∷ []) ≡ values_of name fields ++ (if same_name p.0 name then p.1 ∷ [] else [])
+values_snoc name fields p =
+    ap (map (λ f. f.1)) (filter-append (λ f. same_name f.0 name) fields (p ∷ []))
+    ∙ (map-append (λ f. f.1) (filter (λ f. same_name f.0 name) fields) (filter (λ f. same_name f.0 name) (p ∷ []))
+    ∙ ap (λ l. values_of name fields ++ l) (one_value (same_name p.0 name) p))
+
+-- a method of the one grammar is one of the other
+pub token_is_token : (bytes : List ℕ) → grammar.IsToken bytes → token.IsToken bytes
+unfolding grammar.is_token_byte token.is_token_byte
+token_is_token bytes h = h
+
+-- the fields of one span more
+pub headers_more : (buffer : List ℕ) (headers : List HeaderSpan) (i : ℕ) (d : HeaderSpan) (name value : List ℕ) → i < length headers
+    → name ≡ span_bytes buffer (get_or headers i d).name → value ≡ span_bytes buffer (get_or headers i d).value
+    → map (header_bytes buffer) (take i headers) ++ (name, value) ∷ [] ≡ map (header_bytes buffer) (take (i + 1) headers)
+headers_more buffer headers i d name value h n v =
+    (λ k. map (header_bytes buffer) (take i headers) ++ (n k, v k) ∷ [])
+    ∙ sym (rw (add-one, take-suc headers i d h) (map-append (header_bytes buffer) (take i headers) (get_or headers i d ∷ [])))
+
+-- spans within fewer bytes are within more
+pub within_more : (n m : ℕ) (headers : List HeaderSpan) → n ≤ m → All (IsHeaderWithin n) headers → All (IsHeaderWithin m) headers
+within_more n m headers le h = λ k d l.
+    let w = h k d l in ((w.0.0, omega (arith, w.0.1)), (w.1.0, omega (arith, w.1.1)))

@@ -1,0 +1,57 @@
+-- What the bytes of a request ask, or how the request is refused.
+use Rattle.std.specs.Prelude.{◌≡◌, ◌<◌, ◌≤◌, ℕ, true, false, List, take, length, map, Some, None, codes, bytes_eq}
+use Rattle.httparse.specs.Grammar.{RequestHead}
+use Rattle.httparse.specs.Spans.{name_and_value}
+use Rattle.desk_model.specs.declared.call.Ask.{Ask}
+use Rattle.desk_model.specs.declared.refusal.Refusal.TheVariants as refusal
+use Rattle.desk_model.specs.declared.reply.Allow.TheVariants as allow
+use Rattle.requests.specs.Request.{IsAskIn, refused_request}
+use Rattle.requests.specs.Routes.{IsResourceAt, has_index, methods_of, serves}
+use Rattle.requests.specs.declared.request.Request.{Request}
+use Rattle.requests.specs.declared.request.Request.TheVariants as request
+use Rattle.requests.specs.declared.routes.Resource.{Resource}
+use Rattle.http_requests.specs.Framing.{framing_for}
+use Rattle.http_requests.specs.Head.{BeginsWith, HasNoHead, IsMalformed, IsTooLarge}
+use Rattle.http_requests.specs.declared.framing.Framing.TheVariants as frame
+use Rattle.http_requests.specs.declared.call.Manner.{Manner}
+
+-- the path leads to the resource, and it serves the method
+pub record IsServed (method path : List ℕ) (r : Resource) : Type 0 where
+  pub there : IsResourceAt path r
+  pub serves : serves (methods_of r) method ≡ true
+
+-- what a request asks by its method, its path, its fields and what follows them, or how it is refused:
+-- the path is looked at first, then the method, the fields, the length of the body and the body
+pub data IsRequestWith (method path : List ℕ) (fields : List (List ℕ × List ℕ)) (rest : List ℕ) : Request → Type 0 where
+  not_here : ((r : Resource) → IsResourceAt path r → ⊥)
+      → IsRequestWith method path fields rest (request.Refused (refused_request refusal.NotFound allow.No (has_index path)))
+  not_served : (r : Resource) → IsResourceAt path r → serves (methods_of r) method ≡ false
+      → IsRequestWith method path fields rest (request.Refused (refused_request refusal.MethodNotAllowed (methods_of r) (has_index path)))
+  ill_framed : (r : Resource) → IsServed method path r → framing_for r fields ≡ frame.Malformed
+      → IsRequestWith method path fields rest (request.Refused (refused_request refusal.Malformed allow.No (has_index path)))
+  too_large : (r : Resource) → IsServed method path r → framing_for r fields ≡ frame.TooLarge
+      → IsRequestWith method path fields rest (request.Refused (refused_request refusal.TooLarge allow.No (has_index path)))
+  cut_short : (r : Resource) (n : ℕ) → IsServed method path r → framing_for r fields ≡ frame.Takes n → length rest < n
+      → IsRequestWith method path fields rest (request.Refused (refused_request refusal.Malformed allow.No (has_index path)))
+  unread : (r : Resource) (n : ℕ) → IsServed method path r → framing_for r fields ≡ frame.Takes n → n ≤ length rest
+      → IsAskIn r method (take n rest) None
+      → IsRequestWith method path fields rest (request.Refused (refused_request refusal.Malformed allow.No (has_index path)))
+  asked : (r : Resource) (n : ℕ) (what : Ask) → IsServed method path r → framing_for r fields ≡ frame.Takes n → n ≤ length rest
+      → IsAskIn r method (take n rest) (Some what)
+      → IsRequestWith method path fields rest (request.Asks what)
+
+-- what the input asks, or how it is refused
+pub data Spells (input : List ℕ) : Request → Type 0 where
+  malformed : IsMalformed input → Spells input (request.Refused (refused_request refusal.Malformed allow.No true))
+  long_head : IsTooLarge input → Spells input (request.Refused (refused_request refusal.TooLarge allow.No true))
+  headed : (h : RequestHead) (rest : List ℕ) (r : Request) → BeginsWith input h rest
+      → IsRequestWith h.method h.target (map name_and_value h.fields) rest r → Spells input r
+
+-- how the reply to a request with this head is written: HEAD is answered by the head alone (RFC 9110, 9.3.2)
+abbrev pub manner_by : (method path : List ℕ) → Manner
+manner_by method path = record { head_only = bytes_eq method (codes "HEAD"); index = has_index path }
+
+-- how the reply to the input is written
+pub data IsManner (input : List ℕ) : Manner → Type 0 where
+  unread : HasNoHead input → IsManner input (record { head_only = false; index = true })
+  read : (h : RequestHead) (rest : List ℕ) → BeginsWith input h rest → IsManner input (manner_by h.method h.target)

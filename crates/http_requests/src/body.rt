@@ -1,0 +1,76 @@
+//! The body of a request, and what it asks.
+ghost use Rattle.std.specs.Prelude.{◌≡◌, ◌≤◌, ◌++◌, ℕ, List, Option, Some, IfOk, IfSome, option_map, length, take};
+ghost use Rattle.http_requests.specs.Heard.{IsAnswerTo, IsBody};
+
+use crate::head::{ReadFailed, fill_from};
+use desk_model::{Allow, Refusal};
+use requests::{Request, Resource, ask_in, refused};
+use std::alloc::{AllocError, Global};
+use std::io::Read;
+
+/// The first bytes of what was begun and what the reader has left, or `None` where these are fewer; an inner error
+/// where there is no memory for them.
+pub(crate) fn read_body<R: Read>(
+    alloc: Global,
+    reader: &mut R,
+    begun: &[u8],
+    count: usize,
+) -> Result<Result<Option<Vec<u8>>, AllocError>, ReadFailed>
+    ensures { IfOk result (λ r. IfOk r (λ o. IfSome (R.remaining reader.old) (λ left. IsBody (begun.now ++ left) count (option_map (λ v. v.items) o)))) }
+{
+    if count <= begun.len() {
+        return Ok(whole(alloc, &begun[..count]));
+    }
+    let mut body = match room_for(alloc, begun, count) {
+        Ok(body) => body,
+        Err(error) => return Ok(Err(error)),
+    };
+    let filled = fill_from(reader, &mut body, begun.len())?;
+    if filled < count {
+        return Ok(Ok(None));
+    }
+    Ok(Ok(Some(body)))
+}
+
+// These bytes, copied.
+fn whole(alloc: Global, bytes: &[u8]) -> Result<Option<Vec<u8>>, AllocError>
+    ensures { IfOk result (λ o. option_map (λ v. v.items) o ≡ Some bytes.now) }
+{
+    let body = Vec::from_slice(alloc, bytes)?;
+    Ok(Some(body))
+}
+
+// What was begun, and room for the rest.
+fn room_for(alloc: Global, begun: &[u8], count: usize) -> Result<Vec<u8>, AllocError>
+    requires { length begun.now ≤ count }
+    ensures len { IfOk result (λ v. length v.items ≡ count) }
+    ensures begun { IfOk result (λ v. take (length begun.now) v.items ≡ begun.now) }
+{
+    let mut body = Vec::with_capacity(alloc, count)?;
+    body.extend_from_slice(begun)?;
+    body.resize(count, 0)?;
+    Ok(body)
+}
+
+/// What a body asks of a resource, or its refusal; `None` is a body that ends early.
+///
+/// # Errors
+///
+/// Where there is no memory for it.
+pub(crate) fn answer_to(
+    alloc: Global,
+    resource: Resource,
+    method: &str,
+    index: bool,
+    body: Option<Vec<u8>>,
+) -> Result<Request, AllocError>
+    ensures { IfOk result (λ q. IsAnswerTo resource method.now index (option_map (λ v. v.items) body) q) }
+{
+    let Some(body) = body else {
+        return Ok(refused(alloc, Refusal::Malformed, Allow::No, index));
+    };
+    match ask_in(alloc, resource, method, body.as_slice())? {
+        Some(ask) => Ok(Request::Asks(ask)),
+        None => Ok(refused(alloc, Refusal::Malformed, Allow::No, index)),
+    }
+}

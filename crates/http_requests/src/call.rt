@@ -1,0 +1,173 @@
+//! A request, from the bytes of its reader to what it asks.
+ghost use Rattle.std.specs.Prelude.{◌≡◌, ◌≤◌, ◌++◌, All, IfOk, IfSome, IsUtf8, length, map, take, drop, true, false};
+ghost use Rattle.httparse.specs.Grammar.{IsToken};
+ghost use Rattle.httparse.specs.Spans.{IsHeaderWithin, IsRequestWithin, header_bytes, span_bytes};
+ghost use Rattle.requests.specs.Request.{refused_request};
+ghost use Rattle.http_requests.specs.Spelled.{IsRequestWith, manner_by};
+ghost use Rattle.http_requests.specs.Heard.{Hears, IsRequestAt};
+
+use crate::body::{answer_to, read_body};
+use crate::head::{HeadRead, ReadFailed, read_head};
+use crate::plan::{Plan, method_of, path_of, plan_for};
+use desk_model::{Allow, Refusal};
+use httparse::spans::{EMPTY_HEADER_SPAN, HeaderSpan, RequestSpans};
+use requests::{Request, has_index, refused};
+use std::alloc::{AllocError, Global};
+use std::io::Read;
+
+/// How the reply to a request is written.
+#[derive(Clone, Copy, Debug, PartialEq, Eq)]
+pub struct Manner {
+    /// Without its body.
+    pub head_only: bool,
+    /// With the link to the directory, where it is a refusal.
+    pub index: bool,
+}
+
+/// What was read of a request.
+#[derive(Drop, Debug)]
+pub struct Heard {
+    pub manner: Manner,
+    /// What it asks, or its refusal; an error where memory for it was refused.
+    pub request: Result<Request, AllocError>,
+}
+
+/// Reads a request: its head, of 16384 bytes and 64 fields at most, and as much of what follows as the head says
+/// (RFC 9112, 2 to 6).
+///
+/// # Errors
+///
+/// Where the reader fails.
+pub fn read_call<R: Read>(alloc: Global, reader: &mut R) -> Result<Heard, ReadFailed>
+    ensures { IfOk result (λ heard. IfSome (R.remaining reader.old) (λ input. Hears input heard)) }
+{
+    let mut buffer = [0u8; 16384];
+    let mut headers = [EMPTY_HEADER_SPAN; 64];
+    let (head, filled) = read_head(reader, &mut buffer, &mut headers)?;
+    let bytes = &buffer[..filled];
+    match head {
+        HeadRead::Malformed => Ok(unread(alloc, Refusal::Malformed)),
+        HeadRead::TooLarge => Ok(unread(alloc, Refusal::TooLarge)),
+        HeadRead::Complete(spans) => read_headed(alloc, reader, bytes, &headers, spans),
+    }
+}
+
+// The request whose head lies at these spans of the bytes that were read.
+fn read_headed<R: Read>(
+    alloc: Global,
+    reader: &mut R,
+    bytes: &[u8],
+    headers: &[HeaderSpan],
+    spans: RequestSpans,
+) -> Result<Heard, ReadFailed>
+    requires within { IsRequestWithin bytes.now headers.now spans }
+    requires method { IsToken (span_bytes bytes.now spans.method) }
+    requires path { IsUtf8 (span_bytes bytes.now spans.path) }
+    ensures manner { IfOk result (λ heard. heard.manner ≡ manner_by (span_bytes bytes.now spans.method) (span_bytes bytes.now spans.path)) }
+    ensures request { IfOk result (λ heard. IfOk heard.request (λ q. IfSome (R.remaining reader.old) (λ left. IsRequestAt bytes.now headers.now spans left q))) }
+{
+    let request = read_behind(alloc, reader, bytes, headers, spans)?;
+    let path = path_of(spans.path.of(bytes));
+    Ok(Heard {
+        manner: manner_by(spans.method.of(bytes), path),
+        request,
+    })
+}
+
+// How the reply to a request of this method and path is written.
+fn manner_by(method: &[u8], path: &str) -> Manner
+    ensures { result ≡ manner_by method.now path.now }
+{
+    Manner {
+        head_only: method == b"HEAD".as_slice(),
+        index: has_index(path),
+    }
+}
+
+// The refusal of a request without a head.
+fn unread(alloc: Global, refusal: Refusal) -> Heard
+    ensures manner { result.manner ≡ record { head_only = false; index = true } }
+    ensures request { result.request ≡ Ok (Request.Refused (refused_request refusal Allow.No true)) }
+{
+    Heard {
+        manner: Manner {
+            head_only: false,
+            index: true,
+        },
+        request: Ok(refused(alloc, refusal, Allow::No, true)),
+    }
+}
+
+// The request whose head lies at these spans of the bytes that were read; an inner error where memory was refused.
+fn read_behind<R: Read>(
+    alloc: Global,
+    reader: &mut R,
+    bytes: &[u8],
+    headers: &[HeaderSpan],
+    spans: RequestSpans,
+) -> Result<Result<Request, AllocError>, ReadFailed>
+    requires within { IsRequestWithin bytes.now headers.now spans }
+    requires method { IsToken (span_bytes bytes.now spans.method) }
+    requires path { IsUtf8 (span_bytes bytes.now spans.path) }
+    ensures { IfOk result (λ r. IfOk r (λ q. IfSome (R.remaining reader.old) (λ left. IsRequestAt bytes.now headers.now spans left q))) }
+{
+    let path = path_of(spans.path.of(bytes));
+    let method = match method_of(alloc, spans.method.of(bytes)) {
+        Ok(method) => method,
+        Err(error) => return Ok(Err(error)),
+    };
+    read_with(
+        alloc,
+        reader,
+        method.as_str(),
+        path,
+        bytes,
+        first(headers, spans.headers),
+        behind(bytes, spans.len),
+    )
+}
+
+// The first spans.
+fn first(headers: &[HeaderSpan], count: usize) -> &[HeaderSpan]
+    requires { count ≤ length headers.now }
+    ensures { result.now ≡ take count headers.now }
+{
+    &headers[..count]
+}
+
+// What stands behind so many bytes.
+fn behind(bytes: &[u8], len: usize) -> &[u8]
+    requires { len ≤ length bytes.now }
+    ensures { result.now ≡ drop len bytes.now }
+{
+    &bytes[len..]
+}
+
+// The request of this method and path, with fields that lie in the buffer, and with what was begun behind its head.
+fn read_with<R: Read>(
+    alloc: Global,
+    reader: &mut R,
+    method: &str,
+    path: &str,
+    buffer: &[u8],
+    headers: &[HeaderSpan],
+    begun: &[u8],
+) -> Result<Result<Request, AllocError>, ReadFailed>
+    requires { All (IsHeaderWithin (length buffer.now)) headers.now }
+    ensures { IfOk result (λ r. IfOk r (λ q. IfSome (R.remaining reader.old) (λ left. IsRequestWith method.now path.now (map (header_bytes buffer.now) headers.now) (begun.now ++ left) q))) }
+{
+    let plan = match plan_for(alloc, method, path, buffer, headers) {
+        Ok(plan) => plan,
+        Err(error) => return Ok(Err(error)),
+    };
+    match plan {
+        Plan::Answered(request) => Ok(Ok(request)),
+        Plan::Takes(resource, count) => {
+            let body = match read_body(alloc, reader, begun, count)? {
+                Ok(body) => body,
+                Err(error) => return Ok(Err(error)),
+            };
+            Ok(answer_to(alloc, resource, method, has_index(path), body))
+        }
+    }
+}

@@ -1,0 +1,121 @@
+//! The head of a request, read into a buffer of fixed size.
+ghost use Rattle.std.specs.Prelude.{◌≡◌, ◌+◌, ◌<◌, ◌≤◌, ℕ, List, IfOk, length, take, drop};
+ghost use Rattle.std.specs.Io.KnownBytes.{Consumes, IsAtEnd};
+ghost use Rattle.http_requests.specs.Head.{Adds, HeadSays};
+
+use httparse::Status;
+use httparse::spans::{HeaderSpan, RequestSpans, parse_request};
+use std::error::Error;
+use std::fmt;
+use std::io::{ErrorKind, Read};
+
+/// The reader failed.
+#[derive(Clone, Copy, Debug, PartialEq, Eq, Drop)]
+pub struct ReadFailed;
+
+impl fmt::Display for ReadFailed {
+    fn fmt<W: fmt::Write>(&self, f: &mut fmt::Formatter<W>) -> fmt::Result {
+        f.write_str("the reader failed")
+    }
+}
+
+impl Error for ReadFailed {}
+
+/// What the first bytes of a request are.
+#[derive(Clone, Copy, Debug, PartialEq, Eq)]
+pub enum HeadRead {
+    /// A head, whose parts lie at these spans.
+    Complete(RequestSpans),
+    /// They begin no head, or one of too many fields; or the input ends before a head does.
+    Malformed,
+    /// They fill the buffer, and a head goes on behind it.
+    TooLarge,
+}
+
+// Reads once, and again where a signal came between. 0 bytes come at the end alone.
+fn read_some<R: Read>(reader: &mut R, free: &mut [u8]) -> Result<usize, ReadFailed>
+    ensures within { IfOk result (λ n. n ≤ length free.new) }
+    ensures bytes { IfOk result (λ n. Consumes (R.remaining reader.old) (R.remaining reader.new) (take n free.new)) }
+    ensures end { IfOk result (λ n. n ≡ 0 → 0 < length free.old → IsAtEnd (R.remaining reader.new)) }
+{
+    'again: for _ in 0..u64::MAX {
+        match reader.read(free) {
+            Ok(n) => return Ok(n),
+            Err(error) => {
+                if error.kind() != ErrorKind::Interrupted {
+                    return Err(ReadFailed);
+                }
+            }
+        }
+    }
+    Err(ReadFailed)
+}
+
+// Reads once behind what is there.
+fn fill<R: Read>(reader: &mut R, buffer: &mut [u8], filled: usize) -> Result<usize, ReadFailed>
+    requires { filled < length buffer.old }
+    ensures within { IfOk result (λ n. filled + n ≤ length buffer.new) }
+    ensures front { IfOk result (λ n. take filled buffer.new ≡ take filled buffer.old) }
+    ensures bytes { IfOk result (λ n. Consumes (R.remaining reader.old) (R.remaining reader.new) (take n (drop filled buffer.new))) }
+    ensures end { IfOk result (λ n. n ≡ 0 → IsAtEnd (R.remaining reader.new)) }
+{
+    let free = &mut buffer[filled..];
+    match read_some(reader, free) {
+        Ok(n) => Ok(n),
+        Err(fault) => Err(fault),
+    }
+}
+
+/// Fills the buffer from `start` on, or as far as the input goes, and tells how far.
+pub(crate) fn fill_from<R: Read>(
+    reader: &mut R,
+    buffer: &mut [u8],
+    start: usize,
+) -> Result<usize, ReadFailed>
+    requires { start ≤ length buffer.old }
+    ensures within { IfOk result (λ n. n ≤ length buffer.new) }
+    ensures read { IfOk result (λ n. Adds (R.remaining reader.old) (R.remaining reader.new) (take start buffer.old) (take n buffer.new)) }
+    ensures end { IfOk result (λ n. n < length buffer.new → IsAtEnd (R.remaining reader.new)) }
+{
+    let mut filled = start;
+    'more: while filled < buffer.len() {
+        let count = fill(reader, buffer, filled)?;
+        if count == 0 {
+            return Ok(filled);
+        }
+        filled += count;
+    }
+    Ok(filled)
+}
+
+/// Reads until a head is there, it can be one no more, the input ends, or the buffer is full; tells how far it read.
+pub(crate) fn read_head<R: Read>(
+    reader: &mut R,
+    buffer: &mut [u8],
+    headers: &mut [HeaderSpan],
+) -> Result<(HeadRead, usize), ReadFailed>
+    requires room { length buffer.old ≡ 16384 }
+    requires fields { length headers.old ≡ 64 }
+    ensures within { IfOk result (λ r. r.1 ≤ length buffer.new) }
+    ensures says { IfOk result (λ r. HeadSays (take r.1 buffer.new) headers.new (R.remaining reader.new) r.0) }
+    ensures bytes { IfOk result (λ r. Consumes (R.remaining reader.old) (R.remaining reader.new) (take r.1 buffer.new)) }
+{
+    let mut filled = 0;
+    'more: while filled < buffer.len() {
+        match parse_request(&buffer[..filled], headers) {
+            Ok(Status::Complete(spans)) => return Ok((HeadRead::Complete(spans), filled)),
+            Ok(Status::Partial) => {}
+            Err(_) => return Ok((HeadRead::Malformed, filled)),
+        }
+        let count = fill(reader, buffer, filled)?;
+        if count == 0 {
+            return Ok((HeadRead::Malformed, filled));
+        }
+        filled += count;
+    }
+    match parse_request(&buffer[..filled], headers) {
+        Ok(Status::Complete(spans)) => Ok((HeadRead::Complete(spans), filled)),
+        Ok(Status::Partial) => Ok((HeadRead::TooLarge, filled)),
+        Err(_) => Ok((HeadRead::Malformed, filled)),
+    }
+}

@@ -1,0 +1,21 @@
+-- What an insertion into the router leaves.
+use Rattle.std.proofs.Common.{◌≡◌, inl, inr, List, ℕ}
+use Rattle.std.specs.Prelude.{Result, Ok, Err}
+use Rattle.matchit.specs.Rows.{RowsOf}
+use Rattle.matchit.specs.Router.{RouteOf, InsertsRead}
+use Rattle.matchit.specs.Route.{Scan, parse_route}
+use Rattle.matchit.specs.declared.error.InsertError.{InsertError}
+use Rattle.requests.specs.declared.routes.Route.{Route}
+use Rattle.requests.specs.Router.{on_scan, add_route}
+
+-- what an insertion leaves of a route's text that was read
+on_scan_inserted : (scan : Result Scan InsertError) (v : Route) (old new : RowsOf (RouteOf Route)) (u : Unit {0})
+    → InsertsRead scan v old new (Ok u) → new ≡ on_scan scan v old
+on_scan_inserted (Ok s) v old new u h = h.1
+on_scan_inserted (Err e) v old new u h = elim h.1 [ inl q ↦ cc | inr q ↦ cc ]
+
+-- a route that was inserted is in its place
+pub inserted : (text : List ℕ) (v : Route) (old new : RowsOf (RouteOf Route)) (u : Unit {0})
+    → InsertsRead (parse_route text) v old new (Ok u) → new ≡ add_route old text v
+unfolding add_route
+inserted text v old new u h = on_scan_inserted (parse_route text) v old new u h

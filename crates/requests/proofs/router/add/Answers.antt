@@ -1,0 +1,5 @@
+use Rattle.requests.proofs.Inserted.{inserted}
+use Rattle.requests.proofs.router.add.Goals as goal
+
+pub returns : goal.returns
+returns c = inserted c.args.text.now c.args.route c.args.router.now c.insert.new.self c.in-Ok.field-0 c.in-Ok.ensures

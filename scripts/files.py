@@ -1,0 +1,132 @@
+#!/usr/bin/env python3
+"""Tries the program over files: scripts/files.py PROGRAM
+
+A desk in a file gives the replies of the batches in examples/, in one run and in two, cut at each line; wrong words, files
+and terms end as docs/SPECIFICATION.md says, section 14; and where SQLite's own shell is there, it reads the file.
+"""
+import os
+import shutil
+import subprocess
+import sys
+import tempfile
+
+ROOT = os.path.dirname(os.path.dirname(os.path.abspath(__file__)))
+TABLES = {
+    "meta": "id format base nonce_life order_life authz_life clock nonces accounts orders authzs challs",
+    "nonce": "serial random issued",
+    "account": "num jwk contacts opened ended end_kind status",
+    "ord": "num account made expires finalized csr certified cert failed problem status",
+    "authz": "num account name wildcard made expires ended end_kind status",
+    "ord_authz": "ord place authz",
+    "chall": "num authz kind token answered reported outcome status",
+}
+faults = []
+
+
+def run(program, *words, given=b""):
+    """The exit status, the output and the errors of the program."""
+    ran = subprocess.run([program, *words], input=given, stdout=subprocess.PIPE, stderr=subprocess.PIPE)
+    return ran.returncode, ran.stdout, ran.stderr
+
+
+def see(what, found, wanted):
+    """Notes what is not as it should be."""
+    if found != wanted:
+        faults.append(f"{what}: {found!r}, not {wanted!r}")
+
+
+def fresh(program, folder, name):
+    """A file with a new desk."""
+    path = f"{folder}/{name}.db"
+    see(f"make {name}", run(program, "make", path, "--base", "https://ca.example"), (0, b"made\n", b""))
+    return path
+
+
+def batches(program, folder):
+    """Each batch of examples/ over a file, whole and in two runs."""
+    for name in sorted(os.listdir(f"{ROOT}/examples")):
+        if not name.endswith(".jsonl"):
+            continue
+        with open(f"{ROOT}/examples/{name}", "rb") as file:
+            calls = file.read().splitlines(keepends=True)
+        with open(f"{ROOT}/examples/{name[:-6]}.expected", "rb") as file:
+            wanted = file.read()
+        path = fresh(program, folder, name)
+        see(f"{name} over a file", run(program, "batch", "--file", path, given=b"".join(calls)), (0, wanted, b""))
+        for cut in sorted({1, len(calls) // 3, len(calls) // 2, len(calls) - 1} - {0, len(calls)}):
+            path = fresh(program, folder, f"{name}-{cut}")
+            first = run(program, "batch", "--file", path, given=b"".join(calls[:cut]))
+            second = run(program, "batch", "--file", path, given=b"".join(calls[cut:]))
+            see(f"{name} cut at {cut}", (first[0], second[0], first[1] + second[1]), (0, 0, wanted))
+
+
+def ends(program, folder):
+    """Wrong words, files and terms."""
+    path = fresh(program, folder, "again")
+    see("a file that holds bytes", run(program, "make", path, "--base", "https://ca.example"), (1, b"", b"desk: fault 23 not a desk\n"))
+    see("a missing file", run(program, "batch", "--file", f"{folder}/none.db"), (1, b"", b"desk: fault 23 not a desk\n"))
+    see("no file is made", os.path.exists(f"{folder}/none.db"), False)
+    with open(f"{folder}/empty.db", "wb"):
+        pass
+    see("an empty file", run(program, "batch", "--file", f"{folder}/empty.db"), (1, b"", b"desk: fault 23 not a desk\n"))
+    see("a bad base", run(program, "make", f"{folder}/bad.db", "--base", "ca"), (2, b"", b"desk: bad policy\n"))
+    see("no file for a bad base", os.path.exists(f"{folder}/bad.db"), False)
+    see("a life of 0", run(program, "make", f"{folder}/bad.db", "--base", "https://ca.example", "--order-life", "0")[::2], (2, b"desk: bad policy\n"))
+    for words in ([], ["nothing"], ["make", path], ["make", path, "--base", "https://ca.example", "--nonce-life", "-1"], ["batch", "more"]):
+        status, out, errors = run(program, *words)
+        see(f"words {words}", (status, out, errors != b""), (2, b"", True))
+    see("help", (run(program, "--help")[0], run(program, "--help")[2]), (0, b""))
+    with open(f"{folder}/other.db", "wb") as file:
+        file.write(b"no database at all, but bytes")
+    see("another file", run(program, "batch", "--file", f"{folder}/other.db")[0], 1)
+
+
+def together(program, folder):
+    """A second program on the file of a first one, which goes on."""
+    path = fresh(program, folder, "together")
+    with open(f"{ROOT}/examples/first.jsonl", "rb") as file:
+        calls = file.read().splitlines(keepends=True)
+    with open(f"{ROOT}/examples/first.expected", "rb") as file:
+        wanted = file.read().splitlines(keepends=True)
+    with subprocess.Popen([program, "batch", "--file", path], stdin=subprocess.PIPE, stdout=subprocess.PIPE) as first:
+        first.stdin.write(calls[0])
+        first.stdin.flush()
+        see("the first program", first.stdout.readline(), wanted[0])
+        see("a second program", run(program, "batch", "--file", path, given=calls[1]), (1, b"", b"desk: fault 21 device\n"))
+        first.stdin.write(calls[1])
+        first.stdin.close()
+        see("the first program, then", first.stdout.read(), wanted[1])
+
+
+def shell(program, folder):
+    """What SQLite's own shell makes of a file."""
+    if not shutil.which("sqlite3"):
+        print("SQLite's shell is not here, so it was not asked.")
+        return
+    path = fresh(program, folder, "shell")
+    with open(f"{ROOT}/examples/order.jsonl", "rb") as file:
+        see("order.jsonl", run(program, "batch", "--file", path, given=file.read())[0], 0)
+
+    def ask(text):
+        return subprocess.run(["sqlite3", path, text], stdout=subprocess.PIPE, stderr=subprocess.STDOUT, text=True).stdout.split()
+
+    see("integrity_check", ask("PRAGMA integrity_check"), ["ok"])
+    see("foreign_key_check", ask("PRAGMA foreign_key_check"), [])
+    see("tables", sorted(ask("SELECT name FROM sqlite_schema WHERE type = 'table'")), sorted(TABLES))
+    for table, columns in TABLES.items():
+        see(f"columns of {table}", ask(f"SELECT name FROM pragma_table_info('{table}')"), columns.split())
+    see("indexes", len(ask("SELECT name FROM sqlite_schema WHERE type = 'index' AND name NOT LIKE 'sqlite_%'")), 8)
+
+
+def main(program):
+    with tempfile.TemporaryDirectory(prefix="desk-") as folder:
+        for tries in (batches, ends, together, shell):
+            tries(program, folder)
+    print("\n".join(faults + [f"Files: {len(faults)} not as they should be."]))
+    return 1 if faults else 0
+
+
+if __name__ == "__main__":
+    if len(sys.argv) != 2:
+        sys.exit(__doc__)
+    sys.exit(main(os.path.abspath(sys.argv[1])))
