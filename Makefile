@@ -56,8 +56,10 @@ planted:
 	@echo 'Trying the planted edits$(if $(CRATE), of $(CRATE)), crates side by side; the prover must refuse each.'
 	@python3 scripts/edits.py try $(CRATE)
 
-bench: bin/desk
-	@echo 'Timing calls on desks of 100, 1,000 and 10,000 orders (minutes); the figures go to docs/PERFORMANCE.md.'
-	@python3 bench/bench.py > docs/PERFORMANCE.md.new
-	@mv docs/PERFORMANCE.md.new docs/PERFORMANCE.md
+# Proves and builds nothing of the desk: it times the program that is there.
+bench:
+	@test -x bin/desk || { echo 'desk: there is no bin/desk; make builds it' >&2; exit 1; }
+	@echo 'Timing durable calls against C over files of 100 to 100,000 orders (minutes), for docs/PERFORMANCE.md.'
+	@python3 bench/bench.py > bin/PERFORMANCE.md
+	@mv bin/PERFORMANCE.md docs/PERFORMANCE.md
 	@cat docs/PERFORMANCE.md

@@ -1,122 +1,601 @@
 #!/usr/bin/env python3
-"""Times bin/desk batch on desks of 100, 1,000 and 10,000 orders, and writes docs/PERFORMANCE.md to standard output."""
+"""Times durable calls of bin/desk against bench/desk.c, and writes docs/PERFORMANCE.md to standard output.
 
+For each size a file with so many orders is written by Python's sqlite3, and copied for each of the two programs. Both
+programs run at the same time, each over its own copy. They are asked the same calls, a few of one kind by the one and
+then by the other, and must give the same lines. Where gcc or SQLite's header is missing, the program is timed alone.
+
+    python3 bench/bench.py [--sizes 100,1000] [--only c|desk] > docs/PERFORMANCE.md
+"""
+
+import argparse
 import base64
 import hashlib
 import json
 import os
+import re
+import shutil
+import sqlite3
+import statistics
 import subprocess
 import sys
+import tempfile
+import textwrap
 import time
 
-SIZES = (100, 1000, 10000)
-KEY = {"crv": "P-256", "kty": "EC", "x": "AQ", "y": "Ag"}
-KEY_TEXT = json.dumps(KEY, separators=(",", ":"), sort_keys=True)
+HERE = os.path.dirname(os.path.abspath(__file__))
+TOP = os.path.dirname(HERE)
+SIZES = (100, 1000, 10000, 100000)
+TURNS, CALLS = 20, 5
+OPENINGS = 3
+BASE = "https://ca.example"
+NONCE_LIFE, ORDER_LIFE, AUTHZ_LIFE = 3600, 604800, 2592000
+OPENED, NOW = 1800000000, 1800086400
+TOKEN = bytes(16)
+ORDERS_OF_ACCOUNT = 10
 
 
 def base64url(data):
     return base64.urlsafe_b64encode(data).rstrip(b"=").decode()
 
 
-TOKEN = base64url(bytes(16))
-KEY_AUTHORIZATION = TOKEN + "." + base64url(hashlib.sha256(KEY_TEXT.encode()).digest())
+def key(account):
+    """The key of an account, with coordinates of 32 bytes."""
+    return {
+        "crv": "P-256",
+        "kty": "EC",
+        "x": base64url(account.to_bytes(32, "big")),
+        "y": base64url(bytes(31) + b"\1"),
+    }
 
 
-class Desk:
-    """One run of the program: a line in, a reply out. All calls are made at moment 0 with zero random bytes."""
+def canonical(jwk):
+    return json.dumps(jwk, separators=(",", ":"), sort_keys=True)
+
+
+def account_of(order):
+    return (order - 1) // ORDERS_OF_ACCOUNT + 1
+
+
+def made_at(order, orders):
+    """The orders were made one after the other in the day before the calls."""
+    return OPENED + (NOW - OPENED) * (order - 1) // orders
+
+
+def definitions():
+    """The statements that make the tables and indexes, as the program's own source has them."""
+    with open(os.path.join(TOP, "crates/desk_schema/src/definitions.rt"), encoding="utf-8") as source:
+        return re.findall(r'"(CREATE [^"]+)"', source.read())
+
+
+def make_file(path, orders):
+    """A desk's file with so many pending orders of one name each."""
+    accounts = account_of(orders)
+    numbers = range(1, orders + 1)
+    database = sqlite3.connect(path, isolation_level=None)
+    database.execute("PRAGMA journal_mode = WAL")
+    database.execute("BEGIN")
+    for statement in definitions():
+        database.execute(statement)
+    counters = (0, accounts, orders, orders, 2 * orders)
+    meta = (1, 1, BASE, NONCE_LIFE, ORDER_LIFE, AUTHZ_LIFE, NOW) + counters
+    database.execute(f"INSERT INTO meta VALUES ({','.join('?' * 12)})", meta)
+    database.executemany(
+        "INSERT INTO account VALUES (?, ?, '[]', ?, NULL, NULL, 'valid')",
+        ((n, canonical(key(n)), OPENED) for n in range(1, accounts + 1)),
+    )
+    database.executemany(
+        "INSERT INTO ord VALUES (?, ?, ?, ?, NULL, NULL, NULL, NULL, NULL, NULL, 'pending')",
+        ((n, account_of(n), made_at(n, orders), made_at(n, orders) + ORDER_LIFE) for n in numbers),
+    )
+    database.executemany(
+        "INSERT INTO authz VALUES (?, ?, ?, 0, ?, ?, NULL, NULL, 'pending')",
+        (
+            (n, account_of(n), f"n{n}.example", made_at(n, orders), made_at(n, orders) + AUTHZ_LIFE)
+            for n in numbers
+        ),
+    )
+    database.executemany("INSERT INTO ord_authz VALUES (?, 1, ?)", ((n, n) for n in numbers))
+    database.executemany(
+        "INSERT INTO chall VALUES (?, ?, ?, ?, NULL, NULL, NULL, 'pending')",
+        (
+            (2 * n - 1 + i, n, kind, TOKEN)
+            for n in numbers
+            for i, kind in enumerate(("http-01", "dns-01"))
+        ),
+    )
+    database.execute("COMMIT")
+    database.close()
+    return path
+
+
+class Lines:
+    """The calls, as lines. All are made at one moment with random bytes that are zero."""
 
     def __init__(self):
-        self.process = subprocess.Popen(
-            ["bin/desk", "batch"], stdin=subprocess.PIPE, stdout=subprocess.PIPE, text=True, bufsize=1 << 20
-        )
         self.nonces = 0
 
-    def call(self, method, path, body="", random=16):
-        line = json.dumps({"at": 0, "body": body, "method": method, "path": path, "random": "00" * random})
-        self.process.stdin.write(line + "\n")
-        self.process.stdin.flush()
-        reply = self.process.stdout.readline()
-        status = int(reply.split(" ", 1)[0])
-        if not 200 <= status < 300:
-            sys.exit(f"{method} {path}: {reply}")
+    def line(self, method, path, body="", random=16):
+        call = {"at": NOW, "body": body, "method": method, "path": path, "random": "00" * random}
+        return json.dumps(call) + "\n"
 
     def nonce(self):
         self.nonces += 1
-        self.call("GET", "/new-nonce")
+        return self.line("GET", "/new-nonce")
 
-    def signed(self, path, payload, random=16):
+    def signed(self, account, path, payload, random=16):
         nonce = base64url(self.nonces.to_bytes(8, "big") + bytes(16))
         self.nonces += 1
-        body = json.dumps({"jwk": KEY, "nonce": nonce, "payload": payload})
-        self.call("POST", path, body, random)
+        body = json.dumps({"jwk": key(account), "nonce": nonce, "payload": payload})
+        return self.line("POST", path, body, random)
 
-    def order(self, number):
-        self.signed("/new-order", json.dumps({"identifiers": [{"type": "dns", "value": f"n{number}.example"}]}), 48)
+    def of_order(self, order, path, payload="", random=16):
+        return self.signed(account_of(order), path.format(order), payload, random)
+
+    def report(self, order):
+        thumbprint = hashlib.sha256(canonical(key(account_of(order))).encode()).digest()
+        found = base64url(TOKEN) + "." + base64url(thumbprint)
+        return self.line("POST", f"/office/report/{2 * order - 1}", json.dumps({"body": base64url(found.encode())}))
+
+    def new_order(self, order):
+        payload = json.dumps({"identifiers": [{"type": "dns", "value": f"m{self.nonces}.example"}]})
+        return self.of_order(order, "/new-order", payload, 48)
 
 
-def measured(orders, calls):
-    """Seconds a call, by the kind of call, on a desk with so many orders of one name each."""
-    desk = Desk()
-    desk.nonce()
-    desk.signed("/new-account", "{}")
-    for number in range(1, orders + 1):
-        desk.order(number)
-    report = json.dumps({"body": base64url(KEY_AUTHORIZATION.encode())})
-    kinds = [
-        ("directory", lambda i: desk.call("GET", "/directory")),
-        ("newNonce", lambda i: desk.nonce()),
-        ("read an account", lambda i: desk.signed("/account/1", "")),
-        ("replace its contacts", lambda i: desk.signed("/account/1", '{"contact":["mailto:a%d@b.example"]}' % i)),
-        ("its key", lambda i: desk.call("GET", "/office/key/1")),
-        ("read an order", lambda i: desk.signed(f"/order/{i}", "")),
-        ("read an authorization", lambda i: desk.signed(f"/authz/{i}", "")),
-        ("answer a challenge", lambda i: desk.signed(f"/chall/{2 * i - 1}", "{}")),
-        ("challenge work", lambda i: desk.call("GET", "/office/challenges")),
-        ("report", lambda i: desk.call("POST", f"/office/report/{2 * i - 1}", report)),
-        ("finalize", lambda i: desk.signed(f"/order/{i}/finalize", '{"csr":"AQID"}')),
-        ("order work", lambda i: desk.call("GET", "/office/orders")),
-        ("certify", lambda i: desk.call("POST", f"/office/certify/{i}", "certificate")),
-        ("read a certificate", lambda i: desk.signed(f"/cert/{i}", "")),
-        ("orders of the account", lambda i: desk.signed("/account/1/orders", "")),
-        ("newOrder", lambda i: desk.order(orders + i)),
-        ("end an authorization", lambda i: desk.signed(f"/authz/{i}", '{"status":"deactivated"}')),
-    ]
-    seconds = {}
-    for name, make in kinds:
+CSR = base64url(bytes(range(256)) * 2)
+CERTIFICATE = "-----BEGIN CERTIFICATE-----\n" + ("A" * 64 + "\n") * 46 + "-----END CERTIFICATE-----\n"
+
+# Each kind of call, with the line that asks it of an order or of its account, in the order in which they may follow.
+KINDS = (
+    ("directory", lambda lines, n: lines.line("GET", "/directory")),
+    ("newNonce", lambda lines, n: lines.nonce()),
+    ("newAccount, known", lambda lines, n: lines.of_order(n, "/new-account", "{}")),
+    ("newOrder", Lines.new_order),
+    ("read an account", lambda lines, n: lines.of_order(n, f"/account/{account_of(n)}")),
+    (
+        "replace its contacts",
+        lambda lines, n: lines.of_order(n, f"/account/{account_of(n)}", '{"contact":["mailto:a%d@b.example"]}' % n),
+    ),
+    ("its orders", lambda lines, n: lines.of_order(n, f"/account/{account_of(n)}/orders")),
+    ("its key", lambda lines, n: lines.line("GET", f"/office/key/{account_of(n)}")),
+    ("read an order", lambda lines, n: lines.of_order(n, "/order/{}")),
+    ("read an authorization", lambda lines, n: lines.of_order(n, "/authz/{}")),
+    ("answer a challenge", lambda lines, n: lines.of_order(n, f"/chall/{2 * n - 1}", "{}")),
+    ("challenge work", lambda lines, n: lines.line("GET", "/office/challenges")),
+    ("report", Lines.report),
+    ("finalize", lambda lines, n: lines.of_order(n, "/order/{}/finalize", json.dumps({"csr": CSR}))),
+    ("order work", lambda lines, n: lines.line("GET", "/office/orders")),
+    ("certify", lambda lines, n: lines.line("POST", f"/office/certify/{n}", CERTIFICATE)),
+    ("read a certificate", lambda lines, n: lines.of_order(n, "/cert/{}")),
+    ("end an authorization", lambda lines, n: lines.of_order(n, "/authz/{}", '{"status":"deactivated"}')),
+)
+
+# The calls of one order's life, with how often each is made.
+LIFE = {
+    "newNonce": 1,
+    "newOrder": 1,
+    "read an authorization": 1,
+    "answer a challenge": 1,
+    "report": 1,
+    "read an order": 2,
+    "finalize": 1,
+    "certify": 1,
+    "read a certificate": 1,
+}
+
+
+# The lists of the whole desk, which take long: each is asked in this many turns, once.
+WORK_LISTS, WORK_TURNS = ("challenge work", "order work"), 5
+
+# What the time of a call goes to, by kinds of calls that differ in it.
+PARTS = (
+    ("a line is read, the reply written", ("directory",), ()),
+    ("an account is looked up, by the program also what has passed", ("its key",), ("directory",)),
+    ("what has passed is looked up, a nonce and the meta row are written; the commit", ("newNonce",), ("directory",)),
+    ("a request is read, its nonce and account are looked up, the nonce goes", ("newAccount, known",), ("newNonce",)),
+    ("an order is looked up with its list and its authorization", ("read an order",), ("newAccount, known",)),
+    ("an account's authorizations and the orders of these are looked up", ("read an account",), ("newAccount, known",)),
+    ("an order, its list, its authorization and two challenges are written", ("newOrder",), ("newAccount, known",)),
+)
+
+
+class Program:
+    """A program that answers lines, over a file of its own."""
+
+    def __init__(self, words):
         start = time.perf_counter()
-        for i in range(1, calls + 1):
-            make(i)
-        seconds[name] = (time.perf_counter() - start) / calls
-    desk.process.stdin.close()
-    desk.process.wait()
-    return seconds
+        pipes = {"stdin": subprocess.PIPE, "stdout": subprocess.PIPE, "text": True}
+        self.process = subprocess.Popen(words, bufsize=1 << 20, **pipes)
+        self.turns = {name: [] for name, _ in KINDS}
+        self.answer(Lines().line("GET", "/directory"))
+        self.opening = time.perf_counter() - start
+
+    def answer(self, line):
+        self.process.stdin.write(line)
+        self.process.stdin.flush()
+        return self.process.stdout.readline()
+
+    def answers(self, name, lines):
+        """The replies to lines of one kind, each asked after the one before."""
+        start = time.perf_counter()
+        replies = [self.answer(line) for line in lines]
+        self.turns[name].append((time.perf_counter() - start) / len(lines))
+        return replies
+
+    def seconds(self):
+        """The time of a call of each kind: the median of its turns."""
+        return {name: statistics.median(turns) for name, turns in self.turns.items()}
+
+    def memory(self):
+        """The most bytes of memory that the process has had."""
+        with open(f"/proc/{self.process.pid}/status", encoding="ascii") as status:
+            return 1024 * int(re.search(r"VmHWM:\s+(\d+)", status.read()).group(1))
+
+    def close(self):
+        self.process.stdin.close()
+        if self.process.wait() != 0:
+            sys.exit(f"{self.process.args[0]} ended with status {self.process.returncode}")
+
+
+def opened(words):
+    """The program over its file, and the median time of opening it."""
+    times = []
+    for _ in range(OPENINGS - 1):
+        program = Program(words)
+        times.append(program.opening)
+        program.close()
+    program = Program(words)
+    return program, statistics.median([*times, program.opening])
+
+
+def compiled(folder):
+    """The C program, or None with a word on standard error."""
+    path = os.path.join(folder, "desk_c")
+    words = ["gcc", "-O2", "-o", path, os.path.join(HERE, "desk.c"), "-lsqlite3"]
+    if shutil.which("gcc") and subprocess.run(words, check=False, stderr=subprocess.DEVNULL).returncode == 0:
+        return path
+    print("bench: the C program is left out: gcc or SQLite's header is missing", file=sys.stderr)
+    return None
+
+
+def commands(only, folder):
+    """The programs that are timed, by name: the words that a file's path follows."""
+    found = {}
+    if only != "c":
+        found["desk"] = [os.path.join(TOP, "bin/desk"), "batch", "--file"]
+    path = compiled(folder) if only != "desk" else None
+    if path:
+        found["c"] = [path]
+    return found
+
+
+def check_replies(name, replies):
+    """That all programs gave the same lines, and each of them a success."""
+    for said in zip(*replies):
+        if len(set(said)) != 1 or not said[0].startswith("2"):
+            sys.exit(f"{name}: " + " / ".join(said))
+
+
+def orders_of(size, turn):
+    """The orders that a turn asks for: those of accounts that are spread over the file, as many of each at any size."""
+    step = size // (TURNS * CALLS) * ORDERS_OF_ACCOUNT
+    calls = range(turn * CALLS, (turn + 1) * CALLS)
+    return [1 + call // ORDERS_OF_ACCOUNT * step + call % ORDERS_OF_ACCOUNT for call in calls]
+
+
+def asked_in(turn, name, size):
+    """The orders that are asked for by one kind of call in a turn."""
+    if name not in WORK_LISTS:
+        return orders_of(size, turn)
+    return orders_of(size, turn)[:1] if turn < WORK_TURNS else []
+
+
+def copy_of(path, to):
+    """A copy of the file that is on the disk, so that no sync of a call waits for it."""
+    shutil.copyfile(path, to)
+    with open(to, "rb+") as copy:
+        os.fsync(copy.fileno())
+    return to
+
+
+class Measured:
+    """The programs over files of one size, and what was measured of them."""
+
+    def __init__(self, size, found, folder):
+        path = make_file(os.path.join(folder, f"{size}.db"), size)
+        starts = {who: opened([*words, copy_of(path, f"{path}.{who}")]) for who, words in found.items()}
+        self.size = size
+        self.bytes = os.path.getsize(path)
+        self.opening = {who: opening for who, (_, opening) in starts.items()}
+        self.programs = {who: program for who, (program, _) in starts.items()}
+        self.lines = Lines()
+        first = self.lines.nonce()
+        check_replies("newNonce", [[program.answer(first)] for program in self.programs.values()])
+
+    def ask(self, turn, name, line_of):
+        """The calls of one kind in a turn, to each program."""
+        lines = [line_of(self.lines, order) for order in asked_in(turn, name, self.size)]
+        programs = list(self.programs.values())
+        if lines:
+            check_replies(name, [program.answers(name, lines) for program in programs[:: 1 - 2 * (turn % 2)]])
+
+    def close(self):
+        self.memory = {who: program.memory() for who, program in self.programs.items()}
+        self.seconds = {who: program.seconds() for who, program in self.programs.items()}
+        for program in self.programs.values():
+            program.close()
+
+
+def sync_times(place):
+    """The times of some syncs of 24 kB that are written over others."""
+    times = []
+    with tempfile.TemporaryFile(dir=place) as file:
+        os.pwrite(file.fileno(), bytes(1 << 20), 0)
+        os.fsync(file.fileno())
+        for turn in range(CALLS):
+            start = time.perf_counter()
+            os.pwrite(file.fileno(), bytes([turn + 1]) * 24720, 24720 * turn)
+            os.fdatasync(file.fileno())
+            times.append(time.perf_counter() - start)
+    return times
+
+
+class Run:
+    """What was measured over files in a folder, sizes taking turns as programs do, and the median time of a sync."""
+
+    def __init__(self, place, words):
+        syncs = []
+        with tempfile.TemporaryDirectory(dir=place) as folder:
+            found = commands(words.only, folder)
+            self.sizes = {size: Measured(size, found, folder) for size in map(int, words.sizes.split(","))}
+            for turn in range(TURNS):
+                syncs += sync_times(folder)
+                self.ask(turn)
+            self.sync = statistics.median(syncs)
+            for measured in self.sizes.values():
+                measured.close()
+
+    def ask(self, turn):
+        for name, line_of in KINDS:
+            for measured in self.sizes.values():
+                measured.ask(turn, name, line_of)
+
+
+def syncs_of_call(words, folder):
+    """How often a program syncs for a newNonce, by strace."""
+    log = os.path.join(folder, "syncs")
+    path = make_file(os.path.join(folder, "traced.db"), 100)
+    program = Program(["strace", "-f", "-e", "trace=fsync,fdatasync", "-o", log, *words, path])
+    lines, counts = Lines(), []
+    for _ in range(3):
+        program.answer(lines.nonce())
+        with open(log, encoding="utf-8") as traced:
+            counts.append(len(traced.readlines()))
+    program.close()
+    os.remove(path)
+    return counts[2] - counts[1]
+
+
+def counted_syncs(only):
+    """How often each program syncs for a call, where strace is there."""
+    if not shutil.which("strace"):
+        return {}
+    with tempfile.TemporaryDirectory() as folder:
+        return {who: syncs_of_call(words, folder) for who, words in commands(only, folder).items()}
+
+
+# ---- the page
+
+
+def say(text):
+    """Writes a paragraph."""
+    print(textwrap.fill(" ".join(text.split()), 118, break_long_words=False, break_on_hyphens=False) + "\n")
+
+
+def millions(count):
+    """A count of orders, in millions."""
+    return f"{count / 1e6:.2g} million"
+
+
+def figure(value):
+    """A rate, a ratio or a growth, with about three digits."""
+    digits = 0 if value >= 100 else 1 if value >= 10 else 2 if value >= 0.01 else 4
+    return f"{value:,.{digits}f}"
+
+
+def growth(measured, who, name):
+    return measured[max(measured)].seconds[who][name] / measured[min(measured)].seconds[who][name]
+
+
+def ratio(measured, size, name):
+    return measured[size].seconds["c"][name] / measured[size].seconds["desk"][name]
+
+
+def print_rates(measured, who):
+    print("| calls a second | " + " | ".join(f"{size:,} orders" for size in measured) + " | growth |")
+    print("|---|" + "---|" * (len(measured) + 1))
+    for name, _ in KINDS:
+        rates = " | ".join(figure(1 / found.seconds[who][name]) for found in measured.values())
+        print(f"| {name} | {rates} | {figure(growth(measured, who, name))} |")
+    print()
+
+
+def print_ratios(disk, memory):
+    largest = max(disk)
+    columns = [f"C, {largest:,}", "its growth", *(f"ratio, {size:,}" for size in disk)]
+    if memory:
+        columns += [f"no sync, {size:,}" for size in (min(memory), largest)]
+    print("| | " + " | ".join(columns) + " |")
+    print("|---|" + "---|" * len(columns))
+    for name, _ in KINDS:
+        cells = [1 / disk[largest].seconds["c"][name], growth(disk, "c", name)]
+        cells += [ratio(disk, size, name) for size in disk]
+        cells += [ratio(memory, size, name) for size in (min(memory), largest)] if memory else []
+        print(f"| {name} | " + " | ".join(map(figure, cells)) + " |")
+    print()
+
+
+def part(seconds, more, less):
+    return sum(seconds[name] for name in more) - sum(seconds[name] for name in less)
+
+
+def print_parts(measured):
+    """What the time goes to, at the largest size."""
+    seconds = measured[max(measured)].seconds
+    names = {"desk": "the program", "c": "C"}
+    print(f"| microseconds, {max(measured):,} orders, no sync | " + " | ".join(names[who] for who in seconds) + " |")
+    print("|---|" + "---|" * len(seconds))
+    for said, more, less in PARTS:
+        cells = [f"{1e6 * part(found, more, less):,.0f}" for found in seconds.values()]
+        print(f"| {said} | " + " | ".join(cells) + " |")
+    print()
+
+
+def missed(measured):
+    """The sentence on the goals."""
+    names = [name for name, _ in KINDS]
+    slow = [name for name in names if min(ratio(measured, size, name) for size in measured) < 0.8]
+    growths = {name: growth(measured, "desk", name) for name in names}
+    grown = [f"{name} ({figure(value)})" for name, value in growths.items() if value > 1.2]
+    said = "every kind" if len(slow) == len(names) else f"{len(slow)} of {len(names)} kinds"
+    return f"""The goals were at least 0.8 of C's rate and a growth of at most 1.2. {said.capitalize()} of call misses
+        the first at some size; the second is missed by {", ".join(grown) if grown else "none"}. Where the time goes
+        shows in kinds of calls that differ in it; the parts are differences of two times, so small ones are mostly
+        noise."""
+
+
+WHERE = """A call is some ten statements or more, and each costs the program several times what it costs SQLite: in a
+profile (`perf`) of reading an order, without syncs, about half of the samples lie in the engine's statements, a fifth
+in taking, freeing and copying memory, a sixth in the kernel, and a twentieth in the desk's own code. The program also
+asks for more. It looks up what has passed, six statements, also for a key that it only shows. It reads and writes whole
+rows, all columns of an order with its CSR and its certificate, where C reads the columns that it needs and writes those
+that change; what an order lists, and an authorization's challenges, are a statement each. It reads all that a call may
+end or show before it decides: for an account and its contacts all its authorizations with the orders that list them,
+for its orders all of these, so such a call takes time linear in the account's orders (ten to twenty here). The two
+lists of work read all tables, with a statement for each order and each authorization, so they grow as the desk does; C
+reads by the index on the status."""
+
+CAPACITY = """Some millions of certificates a day is what a public certificate authority issues (Let's Encrypt's own
+statistics); an in-house one seldom issues more than thousands. A house that outgrows one desk runs several, each with a
+file and a base of its own (`https://ca1.example`, `https://ca2.example`), and no desk knows of another. An account is
+one desk's: the front hands a client the directory of one of them, and each URL that this desk shows begins with its
+base, so the front sends a request on by its host name alone. Nothing that a desk promises is of accounts of two desks,
+but that a key has one account: it has one at each desk."""
+
+
+def say_how():
+    say(
+        f"""`make bench` writes this page. For each size Python's sqlite3 writes a file with so many pending orders of
+        one name each, {ORDERS_OF_ACCOUNT} to an account. `bin/desk batch --file` and the C program `bench/desk.c`,
+        which does the same transactions by hand on SQLite {sqlite3.sqlite_version}, each serve a copy. They run side by
+        side, over all sizes at once, and are asked in turns {CALLS} calls of a kind, {TURNS} times (the lists of work
+        once, {WORK_TURNS} times), each call after the reply to the one before; their replies are compared and are the
+        same. A time is that of the whole round through the program's pipes, the median of the turns. Growth is the time
+        of a call at the largest size by that at the smallest, ratio the program's rate by C's. Measured on
+        {os.cpu_count()} processors of a machine that was shared with other work: the turns spread that load over all
+        figures, rates are low by it, and a single figure may differ by a third from run to run."""
+    )
+
+
+def say_syncs(counts, sync):
+    times = {1: "once", 2: "twice"}
+    names = {"desk": "the program syncs its log", "c": "C"}
+    counted = ", ".join(f"{names[who]} {times.get(count, f'{count} times')}" for who, count in counts.items())
+    say(
+        f"""A call that records something, as each signed request does, is one transaction.
+        {f"For it {counted} (counted by `strace`)." if counted else ""} One sync of 24 kB took {1e6 * sync:,.0f}
+        microseconds here. The program supposes nothing of a write that a loss of power tears: it syncs the frames, then
+        writes the byte that makes them count and syncs again, where SQLite trusts a checksum and syncs once."""
+    )
+
+
+def say_load(measured, who):
+    """What one desk carries."""
+    largest = max(measured)
+    seconds = measured[largest].seconds[who]
+    life = sum(seconds[name] * count for name, count in LIFE.items())
+    lists = sum(seconds[name] for name in WORK_LISTS)
+    calls = ", ".join(name if count == 1 else f"{name} {count} times" for name, count in LIFE.items())
+    say(
+        f"""An order takes {sum(LIFE.values())} calls from its nonce to its certificate ({calls}). At the rates over
+        {largest:,} orders on the disk these take {1000 * life:.1f} ms, one after the other: {millions(86400 / life)} orders
+        a day by the calls alone. What limits a desk sooner is how many orders its file holds, done ones too, for the
+        offices ask for the lists of work: both take {1000 * lists:,.0f} ms at {largest:,} orders, and no other call is
+        answered meanwhile. Asked for once a minute they leave {millions((86400 - 1440 * lists) / life)} orders a day at
+        {largest:,} orders, and half of the day's time at {millions(30 / lists * largest)}."""
+    )
+
+
+def say_disk(measured, who, syncs, sync):
+    """What a slower disk leaves."""
+    seconds = measured[max(measured)].seconds[who]
+    count = syncs * sum(LIFE.values())
+    slower = sum(seconds[name] * times for name, times in LIFE.items()) + count * (0.005 - sync)
+    say(
+        f"""An order's calls sync {count} times. On a disk whose sync takes 5 ms they would take
+        {1000 * slower:,.0f} ms: {millions(86400 / slower)} orders a day."""
+    )
+
+
+def print_files(measured, who):
+    print("| orders | file, pending orders | time to open | memory at most |")
+    print("|---|---|---|---|")
+    for size, found in measured.items():
+        opening = f"{1000 * found.opening[who]:,.0f} ms"
+        print(f"| {size:,} | {found.bytes / 1e6:,.1f} MB | {opening} | {found.memory[who] / 1e6:,.0f} MB |")
+    print()
+
+
+def say_million(last, who):
+    """What a file of a million orders would be, by the largest one."""
+    csr = len(base64.urlsafe_b64decode(CSR + "=="))
+    times = 1e6 / last.size
+    size = 1e6 * (last.bytes / last.size + len(CERTIFICATE) + csr)
+    say(
+        f"""By these figures a file with a million orders, each with a CSR of {csr} bytes and a certificate of
+        {len(CERTIFICATE):,}, has {size / 1e9:,.1f} GB, and the desk opens it in {times * last.opening[who]:,.0f}
+        seconds or more, with {times * last.memory[who] / 1e9:,.1f} GB of memory or more, as opening reads and checks
+        the whole file. Old orders stay in the file: a house puts it aside and makes a new one when opening, or a list
+        of work, takes too long for it."""
+    )
+
+
+def print_comparison(disk, memory):
+    """The program beside C."""
+    print_ratios(disk, memory)
+    print("## Where the time goes\n")
+    say(missed(disk))
+    print_parts(memory or disk)
+    say(WHERE)
+
+
+def print_page(counts, disk, memory):
+    largest = max(disk.sizes)
+    who = next(iter(disk.sizes[largest].seconds))
+    print("# Performance\n")
+    say_how()
+    say_syncs(counts, disk.sync)
+    print_rates(disk.sizes, who)
+    if len(disk.sizes[largest].seconds) == 2:
+        print_comparison(disk.sizes, memory and memory.sizes)
+    print("## What one desk carries\n")
+    say_load(disk.sizes, who)
+    if who in counts:
+        say_disk(disk.sizes, who, counts[who], disk.sync)
+    print_files(disk.sizes, who)
+    say_million(disk.sizes[largest], who)
+    say(CAPACITY)
 
 
 def main():
-    calls = 50
-    runs = {size: measured(size, calls) for size in SIZES}
-    print("# Performance\n")
-    print(
-        f"`make bench` writes this page. For each size one run of `bin/desk batch` makes a desk in memory with so many "
-        f"orders of one name each, all of one account and pending, and is then asked {calls} calls of each kind, in the "
-        f"order of the table, each after the reply to the one before; the time is that of the whole round through the "
-        f"program's pipes, and the mean of the {calls}. Measured on {os.cpu_count()} processors, with nothing else "
-        f"running.\n"
-    )
-    print("| calls a second | " + " | ".join(f"{size:,} orders" for size in SIZES) + " | time a call, 10,000 against 1,000 |")
-    print("|---|" + "---|" * (len(SIZES) + 1))
-    for name in runs[SIZES[0]]:
-        rates = " | ".join(f"{1 / runs[size][name]:,.0f}" for size in SIZES)
-        growth = runs[SIZES[2]][name] / runs[SIZES[1]][name]
-        print(f"| {name} | {rates} | {growth:.1f} times |")
-    print(
-        "\nEvery signed request records its nonces at least. A call that records something costs time linear in the rows of "
-        "the desk: the book is copied before the changes are made, so that a want of memory in between leaves it as it "
-        "was, and the tables are walked over for what the passing of time ends. A large desk pays more for a row than a "
-        "small one, probably since its rows no longer fit the processor's caches. A call that records nothing copies "
-        "nothing: what it looks up by number takes the time of a map, and the lists of the whole desk take time linear "
-        "in what they go through."
-    )
+    parser = argparse.ArgumentParser()
+    parser.add_argument("--sizes", default=",".join(map(str, SIZES)))
+    parser.add_argument("--only", choices=("c", "desk"))
+    words = parser.parse_args()
+    os.makedirs(os.path.join(TOP, "bin"), exist_ok=True)
+    disk = Run(os.path.join(TOP, "bin"), words)
+    memory = Run("/dev/shm", words) if os.path.isdir("/dev/shm") else None
+    print_page(counted_syncs(words.only), disk, memory)
 
 
 main()
