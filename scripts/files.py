@@ -6,6 +6,7 @@ and terms end as docs/SPECIFICATION.md says, section 14; and where SQLite's own 
 """
 import os
 import shutil
+import sqlite3
 import subprocess
 import sys
 import tempfile
@@ -81,6 +82,45 @@ def ends(program, folder):
     see("another file", run(program, "batch", "--file", f"{folder}/other.db")[0], 1)
 
 
+STRANGE = [
+    ("a table is missing", ["PRAGMA foreign_keys = OFF", "DROP TABLE chall"], 23),
+    ("an index is missing", ["DROP INDEX chall_authz"], 23),
+    ("two rows of meta", ["INSERT INTO meta SELECT 2, format, base, nonce_life, order_life, authz_life, clock, nonces, accounts,"
+                          " orders, authzs, challs FROM meta"], 23),
+    ("a status that is none", ["UPDATE ord SET status = 'open'"], 23),
+    ("a capital in a base name", ["UPDATE authz SET name = 'Example.org'"], 23),
+    ("a number above its counter", ["UPDATE meta SET orders = 0"], 23),
+    ("a later format", ["UPDATE meta SET format = 2"], 27),
+    ("a status that is wrong", ["UPDATE ord SET status = 'ready'"], None),
+]
+
+
+def strange(program, folder):
+    """Files that are no desk's, or a later one's, are refused and left as they are."""
+    texts = {23: b"desk: fault 23 not a desk\n", 27: b"desk: fault 27 newer format\n", None: b""}
+    with open(f"{ROOT}/examples/order.jsonl", "rb") as file:
+        calls = b"".join(file.read().splitlines(keepends=True)[:4])
+    for at, (name, changes, fault) in enumerate(STRANGE):
+        path = fresh(program, folder, f"strange-{at}")
+        see(f"{name}: the calls before", run(program, "batch", "--file", path, given=calls)[0], 0)
+        with sqlite3.connect(path) as found:
+            for change in changes:
+                found.execute(change)
+        found.close()
+        rows = rows_of(path)
+        see(name, run(program, "batch", "--file", path), (0 if fault is None else 1, b"", texts[fault]))
+        see(f"{name}: nothing written", rows_of(path), rows)
+
+
+def rows_of(path):
+    """The statements that make the tables of a file and their rows."""
+    found = sqlite3.connect(path)
+    try:
+        return list(found.iterdump())
+    finally:
+        found.close()
+
+
 def together(program, folder):
     """A second program on the file of a first one, which goes on."""
     path = fresh(program, folder, "together")
@@ -120,7 +160,7 @@ def shell(program, folder):
 
 def main(program):
     with tempfile.TemporaryDirectory(prefix="desk-") as folder:
-        for tries in (batches, ends, together, shell):
+        for tries in (batches, ends, strange, together, shell):
             tries(program, folder)
     print("\n".join(faults + [f"Files: {len(faults)} not as they should be."]))
     return 1 if faults else 0
