@@ -90,6 +90,7 @@ STRANGE = [
     ("a status that is none", ["UPDATE ord SET status = 'open'"], 23),
     ("a capital in a base name", ["UPDATE authz SET name = 'Example.org'"], 23),
     ("a number above its counter", ["UPDATE meta SET orders = 0"], 23),
+    ("an order lists an authorization that is none", ["PRAGMA foreign_keys = OFF", "UPDATE ord_authz SET authz = 99"], 23),
     ("a later format", ["UPDATE meta SET format = 2"], 27),
     ("a status that is wrong", ["UPDATE ord SET status = 'ready'"], None),
 ]
@@ -110,6 +111,37 @@ def strange(program, folder):
         rows = rows_of(path)
         see(name, run(program, "batch", "--file", path), (0 if fault is None else 1, b"", texts[fault]))
         see(f"{name}: nothing written", rows_of(path), rows)
+
+
+def used_up(program, folder):
+    """A desk whose nonces are used up opens, and gives no more of them."""
+    path = fresh(program, folder, "used-up")
+    with sqlite3.connect(path) as found:
+        found.execute("UPDATE meta SET nonces = ?", (1 << 62,))
+    found.close()
+    rows = rows_of(path)
+    with open(f"{ROOT}/examples/first.jsonl", "rb") as file:
+        call = file.readline()
+    see("a nonce past the last", run(program, "batch", "--file", path, given=call), (1, b"", b"desk: fault 26 full\n"))
+    see("a nonce past the last: nothing changed", rows_of(path), rows)
+
+
+def cut_short(program, folder):
+    """A file that was cut ends a command by a fault, or holds a desk; nothing is written."""
+    ends = {(1, b"", b"desk: fault %s\n" % text) for text in (b"20 memory", b"21 device", b"23 not a desk")} | {(0, b"", b"")}
+    whole = fresh(program, folder, "whole")
+    with open(f"{ROOT}/examples/order.jsonl", "rb") as file:
+        see("the calls before a cut", run(program, "batch", "--file", whole, given=file.read())[0], 0)
+    with open(whole, "rb") as file:
+        data = file.read()
+    for length in range(0, len(data), 512):
+        path = f"{folder}/cut-{length}.db"
+        with open(path, "wb") as file:
+            file.write(data[:length])
+        ended = run(program, "batch", "--file", path)
+        see(f"cut after {length} bytes", ended if ended not in ends else None, None)
+        with open(path, "rb") as file:
+            see(f"cut after {length} bytes: nothing written", file.read() == data[:length], True)
 
 
 def rows_of(path):
@@ -160,7 +192,7 @@ def shell(program, folder):
 
 def main(program):
     with tempfile.TemporaryDirectory(prefix="desk-") as folder:
-        for tries in (batches, ends, strange, together, shell):
+        for tries in (batches, ends, strange, used_up, cut_short, together, shell):
             tries(program, folder)
     print("\n".join(faults + [f"Files: {len(faults)} not as they should be."]))
     return 1 if faults else 0

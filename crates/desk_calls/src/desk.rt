@@ -86,6 +86,13 @@ impl<K: Storage + Drop> Desk<K> {
         self.policy.base()
     }
 
+    /// Whether the desk is closed by a fault: it then answers each call by `Reopen`.
+    pub fn is_closed(&self) -> bool
+        ensures { result ≡ self.now.is_closed }
+    {
+        self.is_closed
+    }
+
     /// The store of the desk.
     pub fn close(self) -> K
         ensures { result ≡ self.store }

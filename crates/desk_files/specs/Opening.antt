@@ -2,19 +2,31 @@
 use Rattle.std.specs.Prelude.{◌≡◌, ◌⊎◌, [], ℕ}
 use Rattle.sqlite_disk.specs.declared.Disk as disk
 use Rattle.sqlite_store.specs.declared.store.FileStore.{FileStore}
-use Rattle.sqlite.specs.Files.{IsEmpty, file_state}
+use Rattle.sqlite.specs.Files.{IsCleanLeft, IsEmpty, faults_left, file_state}
 use Rattle.sqlite.specs.Held.{Held}
 use Rattle.sqlite.specs.Recovery.{Image}
 use Rattle.sqlite.specs.State.{State, HasCleanDisk}
+use Rattle.sqlite.specs.declared.error.Error.{Error}
+use Rattle.sqlite.specs.declared.error.Error.TheVariants.{SqliteFailure}
+use Rattle.sqlite.specs.declared.error.ErrorCode.TheVariants as code
+use Rattle.sqlite.specs.declared.file.Leftover.{Leftover}
 use Rattle.sqlite.specs.Tree.{Trees}
 use Rattle.desk_model.specs.Tables.{Tables, picture}
 use Rattle.desk_model.specs.Terms.{Terms}
 use Rattle.desk_storage.specs.Sight.{Keeps, Opens}
 use Rattle.desk_store.specs.Desks.{AreOfDesk}
 use Rattle.desk_store.specs.Making.{IsOfStorage, first_history}
+use Rattle.desk_storage.specs.declared.fault.StorageFault.TheVariants as fault
 use Rattle.desk_store.specs.declared.open_fault.OpenFault.{OpenFault}
+use Rattle.desk_store.specs.declared.open_fault.OpenFault.TheVariants.{NotADesk, Storage}
 use Rattle.desk_store.specs.declared.store.Store.{Store}
 use Rattle.desk_openings.specs.LeftFiles.{LeftFiles, file_sight}
+
+-- the fault of files that the engine refuses
+abbrev pub fault_of_refusal : Error → OpenFault
+fault_of_refusal (SqliteFailure code.OutOfMemory) = Storage fault.Memory
+fault_of_refusal (SqliteFailure code.DatabaseCorrupt) = NotADesk
+fault_of_refusal _ = Storage fault.Device
 
 -- a making that failed: the fault is the store's, and a stop leaves what was there, or the new desk
 pub record LeavesNewDesk (policy : Terms) (at : ℕ) (Was : Trees → Type 0) (why : OpenFault) (s : State) : Type 0 where
@@ -25,6 +37,10 @@ module _ {D : Type 0} {g : disk.Ghosts D} where
   -- whatever desk the bytes held, the store has it
   abbrev pub OpensFiles : Image → Store (FileStore D g) → Type 0
   OpensFiles image store = (file_sight g).is_honest store → (files : LeftFiles) → files.image ≡ image → Opens (file_sight g) files store
+
+  -- where the bytes held a database and the disk met no fault, the fault is the store's
+  abbrev pub RefusesNoDatabase : Image → OpenFault → Leftover D g → Type 0
+  RefusesNoDatabase image why left = IsCleanLeft left → faults_left left ≡ 0 → (files : LeftFiles) → files.image ≡ image → IsOfStorage why
 
   -- where the bytes held a desk, the fault is the store's
   abbrev pub RefusesNoDesk : Image → OpenFault → Held (FileStore D g) → Type 0

@@ -6,7 +6,7 @@ ghost use Rattle.sqlite.specs.View.{IsClean};
 ghost use Rattle.desk_files.specs.Closing.{EndsAsStop, KeepsInFile};
 ghost use Rattle.desk_store.specs.Making.{IsOfStorage};
 
-use crate::fault::file_fault;
+use crate::fault::close_fault;
 use desk_store::{OpenFault, Store};
 use sqlite::{FileStore, Files};
 use sqlite_disk::Disk;
@@ -26,6 +26,6 @@ pub fn close_from<D: Disk + Drop>(
 {
     match store.close().close_files() {
         Ok(files) => Ok(files),
-        Err((error, last)) => Err((file_fault(error), last)),
+        Err((error, last)) => Err((close_fault(error), last)),
     }
 }

@@ -1,5 +1,7 @@
 //! The faults of files that are not opened or closed.
+ghost use Rattle.std.specs.Prelude.{◌≡◌};
 ghost use Rattle.desk_store.specs.Making.{IsOfStorage};
+ghost use Rattle.desk_files.specs.Opening.{fault_of_refusal};
 
 use desk_storage::StorageFault;
 use desk_store::OpenFault;
@@ -9,8 +11,20 @@ pub(crate) const MEMORY: OpenFault = OpenFault::Storage(StorageFault::Memory);
 
 pub(crate) const DEVICE: OpenFault = OpenFault::Storage(StorageFault::Device);
 
-/// The fault of files that the engine does not open or close.
-pub(crate) fn file_fault(error: Error) -> OpenFault
+/// The fault of files that the engine does not open. It calls those corrupt whose bytes are no database that it serves,
+/// foreign keys that do not hold among them.
+pub(crate) fn refusal_fault(error: Error) -> OpenFault
+    ensures { result ≡ fault_of_refusal error }
+{
+    match error {
+        Error::SqliteFailure(ErrorCode::OutOfMemory) => MEMORY,
+        Error::SqliteFailure(ErrorCode::DatabaseCorrupt) => OpenFault::NotADesk,
+        _ => DEVICE,
+    }
+}
+
+/// The fault of files that the engine does not close.
+pub(crate) fn close_fault(error: Error) -> OpenFault
     ensures { IsOfStorage result }
 {
     match error {

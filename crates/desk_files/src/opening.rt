@@ -5,19 +5,23 @@ ghost use Rattle.sqlite.specs.Held.{IsNew};
 ghost use Rattle.sqlite.specs.Start.{FindsIn};
 ghost use Rattle.sqlite.specs.State.{HasCleanDisk};
 ghost use Rattle.sqlite.specs.WalFiles.{image_at};
-ghost use Rattle.desk_files.specs.Opening.{FailsToMake, LeavesAsFound, MakesFiles, OpensFiles, RefusesNoDesk};
+ghost use Rattle.desk_files.specs.Opening.{FailsToMake, LeavesAsFound, MakesFiles, OpensFiles, RefusesNoDatabase, RefusesNoDesk};
 ghost use Rattle.desk_store.specs.Making.{IsOfStorage};
 
-use crate::fault::file_fault;
+use crate::fault::refusal_fault;
 use crate::tables::{make_tables, open_tables};
 use desk_model::{Clock, Policy};
 use desk_store::{OpenFault, Store};
-use sqlite::{Alter, Connection, FileFrom, FileStore, Start};
+use sqlite::{Alter, Connection, FileFrom, FileStore, Leftover, Start};
+use sqlite_disk::Disk;
 
-/// Why no desk is opened or made, and the connection to the files, if they were opened.
+/// Why no desk is opened or made, and what there is of the files.
 #[derive(Drop)]
-pub struct NotOpened<A: Alter> {
+pub struct NotOpened<A: Alter, D: Disk> {
     pub fault: OpenFault,
+    /// The files, if the engine refused them.
+    pub refused: Option<Leftover<D>>,
+    /// The connection to the files, if they were opened.
     pub conn: Option<Connection<A>>,
 }
 
@@ -26,15 +30,21 @@ fn connect<S: Start>(
     rt: &HostRuntime,
     path: &str,
     start: S,
-) -> Result<Connection<FileStore<FileFrom<S>>>, OpenFault>
+) -> Result<Connection<FileStore<FileFrom<S>>>, NotOpened<FileStore<FileFrom<S>>, FileFrom<S>>>
     ensures fresh { IfOk result IsNew }
     ensures opened { IfOk result (λ conn. HasCleanDisk (file_state conn) → IsOpened conn) }
     ensures found { IfOk result (λ conn. HasCleanDisk (file_state conn) → FindsIn (image_at S.Start) (file_state conn)) }
-    ensures fault { IfErr result IsOfStorage }
+    ensures unconnected { IfErr result (λ un. un.conn ≡ None) }
+    ensures unreached { IfErr result (λ un. un.refused ≡ None → IsOfStorage un.fault) }
+    ensures refused { IfErr result (λ un. IfSome un.refused (RefusesNoDatabase (image_at S.Start) un.fault)) }
 {
     match Connection::open_from(rt, path, false, start) {
         Ok(conn) => Ok(conn),
-        Err((error, _)) => Err(file_fault(error)),
+        Err((error, refused)) => Err(NotOpened {
+            fault: refusal_fault(error),
+            refused,
+            conn: None,
+        }),
     }
 }
 
@@ -42,25 +52,28 @@ fn connect<S: Start>(
 ///
 /// # Errors
 ///
-/// `Storage` where the files or their store failed. On a connection: as `Store::open`.
+/// `Storage` where the files or their store failed, `NotADesk` where the engine refuses the files as corrupt. On a connection:
+/// as `Store::open`.
 pub fn open_from<S: Start>(
     rt: &HostRuntime,
     path: &str,
     start: S,
-) -> Result<Store<FileStore<FileFrom<S>>>, NotOpened<FileStore<FileFrom<S>>>>
+) -> Result<Store<FileStore<FileFrom<S>>>, NotOpened<FileStore<FileFrom<S>>, FileFrom<S>>>
     ensures opened { IfOk result (OpensFiles (image_at S.Start)) }
-    ensures unconnected { IfErr result (λ un. un.conn ≡ None → IsOfStorage un.fault) }
+    ensures unreached { IfErr result (λ un. un.conn ≡ None → un.refused ≡ None → IsOfStorage un.fault) }
+    ensures refused { IfErr result (λ un. IfSome un.refused (RefusesNoDatabase (image_at S.Start) un.fault)) }
     ensures unopened { IfErr result (λ un. IfSome un.conn (RefusesNoDesk (image_at S.Start) un.fault)) }
     ensures left { IfErr result (λ un. IfSome un.conn (LeavesAsFound (image_at S.Start))) }
 {
     let conn = match connect(rt, path, start) {
         Ok(conn) => conn,
-        Err(fault) => return Err(NotOpened { fault, conn: None }),
+        Err(unopened) => return Err(unopened),
     };
     match open_tables(rt.alloc(), conn) {
         Ok(store) => Ok(store),
         Err(unopened) => Err(NotOpened {
             fault: unopened.fault,
+            refused: None,
             conn: Some(unopened.conn),
         }),
     }
@@ -70,26 +83,29 @@ pub fn open_from<S: Start>(
 ///
 /// # Errors
 ///
-/// `Storage` where the files or their store failed. On a connection: as `Store::make`.
+/// `Storage` where the files or their store failed, `NotADesk` where the engine refuses the files as corrupt. On a connection:
+/// as `Store::make`.
 pub fn make_from<S: Start>(
     rt: &HostRuntime,
     path: &str,
     start: S,
     policy: Policy,
     at: Clock,
-) -> Result<Store<FileStore<FileFrom<S>>>, NotOpened<FileStore<FileFrom<S>>>>
+) -> Result<Store<FileStore<FileFrom<S>>>, NotOpened<FileStore<FileFrom<S>>, FileFrom<S>>>
     ensures made { IfOk result (MakesFiles policy at (image_at S.Start)) }
-    ensures unconnected { IfErr result (λ un. un.conn ≡ None → IsOfStorage un.fault) }
+    ensures unreached { IfErr result (λ un. un.conn ≡ None → un.refused ≡ None → IsOfStorage un.fault) }
+    ensures refused { IfErr result (λ un. IfSome un.refused (RefusesNoDatabase (image_at S.Start) un.fault)) }
     ensures unmade { IfErr result (λ un. IfSome un.conn (FailsToMake policy at (image_at S.Start) un.fault)) }
 {
     let conn = match connect(rt, path, start) {
         Ok(conn) => conn,
-        Err(fault) => return Err(NotOpened { fault, conn: None }),
+        Err(unopened) => return Err(unopened),
     };
     match make_tables(rt.alloc(), conn, policy, at) {
         Ok(store) => Ok(store),
         Err(unmade) => Err(NotOpened {
             fault: unmade.fault,
+            refused: None,
             conn: Some(unmade.conn),
         }),
     }

@@ -136,7 +136,7 @@ pub fn touched_book<S: LookUps>(
     rows_at(alloc, source, meta, moment, &call.ask)
 }
 
-/// A part for the call, whatever legal history's picture the source has: the book of the rows that it touches.
+/// A part for the call, whatever legal history's picture the source has: the book of exactly the rows that it touches.
 ///
 /// # Errors
 ///
@@ -146,7 +146,8 @@ pub fn load_part<S: LookUps>(
     source: &mut S,
     call: &Call,
 ) -> Result<Book, StorageFault>
-    ensures { Loads S.sight call.now source.old source.new result }
+    ensures loads { Loads S.sight call.now source.old source.new result }
+    ensures touched { ForTables S.sight source.old source.new (λ T. IsOrdered T → IfOk result (λ book. book ≡ touched T call.now)) }
 {
     touched_book(alloc, source, call)
 }

@@ -15,6 +15,7 @@ pub mod ReadValues
 pub mod Readings
 pub mod Results
 pub mod Selecting
+pub mod ShownRows
 pub mod StatusTests
 pub mod SureTexts
 pub mod TableFailures

@@ -4,6 +4,7 @@ pub mod Fitting
 pub mod Format
 pub mod Held
 pub mod Selecting
+pub mod Shown
 pub mod Spelled
 pub mod StoredBook
 pub mod Texts

@@ -10,6 +10,9 @@ ghost use Rattle.desk_schema.specs.Stays.{Asks};
 ghost use Rattle.stored_laws.specs.Told.{AreReorderedColumns};
 ghost use Rattle.desk_reading.specs.Failures.{HasTexts, MayRead};
 ghost use Rattle.desk_reading.specs.Held.{ForHeld};
+ghost use Rattle.desk_reading.specs.Shown.{AreShown, IsShown};
+ghost use Rattle.desk_reading.specs.Spelled.{account_in, authorization_in, challenge_in, listed_in, meta_in, nonce_in, order_in};
+ghost use Rattle.desk_reading.specs.Texts.{select_accounts, select_authorizations, select_challenges, select_listed, select_meta, select_nonces, select_orders};
 
 use crate::tables::{
     account_table, authorization_table, challenge_table, listed_table, meta_table, nonce_table,
@@ -46,6 +49,8 @@ struct AuthorizationRows {
 }
 
 fn first_rows<S: Alter>(alloc: Global, conn: &mut Connection<S>) -> Result<FirstRows, Error>
+    ensures shown { HasCleanDisk (state S.Store conn.new) → IfOk result (λ all. IsShown S.Store select_meta meta_in conn.old all.metas
+        × IsShown S.Store select_nonces nonce_in conn.old all.nonces × IsShown S.Store select_accounts account_in conn.old all.accounts) }
     ensures found { ForHeld (state S.Store conn.old) (state S.Store conn.new) (λ T. IfOk result (λ all. (all.metas ≡ map meta_columns (T.meta ∷ [])) × (all.nonces ≡ map nonce_columns T.nonces) × (all.accounts ≡ map account_columns T.accounts))) }
     ensures fails { ForHeld (state S.Store conn.old) (state S.Store conn.new) (λ T. MayRead (state S.Store conn.old) → HasTexts T → IfErr result IsFailure) }
     ensures unchanged { HasCleanDisk (state S.Store conn.new) → OnOk result (IsUnchanged (state S.Store conn.old) (state S.Store conn.new)) }
@@ -62,6 +67,8 @@ fn first_rows<S: Alter>(alloc: Global, conn: &mut Connection<S>) -> Result<First
 }
 
 fn order_rows<S: Alter>(alloc: Global, conn: &mut Connection<S>) -> Result<OrderRows, Error>
+    ensures shown { HasCleanDisk (state S.Store conn.new) → IfOk result (λ all. IsShown S.Store select_orders order_in conn.old all.orders
+        × IsShown S.Store select_listed listed_in conn.old all.listed) }
     ensures found { ForHeld (state S.Store conn.old) (state S.Store conn.new) (λ T. IfOk result (λ all. (all.orders ≡ map order_columns T.orders) × IsPermutation all.listed (map listed_columns (listed_rows T.orders)))) }
     ensures fails { ForHeld (state S.Store conn.old) (state S.Store conn.new) (λ T. MayRead (state S.Store conn.old) → HasTexts T → IfErr result IsFailure) }
     ensures unchanged { HasCleanDisk (state S.Store conn.new) → OnOk result (IsUnchanged (state S.Store conn.old) (state S.Store conn.new)) }
@@ -76,6 +83,8 @@ fn authorization_rows<S: Alter>(
     alloc: Global,
     conn: &mut Connection<S>,
 ) -> Result<AuthorizationRows, Error>
+    ensures shown { HasCleanDisk (state S.Store conn.new) → IfOk result (λ all. IsShown S.Store select_authorizations authorization_in conn.old all.authorizations
+        × IsShown S.Store select_challenges challenge_in conn.old all.challenges) }
     ensures found { ForHeld (state S.Store conn.old) (state S.Store conn.new) (λ T. IfOk result (λ all. (all.authorizations ≡ map authorization_columns T.authorizations) × (all.challenges ≡ map challenge_columns (challenge_rows T.authorizations)))) }
     ensures fails { ForHeld (state S.Store conn.old) (state S.Store conn.new) (λ T. MayRead (state S.Store conn.old) → HasTexts T → IfErr result IsFailure) }
     ensures unchanged { HasCleanDisk (state S.Store conn.new) → OnOk result (IsUnchanged (state S.Store conn.old) (state S.Store conn.new)) }
@@ -95,6 +104,7 @@ fn authorization_rows<S: Alter>(
 ///
 /// The engine's; the connection is as it was, or what was not committed is undone.
 pub fn load_stored<S: Alter>(alloc: Global, conn: &mut Connection<S>) -> Result<StoredRows, Error>
+    ensures shown { HasCleanDisk (state S.Store conn.new) → IfOk result (AreShown S.Store conn.old) }
     ensures found { ForHeld (state S.Store conn.old) (state S.Store conn.new) (λ T. IfOk result (λ stored. AreReorderedColumns stored (rows_columns (flat T)))) }
     ensures fails { ForHeld (state S.Store conn.old) (state S.Store conn.new) (λ T. MayRead (state S.Store conn.old) → HasTexts T → IfErr result IsFailure) }
     ensures unchanged { HasCleanDisk (state S.Store conn.new) → OnOk result (IsUnchanged (state S.Store conn.old) (state S.Store conn.new)) }

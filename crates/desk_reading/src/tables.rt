@@ -9,6 +9,9 @@ ghost use Rattle.desk_schema.specs.Failing.{IsFailure};
 ghost use Rattle.desk_schema.specs.Stays.{Asks};
 ghost use Rattle.desk_reading.specs.Failures.{HasTexts, MayRead};
 ghost use Rattle.desk_reading.specs.Held.{ForHeld};
+ghost use Rattle.desk_reading.specs.Shown.{IsShown};
+ghost use Rattle.desk_reading.specs.Spelled.{account_in, authorization_in, challenge_in, listed_in, meta_in, nonce_in, order_in};
+ghost use Rattle.desk_reading.specs.Texts.{select_accounts, select_authorizations, select_challenges, select_listed, select_meta, select_nonces, select_orders};
 
 use crate::query::read_query;
 use desk_columns::{
@@ -28,6 +31,7 @@ pub fn meta_table<S: Alter>(
     alloc: Global,
     conn: &mut Connection<S>,
 ) -> Result<Sequence<MetaColumns>, Error>
+    ensures shown { HasCleanDisk (state S.Store conn.new) → IfOk result (IsShown S.Store select_meta meta_in conn.old) }
     ensures found { ForHeld (state S.Store conn.old) (state S.Store conn.new) (λ T. IfOk result (λ all. all ≡ map meta_columns (T.meta ∷ []))) }
     ensures fails { ForHeld (state S.Store conn.old) (state S.Store conn.new) (λ T. MayRead (state S.Store conn.old) → HasTexts T → IfErr result IsFailure) }
     ensures unchanged { HasCleanDisk (state S.Store conn.new) → OnOk result (IsUnchanged (state S.Store conn.old) (state S.Store conn.new)) }
@@ -50,6 +54,7 @@ pub fn nonce_table<S: Alter>(
     alloc: Global,
     conn: &mut Connection<S>,
 ) -> Result<Sequence<NonceColumns>, Error>
+    ensures shown { HasCleanDisk (state S.Store conn.new) → IfOk result (IsShown S.Store select_nonces nonce_in conn.old) }
     ensures found { ForHeld (state S.Store conn.old) (state S.Store conn.new) (λ T. IfOk result (λ all. all ≡ map nonce_columns T.nonces)) }
     ensures fails { ForHeld (state S.Store conn.old) (state S.Store conn.new) (λ T. MayRead (state S.Store conn.old) → HasTexts T → IfErr result IsFailure) }
     ensures unchanged { HasCleanDisk (state S.Store conn.new) → OnOk result (IsUnchanged (state S.Store conn.old) (state S.Store conn.new)) }
@@ -72,6 +77,7 @@ pub fn account_table<S: Alter>(
     alloc: Global,
     conn: &mut Connection<S>,
 ) -> Result<Sequence<AccountColumns>, Error>
+    ensures shown { HasCleanDisk (state S.Store conn.new) → IfOk result (IsShown S.Store select_accounts account_in conn.old) }
     ensures found { ForHeld (state S.Store conn.old) (state S.Store conn.new) (λ T. IfOk result (λ all. all ≡ map account_columns T.accounts)) }
     ensures fails { ForHeld (state S.Store conn.old) (state S.Store conn.new) (λ T. MayRead (state S.Store conn.old) → HasTexts T → IfErr result IsFailure) }
     ensures unchanged { HasCleanDisk (state S.Store conn.new) → OnOk result (IsUnchanged (state S.Store conn.old) (state S.Store conn.new)) }
@@ -94,6 +100,7 @@ pub fn order_table<S: Alter>(
     alloc: Global,
     conn: &mut Connection<S>,
 ) -> Result<Sequence<OrderColumns>, Error>
+    ensures shown { HasCleanDisk (state S.Store conn.new) → IfOk result (IsShown S.Store select_orders order_in conn.old) }
     ensures found { ForHeld (state S.Store conn.old) (state S.Store conn.new) (λ T. IfOk result (λ all. all ≡ map order_columns T.orders)) }
     ensures fails { ForHeld (state S.Store conn.old) (state S.Store conn.new) (λ T. MayRead (state S.Store conn.old) → HasTexts T → IfErr result IsFailure) }
     ensures unchanged { HasCleanDisk (state S.Store conn.new) → OnOk result (IsUnchanged (state S.Store conn.old) (state S.Store conn.new)) }
@@ -116,6 +123,7 @@ pub fn authorization_table<S: Alter>(
     alloc: Global,
     conn: &mut Connection<S>,
 ) -> Result<Sequence<AuthzColumns>, Error>
+    ensures shown { HasCleanDisk (state S.Store conn.new) → IfOk result (IsShown S.Store select_authorizations authorization_in conn.old) }
     ensures found { ForHeld (state S.Store conn.old) (state S.Store conn.new) (λ T. IfOk result (λ all. all ≡ map authorization_columns T.authorizations)) }
     ensures fails { ForHeld (state S.Store conn.old) (state S.Store conn.new) (λ T. MayRead (state S.Store conn.old) → HasTexts T → IfErr result IsFailure) }
     ensures unchanged { HasCleanDisk (state S.Store conn.new) → OnOk result (IsUnchanged (state S.Store conn.old) (state S.Store conn.new)) }
@@ -138,6 +146,7 @@ pub fn listed_table<S: Alter>(
     alloc: Global,
     conn: &mut Connection<S>,
 ) -> Result<Sequence<OrderAuthzColumns>, Error>
+    ensures shown { HasCleanDisk (state S.Store conn.new) → IfOk result (IsShown S.Store select_listed listed_in conn.old) }
     ensures found { ForHeld (state S.Store conn.old) (state S.Store conn.new) (λ T. IfOk result (λ all. IsPermutation all (map listed_columns (listed_rows T.orders)))) }
     ensures fails { ForHeld (state S.Store conn.old) (state S.Store conn.new) (λ T. MayRead (state S.Store conn.old) → HasTexts T → IfErr result IsFailure) }
     ensures unchanged { HasCleanDisk (state S.Store conn.new) → OnOk result (IsUnchanged (state S.Store conn.old) (state S.Store conn.new)) }
@@ -160,6 +169,7 @@ pub fn challenge_table<S: Alter>(
     alloc: Global,
     conn: &mut Connection<S>,
 ) -> Result<Sequence<ChallColumns>, Error>
+    ensures shown { HasCleanDisk (state S.Store conn.new) → IfOk result (IsShown S.Store select_challenges challenge_in conn.old) }
     ensures found { ForHeld (state S.Store conn.old) (state S.Store conn.new) (λ T. IfOk result (λ all. all ≡ map challenge_columns (challenge_rows T.authorizations))) }
     ensures fails { ForHeld (state S.Store conn.old) (state S.Store conn.new) (λ T. MayRead (state S.Store conn.old) → HasTexts T → IfErr result IsFailure) }
     ensures unchanged { HasCleanDisk (state S.Store conn.new) → OnOk result (IsUnchanged (state S.Store conn.old) (state S.Store conn.new)) }

@@ -1,18 +1,24 @@
 -- What a desk's tables are to a file.
 use Rattle.std.proofs.Common.{◌≡◌, Result, Ok, Err, inl, inr, sym, subst}
-use Rattle.std.specs.Prelude.{◌⊎◌, IfErr, IfOk}
+use Rattle.std.specs.Prelude.{◌⊎◌, IfErr, IfOk, IsTrue, OnOk}
 use Rattle.sqlite.specs.Effect.{Database}
+use Rattle.sqlite.specs.Held.{Held, state}
 use Rattle.sqlite.specs.State.{State}
+use Rattle.sqlite.specs.Store.{Ghosts}
 use Rattle.desk_columns.specs.Columns.{rows_columns}
 use Rattle.desk_columns.specs.Flat.{flat}
 use Rattle.desk_columns.specs.declared.columns.StoredRows.{StoredRows}
 use Rattle.desk_model.specs.History.{clock}
 use Rattle.desk_model.specs.Tables.{Tables}
 use Rattle.desk_reading.specs.Failures.{HasTexts, MayRead}
+use Rattle.desk_reading.specs.Shown.{AreShown}
+use Rattle.desk_reading.proofs.ShownRows.{shown_before}
+use Rattle.desk_schema.specs.Names.{has_all_indexes}
 use Rattle.desk_reading.specs.StoredBook.{IsStoredBook}
 use Rattle.desk_storage.specs.declared.fault.StorageFault.TheVariants.{Memory}
 use Rattle.desk_store.specs.Desks.{HasDesk, IsDesk}
 use Rattle.desk_store.specs.Making.{IsOfStorage}
+use Rattle.desk_store.specs.Opening.{IsWhole, ShowsBook}
 use Rattle.desk_store.specs.declared.open_fault.OpenFault.{OpenFault}
 use Rattle.desk_store.specs.declared.open_fault.OpenFault.TheVariants.{NotADesk, Storage}
 use Rattle.desk_tables.specs.Holds.{Holds}
@@ -56,3 +62,25 @@ pub book_fails : (s : State) (stored : StoredRows) (made : Result Tables OpenFau
 book_fails s stored (Ok book) fault told = tt
 book_fails s stored (Err why) (inl is) told = λ T has. (Memory, is)
 book_fails s stored (Err why) (inr none) told = λ T has. absurd (none.1 T (only_book s.now T has.desk stored (told T has.desk.holds)).book)
+
+-- the book that was made is that of the rows that were shown
+pub book_shown : {S E : Type 0} (g : Ghosts S) (conn : Held S) (stored : StoredRows) (made : Result Tables E) → IfOk made (λ book. IsBookOfStored stored book)
+    → AreShown g conn stored → IfOk made (ShowsBook g conn)
+book_shown g conn stored (Ok book) is shown = record { stored = stored; shown = shown; is_book = is }
+book_shown g conn stored (Err why) is shown = tt
+
+-- and so it was before calls that changed nothing
+pub whole_still : {S E : Type 0} (g : Ghosts S) (old mid : Held S) (checked : Result (Unit {0}) E) → (state g mid).now ≡ (state g old).now
+    → OnOk checked (IsWhole g mid) → OnOk checked (IsWhole g old)
+whole_still g old mid (Ok done) same whole =
+    record {
+      indexes = subst (λ (db : Database). IsTrue (has_all_indexes db.schema)) same whole.indexes;
+      book = whole.book;
+      shows = record { stored = whole.shows.stored; shown = shown_before g old mid whole.shows.stored same whole.shows.shown; is_book = whole.shows.is_book };
+    }
+whole_still g old mid (Err why) same whole = tt
+
+-- what is so anyhow
+pub always_ok : {R E P : Type 0} (result : Result R E) → P → OnOk result P
+always_ok (Ok done) p = p
+always_ok (Err why) p = tt

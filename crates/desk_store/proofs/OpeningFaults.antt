@@ -1,6 +1,6 @@
 -- Why the opening of a desk fails.
 use Rattle.std.proofs.Common.{◌≡◌, Result, Ok, Err, inl, inr, true, false, Bool, subst, ap, sym, ◌∙◌}
-use Rattle.std.specs.Prelude.{IfErr}
+use Rattle.std.specs.Prelude.{IfErr, ◌⊎◌}
 use Rattle.sqlite.specs.State.{State, IsUnchanged}
 use Rattle.sqlite.specs.Schema.{Schema}
 use Rattle.sqlite_schema.specs.Names.{same_name}
@@ -15,7 +15,9 @@ use Rattle.desk_storage.specs.declared.fault.StorageFault.TheVariants as fault
 use Rattle.desk_store.specs.Causes.{IsOfOpening, cause_of}
 use Rattle.desk_store.specs.Making.{IsOfStorage}
 use Rattle.desk_store.specs.declared.faults.Cause.TheVariants as cause
+use Rattle.desk_store.specs.declared.faults.Cause.{Cause}
 use Rattle.desk_store.specs.declared.open_fault.OpenFault.{OpenFault}
+use Rattle.desk_store.specs.declared.open_fault.OpenFault.TheVariants.{NewerFormat, NotADesk, Storage}
 
 -- a failure of memory or of the disk is the store's
 pub failure_is_storage : (error : Error) (why : OpenFault) → IsFailure error → IsOfOpening (cause_of error) why → IsOfStorage why
@@ -40,3 +42,17 @@ lacks_none schema found is of_desk none =
     let all : found ≡ true = is ∙ ap has_all_indexes of_desk in
     let never : true ≡ false = sym all ∙ none in
     absurd (cc never)
+
+-- a reading that failed tells of no later format
+pub reading_is_known : (cause : Cause) (why : OpenFault) → IsOfOpening cause why → why ≡ NewerFormat → ⊥
+reading_is_known cause.Memory why (inl goes_on) newer = absurd (let e = sym goes_on ∙ newer in cc)
+reading_is_known cause.Memory why (inr shut) newer = absurd (let e = sym shut ∙ newer in cc)
+reading_is_known cause.Device why is newer = absurd (let e = sym is ∙ newer in cc)
+reading_is_known cause.Other why is newer = absurd (let e = sym is ∙ newer in cc)
+
+-- neither do rows that no book has
+pub book_is_known : {R : Type 0} (Other : Type 0) (result : Result R OpenFault) → IfErr result (λ why. (why ≡ Storage fault.Memory) ⊎ ((why ≡ NotADesk) × Other))
+    → result ≡ Err NewerFormat → ⊥
+book_is_known Other (Ok book) is newer = absurd cc
+book_is_known Other (Err why) (inl memory) newer = absurd (let e = memory in cc)
+book_is_known Other (Err why) (inr none) newer = absurd (let e = none.0 in cc)

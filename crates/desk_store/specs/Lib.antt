@@ -1,3 +1,4 @@
 pub mod Causes
 pub mod Desks
 pub mod Making
+pub mod Opening

@@ -1,5 +1,5 @@
 //! The opening of a desk.
-ghost use Rattle.std.specs.Prelude.{◌≡◌, ◌⊎◌, Err, IfErr, IfOk, IsTrue, OnOk};
+ghost use Rattle.std.specs.Prelude.{◌≡◌, ◌≢◌, ◌⊎◌, Err, IfErr, IfOk, IsTrue, OnOk};
 ghost use Rattle.sqlite.specs.State.{HasCleanDisk, IsUnchanged};
 ghost use Rattle.sqlite.specs.Held.{state};
 ghost use Rattle.desk_model.specs.Tables.{Tables};
@@ -9,6 +9,7 @@ ghost use Rattle.desk_storage.specs.declared.fault.StorageFault.TheVariants.{Mem
 ghost use Rattle.desk_store.specs.Causes.{IsOfOpening, cause_of};
 ghost use Rattle.desk_store.specs.Desks.{HasDesk};
 ghost use Rattle.desk_store.specs.Making.{IsOfStorage};
+ghost use Rattle.desk_store.specs.Opening.{IsWhole, ShowsBook, ShowsKnownFormat, ShowsNewerFormat};
 ghost use Rattle.desk_store.specs.declared.open_fault.OpenFault.TheVariants.{NewerFormat as newer_format, NotADesk as not_a_desk, Storage as of_storage};
 ghost use Rattle.stored_rows.specs.IsBook.{IsBookOfStored};
 
@@ -74,6 +75,8 @@ pub(crate) fn read_book<S: Alter>(
     conn: &mut Connection<S>,
 ) -> Result<Book, OpenFault>
     ensures book { HasCleanDisk (state S.Store conn.new) → IfOk result (λ book. (T : Tables) → HasDesk (state S.Store conn.old) T → book ≡ T) }
+    ensures shown { HasCleanDisk (state S.Store conn.new) → IfOk result (ShowsBook S.Store conn.old) }
+    ensures no_newer { result ≢ Err newer_format }
     ensures unchanged { HasCleanDisk (state S.Store conn.new) → OnOk result (IsUnchanged (state S.Store conn.old) (state S.Store conn.new)) }
     ensures desk { HasCleanDisk (state S.Store conn.new) → IfErr result (λ why. (T : Tables) → HasDesk (state S.Store conn.old) T → IsOfStorage why) }
     ensures answering { HasCleanDisk (state S.Store conn.new) → result ≡ Err (of_storage memory) → IsTrue (state S.Store conn.new).is_open }
@@ -87,6 +90,8 @@ pub(crate) fn read_book<S: Alter>(
 
 /// That the indexes are there, and that the rows are a book's.
 fn check_rows<S: Alter>(alloc: Global, conn: &mut Connection<S>) -> Result<(), OpenFault>
+    ensures whole { HasCleanDisk (state S.Store conn.new) → OnOk result (IsWhole S.Store conn.old) }
+    ensures no_newer { result ≢ Err newer_format }
     ensures unchanged { HasCleanDisk (state S.Store conn.new) → OnOk result (IsUnchanged (state S.Store conn.old) (state S.Store conn.new)) }
     ensures desk { HasCleanDisk (state S.Store conn.new) → IfErr result (λ why. (T : Tables) → HasDesk (state S.Store conn.old) T → IsOfStorage why) }
     ensures answering { HasCleanDisk (state S.Store conn.new) → result ≡ Err (of_storage memory) → IsTrue (state S.Store conn.new).is_open }
@@ -108,6 +113,9 @@ fn check_rows<S: Alter>(alloc: Global, conn: &mut Connection<S>) -> Result<(), O
 /// `NewerFormat`, where `meta` has one row of a later format; else `NotADesk`, where a table, a column or an index is missing,
 /// or no book has these rows; `Storage` where the store failed.
 pub(crate) fn check_desk<S: Alter>(alloc: Global, conn: &mut Connection<S>) -> Result<(), OpenFault>
+    ensures known { HasCleanDisk (state S.Store conn.new) → OnOk result (ShowsKnownFormat S.Store conn.old) }
+    ensures newer { HasCleanDisk (state S.Store conn.new) → result ≡ Err newer_format → ShowsNewerFormat S.Store conn.old }
+    ensures whole { HasCleanDisk (state S.Store conn.new) → OnOk result (IsWhole S.Store conn.old) }
     ensures unchanged { HasCleanDisk (state S.Store conn.new) → OnOk result (IsUnchanged (state S.Store conn.old) (state S.Store conn.new)) }
     ensures desk { HasCleanDisk (state S.Store conn.new) → IfErr result (λ why. (T : Tables) → HasDesk (state S.Store conn.old) T → IsOfStorage why) }
     ensures answering { HasCleanDisk (state S.Store conn.new) → result ≡ Err (of_storage memory) → IsTrue (state S.Store conn.new).is_open }

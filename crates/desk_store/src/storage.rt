@@ -2,7 +2,7 @@
 use crate::faults::saving_fault;
 use crate::store::Store;
 use desk_book::Book;
-use desk_loading::{LookUps, load_part};
+use desk_loading::LookUps;
 use desk_model::{Call, Change, Policy};
 use desk_saving::save_all;
 use desk_storage::{Storage, StorageFault};
@@ -27,7 +27,7 @@ impl<S: Alter> Storage for Store<S> {
     }
 
     fn load_part(&mut self, alloc: Global, call: &Call) -> Result<Book, StorageFault> {
-        load_part(alloc, self, call)
+        Store::load_part(self, alloc, call)
     }
 
     fn save(&mut self, alloc: Global, changes: Vec<Change>) -> Result<(), StorageFault> {

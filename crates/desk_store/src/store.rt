@@ -3,20 +3,24 @@ ghost use Rattle.std.specs.Prelude.{◌≡◌, false, Err, IfErr, IfOk, IsTrue, 
 ghost use Rattle.sqlite.specs.State.{HasCleanDisk, IsUnchanged, Survives};
 ghost use Rattle.sqlite.specs.Held.{state};
 ghost use Rattle.desk_model.specs.Tables.{Tables};
+ghost use Rattle.desk_model.specs.Touched.{touched};
 ghost use Rattle.desk_saving.specs.Committing.{GoesBack};
 ghost use Rattle.desk_schema.specs.Names.{uses_names};
 ghost use Rattle.desk_schema.specs.Stays.{Asks};
 ghost use Rattle.desk_storage.specs.Sight.{ForTables, Keeps, Reads};
+ghost use Rattle.desk_storage.specs.Storing.{Loads};
 ghost use Rattle.desk_storage.specs.declared.fault.StorageFault.TheVariants.{Memory as memory};
 ghost use Rattle.desk_store.specs.Desks.{HasDesk, store_sight};
 ghost use Rattle.desk_store.specs.Making.{IsNewDesk, IsOfStorage, Makes};
-ghost use Rattle.desk_store.specs.declared.open_fault.OpenFault.TheVariants.{NotADesk as not_a_desk, Storage as of_storage};
+ghost use Rattle.desk_store.specs.Opening.{IsWhole, ShowsKnownFormat, ShowsNewerFormat};
+ghost use Rattle.desk_store.specs.declared.open_fault.OpenFault.TheVariants.{NewerFormat as newer_format, NotADesk as not_a_desk, Storage as of_storage};
 
 use crate::making::make_desk;
 use crate::open_fault::OpenFault;
 use crate::opening::{check_desk, read_book};
 use desk_book::Book;
-use desk_model::{Clock, Policy};
+use desk_loading::load_part;
+use desk_model::{Call, Clock, Policy};
 use desk_schema::uses_names;
 use desk_storage::StorageFault;
 use sqlite::{Alter, Connection};
@@ -85,6 +89,9 @@ impl<S: Alter> Store<S> {
         ensures asks { MatchResult result (λ store. Asks (state S.Store conn) (state S.Store store.conn)) (λ un. Asks (state S.Store conn) (state S.Store un.conn)) }
         ensures unchanged { IfOk result (λ store. HasCleanDisk (state S.Store store.conn) → IsUnchanged (state S.Store conn) (state S.Store store.conn)) }
         ensures kept { IfOk result (λ store. HasCleanDisk (state S.Store store.conn) → (T : Tables) → HasDesk (state S.Store conn) T → Keeps (store_sight S.Store) store T) }
+        ensures newer { IfErr result (λ un. HasCleanDisk (state S.Store un.conn) → un.fault ≡ newer_format → ShowsNewerFormat S.Store conn) }
+        ensures known { IfOk result (λ store. HasCleanDisk (state S.Store store.conn) → ShowsKnownFormat S.Store conn) }
+        ensures whole { IfOk result (λ store. HasCleanDisk (state S.Store store.conn) → IsWhole S.Store conn) }
         ensures desk { IfErr result (λ un. HasCleanDisk (state S.Store un.conn) → (T : Tables) → HasDesk (state S.Store conn) T → IsOfStorage un.fault) }
         ensures answering { IfErr result (λ un. HasCleanDisk (state S.Store un.conn) → un.fault ≡ of_storage memory → IsTrue (state S.Store un.conn).is_open) }
     {
@@ -109,6 +116,18 @@ impl<S: Alter> Store<S> {
             Err(OpenFault::Storage(fault)) => Err(fault),
             Err(OpenFault::NotADesk | OpenFault::NewerFormat) => Err(StorageFault::Device),
         }
+    }
+
+    /// The book of exactly the rows that a call touches.
+    ///
+    /// # Errors
+    ///
+    /// As of `load`.
+    pub fn load_part(&mut self, alloc: Global, call: &Call) -> Result<Book, StorageFault>
+        ensures loads { Loads (store_sight S.Store) call.now self.old self.new result }
+        ensures touched { ForTables (store_sight S.Store) self.old self.new (λ T. IfOk result (λ book. book ≡ touched T call.now)) }
+    {
+        load_part(alloc, self, call)
     }
 
     /// The connection, as it is.

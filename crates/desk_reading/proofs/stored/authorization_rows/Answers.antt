@@ -5,6 +5,9 @@ use Rattle.desk_tables.proofs.Holding.{holds_still}
 use Rattle.desk_schema.specs.Failing.{IsFailure}
 use Rattle.desk_reading.proofs.Failing.{may_read_still}
 use Rattle.desk_reading.proofs.Results.{failed_as}
+use Rattle.desk_reading.proofs.ShownRows.{shown_still}
+use Rattle.desk_reading.specs.Spelled.{challenge_in}
+use Rattle.desk_reading.specs.Texts.{select_challenges}
 use Rattle.desk_reading.proofs.stored.authorization_rows.Goals as goal
 
 pub returns-in_err-challenges-clause-fails : goal.returns-in_err-challenges-clause-fails
@@ -18,3 +21,12 @@ returns-in_err-challenges-clause-fails g c clean T has may texts =
     failed_as c.from_residual-in_err-challenges.result c.in_err-challenges.field-0.0 IsFailure
     (c.in_err-challenges.ensures.fails clean T has_authorizations may_authorizations texts)
     c.from_residual-in_err-challenges.ensures.1
+
+pub returns-clause-shown : goal.returns-clause-shown
+returns-clause-shown g c clean =
+    let one = state g.S.Store c.authorization_table.new.conn in
+    let clean_one : HasCleanDisk one = omega (arith, clean, c.in_ok-challenges.ensures.asks.survives.clean) in
+    let same_one = (c.in_ok-authorizations.ensures.unchanged clean_one).0.now_is in (
+      c.in_ok-authorizations.ensures.shown clean_one,
+      shown_still g.S.Store select_challenges challenge_in c.args.conn.now c.authorization_table.new.conn _ same_one (c.in_ok-challenges.ensures.shown clean),
+    )

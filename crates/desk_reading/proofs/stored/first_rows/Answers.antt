@@ -1,10 +1,13 @@
-use Rattle.std.proofs.Common.{arith}
+use Rattle.std.proofs.Common.{arith, ◌∙◌}
 use Rattle.sqlite.specs.Held.{state}
 use Rattle.sqlite.specs.State.{HasCleanDisk}
 use Rattle.desk_tables.proofs.Holding.{holds_still}
 use Rattle.desk_schema.specs.Failing.{IsFailure}
 use Rattle.desk_reading.proofs.Failing.{may_read_still}
 use Rattle.desk_reading.proofs.Results.{failed_as}
+use Rattle.desk_reading.proofs.ShownRows.{shown_still}
+use Rattle.desk_reading.specs.Spelled.{account_in, nonce_in}
+use Rattle.desk_reading.specs.Texts.{select_accounts, select_nonces}
 use Rattle.desk_reading.proofs.stored.first_rows.Goals as goal
 
 pub returns-in_err-nonces-clause-fails : goal.returns-in_err-nonces-clause-fails
@@ -33,3 +36,16 @@ returns-in_err-accounts-clause-fails g c clean T has may texts =
     let may_nonces = may_read_still after_metas after_nonces same_nonces c.in_ok-nonces.ensures.asks may_metas in
     failed_as c.from_residual-in_err-accounts.result c.in_err-accounts.field-0.0 IsFailure (c.in_err-accounts.ensures.fails clean T has_nonces may_nonces texts)
     c.from_residual-in_err-accounts.ensures.1
+
+pub returns-clause-shown : goal.returns-clause-shown
+returns-clause-shown g c clean =
+    let one = state g.S.Store c.meta_table.new.conn in
+    let two = state g.S.Store c.nonce_table.new.conn in
+    let clean_two : HasCleanDisk two = omega (arith, clean, c.in_ok-accounts.ensures.asks.survives.clean) in
+    let clean_one : HasCleanDisk one = omega (arith, clean_two, c.in_ok-nonces.ensures.asks.survives.clean) in
+    let same_one = (c.in_ok-metas.ensures.unchanged clean_one).0.now_is in
+    let same_two = (c.in_ok-nonces.ensures.unchanged clean_two).0.now_is in (
+      c.in_ok-metas.ensures.shown clean_one,
+      shown_still g.S.Store select_nonces nonce_in c.args.conn.now c.meta_table.new.conn _ same_one (c.in_ok-nonces.ensures.shown clean_two),
+      shown_still g.S.Store select_accounts account_in c.args.conn.now c.nonce_table.new.conn _ (same_two ∙ same_one) (c.in_ok-accounts.ensures.shown clean),
+    )

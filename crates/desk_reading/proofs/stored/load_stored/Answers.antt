@@ -1,4 +1,4 @@
-use Rattle.std.proofs.Common.{arith}
+use Rattle.std.proofs.Common.{arith, ◌∙◌}
 use Rattle.sqlite.specs.Held.{state}
 use Rattle.sqlite.specs.State.{HasCleanDisk}
 use Rattle.desk_tables.proofs.Holding.{holds_still}
@@ -6,6 +6,9 @@ use Rattle.desk_schema.specs.Failing.{IsFailure}
 use Rattle.desk_reading.proofs.Failing.{may_read_still}
 use Rattle.desk_reading.proofs.Results.{failed_as}
 use Rattle.desk_reading.proofs.Loading.{reordered}
+use Rattle.desk_reading.proofs.ShownRows.{shown_still}
+use Rattle.desk_reading.specs.Spelled.{authorization_in, challenge_in, listed_in, order_in}
+use Rattle.desk_reading.specs.Texts.{select_authorizations, select_challenges, select_listed, select_orders}
 use Rattle.desk_reading.proofs.stored.load_stored.Goals as goal
 
 pub returns-in_err-of_orders-clause-fails : goal.returns-in_err-of_orders-clause-fails
@@ -50,3 +53,24 @@ returns-clause-found g c clean T has =
     let has_two = holds_still one two T (c.in_ok-of_orders.ensures.unchanged clean_two) has_one in
     let of_authorizations = c.in_ok-of_authorizations.ensures.found clean T has_two in
     reordered _ T first.0 first.1 first.2 of_orders.0 of_orders.1 of_authorizations.0 of_authorizations.1
+
+pub returns-clause-shown : goal.returns-clause-shown
+returns-clause-shown g c clean =
+    let one = state g.S.Store c.first_rows.new.conn in
+    let two = state g.S.Store c.order_rows.new.conn in
+    let clean_two : HasCleanDisk two = omega (arith, clean, c.in_ok-of_authorizations.ensures.asks.survives.clean) in
+    let clean_one : HasCleanDisk one = omega (arith, clean_two, c.in_ok-of_orders.ensures.asks.survives.clean) in
+    let same_one = (c.in_ok-first.ensures.unchanged clean_one).0.now_is in
+    let same_two = (c.in_ok-of_orders.ensures.unchanged clean_two).0.now_is ∙ same_one in
+    let first = c.in_ok-first.ensures.shown clean_one in
+    let of_orders = c.in_ok-of_orders.ensures.shown clean_two in
+    let of_authorizations = c.in_ok-of_authorizations.ensures.shown clean in
+    record {
+      metas = first.0;
+      nonces = first.1;
+      accounts = first.2;
+      orders = shown_still g.S.Store select_orders order_in c.args.conn.now c.first_rows.new.conn _ same_one of_orders.0;
+      listed = shown_still g.S.Store select_listed listed_in c.args.conn.now c.first_rows.new.conn _ same_one of_orders.1;
+      authorizations = shown_still g.S.Store select_authorizations authorization_in c.args.conn.now c.order_rows.new.conn _ same_two of_authorizations.0;
+      challenges = shown_still g.S.Store select_challenges challenge_in c.args.conn.now c.order_rows.new.conn _ same_two of_authorizations.1;
+    }

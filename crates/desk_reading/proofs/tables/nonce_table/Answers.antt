@@ -1,8 +1,11 @@
 use Rattle.sqlite.specs.Held.{state}
 use Rattle.desk_reading.proofs.Readings.{nonces_reading}
 use Rattle.desk_reading.proofs.Results.{fails_then, read_then}
+use Rattle.desk_reading.proofs.ShownRows.{shown_now}
 use Rattle.desk_reading.proofs.TableFailures.{nonces_fails}
 use Rattle.desk_reading.proofs.WholeTables.{nonces_read}
+use Rattle.desk_reading.specs.Spelled.{nonce_in}
+use Rattle.desk_reading.specs.Texts.{select_nonces}
 use Rattle.desk_reading.proofs.tables.nonce_table.Goals as goal
 
 pub read_query-requires : goal.read_query-requires
@@ -17,3 +20,8 @@ pub returns-clause-fails : goal.returns-clause-fails
 returns-clause-fails g c clean T has may texts =
     fails_then c.read_query.result (c.read_query.ensures.fails clean) (λ e it.
     nonces_fails (state g.S.Store c.args.conn.now) (state g.S.Store c.read_query.new.conn) T e has may texts it)
+
+pub returns-clause-shown : goal.returns-clause-shown
+returns-clause-shown g c clean =
+    read_then c.read_query.result (c.read_query.ensures.read clean) (λ all it.
+    shown_now g.S.Store select_nonces nonce_in c.args.conn.now c.read_query.new.conn it.0 all it.1 it.2)

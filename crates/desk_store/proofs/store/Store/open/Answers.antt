@@ -13,3 +13,6 @@ returns-in-Ok-clause-kept g c clean T has =
       tables = desk;
       left = λ trees may. (new.committed, g.met.S.Store.settled c.check_desk.new.conn.store trees desk.is_open may, subst (λ (db : Database). IsDesk db T) desk.settled desk.desk);
     }
+
+pub returns-in-Err-clause-newer : goal.returns-in-Err-clause-newer
+returns-in-Err-clause-newer g c clean newer = c.check_desk.ensures.newer clean (let e = newer in cc)

@@ -1,0 +1,35 @@
+-- Rows that a reading showed.
+use Rattle.std.proofs.Common.{◌≡◌, List, ℕ, [], map, refl, ◌∙◌}
+use Rattle.sqlite.specs.Held.{Held, state}
+use Rattle.sqlite.specs.Order.{Row}
+use Rattle.sqlite.specs.State.{Shown}
+use Rattle.sqlite.specs.Store.{Ghosts}
+use Rattle.desk_columns.specs.declared.columns.StoredRows.{StoredRows}
+use Rattle.desk_reading.specs.Shown.{AreShown, IsShown}
+use Rattle.desk_reading.specs.Spelled.{account_in, authorization_in, challenge_in, listed_in, meta_in, nonce_in, order_in}
+use Rattle.desk_reading.specs.Texts.{select_accounts, select_authorizations, select_challenges, select_listed, select_meta, select_nonces, select_orders}
+
+module _ {S C : Type 0} (g : Ghosts S) (text : List ℕ) (spelled : Row → C) where
+  -- those of a query are shown over the database that it found
+  pub shown_now : (old new : Held S) (rows : List Row) (all : List C) → Shown text [] (state g old) (state g new) rows → all ≡ map spelled rows
+      → IsShown g text spelled old all
+  shown_now old new rows all shown is = record { before = old; after = new; same = refl; rows = rows; shown = shown; columns = is }
+
+  -- and over the database that was there before
+  pub shown_still : (old now : Held S) (all : List C) → (state g now).now ≡ (state g old).now → IsShown g text spelled now all → IsShown g text spelled old all
+  shown_still old now all same it =
+      record { before = it.before; after = it.after; same = it.same ∙ same; rows = it.rows; shown = it.shown; columns = it.columns }
+
+-- so are those of all tables
+pub shown_before : {S : Type 0} (g : Ghosts S) (old now : Held S) (stored : StoredRows) → (state g now).now ≡ (state g old).now → AreShown g now stored
+    → AreShown g old stored
+shown_before g old now stored same it =
+    record {
+      metas = shown_still g select_meta meta_in old now stored.metas same it.metas;
+      nonces = shown_still g select_nonces nonce_in old now stored.nonces same it.nonces;
+      accounts = shown_still g select_accounts account_in old now stored.accounts same it.accounts;
+      orders = shown_still g select_orders order_in old now stored.orders same it.orders;
+      authorizations = shown_still g select_authorizations authorization_in old now stored.authzs same it.authorizations;
+      listed = shown_still g select_listed listed_in old now stored.order_authzs same it.listed;
+      challenges = shown_still g select_challenges challenge_in old now stored.challs same it.challenges;
+    }

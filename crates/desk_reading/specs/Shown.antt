@@ -1,0 +1,29 @@
+-- What a reading of all tables showed.
+use Rattle.std.specs.Prelude.{◌≡◌, ℕ, List, [], map}
+use Rattle.sqlite.specs.Held.{Held, state}
+use Rattle.sqlite.specs.Order.{Row}
+use Rattle.sqlite.specs.State.{Shown}
+use Rattle.sqlite.specs.Store.{Ghosts}
+use Rattle.desk_columns.specs.declared.columns.StoredRows.{StoredRows}
+use Rattle.desk_reading.specs.Spelled.{account_in, authorization_in, challenge_in, listed_in, meta_in, nonce_in, order_in}
+use Rattle.desk_reading.specs.Texts.{select_accounts, select_authorizations, select_challenges, select_listed, select_meta, select_nonces, select_orders}
+
+module _ {S : Type 0} (g : Ghosts S) where
+  -- over the database of the connection the query showed rows, and these are their columns
+  pub record IsShown {C : Type 0} (text : List ℕ) (spelled : Row → C) (conn : Held S) (all : List C) : Type 0 where
+    pub before : Held S
+    pub after : Held S
+    pub same : (state g before).now ≡ (state g conn).now
+    pub rows : List Row
+    pub shown : Shown text [] (state g before) (state g after) rows
+    pub columns : all ≡ map spelled rows
+
+  -- the database has all tables with all columns, and showed these rows of them
+  pub record AreShown (conn : Held S) (stored : StoredRows) : Type 0 where
+    pub metas : IsShown select_meta meta_in conn stored.metas
+    pub nonces : IsShown select_nonces nonce_in conn stored.nonces
+    pub accounts : IsShown select_accounts account_in conn stored.accounts
+    pub orders : IsShown select_orders order_in conn stored.orders
+    pub authorizations : IsShown select_authorizations authorization_in conn stored.authzs
+    pub listed : IsShown select_listed listed_in conn stored.order_authzs
+    pub challenges : IsShown select_challenges challenge_in conn stored.challs

@@ -1,0 +1,31 @@
+-- What an opening finds.
+use Rattle.std.specs.Prelude.{IsTrue}
+use Rattle.sqlite.specs.Held.{Held, state}
+use Rattle.sqlite.specs.Store.{Ghosts}
+use Rattle.desk_columns.specs.declared.columns.StoredRows.{StoredRows}
+use Rattle.desk_model.specs.Tables.{Tables}
+use Rattle.desk_reading.specs.Format.{IsNewer, ShowsFormats}
+use Rattle.desk_reading.specs.Shown.{AreShown}
+use Rattle.desk_schema.specs.Names.{has_all_indexes}
+use Rattle.stored_rows.specs.IsBook.{IsBookOfStored}
+
+module _ {S : Type 0} (g : Ghosts S) where
+  -- the rows that the database showed, of all tables and columns, are those of this book
+  pub record ShowsBook (conn : Held S) (book : Tables) : Type 0 where
+    pub stored : StoredRows
+    pub shown : AreShown g conn stored
+    pub is_book : IsBookOfStored stored book
+
+  -- no table, no column and no index is missing, and the rows are a book's
+  pub record IsWhole (conn : Held S) : Type 0 where
+    pub indexes : IsTrue (has_all_indexes (state g conn).now.schema)
+    pub book : Tables
+    pub shows : ShowsBook conn book
+
+  -- asked for the formats in `meta`, the database showed one row whose format is a later one
+  abbrev pub ShowsNewerFormat : Held S → Type 0
+  ShowsNewerFormat conn = (after : Held S) × ShowsFormats (state g conn) (state g after) IsNewer
+
+  -- it showed anything else
+  abbrev pub ShowsKnownFormat : Held S → Type 0
+  ShowsKnownFormat conn = (after : Held S) × ShowsFormats (state g conn) (state g after) (λ rows. ¬ IsNewer rows)
