@@ -1,1 +1,2 @@
+pub mod LineRequests
 pub mod Said

@@ -2,10 +2,11 @@
 use Rattle.std.specs.Prelude.{◌≡◌, ◌⊎◌, ℕ, List, Bool, true, false, Result, Ok, Err}
 use Rattle.desk_model.specs.declared.call.Call.{Call}
 use Rattle.desk_model.specs.declared.reply.Reply.{Reply}
-use Rattle.requests.specs.Lines.{Line, Spells, line_text}
-use Rattle.requests.specs.LineRequests.{Asks}
-use Rattle.requests.specs.declared.lines.LineRequest.{LineRequest}
-use Rattle.requests.specs.declared.lines.LineRequest.TheVariants as spelled
+use Rattle.requests.specs.Lines.{Spells, line_text}
+use Rattle.requests.specs.declared.lines.Line.{Line}
+use Rattle.requests.specs.declared.request.Request.{Request}
+use Rattle.requests.specs.declared.request.Request.TheVariants as request
+use Rattle.batches.specs.LineRequests.{IsRequestOf, call_of}
 use Rattle.batches.specs.declared.lines.AnswerFault.{AnswerFault}
 use Rattle.batches.specs.declared.lines.AnswerFault.TheVariants as answerfault
 use Rattle.desk_calls.specs.Answers.{Answers, is_closed_after}
@@ -29,32 +30,42 @@ module _ {S C : Type 0} (v : Sight S C) where
     pub when_open : old.is_closed ≡ false → AnswersOpen call old new result
     pub when_closed : old.is_closed ≡ true → RefusesClosed old new result
 
-  -- the reply to a line: the desk's to the call, or the refusal of a request that is none
-  abbrev pub RepliesTo : DeskState S → LineRequest → Reply → DeskState S → Type 0
-  RepliesTo old (spelled.Call call) reply new = Meets call old new (Ok reply)
-  RepliesTo old (spelled.Refused refusal) reply new = (reply ≡ refusal) × (new ≡ old)
+  -- the reply to a line with this request: the desk's to its call, or the refusal of a request that is none
+  abbrev pub RepliesTo : DeskState S → Line → Request → Reply → DeskState S → Type 0
+  RepliesTo old l (request.Asks what) reply new = Meets (call_of l what) old new (Ok reply)
+  RepliesTo old l (request.Refused refusal) reply new = (reply ≡ refusal) × (new ≡ old)
 
   -- the desk has no reply to the call of a line
-  abbrev pub DeclinesTo : DeskState S → LineRequest → DeskFault → DeskState S → Type 0
-  DeclinesTo old (spelled.Call call) why new = Meets call old new (Err why)
-  DeclinesTo old (spelled.Refused refusal) why new = ⊥
+  abbrev pub DeclinesTo : DeskState S → Line → Request → DeskFault → DeskState S → Type 0
+  DeclinesTo old l (request.Asks what) why new = Meets (call_of l what) old new (Err why)
+  DeclinesTo old l (request.Refused refusal) why new = ⊥
+
+  -- the bytes spell a line, and what it asks is replied to so
+  pub record Replied (old : DeskState S) (bytes : List ℕ) (reply : Reply) (new : DeskState S) : Type 0 where
+    pub line : Line
+    pub spells : Spells bytes line
+    pub request : Request
+    pub asks : IsRequestOf line request
+    pub replies : RepliesTo old line request reply new
 
   -- the line that is said in reply
-  pub record Says (old : DeskState S) (bytes said : List ℕ) (new : DeskState S) : Type 0 where
-    pub asked : LineRequest
-    pub asks : Asks bytes asked
-    pub reply : Reply
-    pub replies : RepliesTo old asked reply new
-    pub text : said ≡ line_text reply
+  abbrev pub Says : DeskState S → (bytes said : List ℕ) → DeskState S → Type 0
+  Says old bytes said new = (reply : Reply) × Replied old bytes reply new × (said ≡ line_text reply)
+
+  -- the bytes spell a line, and the desk declines what it asks
+  pub record Declined (old : DeskState S) (bytes : List ℕ) (why : DeskFault) (new : DeskState S) : Type 0 where
+    pub line : Line
+    pub spells : Spells bytes line
+    pub request : Request
+    pub asks : IsRequestOf line request
+    pub declines : DeclinesTo old line request why new
 
   -- nothing is said, as memory was refused: before the desk answered or after
   abbrev pub LacksMemory : DeskState S → List ℕ → DeskState S → Type 0
-  LacksMemory old bytes new =
-      (new ≡ old) ⊎ ((asked : LineRequest) × Asks bytes asked × ((reply : Reply) × RepliesTo old asked reply new))
+  LacksMemory old bytes new = (new ≡ old) ⊎ ((reply : Reply) × Replied old bytes reply new)
 
   -- why nothing is said: the line is no call, the desk declines the call, or memory was refused
   abbrev pub SaysNothing : DeskState S → List ℕ → AnswerFault → DeskState S → Type 0
   SaysNothing old bytes answerfault.NotACall new = ((l : Line) → Spells bytes l → ⊥) × (new ≡ old)
-  SaysNothing old bytes (answerfault.Desk why) new =
-      (asked : LineRequest) × Asks bytes asked × DeclinesTo old asked why new
+  SaysNothing old bytes (answerfault.Desk why) new = Declined old bytes why new
   SaysNothing old bytes answerfault.Memory new = LacksMemory old bytes new

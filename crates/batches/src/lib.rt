@@ -3,12 +3,11 @@
 
 #[cfg(test)]
 mod failing_streams;
+mod line_requests;
 mod lines;
-#[cfg(test)]
-mod stored_rows_tests;
 #[cfg(test)]
 mod tests;
 #[cfg(test)]
-mod touched_rows_tests;
+mod thousand_orders;
 
 pub use lines::{AnswerFault, batch, batch_line};

@@ -1,11 +1,13 @@
 //! Batches: a call a line in, a reply a line out.
-ghost use Rattle.std.specs.Prelude.{◌≤◌, MatchResult};
+ghost use Rattle.std.specs.Prelude.{◌≡◌, ◌≤◌, MatchResult};
+ghost use Rattle.batches.specs.LineRequests.{call_of};
 ghost use Rattle.batches.specs.Said.{Says, SaysNothing, RepliesTo, DeclinesTo};
 
+use crate::line_requests::request_of;
 use desk_calls::{Desk, DeskFault};
-use desk_model::Reply;
+use desk_model::{Ask, Call, Reply};
 use desk_storage::Storage;
-use requests::{LineFault, LineRequest, read_line, reply_line};
+use requests::{Line, LineFault, Request, read_line, reply_line};
 use std::alloc::Global;
 use std::fmt;
 use std::io::{self, BufRead, BufReader, ErrorKind, Read, Write};
@@ -57,12 +59,16 @@ pub fn batch_line<K: Storage + Drop>(
         (λ said. Says K.Storage.sight desk.old line.now said.items desk.new)
         (λ fault. SaysNothing K.Storage.sight desk.old line.now fault desk.new) }
 {
-    let asked = match read_line(alloc, line) {
-        Ok(asked) => asked,
+    let line = match read_line(alloc, line) {
+        Ok(line) => line,
         Err(LineFault::NotACall) => return Err(AnswerFault::NotACall),
         Err(LineFault::Memory) => return Err(AnswerFault::Memory),
     };
-    let reply = match reply_to(alloc, desk, asked) {
+    let request = match request_of(alloc, &line) {
+        Ok(request) => request,
+        Err(_) => return Err(AnswerFault::Memory),
+    };
+    let reply = match reply_to(alloc, desk, line, request) {
         Ok(reply) => reply,
         Err(fault) => return Err(AnswerFault::Desk(fault)),
     };
@@ -76,15 +82,27 @@ pub fn batch_line<K: Storage + Drop>(
 fn reply_to<K: Storage + Drop>(
     alloc: Global,
     desk: &mut Desk<K>,
-    asked: LineRequest,
+    line: Line,
+    request: Request,
 ) -> Result<Reply, DeskFault>
     ensures { MatchResult result
-        (λ reply. RepliesTo K.Storage.sight desk.old asked reply desk.new)
-        (λ fault. DeclinesTo K.Storage.sight desk.old asked fault desk.new) }
+        (λ reply. RepliesTo K.Storage.sight desk.old line request reply desk.new)
+        (λ fault. DeclinesTo K.Storage.sight desk.old line request fault desk.new) }
 {
-    match asked {
-        LineRequest::Call(call) => desk.answer(alloc, &call),
-        LineRequest::Refused(reply) => Ok(reply),
+    match request {
+        Request::Asks(ask) => desk.answer(alloc, &call_of(line, ask)),
+        Request::Refused(reply) => Ok(reply),
+    }
+}
+
+// The call of a line that asks this.
+fn call_of(line: Line, ask: Ask) -> Call
+    ensures { result ≡ call_of line ask }
+{
+    Call {
+        at: line.at,
+        random: line.random,
+        ask,
     }
 }
 

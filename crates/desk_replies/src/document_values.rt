@@ -8,11 +8,9 @@ ghost use Rattle.desk_model.specs.Moment.{moment_text as text_of_moment};
 ghost use Rattle.desk_replies.specs.Shown.{capped};
 
 use desk_model::{Kind, Text};
+use moments::LAST_END;
 use serde_json::{Value, json};
 use std::alloc::{AllocError, Global};
-
-/// The last moment that has a text: the last recorded one of all and the longest life after it.
-const LAST_END: u64 = 250315360000;
 
 /// A JSON text.
 pub(crate) fn text_value(text: String) -> Value

@@ -87,6 +87,3 @@ fn to_ascii(alloc: Global, rest: &str) -> Result<String, Errors>
     )?;
     Ok(name.into_owned(alloc)?)
 }
-
-#[cfg(test)]
-mod tests;

@@ -11,6 +11,9 @@ use jiff::civil::DateTime;
 use jiff::tz::Offset;
 use std::alloc::{AllocError, Global};
 
+/// The last moment that has a text, in seconds since 1970: the last recorded one of all and the longest life after it.
+pub const LAST_END: u64 = 250315360000;
+
 // The civil fields of a moment.
 #[derive(Drop)]
 struct Fields {
@@ -155,6 +158,3 @@ fn digit(n: u16) -> char
 {
     char::from(b'0' + n as u8)
 }
-
-#[cfg(test)]
-mod tests;

@@ -1,5 +1,5 @@
 -- What a request asks, by its method, its path and its body.
-use Rattle.std.specs.Prelude.{◌≡◌, ℕ, Bool, true, false, ◌&&◌, List, [], codes, bytes_eq, Option, Some, None, option_map, IsUtf8, ◌⊎◌}
+use Rattle.std.specs.Prelude.{◌≡◌, ℕ, Bool, true, false, List, [], codes, bytes_eq, Option, Some, None, option_map, IsUtf8, ◌⊎◌}
 use Rattle.desk_model.specs.declared.refusal.Refusal.{Refusal}
 use Rattle.desk_model.specs.Refusals.{refusal_of}
 use Rattle.desk_model.specs.declared.refusal.Refusal.TheVariants as refusal
@@ -13,11 +13,9 @@ use Rattle.desk_model.specs.declared.reply.Body.TheVariants as body
 use Rattle.desk_model.specs.declared.reply.Reply.{Reply}
 use Rattle.requests.specs.Envelopes.{Envelope, IsEnvelopeText, IsSigned}
 use Rattle.requests.specs.Offices.{finding, order_problem}
-use Rattle.requests.specs.Routes.{IsResourceAt, has_index, is_visible, methods_of, serves}
+use Rattle.requests.specs.Routes.{IsResourceAt, methods_of, serves}
 use Rattle.requests.specs.declared.request.Place.{Place}
 use Rattle.requests.specs.declared.request.Place.TheVariants as place
-use Rattle.requests.specs.declared.request.Request.{Request}
-use Rattle.requests.specs.declared.request.Request.TheVariants as request
 use Rattle.requests.specs.declared.routes.OfficeResource.{OfficeResource}
 use Rattle.requests.specs.declared.routes.OfficeResource.TheVariants as office
 use Rattle.requests.specs.declared.routes.Resource.{Resource}
@@ -94,19 +92,3 @@ refused_request why methods index =
       nonce = None;
       body = body.Problem (record { refusal = why; subproblems = []; allow = methods; index = index });
     }
-
--- a method and a path of visible characters
-abbrev pub are_visible : List ℕ → List ℕ → Bool
-are_visible method path = is_visible method && is_visible path
-
--- what the request asks, or how it is refused: the characters are looked at first, then the path, the method and the body
-pub data IsRequest (method path text : List ℕ) : Request → Type 0 where
-  asked : (r : Resource) (what : Ask) → are_visible method path ≡ true → IsResourceAt path r → serves (methods_of r) method ≡ true
-      → IsAskOf r method text (Some what) → IsRequest method path text (request.Asks what)
-  ill_formed : are_visible method path ≡ false → IsRequest method path text (request.Refused (refused_request refusal.Malformed allow.No true))
-  not_here : are_visible method path ≡ true → ((r : Resource) → IsResourceAt path r → ⊥)
-      → IsRequest method path text (request.Refused (refused_request refusal.NotFound allow.No (has_index path)))
-  not_served : (r : Resource) → are_visible method path ≡ true → IsResourceAt path r → serves (methods_of r) method ≡ false
-      → IsRequest method path text (request.Refused (refused_request refusal.MethodNotAllowed (methods_of r) (has_index path)))
-  unread : (r : Resource) → are_visible method path ≡ true → IsResourceAt path r → serves (methods_of r) method ≡ true
-      → IsAskOf r method text None → IsRequest method path text (request.Refused (refused_request refusal.Malformed allow.No (has_index path)))

@@ -1,4 +1,4 @@
-//! Requests, read from a method, a path and a body, and the lines of a batch (RFC 8555, 6.2, 6.3, 7.1).
+//! What requests ask, by their methods, paths and bodies, and the lines of a batch (RFC 8555, 6.2, 6.3, 7.1).
 #![tactic(auto)]
 
 mod envelopes;
@@ -8,6 +8,6 @@ mod request;
 mod router;
 mod routes;
 
-pub use lines::{LineFault, LineRequest, read_line, reply_line};
-pub use request::{Place, Request, ask_in, place_of, read_request, refusal_reply, refused};
-pub use routes::{OfficeResource, Resource, has_index, methods_of};
+pub use lines::{Line, LineFault, read_line, reply_line};
+pub use request::{Place, Request, ask_in, place_of, refusal_reply, refused};
+pub use routes::{OfficeResource, Resource, has_index, is_visible, methods_of};

@@ -1,12 +1,10 @@
 //! From a request's method, path and body to what is asked.
 ghost use Rattle.std.specs.Prelude.{◌≡◌, None, IfOk};
-ghost use Rattle.requests.specs.Request.{IsAskIn, IsAskOf, IsPlace, IsRequest, IsSignedAsk, IsTextAsk, are_visible, certified_order, certify_ask, fail_ask, office_ask, refused_request, report_ask};
+ghost use Rattle.requests.specs.Request.{IsAskIn, IsAskOf, IsPlace, IsSignedAsk, IsTextAsk, certified_order, certify_ask, fail_ask, office_ask, refused_request, report_ask};
 
 use crate::envelopes::signed_in;
 use crate::offices::{finding, order_problem};
-use crate::routes::{
-    OfficeResource, Resource, has_index, is_visible, methods_of, resource_at, serves,
-};
+use crate::routes::{OfficeResource, Resource, methods_of, resource_at, serves};
 use desk_model::{Allow, Ask, Body, Problem, Refusal, Reply, Sequence, Target};
 use std::alloc::{AllocError, Global};
 
@@ -15,33 +13,6 @@ use std::alloc::{AllocError, Global};
 pub enum Request {
     Asks(Ask),
     Refused(Reply),
-}
-
-/// What the request of this method, path and body asks (RFC 8555, 6.2, 7.1).
-///
-/// # Errors
-///
-/// Where there is no memory for it.
-pub fn read_request(
-    alloc: Global,
-    method: &str,
-    path: &str,
-    body: &str,
-) -> Result<Request, AllocError>
-    ensures { IfOk result (λ r. IsRequest method.now path.now body.now r) }
-{
-    if !are_visible(method, path) {
-        return Ok(refused(alloc, Refusal::Malformed, Allow::No, true));
-    }
-    let index = has_index(path);
-    match place_of(alloc, method, path)? {
-        Place::NotHere => Ok(refused(alloc, Refusal::NotFound, Allow::No, index)),
-        Place::NotServed(methods) => Ok(refused(alloc, Refusal::MethodNotAllowed, methods, index)),
-        Place::Served(resource) => match ask_of(alloc, resource, method, body)? {
-            Some(ask) => Ok(Request::Asks(ask)),
-            None => Ok(refused(alloc, Refusal::Malformed, Allow::No, index)),
-        },
-    }
 }
 
 /// Where a request of a method and a path goes.
@@ -117,13 +88,6 @@ fn text_ask(
         Ok(text) => ask_of(alloc, resource, method, text),
         Err(_) => Ok(None),
     }
-}
-
-// Whether a method and a path are of visible characters.
-fn are_visible(method: &str, path: &str) -> bool
-    ensures { result ≡ are_visible method.now path.now }
-{
-    is_visible(method) && is_visible(path)
 }
 
 // What a request asks of a resource that serves its method, or `None` where its body is none for it.

@@ -244,7 +244,7 @@ fn is_inside(path: &str) -> bool
 }
 
 /// Whether each byte is a visible character of ASCII.
-pub(crate) fn is_visible(text: &str) -> bool
+pub fn is_visible(text: &str) -> bool
     ensures { result ≡ is_visible text.now }
 {
     text.bytes().all(|b| is_visible_byte(b))

@@ -1,0 +1,49 @@
+-- What the line of a batch asks: the bytes of its request, read as those of a connection are.
+use Rattle.std.specs.Prelude.{◌≡◌, ◌++◌, ℕ, Bool, true, false, ◌&&◌, nat_lt, List, length, codes, decimal}
+use Rattle.desk_model.specs.declared.call.Ask.{Ask}
+use Rattle.desk_model.specs.declared.call.Call.{Call}
+use Rattle.desk_model.specs.declared.refusal.Refusal.TheVariants as refusal
+use Rattle.desk_model.specs.declared.reply.Allow.TheVariants as allow
+use Rattle.desk_model.specs.declared.reply.Reply.{Reply}
+use Rattle.requests.specs.Request.{IsPlace, refused_request}
+use Rattle.requests.specs.Routes.{has_index, is_visible}
+use Rattle.requests.specs.declared.lines.Line.{Line}
+use Rattle.requests.specs.declared.request.Place.{Place}
+use Rattle.requests.specs.declared.request.Place.TheVariants as place
+use Rattle.requests.specs.declared.request.Request.{Request}
+use Rattle.requests.specs.declared.request.Request.TheVariants as request
+use Rattle.http_requests.specs.Spelled.{Spells}
+
+-- the head of a request with so long a body: the request line, and the length
+abbrev pub head_bytes : (method path : List ℕ) → ℕ → List ℕ
+head_bytes method path len =
+    method ++ (codes " " ++ (path ++ (codes " HTTP/1.1\r\nContent-Length: " ++ (decimal len ++ codes "\r\n\r\n"))))
+
+-- the bytes of a line's request
+abbrev pub request_bytes : Line → List ℕ
+request_bytes l = head_bytes l.method l.path (length l.body) ++ l.body
+
+-- a method and a path of visible characters
+abbrev pub are_visible : Line → Bool
+are_visible l = is_visible l.method && is_visible l.path
+
+-- a method and a path that make a request line: neither is empty
+abbrev pub are_given : Line → Bool
+are_given l = nat_lt 0 (length l.method) && nat_lt 0 (length l.path)
+
+-- the refusal of a request that is not served, by where it goes
+abbrev pub refusal_at : Place → List ℕ → Reply
+refusal_at (place.NotServed methods) path = refused_request refusal.MethodNotAllowed methods (has_index path)
+refusal_at _ path = refused_request refusal.NotFound allow.No (has_index path)
+
+-- what the line asks, or how it is refused: its characters are looked at first; without a method or a path it has no bytes,
+-- and is refused by where it goes; else its bytes are read
+pub data IsRequestOf (l : Line) : Request → Type 0 where
+  ill_formed : are_visible l ≡ false → IsRequestOf l (request.Refused (refused_request refusal.Malformed allow.No true))
+  not_given : (p : Place) → are_visible l ≡ true → are_given l ≡ false → IsPlace l.method l.path p
+      → IsRequestOf l (request.Refused (refusal_at p l.path))
+  spelled : (r : Request) → are_visible l ≡ true → are_given l ≡ true → Spells (request_bytes l) r → IsRequestOf l r
+
+-- the call of a line that asks this
+abbrev pub call_of : Line → Ask → Call
+call_of l what = record { at = l.at; random = l.random; ask = what }

@@ -1,0 +1,94 @@
+//! What the lines of a batch ask: their requests, written and read as those of connections are.
+ghost use Rattle.std.specs.Prelude.{◌≡◌, IfOk, string_bytes};
+ghost use Rattle.requests.specs.Request.{IsPlace};
+ghost use Rattle.requests.specs.declared.request.Place.{Place as PlaceOf};
+ghost use Rattle.http_requests.specs.Spelled.{Spells};
+ghost use Rattle.batches.specs.LineRequests.{IsRequestOf, are_given, are_visible, head_bytes, refusal_at, request_bytes};
+
+use desk_model::{Allow, Refusal, Reply};
+use http_requests::read_call;
+use requests::{Line, Place, Request, has_index, is_visible, place_of, refusal_reply, refused};
+use std::alloc::{AllocError, Global};
+
+/// What a line asks, or the refusal of its request, which is read by the rules for a connection (RFC 9112, 2 to 6).
+///
+/// # Errors
+///
+/// Where there is no memory for it.
+pub(crate) fn request_of(alloc: Global, line: &Line) -> Result<Request, AllocError>
+    ensures { IfOk result (λ r. IsRequestOf line.now r) }
+{
+    if !are_visible(line) {
+        return Ok(refused(alloc, Refusal::Malformed, Allow::No, true));
+    }
+    if !are_given(line) {
+        return not_given(alloc, line);
+    }
+    spelled_by(alloc, line)
+}
+
+// Whether the method and the path are of visible characters.
+fn are_visible(line: &Line) -> bool
+    ensures { result ≡ are_visible line.now }
+{
+    is_visible(line.method.as_str()) && is_visible(line.path.as_str())
+}
+
+// Whether the method and the path make a request line.
+fn are_given(line: &Line) -> bool
+    ensures { result ≡ are_given line.now }
+{
+    0 < line.method.as_str().len() && 0 < line.path.as_str().len()
+}
+
+// The refusal of a line without a method or a path, of which no bytes can be made.
+fn not_given(alloc: Global, line: &Line) -> Result<Request, AllocError>
+    ensures { IfOk result (λ r. (p : PlaceOf) × IsPlace line.now.method line.now.path p × (r ≡ Request.Refused (refusal_at p line.now.path))) }
+{
+    let path = line.path.as_str();
+    let place = place_of(alloc, line.method.as_str(), path)?;
+    Ok(Request::Refused(refusal_at(alloc, place, path)))
+}
+
+// The refusal of a request that is not served, by where it goes.
+fn refusal_at(alloc: Global, place: Place, path: &str) -> Reply
+    ensures { result ≡ refusal_at place path.now }
+{
+    let index = has_index(path);
+    match place {
+        Place::NotServed(methods) => {
+            refusal_reply(alloc, Refusal::MethodNotAllowed, methods, index)
+        }
+        _ => refusal_reply(alloc, Refusal::NotFound, Allow::No, index),
+    }
+}
+
+// What the bytes of a line's request ask.
+fn spelled_by(alloc: Global, line: &Line) -> Result<Request, AllocError>
+    ensures { IfOk result (λ r. Spells (request_bytes line.now) r) }
+{
+    let bytes = request_bytes(alloc, line)?;
+    match read_call(alloc, &mut bytes.as_slice()) {
+        Ok(heard) => heard.request,
+        // Bytes in memory are read without a fault.
+        Err(_) => Err(AllocError),
+    }
+}
+
+// The bytes of a line's request.
+fn request_bytes(alloc: Global, line: &Line) -> Result<Vec<u8>, AllocError>
+    ensures { IfOk result (λ v. v.items ≡ request_bytes line.now) }
+{
+    let body = line.body.as_str();
+    let head = head_text(alloc, line.method.as_str(), line.path.as_str(), body.len())?;
+    let mut bytes = head.into_bytes();
+    bytes.extend_from_slice(body.as_bytes())?;
+    Ok(bytes)
+}
+
+// The head of a request with a body of so many bytes.
+fn head_text(alloc: Global, method: &str, path: &str, len: usize) -> Result<String, AllocError>
+    ensures { IfOk result (λ s. string_bytes s ≡ head_bytes method.now path.now len) }
+{
+    format!(in alloc; "{method} {path} HTTP/1.1\r\nContent-Length: {len}\r\n\r\n")
+}

@@ -1,0 +1,204 @@
+//! A desk with many orders: the rows that a call touches, and the check of statuses.
+use desk_book::{Book, Table};
+use desk_loading::touched_book;
+use desk_model::{
+    AccountRow, AccountStatus, Ask, AuthorizationRow, AuthzStatus, Call, ChallengeRow,
+    ChallengeStatus, Clock, DnsName, Jwk, Kind, Listed, Meta, OrderRow, OrderStatus, Policy,
+    Sequence, Signed, StatusFault, Target, Text,
+};
+use std::alloc::Global;
+use std::process::Abort;
+use std::test::Fail;
+use stored_rows::check;
+
+const KEY: &str = r#"{"crv":"P-256","kty":"EC","x":"AQ","y":"Ag"}"#;
+
+const ORDERS: u64 = 1000;
+
+fn key(rt: &impl Abort, alloc: Global) -> Result<Jwk, Fail> {
+    Ok(Jwk::from_canonical(String::from_str(alloc, KEY)?).expect(rt, "a key"))
+}
+
+fn account(rt: &impl Abort, alloc: Global) -> Result<AccountRow, Fail> {
+    Ok(AccountRow {
+        number: 1,
+        key: key(rt, alloc)?,
+        contacts: Sequence::new(Vec::new(alloc)),
+        opened: 0,
+        ended: None,
+        status: AccountStatus::Valid,
+    })
+}
+
+fn challenge(number: u64, kind: Kind) -> ChallengeRow {
+    ChallengeRow {
+        number,
+        kind,
+        token: [0; 16],
+        answered: None,
+        reported: None,
+        status: ChallengeStatus::Pending,
+    }
+}
+
+fn authorization(rt: &impl Abort, alloc: Global, number: u64) -> Result<AuthorizationRow, Fail> {
+    let base = Text::new(String::from_str(alloc, "a.example")?);
+    let mut challenges = Vec::new(alloc);
+    challenges.push(challenge(number, Kind::Http01))?;
+    challenges.push(challenge(number.saturating_add(ORDERS), Kind::Dns01))?;
+    Ok(AuthorizationRow {
+        number,
+        account: 1,
+        name: DnsName::new(base, false).expect(rt, "a name"),
+        made: 0,
+        expires: 2592000,
+        ended: None,
+        challenges: Sequence::new(challenges),
+        status: AuthzStatus::Pending,
+    })
+}
+
+fn order(alloc: Global, number: u64, status: OrderStatus) -> Result<OrderRow, Fail> {
+    let mut listed = Vec::new(alloc);
+    listed.push(Listed {
+        place: 1,
+        authorization: number,
+    })?;
+    Ok(OrderRow {
+        number,
+        account: 1,
+        made: 0,
+        expires: 604800,
+        listed: Sequence::new(listed),
+        finalized: None,
+        certified: None,
+        failed: None,
+        status,
+    })
+}
+
+fn meta(rt: &impl Abort, alloc: Global) -> Result<Meta, Fail> {
+    let policy = Policy::new(alloc, "https://ca.example", 3600, 604800, 2592000)?;
+    Ok(Meta {
+        policy: policy.expect(rt, "a policy"),
+        clock: Clock::at(0),
+        nonces: 0,
+        accounts: 1,
+        orders: ORDERS,
+        authorizations: ORDERS,
+        challenges: 2000,
+    })
+}
+
+fn accounts(rt: &impl Abort, alloc: Global) -> Result<Table<AccountRow>, Fail> {
+    let mut accounts = Table::new(alloc);
+    accounts.put(account(rt, alloc)?)?;
+    Ok(accounts)
+}
+
+fn authorizations(rt: &impl Abort, alloc: Global) -> Result<Table<AuthorizationRow>, Fail> {
+    let mut authorizations = Table::new(alloc);
+    for number in 1..ORDERS + 1 {
+        authorizations.put(authorization(rt, alloc, number)?)?;
+    }
+    Ok(authorizations)
+}
+
+// The orders, of which the first has this status.
+fn orders(alloc: Global, first: OrderStatus) -> Result<Table<OrderRow>, Fail> {
+    let mut orders = Table::new(alloc);
+    orders.put(order(alloc, 1, first)?)?;
+    for number in 2..ORDERS + 1 {
+        orders.put(order(alloc, number, OrderStatus::Pending)?)?;
+    }
+    Ok(orders)
+}
+
+// A desk of one account, which has many orders, each for one name; the first order has this status.
+fn desk(rt: &impl Abort, alloc: Global, first: OrderStatus) -> Result<Book, Fail> {
+    let orders = orders(alloc, first)?;
+    let authorizations = authorizations(rt, alloc)?;
+    let accounts = accounts(rt, alloc)?;
+    let meta = meta(rt, alloc)?;
+    Ok(Book::of_tables(meta, Table::new(alloc), accounts, authorizations, orders))
+}
+
+// A request of the account to an order.
+fn post_order(rt: &impl Abort, alloc: Global, number: u64) -> Result<Call, Fail> {
+    Ok(Call {
+        at: 1,
+        random: Sequence::new(Vec::new(alloc)),
+        ask: Ask::Signed(Signed {
+            target: Target::Order(number),
+            key: Ok(key(rt, alloc)?),
+            nonce: None,
+            payload: Text::new(String::new(alloc)),
+        }),
+    })
+}
+
+// How many orders, authorizations, challenges of the first of these and accounts a book has.
+fn counts(book: &Book) -> [usize; 4] {
+    let first = book.authorization(1);
+    [
+        book.orders().iter().count(),
+        book.authorizations().iter().count(),
+        first.map_or(0, |row| row.challenges.as_slice().len()),
+        book.accounts().iter().count(),
+    ]
+}
+
+// How many a call touches.
+fn touched(alloc: Global, desk: &mut Book, call: &Call) -> Option<[usize; 4]> {
+    match touched_book(alloc, desk, call) {
+        Ok(part) => Some(counts(&part)),
+        Err(_) => None,
+    }
+}
+
+// How many a request to the first order touches.
+fn touched_by_request(
+    rt: &impl Abort,
+    alloc: Global,
+    desk: &mut Book,
+) -> Result<Option<[usize; 4]>, Fail> {
+    let call = post_order(rt, alloc, 1)?;
+    Ok(touched(alloc, desk, &call))
+}
+
+// The same, of a new desk.
+fn touched_of_thousand(rt: &impl Abort, alloc: Global) -> Result<Option<[usize; 4]>, Fail> {
+    let mut desk = desk(rt, alloc, OrderStatus::Pending)?;
+    touched_by_request(rt, alloc, &mut desk)
+}
+
+#[test]
+fn one_order_of_a_thousand_is_touched(rt: HostRuntime) -> Result<(), Fail> {
+    assert!(rt; touched_of_thousand(&rt, rt.alloc())? == Some([1, 1, 2, 1]));
+    Ok(())
+}
+
+// Whether the only row with a wrong status is the first order.
+fn is_only_fault(alloc: Global, desk: &Book) -> bool {
+    let first = StatusFault::Order {
+        number: 1,
+        stored: OrderStatus::Ready,
+        derived: OrderStatus::Pending,
+    };
+    match check(alloc, desk) {
+        Ok(found) => found.as_slice() == [first].as_slice(),
+        Err(_) => false,
+    }
+}
+
+// Whether it is found where its status is wrong.
+fn finds_wrong_status(rt: &impl Abort, alloc: Global) -> Result<bool, Fail> {
+    let desk = desk(rt, alloc, OrderStatus::Ready)?;
+    Ok(is_only_fault(alloc, &desk))
+}
+
+#[test]
+fn a_wrong_status_is_found(rt: HostRuntime) -> Result<(), Fail> {
+    assert!(rt; finds_wrong_status(&rt, rt.alloc())?);
+    Ok(())
+}
