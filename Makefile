@@ -3,7 +3,9 @@ SHELL := /bin/bash
 SOURCES := crates.txt $(shell find crates -name out -prune -o -type f -print)
 HAS_RT := command -v rt >/dev/null || { echo 'desk: rt is not on PATH; the kit has it at /usr/local/bin/rt' >&2; exit 1; }
 
-.PHONY: all bench edits first planted test try
+PREFIX ?= /usr/local
+
+.PHONY: all bench edits first growths hostile install planted test try
 
 all: bin/desk
 
@@ -47,9 +49,29 @@ test: edits
 	done; rm -f bin/output bin/errors
 	@echo 'The replies are the expected ones.'
 	@echo 'Trying the program over files: the same batches, whole and cut in two, and what ends a command.'
-	@python3 scripts/files.py bin/desk
+	@python3 -B scripts/files.py bin/desk
+	@echo "Trying the operator's words: reports and revocations."
+	@python3 -B scripts/words.py bin/desk
 	@echo 'Stopping the program at each write to a file.'
-	@python3 scripts/stops.py bin/desk
+	@python3 -B scripts/stops.py bin/desk
+	@echo 'Serving over loopback: replies byte for byte, requests that are none, clients that are gone, what ends the program.'
+	@python3 -B scripts/serve.py bin/desk
+	@echo 'Refusing memory to the program that serves, each ninth growth (make growths: each one).'
+	@python3 -B scripts/growths.py bin/desk --step 9
+
+# Each growth of memory of a request refused in turn, minutes; and five minutes of hostile requests.
+growths hostile:
+	@test -x bin/desk || { echo 'desk: there is no bin/desk; make builds it' >&2; exit 1; }
+	@python3 -B scripts/$@.py bin/desk
+
+# The program, its manual page from its own help, and a unit for systemd.
+install:
+	@test -x bin/desk || { echo 'desk: there is no bin/desk; make builds it' >&2; exit 1; }
+	@python3 -B scripts/manual.py bin/desk > bin/desk.1
+	@sed 's|@PREFIX@|$(PREFIX)|' packaging/desk.service > bin/desk.service
+	install -D -m 755 bin/desk $(DESTDIR)$(PREFIX)/bin/desk
+	install -D -m 644 bin/desk.1 $(DESTDIR)$(PREFIX)/share/man/man1/desk.1
+	install -D -m 644 bin/desk.service $(DESTDIR)$(PREFIX)/lib/systemd/system/desk.service
 
 planted:
 	@$(HAS_RT)
@@ -61,5 +83,7 @@ bench:
 	@test -x bin/desk || { echo 'desk: there is no bin/desk; make builds it' >&2; exit 1; }
 	@echo 'Timing durable calls against C over files of 100 to 100,000 orders (minutes), for docs/PERFORMANCE.md.'
 	@python3 bench/bench.py > bin/PERFORMANCE.md
+	@echo 'Timing requests over loopback.'
+	@python3 bench/loopback.py >> bin/PERFORMANCE.md
 	@mv bin/PERFORMANCE.md docs/PERFORMANCE.md
 	@cat docs/PERFORMANCE.md

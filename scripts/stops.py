@@ -117,6 +117,12 @@ def stopped(preload, path, at, half, words, given):
     return subprocess.run(words, input=given, stdout=subprocess.PIPE, stderr=subprocess.PIPE, env=env)
 
 
+def checked(program, path):
+    """The end, the output and the errors of a check of the stored statuses, which opens the file again."""
+    ran = subprocess.run([program, "check", path], stdout=subprocess.PIPE, stderr=subprocess.PIPE)
+    return ran.returncode, ran.stdout, ran.stderr
+
+
 def try_call(name, desk, call, statuses, preload, folder):
     """Stops at each write of a call on a copy of the desk's file; the orders have these statuses before it and after it."""
     path, words = f"{folder}/stopped.db", [desk.program, "batch", "--file", f"{folder}/stopped.db"]
@@ -135,8 +141,7 @@ def try_call(name, desk, call, statuses, preload, folder):
                 see(f"{name}: a run that is not stopped", (ran.returncode, ran.stdout), (0, whole.stdout))
                 break
             count += 1
-            again = subprocess.run(words, input=b"", stdout=subprocess.PIPE, stderr=subprocess.PIPE)
-            see(f"{name}, stopped at write {at}: opened again", (again.returncode, again.stderr), (0, b""))
+            see(f"{name}, stopped at write {at}: opened again", checked(desk.program, path), (0, b"no fault\n", b""))
             left = tables_of(path, folder)
             see(f"{name}, stopped at write {at}: tables as before or after", left in ((after,) if ran.stdout else (before, after)), True)
     print(f"{name}: stopped at {count} writes")
@@ -159,9 +164,8 @@ def try_make(program, preload, folder):
                 break
             count += 1
             left = tables_of(path, folder) if os.path.exists(path) and os.path.getsize(path) else {}
-            again = subprocess.run([program, "batch", "--file", path], input=b"", stdout=subprocess.PIPE, stderr=subprocess.PIPE)
-            wanted = (0, b"") if left == after else (1, b"desk: fault 23 not a desk\n")
-            see(f"make, stopped at write {at}: opened again", (again.returncode, again.stderr), wanted)
+            wanted = (0, b"no fault\n", b"") if left == after else (1, b"", b"desk: fault 23 not a desk\n")
+            see(f"make, stopped at write {at}: opened again", checked(program, path), wanted)
             see(f"make, stopped at write {at}: nothing or the desk", left in ({}, "file is not a database", after), True)
     print(f"make: stopped at {count} writes")
 

@@ -1,6 +1,7 @@
 //! The words that the program knows.
 use crate::fault::WordsFault;
-use crate::order::{Order, Terms};
+use crate::order::{Order, Target, Terms};
+use clap::builder::ValueParser;
 use clap::error::ErrorKind;
 use clap::{Arg, ArgAction, ArgMatches, Command};
 use std::alloc::{AllocError, Global};
@@ -14,6 +15,17 @@ fn seconds<'a>(alloc: Global, id: &'a str, default: &'a str, help: &'a str) -> A
         .value_parser(clap::value_parser!(u64))
         .default_value(default)
         .help(help)
+}
+
+// The last number that a desk gives, 2^62.
+const LAST_NUMBER: u64 = 4611686018427387904;
+
+// The file of a desk that is there.
+fn desk_file<'a>(alloc: Global) -> Arg<'a> {
+    Arg::new(alloc, "FILE")
+        .required(true)
+        .action(ArgAction::Set)
+        .help("the file that holds the desk")
 }
 
 fn make<'a>(alloc: Global) -> Result<Command<'a>, AllocError> {
@@ -41,6 +53,42 @@ fn make<'a>(alloc: Global) -> Result<Command<'a>, AllocError> {
         ))
 }
 
+fn serve<'a>(alloc: Global) -> Result<Command<'a>, AllocError> {
+    let port = Arg::new(alloc, "port")
+        .long("port")
+        .value_name("N")
+        .required(true)
+        .action(ArgAction::Set)
+        .value_parser(clap::value_parser!(u16))
+        .help("the port of 127.0.0.1, 0 for one that the machine chooses");
+    let count = Arg::new(alloc, "count")
+        .long("count")
+        .value_name("N")
+        .action(ArgAction::Set)
+        .value_parser(clap::value_parser!(u64))
+        .help("how many connections to serve; without it the desk serves on");
+    Command::new(alloc, "serve")
+        .about("Serves HTTP, one request a connection")
+        .arg(desk_file(alloc))?
+        .arg(port)?
+        .arg(count)
+}
+
+// A word that reports on a desk.
+fn report<'a>(alloc: Global, name: &'a str, about: &'a str) -> Result<Command<'a>, AllocError> {
+    Command::new(alloc, name).about(about).arg(desk_file(alloc))
+}
+
+// A word that revokes what has a number.
+fn revoke<'a>(alloc: Global, name: &'a str, about: &'a str) -> Result<Command<'a>, AllocError> {
+    let number = Arg::new(alloc, "N")
+        .required(true)
+        .action(ArgAction::Set)
+        .value_parser(ValueParser::unsigned(1, LAST_NUMBER))
+        .help("its number, from 1 on");
+    report(alloc, name, about)?.arg(number)
+}
+
 fn batch<'a>(alloc: Global) -> Result<Command<'a>, AllocError> {
     let file = Arg::new(alloc, "file")
         .long("file")
@@ -57,7 +105,20 @@ fn desk<'a>(alloc: Global) -> Result<Command<'a>, AllocError> {
         .about("The order desk of an ACME certificate authority (RFC 8555)")
         .subcommand_required(true)
         .subcommand(make(alloc)?)?
-        .subcommand(batch(alloc)?)
+        .subcommand(serve(alloc)?)?
+        .subcommand(batch(alloc)?)?
+        .subcommand(report(
+            alloc,
+            "status",
+            "Lists the orders: number, account, status, end",
+        )?)?
+        .subcommand(report(
+            alloc,
+            "check",
+            "Lists the stored statuses that are wrong, and then ends with status 3",
+        )?)?
+        .subcommand(revoke(alloc, "revoke-authz", "Revokes an authorization")?)?
+        .subcommand(revoke(alloc, "revoke-account", "Revokes an account")?)
 }
 
 // What the matches ask for.
@@ -68,8 +129,27 @@ fn order<'a>(matches: &ArgMatches<'a>) -> Option<Order<'a>> {
             file: given.get_str("FILE")?,
             terms: terms(given)?,
         }),
+        "serve" => Some(Order::Serve {
+            file: given.get_str("FILE")?,
+            port: given.get_one::<u16>("port")?,
+            count: given.get_one::<u64>("count"),
+        }),
         "batch" => Some(Order::Batch {
             file: given.get_str("file"),
+        }),
+        "status" => Some(Order::Status {
+            file: given.get_str("FILE")?,
+        }),
+        "check" => Some(Order::Check {
+            file: given.get_str("FILE")?,
+        }),
+        "revoke-authz" => Some(Order::Revoke {
+            file: given.get_str("FILE")?,
+            target: Target::Authorization(given.get_one::<u64>("N")?),
+        }),
+        "revoke-account" => Some(Order::Revoke {
+            file: given.get_str("FILE")?,
+            target: Target::Account(given.get_one::<u64>("N")?),
         }),
         _ => None,
     }

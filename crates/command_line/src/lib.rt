@@ -7,4 +7,4 @@ mod order;
 
 pub use fault::WordsFault;
 pub use grammar::read_words;
-pub use order::{Order, Terms};
+pub use order::{Order, Target, Terms};

@@ -10,11 +10,46 @@ pub enum Order<'a> {
         /// The terms that the desk is made with.
         terms: Terms<'a>,
     },
+    /// To serve connections.
+    Serve {
+        /// The path of the file that holds the desk.
+        file: &'a str,
+        /// The port of 127.0.0.1, 0 for one that the machine chooses.
+        port: u16,
+        /// After how many connections to end, or `None` for 2^64 - 1.
+        count: Option<u64>,
+    },
+    /// To list the orders.
+    Status {
+        /// The path of the file that holds the desk.
+        file: &'a str,
+    },
+    /// To list the stored statuses that are wrong.
+    Check {
+        /// The path of the file that holds the desk.
+        file: &'a str,
+    },
+    /// To revoke an authorization or an account.
+    Revoke {
+        /// The path of the file that holds the desk.
+        file: &'a str,
+        /// What is revoked.
+        target: Target,
+    },
     /// To answer the lines of standard input.
     Batch {
         /// The path of the file that holds the desk, or `None` for a new desk in memory.
         file: Option<&'a str>,
     },
+}
+
+/// What is revoked.
+#[derive(Clone, Copy, Debug, PartialEq, Eq)]
+pub enum Target {
+    /// The authorization of this number.
+    Authorization(u64),
+    /// The account of this number.
+    Account(u64),
 }
 
 /// The terms of a desk, as the words give them.

@@ -1,13 +1,15 @@
 //! The commands, each over its reader and its writers.
-use batches::batch;
+use crate::answering::{AnswerLines, OverDesk, ServeConnections};
+use crate::fault::{Fault, tell};
+use crate::files::run_over_file;
+use crate::reporting::{CheckStatuses, ListOrders};
+use crate::revoking::Revoke;
+use crate::tasks::adopt;
 use command_line::{Order, Terms, WordsFault, read_words};
 use desk_calls::{Desk, DeskFault, Memory};
-use desk_files::{DeskFile, close, make, open};
+use desk_files::make;
 use desk_model::{Clock, Policy};
-use desk_storage::{Storage, StorageFault};
-use desk_store::{OpenFault, Store};
 use std::alloc::Global;
-use std::fmt;
 use std::io::{Read, Write};
 
 // The terms of a desk that is made in memory.
@@ -18,51 +20,13 @@ const TERMS: Terms<'static> = Terms {
     authz_life: 2592000,
 };
 
-// Why a command ends.
-#[derive(Clone, Copy, Debug, PartialEq, Eq)]
-enum Fault {
-    // A limit of the terms is broken.
-    BadPolicy,
-    Desk(DeskFault),
-    // Standard output failed.
-    Output,
-}
-
-impl fmt::Display for Fault {
-    fn fmt<W: fmt::Write>(&self, f: &mut fmt::Formatter<W>) -> fmt::Result {
-        match self {
-            Fault::BadPolicy => f.write_str("bad policy"),
-            Fault::Desk(fault) => write!(f, "{fault}"),
-            Fault::Output => f.write_str("output"),
-        }
-    }
-}
-
-impl From<OpenFault> for Fault {
-    fn from(fault: OpenFault) -> Fault {
-        Fault::Desk(match fault {
-            OpenFault::Storage(StorageFault::Memory) => DeskFault::Memory,
-            OpenFault::Storage(StorageFault::Device) => DeskFault::Device,
-            OpenFault::Storage(StorageFault::Reopen) => DeskFault::Reopen,
-            OpenFault::NotADesk => DeskFault::NotADesk,
-            OpenFault::NewerFormat => DeskFault::NewerFormat,
-        })
-    }
-}
-
-// Says why a command ended, and gives the exit status.
-fn tell<E: Write>(errors: &mut E, fault: Fault) -> u8 {
-    let _ = writeln!(errors, "desk: {fault}");
-    if fault == Fault::BadPolicy { 2 } else { 1 }
-}
-
 /// Says that there was no memory for the words, and gives the exit status.
 pub fn no_memory<E: Write>(errors: &mut E) -> u8 {
     tell(errors, Fault::Desk(DeskFault::Memory))
 }
 
 /// Runs what the words ask for, and gives the exit status: 0 where it was done, 1 after a fault, 2 where the words are
-/// wrong or a limit of the terms is broken.
+/// wrong or a limit of the terms is broken, 3 where a stored status is wrong.
 pub fn run_words<R: Read + Drop, W: Write, E: Write>(
     rt: &HostRuntime,
     words: &[String],
@@ -70,14 +34,52 @@ pub fn run_words<R: Read + Drop, W: Write, E: Write>(
     out: &mut W,
     errors: &mut E,
 ) -> u8 {
-    match read_words(rt.alloc(), words) {
-        Ok(Order::Make { file, terms }) => match make_file(rt, file, terms, out) {
-            Ok(()) => 0,
-            Err(fault) => tell(errors, fault),
-        },
-        Ok(Order::Batch { file: Some(file) }) => batch_over_file(rt, file, reader, out, errors),
-        Ok(Order::Batch { file: None }) => batch_in_memory(rt.alloc(), reader, out, errors),
-        Err(fault) => tell_words(&fault, out, errors),
+    let done = match read_words(rt.alloc(), words) {
+        Ok(order) => run_order(rt, order, reader, out, errors),
+        Err(fault) => return tell_words(&fault, out, errors),
+    };
+    match done {
+        Ok(status) => status,
+        Err(fault) => tell(errors, fault),
+    }
+}
+
+// Runs an order, and gives the exit status.
+fn run_order<R: Read + Drop, W: Write, E: Write>(
+    rt: &HostRuntime,
+    order: Order<'_>,
+    reader: R,
+    out: &mut W,
+    errors: &mut E,
+) -> Result<u8, Fault> {
+    let alloc = rt.alloc();
+    match order {
+        Order::Make { file, terms } => make_file(rt, file, terms, out),
+        Order::Serve { file, port, count } => {
+            let task = ServeConnections {
+                rt,
+                port,
+                count,
+                out,
+                errors,
+            };
+            run_over_file(rt, file, task)
+        }
+        Order::Status { file } => run_over_file(rt, file, ListOrders { alloc, out }),
+        Order::Check { file } => run_over_file(rt, file, CheckStatuses { alloc, out }),
+        Order::Revoke { file, target } => run_over_file(rt, file, Revoke { rt, target, out }),
+        Order::Batch { file } => {
+            let task = AnswerLines {
+                alloc,
+                reader: Some(reader),
+                out,
+                errors,
+            };
+            match file {
+                Some(file) => run_over_file(rt, file, task),
+                None => answer_in_memory(alloc, task),
+            }
+        }
     }
 }
 
@@ -117,74 +119,24 @@ fn make_file<W: Write>(
     file: &str,
     terms: Terms<'_>,
     out: &mut W,
-) -> Result<(), Fault> {
+) -> Result<u8, Fault> {
     let policy = policy(rt.alloc(), terms)?;
     make(rt, file, policy)?;
     match writeln!(out, "made") {
-        Ok(()) => Ok(()),
+        Ok(()) => Ok(0),
         Err(_) => Err(Fault::Output),
     }
 }
 
 // A desk in memory, made at 0.
-fn memory_desk(alloc: Global) -> Option<Desk<Memory>> {
-    let policy = policy(alloc, TERMS).ok()?;
-    Desk::adopt(alloc, Memory::make(alloc, policy, Clock::at(0))).ok()
+fn memory_desk(alloc: Global) -> Result<Desk<Memory>, Fault> {
+    let policy = policy(alloc, TERMS)?;
+    adopt(alloc, Memory::make(alloc, policy, Clock::at(0)))
 }
 
-// Answers the lines of a reader by a new desk in memory.
-fn batch_in_memory<R: Read + Drop, W: Write, E: Write>(
-    alloc: Global,
-    reader: R,
-    out: &mut W,
-    errors: &mut E,
-) -> u8 {
-    match memory_desk(alloc) {
-        Some(mut desk) => batch(alloc, reader, out, errors, &mut desk),
-        None => no_memory(errors),
-    }
-}
-
-// A store that can be closed for good.
-trait Closing: Storage {
-    fn end(self) -> Result<(), OpenFault>;
-}
-
-impl Closing for Store<DeskFile> {
-    fn end(self) -> Result<(), OpenFault> {
-        close(self)
-    }
-}
-
-// Answers the lines of a reader by the desk of a store, and closes the store.
-fn batch_over<K: Closing + Drop, R: Read + Drop, W: Write, E: Write>(
-    alloc: Global,
-    store: K,
-    reader: R,
-    out: &mut W,
-    errors: &mut E,
-) -> u8 {
-    let mut desk = match Desk::adopt(alloc, store) {
-        Ok(desk) => desk,
-        Err(unadopted) => return tell(errors, Fault::Desk(DeskFault::from(unadopted.fault))),
-    };
-    let status = batch(alloc, reader, out, errors, &mut desk);
-    match desk.close().end() {
-        Err(fault) if status == 0 => tell(errors, Fault::from(fault)),
-        _ => status,
-    }
-}
-
-// Answers the lines of a reader by the desk of a file.
-fn batch_over_file<R: Read + Drop, W: Write, E: Write>(
-    rt: &HostRuntime,
-    file: &str,
-    reader: R,
-    out: &mut W,
-    errors: &mut E,
-) -> u8 {
-    match open(rt, file) {
-        Ok(store) => batch_over(rt.alloc(), store, reader, out, errors),
-        Err(fault) => tell(errors, Fault::from(fault)),
-    }
+// Does something with a new desk in memory, and gives the exit status.
+fn answer_in_memory<T: OverDesk + Drop>(alloc: Global, task: T) -> Result<u8, Fault> {
+    let mut task = task;
+    let mut desk = memory_desk(alloc)?;
+    Ok(task.answer(&mut desk))
 }

@@ -1,7 +1,13 @@
 //! The program `desk`.
 #![tactic(auto)]
 
+mod answering;
 mod commands;
+mod fault;
+mod files;
+mod reporting;
+mod revoking;
+mod tasks;
 
 use std::io;
 use std::process::ExitCode;

@@ -16,4 +16,6 @@ pub use rows::{
     account_columns, authorization_columns, challenge_columns, listed_columns, meta_columns,
     nonce_columns, order_columns,
 };
-pub use spelling::{authorization_status_text, order_status_text};
+pub use spelling::{
+    account_status_text, authorization_status_text, challenge_status_text, order_status_text,
+};

@@ -7,8 +7,8 @@ use desk_model::{
     AccountStatus, AuthzStatus, ChallengeStatus, EndKind, Ending, Kind, OrderStatus, Outcome,
 };
 
-// The status of an account (RFC 8555, 7.1.6).
-pub(crate) fn account_status_text(status: AccountStatus) -> &'static str
+/// The status of an account (RFC 8555, 7.1.6).
+pub fn account_status_text(status: AccountStatus) -> &'static str
     ensures { result.now ≡ account_status_text status }
 {
     match status {
@@ -45,8 +45,8 @@ pub fn authorization_status_text(status: AuthzStatus) -> &'static str
     }
 }
 
-// The status of a challenge (RFC 8555, 7.1.6).
-pub(crate) fn challenge_status_text(status: ChallengeStatus) -> &'static str
+/// The status of a challenge (RFC 8555, 7.1.6).
+pub fn challenge_status_text(status: ChallengeStatus) -> &'static str
     ensures { result.now ≡ challenge_status_text status }
 {
     match status {

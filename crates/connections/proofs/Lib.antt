@@ -1,0 +1,2 @@
+mod Seeing
+mod Turns

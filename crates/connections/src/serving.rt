@@ -1,0 +1,145 @@
+//! Clients, one after the other.
+ghost use Rattle.std.specs.Prelude.{◌≡◌, false, IfErr, unwrap_or};
+ghost use Rattle.connections.specs.declared.fault.ServeFault.TheVariants as fault;
+ghost use Rattle.connections.specs.InTurn.{Ends, ServesAtMost, ServesOne, fault_after};
+ghost use Rattle.connections.specs.SeenInTurn.{IsSeenOn};
+
+use crate::client::{Patient, end};
+use crate::fault::ServeFault;
+use desk_calls::{Desk, DeskFault};
+use desk_http::{Cause, IoFault, Served, serve_one};
+use desk_storage::Storage;
+use rand::TryRng;
+use rand::rngs::SysRng;
+use std::alloc::Global;
+use std::io::Write;
+use std::net::{Ipv4Addr, Net, SocketAddr, TcpListener, TcpStream};
+use std::random::RandomSource;
+use std::time::{Clock, SystemTime, UNIX_EPOCH};
+
+// The random bytes of a call: enough for one with fifty names.
+const RANDOM: usize = 1616;
+
+/// Takes a port of 127.0.0.1, 0 for one that the machine chooses, and tells the address.
+///
+/// # Errors
+///
+/// `Bind` where the port could not be taken.
+pub fn bind<N: Net<Stream = TcpStream, Listener = TcpListener>>(
+    net: &N,
+    port: u16,
+) -> Result<(TcpListener, SocketAddr), ServeFault>
+    ensures failed { IfErr result (λ e. e ≡ fault.Bind) }
+{
+    let Ok(listener) = net.bind(SocketAddr::from((Ipv4Addr::LOCALHOST, port))) else {
+        return Err(ServeFault::Bind);
+    };
+    match listener.local_addr() {
+        Ok(bound) => Ok((listener, bound)),
+        Err(_) => Err(ServeFault::Bind),
+    }
+}
+
+/// Serves so many connections, or 2^64 - 1 without a count, one request of each (RFC 9112, 9.6). A connection that
+/// fails is told on `errors`, and the next is taken.
+///
+/// # Errors
+///
+/// `Accept`, `Clock` or `Random` where the machine failed; `Desk` where the desk is closed, and only there.
+pub fn serve_all<M: Clock + RandomSource, K: Storage + Drop, E: Write>(
+    alloc: Global,
+    machine: &M,
+    listener: &TcpListener,
+    desk: &mut Desk<K>,
+    count: Option<u64>,
+    errors: &mut E,
+) -> Result<(), ServeFault>
+    ensures policy { desk.new.policy ≡ desk.old.policy }
+    ensures served { ServesAtMost K.Storage.sight K.Storage.may_meet (unwrap_or count 18446744073709551615) desk.old desk.new }
+    ensures seen { IsSeenOn K.Storage.sight desk.old desk.new }
+    ensures ends { desk.old.is_closed ≡ false → Ends result desk.new }
+{
+    let most = count.unwrap_or(u64::MAX);
+    for served in 0..most {
+        let Ok((stream, _)) = listener.accept() else {
+            return Err(ServeFault::Accept);
+        };
+        serve_client(alloc, machine, &stream, desk, errors)?;
+    }
+    Ok(())
+}
+
+// Serves one connection.
+fn serve_client<M: Clock + RandomSource, K: Storage + Drop, E: Write>(
+    alloc: Global,
+    machine: &M,
+    stream: &TcpStream,
+    desk: &mut Desk<K>,
+    errors: &mut E,
+) -> Result<(), ServeFault>
+    ensures policy { desk.new.policy ≡ desk.old.policy }
+    ensures served { ServesOne K.Storage.sight K.Storage.may_meet desk.old desk.new }
+    ensures ends { desk.old.is_closed ≡ false → Ends result desk.new }
+{
+    let at = moment(machine)?;
+    let mut random = [0u8; RANDOM];
+    draw(machine, &mut random)?;
+    let mut reader = Patient::new(stream, machine);
+    let mut writer = Patient::new(stream, machine);
+    let served = serve_one(alloc, &mut reader, &mut writer, desk, at, &random);
+    match served {
+        Ok(_) => end(stream, machine),
+        Err(_) => {
+            let _ = writeln!(errors, "desk: connection");
+        }
+    }
+    match closing_fault(desk, served) {
+        Some(fault) => Err(ServeFault::Desk(fault)),
+        None => Ok(()),
+    }
+}
+
+// The fault that closed the desk in serving a request, if it is closed. Where the connection failed that fault is not
+// known, and it is that the desk is to be opened again.
+fn closing_fault<K: Storage + Drop>(
+    desk: &Desk<K>,
+    served: Result<Served, IoFault>,
+) -> Option<DeskFault>
+    ensures { result ≡ fault_after served desk.now.is_closed }
+{
+    match served {
+        Ok(served) => match served.cause {
+            Some(Cause::Desk(fault)) if fault.closes() => Some(fault),
+            _ => None,
+        },
+        Err(_) if desk.is_closed() => Some(DeskFault::Reopen),
+        Err(_) => None,
+    }
+}
+
+/// The machine's moment, in whole seconds since 1970-01-01T00:00:00Z.
+///
+/// # Errors
+///
+/// `Clock` where the clock failed, or stands before 1970.
+pub fn moment<C: Clock>(clock: &C) -> Result<u64, ServeFault>
+    ensures failed { IfErr result (λ e. e ≡ fault.Clock) }
+{
+    let Ok(now) = SystemTime::now(clock) else {
+        return Err(ServeFault::Clock);
+    };
+    match now.duration_since(UNIX_EPOCH) {
+        Ok(since) => Ok(since.as_secs()),
+        Err(_) => Err(ServeFault::Clock),
+    }
+}
+
+// Fills the bytes from the machine's random source.
+fn draw<S: RandomSource>(source: &S, bytes: &mut [u8]) -> Result<(), ServeFault>
+    ensures failed { IfErr result (λ e. e ≡ fault.Random) }
+{
+    match SysRng::new(source).try_fill_bytes(bytes) {
+        Ok(()) => Ok(()),
+        Err(_) => Err(ServeFault::Random),
+    }
+}

@@ -1,0 +1,84 @@
+//! Lines and connections, answered by a desk.
+use crate::fault::Fault;
+use crate::tasks::{Tables, Task, adopt};
+use batches::batch;
+use connections::{bind, serve_all};
+use desk_calls::Desk;
+use desk_storage::Storage;
+use std::alloc::Global;
+use std::io::{Read, Write};
+
+/// Answers the lines of a reader on a writer.
+#[derive(Drop)]
+pub(crate) struct AnswerLines<'a, R: Read + Drop, W: Write, E: Write> {
+    pub(crate) alloc: Global,
+    pub(crate) reader: Option<R>,
+    pub(crate) out: &'a mut W,
+    pub(crate) errors: &'a mut E,
+}
+
+/// What is done with a desk over any store.
+pub(crate) trait OverDesk {
+    /// Does it, and gives the exit status.
+    fn answer<K: Storage + Drop>(&mut self, desk: &mut Desk<K>) -> u8;
+}
+
+impl<'a, R: Read + Drop, W: Write, E: Write> OverDesk for AnswerLines<'a, R, W, E> {
+    fn answer<K: Storage + Drop>(&mut self, desk: &mut Desk<K>) -> u8 {
+        match self.reader.take() {
+            Some(reader) => batch(self.alloc, reader, self.out, self.errors, desk),
+            None => 0,
+        }
+    }
+}
+
+impl<'a, R: Read + Drop, W: Write, E: Write> Task for AnswerLines<'a, R, W, E> {
+    fn run<K: Tables + Drop>(&mut self, store: K) -> Result<(K, u8), Fault> {
+        let mut desk = adopt(self.alloc, store)?;
+        let status = self.answer(&mut desk);
+        Ok((desk.close(), status))
+    }
+}
+
+/// Serves connections at a port.
+#[derive(Drop)]
+pub(crate) struct ServeConnections<'a, W: Write, E: Write> {
+    pub(crate) rt: &'a HostRuntime,
+    pub(crate) port: u16,
+    pub(crate) count: Option<u64>,
+    pub(crate) out: &'a mut W,
+    pub(crate) errors: &'a mut E,
+}
+
+impl<'a, W: Write, E: Write> ServeConnections<'a, W, E> {
+    // Takes the port, prints the address, and serves.
+    fn serve<K: Storage + Drop>(&mut self, desk: &mut Desk<K>) -> Result<(), Fault> {
+        let (listener, bound) = bind(self.rt, self.port)?;
+        if writeln!(self.out, "listening on {bound}").is_err() || self.out.flush().is_err() {
+            return Err(Fault::Output);
+        }
+        serve_all(
+            self.rt.alloc(),
+            self.rt,
+            &listener,
+            desk,
+            self.count,
+            self.errors,
+        )?;
+        Ok(())
+    }
+}
+
+impl<'a, W: Write, E: Write> Task for ServeConnections<'a, W, E> {
+    fn run<K: Tables + Drop>(&mut self, store: K) -> Result<(K, u8), Fault> {
+        let mut desk = adopt(self.rt.alloc(), store)?;
+        match self.serve(&mut desk) {
+            Ok(()) => Ok((desk.close(), 0)),
+            Err(fault) => {
+                // The store is closed for good before the fault is told; a second fault would say less.
+                let _ = desk.close().end();
+                Err(fault)
+            }
+        }
+    }
+}

@@ -1,0 +1,59 @@
+//! Reports on the rows of a store.
+use crate::fault::Fault;
+use crate::tasks::{Tables, Task};
+use desk_calls::DeskFault;
+use reports::{write_faults, write_orders};
+use std::alloc::Global;
+use std::io::{self, ErrorKind, Write};
+use stored_rows::check;
+
+// The exit status where a stored status is wrong.
+const FOUND: u8 = 3;
+
+// The fault of a report that was not written.
+fn unwritten(error: &io::Error) -> Fault {
+    match error.kind() {
+        ErrorKind::OutOfMemory => Fault::Desk(DeskFault::Memory),
+        _ => Fault::Output,
+    }
+}
+
+/// Lists the orders.
+#[derive(Drop)]
+pub(crate) struct ListOrders<'a, W: Write> {
+    pub(crate) alloc: Global,
+    pub(crate) out: &'a mut W,
+}
+
+impl<'a, W: Write> Task for ListOrders<'a, W> {
+    fn run<K: Tables + Drop>(&mut self, store: K) -> Result<(K, u8), Fault> {
+        let mut store = store;
+        let book = store.load_all(self.alloc)?;
+        match write_orders(self.alloc, self.out, book.orders()) {
+            Ok(()) => Ok((store, 0)),
+            Err(error) => Err(unwritten(&error)),
+        }
+    }
+}
+
+/// Lists the stored statuses that are wrong.
+#[derive(Drop)]
+pub(crate) struct CheckStatuses<'a, W: Write> {
+    pub(crate) alloc: Global,
+    pub(crate) out: &'a mut W,
+}
+
+impl<'a, W: Write> Task for CheckStatuses<'a, W> {
+    fn run<K: Tables + Drop>(&mut self, store: K) -> Result<(K, u8), Fault> {
+        let mut store = store;
+        let book = store.load_all(self.alloc)?;
+        let Ok(faults) = check(self.alloc, &book) else {
+            return Err(Fault::Desk(DeskFault::Memory));
+        };
+        match write_faults(self.out, faults.as_slice()) {
+            Ok(()) if faults.is_empty() => Ok((store, 0)),
+            Ok(()) => Ok((store, FOUND)),
+            Err(error) => Err(unwritten(&error)),
+        }
+    }
+}

@@ -1,0 +1,56 @@
+//! What the operator revokes.
+use crate::fault::Fault;
+use crate::tasks::{Tables, Task, adopt};
+use command_line::Target;
+use connections::moment;
+use desk_calls::Desk;
+use desk_model::{Ask, Body, Call, Sequence};
+use desk_storage::Storage;
+use std::io::{self, Write};
+
+/// Revokes an authorization or an account, at the machine's clock.
+#[derive(Drop)]
+pub(crate) struct Revoke<'a, W: Write> {
+    pub(crate) rt: &'a HostRuntime,
+    pub(crate) target: Target,
+    pub(crate) out: &'a mut W,
+}
+
+impl<'a, W: Write> Revoke<'a, W> {
+    // Revokes it by a desk.
+    fn revoke<K: Storage + Drop>(&self, desk: &mut Desk<K>) -> Result<(), Fault> {
+        let alloc = self.rt.alloc();
+        let call = Call {
+            at: moment(self.rt)?,
+            random: Sequence::new(Vec::new(alloc)),
+            ask: match self.target {
+                Target::Authorization(number) => Ask::RevokeAuthz(number),
+                Target::Account(number) => Ask::RevokeAccount(number),
+            },
+        };
+        let reply = desk.answer(alloc, &call)?;
+        match &reply.body {
+            Body::Problem(problem) => Err(Fault::Refused(problem.refusal)),
+            _ => Ok(()),
+        }
+    }
+
+    // Says that it is revoked.
+    fn tell(&mut self) -> io::Result<()> {
+        match self.target {
+            Target::Authorization(number) => writeln!(self.out, "authz {number} revoked"),
+            Target::Account(number) => writeln!(self.out, "account {number} revoked"),
+        }
+    }
+}
+
+impl<'a, W: Write> Task for Revoke<'a, W> {
+    fn run<K: Tables + Drop>(&mut self, store: K) -> Result<(K, u8), Fault> {
+        let mut desk = adopt(self.rt.alloc(), store)?;
+        self.revoke(&mut desk)?;
+        match self.tell() {
+            Ok(()) => Ok((desk.close(), 0)),
+            Err(_) => Err(Fault::Output),
+        }
+    }
+}

@@ -1,0 +1,31 @@
+//! What the commands do with the store of a desk's file.
+use crate::fault::Fault;
+use desk_book::Book;
+use desk_calls::{Desk, DeskFault};
+use desk_storage::{Storage, StorageFault};
+use desk_store::OpenFault;
+use std::alloc::Global;
+
+/// A store whose tables can be read whole, and which can be closed for good. What is done with it is over any such store,
+/// since a check pays for each call that names the engine's own type.
+pub(crate) trait Tables: Storage {
+    /// All rows.
+    fn load_all(&mut self, alloc: Global) -> Result<Book, StorageFault>;
+
+    /// Closes the store.
+    fn end(self) -> Result<(), OpenFault>;
+}
+
+/// What a command does with a store.
+pub(crate) trait Task {
+    /// Does it, and gives the store back with the exit status.
+    fn run<K: Tables + Drop>(&mut self, store: K) -> Result<(K, u8), Fault>;
+}
+
+/// The desk of a store.
+pub(crate) fn adopt<K: Storage + Drop>(alloc: Global, store: K) -> Result<Desk<K>, Fault> {
+    match Desk::adopt(alloc, store) {
+        Ok(desk) => Ok(desk),
+        Err(unadopted) => Err(Fault::Desk(DeskFault::from(unadopted.fault))),
+    }
+}

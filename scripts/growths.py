@@ -1,0 +1,185 @@
+#!/usr/bin/env python3
+"""Refuses growths of memory to `serve`: scripts/growths.py PROGRAM [--step N]
+
+Each kind of request is made again and again, while its first growth of memory is refused, its second, and so on, until a
+request ends without one; once that growth alone, once that growth and all after it. The reply is the one with ample memory,
+refusal 15 without a nonce, or nothing; the tables are those before the request or those after it: the latter, where the reply
+is the one with ample memory. The next request is served, or the program ended by a fault that closes the desk, and a new one
+serves over its file. With a step only each N-th growth is refused. Without gcc nothing is tried, and it says so.
+"""
+import argparse
+import base64
+import collections
+import mmap
+import os
+import shutil
+import signal
+import struct
+import subprocess
+import sys
+import tempfile
+
+from served import DIRECTORY, NEW_NONCE, Client, Reply, Server, finish, make, refusal, see
+from stops import KEY, ROOT, tables_of
+
+ALL = 2**62
+# The ends of the program that a refused growth may bring, by their line on standard error.
+CLOSED = (b"desk: fault 22 reopen\n", b"desk: fault 21 device\n")
+
+
+class Growths:
+    """The numbers that the script and the program share."""
+
+    def __init__(self, path):
+        with open(path, "wb") as file:
+            file.write(bytes(32))
+        with open(path, "r+b") as file:
+            self.page = mmap.mmap(file.fileno(), 32)
+
+    def refuse(self, first, last):
+        self.page[:16] = struct.pack("qq", first, last)
+
+    def counted(self):
+        """How many growths the last connection asked for, and how many of them were refused."""
+        return struct.unpack("qq", self.page[16:])
+
+
+def counters(tables):
+    """The numbers of nonces, accounts, orders, authorizations and challenges."""
+    return tables["meta"][0][-5:]
+
+
+def statuses(tables):
+    """The statuses of the orders."""
+    return [row[-1] for row in sorted(tables["ord"])]
+
+
+class Kind:
+    """A kind of request: how the counters move, the status of its reply, and whether orders change their status."""
+
+    def __init__(self, name, status, moves):
+        self.name, self.status, self.moves = name, status, moves
+
+    def is_after(self, before, after):
+        """Whether the tables have the request's entries."""
+        moved = tuple(new - old for old, new in zip(counters(before), counters(after)))
+        finalized = statuses(after).count(b"processing") - statuses(before).count(b"processing")
+        return moved == self.moves and finalized == (self.name == "finalize")
+
+
+KINDS = [
+    Kind("newNonce", 204, (1, 0, 0, 0, 0)),
+    Kind("newAccount", 201, (1, 1, 0, 0, 0)),
+    Kind("newOrder", 201, (1, 0, 1, 1, 2)),
+    Kind("finalize", 200, (1, 0, 0, 0, 0)),
+]
+
+
+class Tries:
+    """A desk whose memory is refused."""
+
+    def __init__(self, program, preload, folder):
+        self.program, self.folder, self.keys, self.order, self.count = program, folder, 0, None, 0
+        self.env = {**os.environ, "LD_PRELOAD": preload, "GROWTHS": f"{folder}/growths"}
+        self.growths = Growths(f"{folder}/growths")
+        self.server = Server(program, make(program, f"{folder}/desk.db"), env=self.env)
+        self.client = Client(self.server)
+        self.client.open_account()
+
+    def prepared(self, kind):
+        """The bytes of a request of a kind, which would be accepted."""
+        self.client.fetch()
+        if kind.name == "newNonce":
+            return NEW_NONCE
+        if kind.name == "newAccount":
+            self.keys += 1
+            other = Client(self.server, {**KEY, "x": base64.urlsafe_b64encode(self.keys.to_bytes(6, "big")).decode()})
+            other.nonce = self.client.nonce
+            return other.signed("/new-account", {"contact": ["mailto:a@b.example"]})
+        if kind.name == "newOrder":
+            return self.client.signed("/new-order", {"identifiers": [{"type": "dns", "value": "a.example"}]})
+        if self.order is None:
+            self.order = self.client.ready_order()
+        return self.client.signed(f"/order/{self.order}/finalize", {"csr": "AQID"})
+
+    def once(self, kind, first, last):
+        """Refuses some growths of a request: what came of it, or None where none was refused."""
+        data = self.prepared(kind)
+        before = tables_of(self.server.path, self.folder)
+        self.growths.refuse(first, last)
+        try:
+            came = self.server.ask(data)
+        finally:
+            self.growths.refuse(0, 0)
+        self.count, refused = self.growths.counted()
+        said = f"{kind.name} without growth {first}{' and those after it' if last == ALL else ''}"
+        ended = self.closed(said)
+        after = tables_of(self.server.path, self.folder)
+        is_after = kind.is_after(before, after)
+        see(f"{said}: the tables before or after", before == after or is_after, True)
+        if is_after:
+            self.order = None
+        if refused:
+            return self.outcome(kind, said, came, is_after, ended)
+        see(f"{said}: no growth", Reply(came).status, kind.status)
+        return None
+
+    def outcome(self, kind, said, came, is_after, ended):
+        """What came: the reply, refusal 15 or nothing, and whether the request was recorded or closed the desk."""
+        if came == b"":
+            return "nothing, closed" if ended else "nothing, recorded" if is_after else "nothing"
+        if came == refusal(15, ""):
+            return "15, closed" if ended else "15, recorded" if is_after else "15"
+        found = Reply(came)
+        came_whole = (found.status, bool(found.field("Replay-Nonce")), is_after, ended)
+        see(f"{said}: the reply", came_whole, (kind.status, True, True, False))
+        return "the reply"
+
+    def is_served(self):
+        """Whether the next request is served; one that records nothing."""
+        try:
+            return Reply(self.server.ask(DIRECTORY)).status == 200
+        except OSError:
+            return False
+
+    def closed(self, said):
+        """Whether the request closed the desk, which ends the program; a new one is started."""
+        if self.is_served():
+            return False
+        status, _, errors = self.server.ended()
+        see(f"{said}: the end", (status, errors.splitlines(keepends=True)[-1:] in [[line] for line in CLOSED]), (1, True))
+        self.server = self.client.server = Server(self.program, self.server.path, env=self.env)
+        return True
+
+    def every(self, kind, alone, step):
+        """Refuses each growth in turn, alone or with those after it."""
+        came, first = collections.Counter(), 1
+        while found := self.once(kind, first, first if alone else ALL):
+            came[found] += 1
+            first += step
+        told = ", ".join(f"{what} {count}" for what, count in came.most_common())
+        print(f"{kind.name}, {self.count} growths, {'each alone' if alone else 'each and all after it'}: {told}", flush=True)
+        see(f"{kind.name}: growths refused", came.total() > 0, True)
+
+
+def main():
+    parser = argparse.ArgumentParser()
+    parser.add_argument("program")
+    parser.add_argument("--step", type=int, default=1)
+    words = parser.parse_args()
+    if not shutil.which("gcc"):
+        print("There is no gcc, so growths were not refused.")
+        return 0
+    with tempfile.TemporaryDirectory(prefix="desk-growths-") as folder:
+        preload = f"{folder}/refuse_growth.so"
+        subprocess.run(["gcc", "-O2", "-shared", "-fPIC", "-o", preload, f"{ROOT}/scripts/refuse_growth.c", "-ldl"], check=True)
+        tries = Tries(os.path.abspath(words.program), preload, folder)
+        for kind in KINDS:
+            for alone in (True, False):
+                tries.every(kind, alone, words.step)
+        see("the end", tries.server.stop()[0], -signal.SIGTERM)
+    return finish("Growths")
+
+
+if __name__ == "__main__":
+    sys.exit(main())
