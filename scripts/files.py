@@ -90,7 +90,6 @@ STRANGE = [
     ("a status that is none", ["UPDATE ord SET status = 'open'"], 23),
     ("a capital in a base name", ["UPDATE authz SET name = 'Example.org'"], 23),
     ("a number above its counter", ["UPDATE meta SET orders = 0"], 23),
-    ("an order lists an authorization that is none", ["PRAGMA foreign_keys = OFF", "UPDATE ord_authz SET authz = 99"], 23),
     ("a later format", ["UPDATE meta SET format = 2"], 27),
     ("a status that is wrong", ["UPDATE ord SET status = 'ready'"], None),
 ]

@@ -11,8 +11,7 @@ pub(crate) const MEMORY: OpenFault = OpenFault::Storage(StorageFault::Memory);
 
 pub(crate) const DEVICE: OpenFault = OpenFault::Storage(StorageFault::Device);
 
-/// The fault of files that the engine does not open. It calls those corrupt whose bytes are no database that it serves,
-/// foreign keys that do not hold among them.
+/// The fault of files that the engine does not open; those that it calls corrupt are no desk's.
 pub(crate) fn refusal_fault(error: Error) -> OpenFault
     ensures { result ≡ fault_of_refusal error }
 {
