@@ -193,7 +193,9 @@ def is_sendable(call):
 def stories(program, folder):
     """Each batch of examples/ whose calls are at the moment 0; each route is reached by each of its methods."""
     reached, names, sent = set(), [], 0
-    for name in sorted(file.removesuffix(".jsonl") for file in os.listdir(f"{ROOT}/examples") if file.endswith(".jsonl")):
+    known = {file.removesuffix(".jsonl") for file in os.listdir(f"{ROOT}/examples") if file.endswith(".jsonl")}
+    # The limits of a batch count the head that it makes of a line; bad_requests.py tries those of a connection.
+    for name in sorted(known - {"limits"}):
         calls, lines = batch_of(name)
         if any(call["at"] for call in calls):
             continue
