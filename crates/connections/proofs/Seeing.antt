@@ -1,5 +1,5 @@
 -- What serving connections one after the other does may be seen.
-use Rattle.std.proofs.Common.{◌≡◌, ◌∙◌, ℕ, zero, suc, List, [], ◌∷◌, ◌++◌, Bool, true, false, Result, Ok, Err, refl, subst, sym, inl, inr}
+use Rattle.std.proofs.Common.{◌≡◌, ◌∙◌, ℕ, zero, suc, List, [], ◌∷◌, ◌++◌, Bool, true, false, Result, Ok, Err, refl, subst, sym, inl, inr, Option, Some, None}
 use Rattle.desk_model.specs.declared.call.Call.{Call}
 use Rattle.desk_model.specs.declared.reply.Reply.{Reply}
 use Rattle.desk_storage.specs.Sight.{Sight}
@@ -9,7 +9,10 @@ use Rattle.desk_calls.specs.Seen.{Place, runs, Seen, seen_reply, seen_fault, see
 use Rattle.desk_calls.specs.State.{DeskState}
 use Rattle.desk_calls.specs.declared.fault.DeskFault.{DeskFault}
 use Rattle.desk_http.specs.Serving.{IsAnswer}
-use Rattle.connections.specs.InTurn.{ServesMany, ServesOne}
+use Rattle.desk_http.proofs.Acting.{ActsOnce, once_acts}
+use Rattle.connections.specs.InTurn.{ServesMany, ServesNext, ServesOne}
+use Rattle.connections.specs.declared.fault.ServeFault.{ServeFault}
+use Rattle.connections.specs.declared.fault.ServeFault.TheVariants as servefault
 use Rattle.connections.specs.SeenInTurn.{AreSeen, IsSeenOn, IsSeenTo, runs_on, stops}
 
 module _ {S C : Type 0} (v : Sight S C) (may_meet : StorageFault → Type 0) where
@@ -24,7 +27,7 @@ module _ {S C : Type 0} (v : Sight S C) (may_meet : StorageFault → Type 0) whe
   honest_answer call old new result true e a h = subst (λ desk. v.is_honest desk.store) (a.closed e).1 h
   honest_answer call old new result false e a h = (a.exit e).honest h
 
-  honest_one : (old new : DeskState S) → ServesOne v may_meet old new → v.is_honest new.store → v.is_honest old.store
+  honest_one : (old new : DeskState S) → ActsOnce v may_meet old new → v.is_honest new.store → v.is_honest old.store
   honest_one old new (inl same) h = subst (λ desk. v.is_honest desk.store) same h
   honest_one old new (inr a) h = honest_answer a.call old new a.result old.is_closed refl a.answer h
 
@@ -78,15 +81,28 @@ module _ {S C : Type 0} (v : Sight S C) (may_meet : StorageFault → Type 0) whe
         seen_same old new (a.closed closed).1 (record { seen = seen; is = is; to = stops closed last why left })
 
     -- one connection
-    seen_one : (old new : DeskState S) → ServesOne v may_meet old new → v.is_honest new.store → AreSeen v first earlier old
+    seen_one : (old new : DeskState S) → ActsOnce v may_meet old new → v.is_honest new.store → AreSeen v first earlier old
         → AreSeen v first earlier new
     seen_one old new (inl same) h seen = seen_same old new same seen
     seen_one old new (inr a) h seen = seen_after a.call old new a.result a.answer h seen.seen seen.is seen.to
 
+  -- after what was seen of an open desk, one connection more
+  pub seen_next_one : (why : Option DeskFault) (old mid new : DeskState S) → IsSeenOn v old mid → ServesOne v may_meet why mid new → IsSeenOn v old new
+  seen_next_one why old mid new before one first earlier opened at is h =
+      let does : ActsOnce v may_meet mid new = once_acts v may_meet one.1.at one.1.random new.policy.base mid new one.0 one.1.does in
+      seen_one first earlier mid new does h (before first earlier opened at is (honest_one mid new does h))
+
   -- and so many
   pub seen_many : (n : ℕ) (old new : DeskState S) → ServesMany v may_meet n old new → IsSeenOn v old new
-  seen_many zero old new same first earlier opened at is h =
-      seen_same first earlier old new same (record { seen = []; is = is; to = runs_on opened at })
-  seen_many (suc n) old new many first earlier opened at is h =
-      seen_one first earlier many.0 new many.2 h
-      (seen_many n old many.0 many.1 first earlier opened at is (honest_one many.0 new many.2 h))
+  seen_many zero old new same =
+      λ first earlier opened at is h. seen_same first earlier old new same (record { seen = []; is = is; to = runs_on opened at })
+  seen_many (suc n) old new many = seen_next_one None old many.0 new (seen_many n old many.0 many.1) many.2
+
+  -- and the one at which the serving ended
+  pub seen_last : (why : ServeFault) (n : ℕ) (old mid new : DeskState S) → ServesMany v may_meet n old mid → ServesNext v may_meet mid new (Err why)
+      → IsSeenOn v old new
+  seen_last (servefault.Desk why) n old mid new many one = seen_next_one (Some why) old mid new (seen_many n old mid many) one
+  seen_last servefault.Bind n old mid new many same = subst (IsSeenOn v old) (sym same) (seen_many n old mid many)
+  seen_last servefault.Accept n old mid new many same = subst (IsSeenOn v old) (sym same) (seen_many n old mid many)
+  seen_last servefault.Clock n old mid new many same = subst (IsSeenOn v old) (sym same) (seen_many n old mid many)
+  seen_last servefault.Random n old mid new many same = subst (IsSeenOn v old) (sym same) (seen_many n old mid many)

@@ -1,14 +1,12 @@
 -- What serving connections one after the other does to a desk.
-use Rattle.std.specs.Prelude.{◌≡◌, ◌⊎◌, ◌≤◌, ℕ, length, zero, suc, Bool, true, false, Option, Some, None, Result, Ok, Err}
-use Rattle.desk_model.specs.declared.call.Call.{Call}
-use Rattle.desk_model.specs.declared.reply.Reply.{Reply}
+use Rattle.std.specs.Prelude.{◌≡◌, ◌<◌, ℕ, length, List, zero, suc, Bool, true, false, Option, Some, None, Result, Ok, Err, MatchResult}
 use Rattle.desk_storage.specs.Sight.{Sight}
 use Rattle.desk_storage.specs.declared.fault.StorageFault.{StorageFault}
 use Rattle.desk_calls.specs.Faults.{closes}
 use Rattle.desk_calls.specs.State.{DeskState}
 use Rattle.desk_calls.specs.declared.fault.DeskFault.{DeskFault}
 use Rattle.desk_calls.specs.declared.fault.DeskFault.TheVariants as deskfault
-use Rattle.desk_http.specs.Serving.{IsAnswer}
+use Rattle.desk_http.specs.Serving.{Breaks, Serves}
 use Rattle.desk_http.specs.declared.serving.Cause.{Cause}
 use Rattle.desk_http.specs.declared.serving.Cause.TheVariants as cause
 use Rattle.desk_http.specs.declared.serving.IoFault.{IoFault}
@@ -32,27 +30,36 @@ fault_after (Ok served) is_closed = fault_of served.cause
 fault_after (Err why) is_closed = if_closes deskfault.Reopen is_closed
 
 module _ {S C : Type 0} (v : Sight S C) (may_meet : StorageFault → Type 0) where
-  -- the desk's answer to a call with 1616 random bytes, which are enough for any
-  pub record AnswersOne (old new : DeskState S) : Type 0 where
-    pub call : Call
-    pub random : length call.random ≡ 1616
-    pub result : Result Reply DeskFault
-    pub answer : IsAnswer v may_meet call old new result
+  -- how a connection was served, or that it failed; the call had some moment and 1616 random bytes, which are enough for any.
+  -- A socket does not tell its bytes, so what they spell is not known
+  pub record ServesClient (old new : DeskState S) (served : Result Served IoFault) : Type 0 where
+    pub at : ℕ
+    pub random : List ℕ
+    pub enough : length random ≡ 1616
+    pub does :
+        MatchResult served (Serves v may_meet at random new.policy.base None None None old new) (Breaks v may_meet at random None None None old new)
 
-  -- one connection does nothing to the desk, or what its answer to one call does
-  abbrev pub ServesOne : DeskState S → DeskState S → Type 0
-  ServesOne old new = (new ≡ old) ⊎ AnswersOne old new
+  -- one connection, and the fault by which the desk is closed after it, if it is
+  abbrev pub ServesOne : Option DeskFault → DeskState S → DeskState S → Type 0
+  ServesOne why old new = (served : Result Served IoFault) × ServesClient old new served × (fault_after served new.is_closed ≡ why)
 
-  -- so many connections, one after the other
+  -- so many connections, one after the other, none of which closed the desk
   abbrev pub ServesMany : ℕ → DeskState S → DeskState S → Type 0
   ServesMany zero old new = new ≡ old
-  ServesMany (suc n) old new = (mid : DeskState S) × ServesMany n old mid × ServesOne mid new
+  ServesMany (suc n) old new = (mid : DeskState S) × ServesMany n old mid × ServesOne None mid new
 
-  -- no more connections than this
-  pub record ServesAtMost (most : ℕ) (old new : DeskState S) : Type 0 where
-    pub count : ℕ
-    pub within : count ≤ most
-    pub served : ServesMany count old new
+  -- all connections; or fewer, and then the one by whose fault the desk is closed, or a failure of the machine
+  abbrev pub ServesAll : ℕ → DeskState S → DeskState S → Result Unit ServeFault → Type 0
+  ServesAll most old new (Ok done) = ServesMany most old new
+  ServesAll most old new (Err (servefault.Desk why)) =
+      (n : ℕ) × (n < most) × (mid : DeskState S) × ServesMany n old mid × ServesOne (Some why) mid new
+  ServesAll most old new (Err machine) = (n : ℕ) × (n < most) × ServesMany n old new
+
+  -- one connection of them
+  abbrev pub ServesNext : DeskState S → DeskState S → Result Unit ServeFault → Type 0
+  ServesNext old new (Ok done) = ServesOne None old new
+  ServesNext old new (Err (servefault.Desk why)) = ServesOne (Some why) old new
+  ServesNext old new (Err machine) = new ≡ old
 
 -- the desk is closed by a fault that closes
 pub record IsClosedBy {S : Type 0} (why : DeskFault) (desk : DeskState S) : Type 0 where

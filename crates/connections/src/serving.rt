@@ -1,7 +1,7 @@
 //! Clients, one after the other.
 ghost use Rattle.std.specs.Prelude.{◌≡◌, false, IfErr, unwrap_or};
 ghost use Rattle.connections.specs.declared.fault.ServeFault.TheVariants as fault;
-ghost use Rattle.connections.specs.InTurn.{Ends, ServesAtMost, ServesOne, fault_after};
+ghost use Rattle.connections.specs.InTurn.{Ends, ServesAll, ServesNext, fault_after};
 ghost use Rattle.connections.specs.SeenInTurn.{IsSeenOn};
 
 use crate::client::{Patient, end};
@@ -55,7 +55,7 @@ pub fn serve_all<M: Clock + RandomSource, K: Storage + Drop, E: Write>(
     errors: &mut E,
 ) -> Result<(), ServeFault>
     ensures policy { desk.new.policy ≡ desk.old.policy }
-    ensures served { ServesAtMost K.Storage.sight K.Storage.may_meet (unwrap_or count 18446744073709551615) desk.old desk.new }
+    ensures served { ServesAll K.Storage.sight K.Storage.may_meet (unwrap_or count 18446744073709551615) desk.old desk.new result }
     ensures seen { IsSeenOn K.Storage.sight desk.old desk.new }
     ensures ends { desk.old.is_closed ≡ false → Ends result desk.new }
 {
@@ -64,7 +64,10 @@ pub fn serve_all<M: Clock + RandomSource, K: Storage + Drop, E: Write>(
         let Ok((stream, _)) = listener.accept() else {
             return Err(ServeFault::Accept);
         };
-        serve_client(alloc, machine, &stream, desk, errors)?;
+        match serve_client(alloc, machine, &stream, desk, errors) {
+            Ok(()) => {}
+            Err(fault) => return Err(fault),
+        }
     }
     Ok(())
 }
@@ -78,7 +81,7 @@ fn serve_client<M: Clock + RandomSource, K: Storage + Drop, E: Write>(
     errors: &mut E,
 ) -> Result<(), ServeFault>
     ensures policy { desk.new.policy ≡ desk.old.policy }
-    ensures served { ServesOne K.Storage.sight K.Storage.may_meet desk.old desk.new }
+    ensures served { ServesNext K.Storage.sight K.Storage.may_meet desk.old desk.new result }
     ensures ends { desk.old.is_closed ≡ false → Ends result desk.new }
 {
     let at = moment(machine)?;

@@ -39,6 +39,10 @@ pub record IsTooLarge (input : List ℕ) : Type 0 where
 abbrev pub Adds : Option (List ℕ) → Option (List ℕ) → List ℕ → List ℕ → Type 0
 Adds known left before after = (bytes : List ℕ) × (after ≡ before ++ bytes) × Consumes known left bytes
 
+-- no more bytes than this were read
+abbrev pub TakesAtMost : Option (List ℕ) → Option (List ℕ) → ℕ → Type 0
+TakesAtMost known left most = (bytes : List ℕ) × Consumes known left bytes × (length bytes ≤ most)
+
 -- what the bytes that were read say of the head, and how the reader stands then
 abbrev pub HeadSays : List ℕ → List HeaderSpan → Option (List ℕ) → HeadRead → Type 0
 HeadSays bytes headers left (read.Complete spans) = IsRequestWithin bytes headers spans × IsRequestOf bytes headers spans

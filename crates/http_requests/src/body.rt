@@ -1,5 +1,6 @@
 //! The body of a request, and what it asks.
 ghost use Rattle.std.specs.Prelude.{◌≡◌, ◌≤◌, ◌++◌, ℕ, List, Option, Some, IfOk, IfSome, option_map, length, take};
+ghost use Rattle.http_requests.specs.Head.{TakesAtMost};
 ghost use Rattle.http_requests.specs.Heard.{IsAnswerTo, IsBody};
 
 use crate::head::{ReadFailed, fill_from};
@@ -16,7 +17,8 @@ pub(crate) fn read_body<R: Read>(
     begun: &[u8],
     count: usize,
 ) -> Result<Result<Option<Vec<u8>>, AllocError>, ReadFailed>
-    ensures { IfOk result (λ r. IfOk r (λ o. IfSome (R.remaining reader.old) (λ left. IsBody (begun.now ++ left) count (option_map (λ v. v.items) o)))) }
+    ensures body { IfOk result (λ r. IfOk r (λ o. IfSome (R.remaining reader.old) (λ left. IsBody (begun.now ++ left) count (option_map (λ v. v.items) o)))) }
+    ensures taken { TakesAtMost (R.remaining reader.old) (R.remaining reader.new) count }
 {
     if count <= begun.len() {
         return Ok(whole(alloc, &begun[..count]));

@@ -4,6 +4,7 @@ ghost use Rattle.httparse.specs.Grammar.{IsToken};
 ghost use Rattle.httparse.specs.Spans.{IsHeaderWithin, IsRequestWithin, header_bytes, span_bytes};
 ghost use Rattle.requests.specs.Request.{refused_request};
 ghost use Rattle.http_requests.specs.Spelled.{IsRequestWith, manner_by};
+ghost use Rattle.http_requests.specs.Head.{TakesAtMost};
 ghost use Rattle.http_requests.specs.Heard.{Hears, IsRequestAt};
 
 use crate::body::{answer_to, read_body};
@@ -33,13 +34,15 @@ pub struct Heard {
 }
 
 /// Reads a request: its head, of 16384 bytes and 64 fields at most, and as much of what follows as the head says
-/// (RFC 9112, 2 to 6).
+/// (RFC 9112, 2 to 6). That is 131072 bytes at most. Each read takes one byte at least but the last, and one that a signal
+/// broke is made again.
 ///
 /// # Errors
 ///
 /// Where the reader fails.
 pub fn read_call<R: Read>(alloc: Global, reader: &mut R) -> Result<Heard, ReadFailed>
-    ensures { IfOk result (λ heard. IfSome (R.remaining reader.old) (λ input. Hears input heard)) }
+    ensures heard { IfOk result (λ heard. IfSome (R.remaining reader.old) (λ input. Hears input heard)) }
+    ensures taken { TakesAtMost (R.remaining reader.old) (R.remaining reader.new) 147456 }
 {
     let mut buffer = [0u8; 16384];
     let mut headers = [EMPTY_HEADER_SPAN; 64];
@@ -65,6 +68,7 @@ fn read_headed<R: Read>(
     requires path { IsUtf8 (span_bytes bytes.now spans.path) }
     ensures manner { IfOk result (λ heard. heard.manner ≡ manner_by (span_bytes bytes.now spans.method) (span_bytes bytes.now spans.path)) }
     ensures request { IfOk result (λ heard. IfOk heard.request (λ q. IfSome (R.remaining reader.old) (λ left. IsRequestAt bytes.now headers.now spans left q))) }
+    ensures taken { TakesAtMost (R.remaining reader.old) (R.remaining reader.new) 131072 }
 {
     let request = read_behind(alloc, reader, bytes, headers, spans)?;
     let path = path_of(spans.path.of(bytes));
@@ -109,7 +113,8 @@ fn read_behind<R: Read>(
     requires within { IsRequestWithin bytes.now headers.now spans }
     requires method { IsToken (span_bytes bytes.now spans.method) }
     requires path { IsUtf8 (span_bytes bytes.now spans.path) }
-    ensures { IfOk result (λ r. IfOk r (λ q. IfSome (R.remaining reader.old) (λ left. IsRequestAt bytes.now headers.now spans left q))) }
+    ensures request { IfOk result (λ r. IfOk r (λ q. IfSome (R.remaining reader.old) (λ left. IsRequestAt bytes.now headers.now spans left q))) }
+    ensures taken { TakesAtMost (R.remaining reader.old) (R.remaining reader.new) 131072 }
 {
     let path = path_of(spans.path.of(bytes));
     let method = match method_of(alloc, spans.method.of(bytes)) {
@@ -154,7 +159,8 @@ fn read_with<R: Read>(
     begun: &[u8],
 ) -> Result<Result<Request, AllocError>, ReadFailed>
     requires { All (IsHeaderWithin (length buffer.now)) headers.now }
-    ensures { IfOk result (λ r. IfOk r (λ q. IfSome (R.remaining reader.old) (λ left. IsRequestWith method.now path.now (map (header_bytes buffer.now) headers.now) (begun.now ++ left) q))) }
+    ensures request { IfOk result (λ r. IfOk r (λ q. IfSome (R.remaining reader.old) (λ left. IsRequestWith method.now path.now (map (header_bytes buffer.now) headers.now) (begun.now ++ left) q))) }
+    ensures taken { TakesAtMost (R.remaining reader.old) (R.remaining reader.new) 131072 }
 {
     let plan = match plan_for(alloc, method, path, buffer, headers) {
         Ok(plan) => plan,

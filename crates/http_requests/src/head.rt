@@ -1,7 +1,7 @@
 //! The head of a request, read into a buffer of fixed size.
-ghost use Rattle.std.specs.Prelude.{◌≡◌, ◌+◌, ◌<◌, ◌≤◌, ℕ, List, IfOk, length, take, drop};
-ghost use Rattle.std.specs.Io.KnownBytes.{Consumes, IsAtEnd};
-ghost use Rattle.http_requests.specs.Head.{Adds, HeadSays};
+ghost use Rattle.std.specs.Prelude.{◌≡◌, ◌+◌, ◌-◌, ◌<◌, ◌≤◌, ℕ, List, IfOk, OnErr, length, take, drop};
+ghost use Rattle.std.specs.Io.KnownBytes.{Consumes, IsAtEnd, Keeps};
+ghost use Rattle.http_requests.specs.Head.{Adds, HeadSays, TakesAtMost};
 
 use httparse::Status;
 use httparse::spans::{HeaderSpan, RequestSpans, parse_request};
@@ -37,6 +37,7 @@ fn read_some<R: Read>(reader: &mut R, free: &mut [u8]) -> Result<usize, ReadFail
     ensures within { IfOk result (λ n. n ≤ length free.new) }
     ensures bytes { IfOk result (λ n. Consumes (R.remaining reader.old) (R.remaining reader.new) (take n free.new)) }
     ensures end { IfOk result (λ n. n ≡ 0 → 0 < length free.old → IsAtEnd (R.remaining reader.new)) }
+    ensures kept { OnErr result (Keeps (R.remaining reader.old) (R.remaining reader.new)) }
 {
     'again: for _ in 0..u64::MAX {
         match reader.read(free) {
@@ -58,6 +59,7 @@ fn fill<R: Read>(reader: &mut R, buffer: &mut [u8], filled: usize) -> Result<usi
     ensures front { IfOk result (λ n. take filled buffer.new ≡ take filled buffer.old) }
     ensures bytes { IfOk result (λ n. Consumes (R.remaining reader.old) (R.remaining reader.new) (take n (drop filled buffer.new))) }
     ensures end { IfOk result (λ n. n ≡ 0 → IsAtEnd (R.remaining reader.new)) }
+    ensures kept { OnErr result (Keeps (R.remaining reader.old) (R.remaining reader.new)) }
 {
     let free = &mut buffer[filled..];
     match read_some(reader, free) {
@@ -76,6 +78,7 @@ pub(crate) fn fill_from<R: Read>(
     ensures within { IfOk result (λ n. n ≤ length buffer.new) }
     ensures read { IfOk result (λ n. Adds (R.remaining reader.old) (R.remaining reader.new) (take start buffer.old) (take n buffer.new)) }
     ensures end { IfOk result (λ n. n < length buffer.new → IsAtEnd (R.remaining reader.new)) }
+    ensures failed { OnErr result (TakesAtMost (R.remaining reader.old) (R.remaining reader.new) (length buffer.old - start)) }
 {
     let mut filled = start;
     'more: while filled < buffer.len() {
@@ -99,6 +102,7 @@ pub(crate) fn read_head<R: Read>(
     ensures within { IfOk result (λ r. r.1 ≤ length buffer.new) }
     ensures says { IfOk result (λ r. HeadSays (take r.1 buffer.new) headers.new (R.remaining reader.new) r.0) }
     ensures bytes { IfOk result (λ r. Consumes (R.remaining reader.old) (R.remaining reader.new) (take r.1 buffer.new)) }
+    ensures failed { OnErr result (TakesAtMost (R.remaining reader.old) (R.remaining reader.new) 16384) }
 {
     let mut filled = 0;
     'more: while filled < buffer.len() {

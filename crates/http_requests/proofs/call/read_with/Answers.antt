@@ -3,11 +3,20 @@ use Rattle.httparse.specs.Spans.{header_bytes}
 use Rattle.http_requests.specs.Heard.{IsPlan}
 use Rattle.http_requests.specs.declared.plan.Plan.TheVariants as plan
 use Rattle.http_requests.proofs.Asked.{request_behind}
+use Rattle.http_requests.proofs.Bytes.{takes_within}
+use Rattle.http_requests.proofs.Limits.{body_within}
 use Rattle.http_requests.proofs.call.read_with.Goals as goal
 
-pub returns-in-Ok-2 : goal.returns-in-Ok-2
-returns-in-Ok-2 g c =
+pub returns-in-Ok-2-clause-request : goal.returns-in-Ok-2-clause-request
+returns-in-Ok-2-clause-request g c =
     let p : IsPlan c.args.method.now c.args.path.now (map (header_bytes c.args.buffer.now) c.args.headers.now) (plan.Takes c.in-Takes.resource c.in-Takes.count) =
     rw c.in-Takes.is at c.in-Ok.ensures in
     request_behind (g.R.Read.remaining c.args.reader.now) c.args.method.now c.args.path.now (map (header_bytes c.args.buffer.now) c.args.headers.now) c.args.begun.now
-    c.in-Takes.resource c.in-Takes.count _ c.answer_to.result p.0 p.1 (rw c.in-Ok-2.is at c.in_ok-body-in-Takes.ensures) (rw c.has_index.ensures at c.answer_to.ensures)
+    c.in-Takes.resource c.in-Takes.count _ c.answer_to.result p.0 p.1 (rw c.in-Ok-2.is at c.in_ok-body-in-Takes.ensures.body) (rw c.has_index.ensures at c.answer_to.ensures)
+
+pub returns-in-Ok-2-clause-taken : goal.returns-in-Ok-2-clause-taken
+returns-in-Ok-2-clause-taken g c =
+    let fields = map (header_bytes c.args.buffer.now) c.args.headers.now in
+    let p : IsPlan c.args.method.now c.args.path.now fields (plan.Takes c.in-Takes.resource c.in-Takes.count) = rw c.in-Takes.is at c.in-Ok.ensures in
+    takes_within (g.R.Read.remaining c.args.reader.now) (g.R.Read.remaining c.read_body.new.reader) c.in-Takes.count 131072
+    (body_within c.in-Takes.resource fields c.in-Takes.count p.1) c.read_body.ensures.taken

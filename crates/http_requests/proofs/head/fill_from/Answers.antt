@@ -1,5 +1,7 @@
-use Rattle.std.proofs.Common.{arith, take, rules}
-use Rattle.http_requests.proofs.Bytes.{adds_more, adds_none}
+use Rattle.std.proofs.Common.{◌-◌, arith, take, length, rules}
+use Rattle.std.proofs.lemmas.List.{length-take}
+use Rattle.http_requests.specs.Head.{TakesAtMost}
+use Rattle.http_requests.proofs.Bytes.{adds_more, adds_none, takes_added, where_failed}
 use Rattle.http_requests.proofs.head.fill_from.Goals as goal
 
 pub more-init : goal.more-init
@@ -11,3 +13,13 @@ more-preserved g c = (
   omega arith,
   adds_more _ _ _ _ c.more.filled c.in_ok-count.count _ _ c.more.invariant.2 c.in_ok-count.ensures.bytes c.in_ok-count.ensures.front,
 )
+
+pub returns-in_err-count-clause-failed : goal.returns-in_err-count-clause-failed
+returns-in_err-count-clause-failed g c =
+    let known = g.R.Read.remaining c.args.reader.now in
+    let left = g.R.Read.remaining c.fill.new.reader in
+    let most = length c.args.buffer.now - c.args.start in
+    let taken : TakesAtMost known left most =
+    takes_added known (g.R.Read.remaining c.more.reader) left (take c.args.start c.args.buffer.now) c.more.buffer c.more.filled most
+    (omega (arith, length-take c.args.start c.args.buffer.now)) c.more.invariant.2 c.in_err-count.ensures.kept in
+    where_failed c.from_residual.result (TakesAtMost known left most) taken
