@@ -1,7 +1,8 @@
 -- Rows that an entry moves.
 use Rattle.std.proofs.Common.{◌≡◌, ℕ, Bool, true, false, cond, List, [], ◌∷◌, ◌++◌, map, filter, Option, Some, None, refl, sym, ap, ◌∙◌, append_assoc}
 use Rattle.std.proofs.lemmas.List.{map-append}
-use Rattle.std.specs.Prelude.{◌==◌, ◌&&◌, ◌||◌}
+use Rattle.std.specs.Prelude.{◌==◌, ◌&&◌, ◌||◌, find, is_some}
+use Rattle.std.specs.List.{list_any}
 use Rattle.std.specs.Option.{option_map}
 use Rattle.desk_model.specs.Lookup.{holds}
 use Rattle.desk_model.specs.Derived.{authorization_numbered, numbers_of}
@@ -15,6 +16,15 @@ use Rattle.desk_model.specs.declared.status.AuthzStatus.{AuthzStatus}
 use Rattle.desk_laws.proofs.Local.{moved_number}
 use Rattle.desk_changes.specs.Moved.{standing_rows, rows_after, moved_one, stated_order}
 use Rattle.swept_rows.proofs.SweptRows.{swept_authorization-status, swept_order-status, find-moved}
+
+-- one is found exactly where there is one
+pub found-any : {X : Type 0} (p : X → Bool) (xs : List X) → is_some (find p xs) ≡ list_any p xs
+found-any p [] = refl
+found-any {X} p (x ∷ xs) = by (p x) (found-any p xs)
+  where
+    by : (b : Bool) → is_some (find p xs) ≡ list_any p xs → is_some (cond b (Some x) (find p xs)) ≡ (b || list_any p xs)
+    by true rest = refl
+    by false rest = rest
 
 -- one row after the other
 pub moved_rows-one : {X : Type 0} (touched : X → Bool) (differs : X → X → Bool) (move : X → X) (x : X) (xs : List X) →
@@ -74,15 +84,9 @@ touches_standing e m rows row =
 pub moved_one-untouched : {X : Type 0} (touched : X → Bool) (differs : X → X → Bool) (move : X → X) (x : X) → touched x ≡ false → moved_one touched differs move x ≡ []
 moved_one-untouched touched differs move x none = ap (λ b. cond (b && differs x (move x)) (move x ∷ []) []) none
 
--- nor is what would be the same
-pub moved_one-same : {X : Type 0} (touched : X → Bool) (differs : X → X → Bool) (move : X → X) (x : X) → touched x ≡ true → differs x (move x) ≡ false → moved_one touched differs move x ≡ []
-moved_one-same touched differs move x is same =
-    ap (λ b. cond (b && differs x (move x)) (move x ∷ []) []) is ∙ ap (λ b. cond b (move x ∷ []) []) same
-
--- what is touched and differs is
-pub moved_one-moved : {X : Type 0} (touched : X → Bool) (differs : X → X → Bool) (move : X → X) (x : X) → touched x ≡ true → differs x (move x) ≡ true → moved_one touched differs move x ≡ move x ∷ []
-moved_one-moved touched differs move x is other =
-    ap (λ b. cond (b && differs x (move x)) (move x ∷ []) []) is ∙ ap (λ b. cond b (move x ∷ []) []) other
+-- what is touched is, where it differs
+pub moved_one-touched : {X : Type 0} (touched : X → Bool) (differs : X → X → Bool) (move : X → X) (x : X) → touched x ≡ true → moved_one touched differs move x ≡ moved_one (λ _. true) differs move x
+moved_one-touched touched differs move x is = ap (λ b. cond (b && differs x (move x)) (move x ∷ []) []) is
 
 -- a pass over rows, by one more of them
 pub puts-step : {X C : Type 0} (F : X → C) (touched : X → Bool) (differs : X → X → Bool) (move : X → X) (x : X) (xs : List X) (before after whole : List C) →

@@ -1,5 +1,5 @@
 //! Rows as an entry leaves them, and the changes that this makes.
-ghost use Rattle.std.specs.Prelude.{◌≡◌, ◌++◌, map, option_map, IfOk, OnOk};
+ghost use Rattle.std.specs.Prelude.{◌≡◌, ◌++◌, true, map, option_map, IfOk, OnOk};
 ghost use Rattle.desk_model.specs.Derived.{authorization_numbered, numbers_of, restated_order, stored_statuses};
 ghost use Rattle.desk_model.specs.Effect.{swept_authorization, swept_order, moved_account, moved_authorization, moved_order, noted_account, touches_account, touches_authorization, touches_order};
 ghost use Rattle.desk_model.specs.Change.{account_differs, authorization_differs, order_differs, moved_rows};
@@ -240,12 +240,30 @@ pub(crate) fn order_after(
 ) -> Result<OrderRow, AllocError>
     ensures { IfOk result (λ r. r ≡ moved_order entry.now moment (standing_rows moment book.now.authorizations) (rows_after entry.now moment book.now.authorizations) (swept_order moment book.now.authorizations row.now)) }
 {
-    let standing = standing_order(book, moment, row)?;
     if !touches_order(entry, book, row) {
-        return Ok(standing);
+        return standing_order(book, moment, row);
     }
+    let standing = standing_order(book, moment, row)?;
     let stated = stated_order(alloc, book, entry, moment, &standing)?;
     Ok(stated)
+}
+
+fn put_stated_order(
+    changes: &mut Vec<Change>,
+    alloc: Global,
+    book: &Book,
+    entry: &Entry,
+    moment: u64,
+    standing: &OrderRow,
+) -> Result<(), AllocError>
+    ensures { OnOk result (changes.new.items ≡ changes.old.items
+        ++ map PutOrder (moved_one (λ _. true) order_differs (stated_order entry.now moment book.now.authorizations) standing.now)) }
+{
+    let next = stated_order(alloc, book, entry, moment, standing)?;
+    if order_differs(standing, &next) {
+        changes.push(Change::PutOrder(next))?;
+    }
+    Ok(())
 }
 
 fn put_order(
@@ -263,11 +281,7 @@ fn put_order(
         return Ok(());
     }
     let standing = standing_order(book, moment, row)?;
-    let next = stated_order(alloc, book, entry, moment, &standing)?;
-    if !order_differs(&standing, &next) {
-        return Ok(());
-    }
-    changes.push(Change::PutOrder(next))?;
+    put_stated_order(changes, alloc, book, entry, moment, &standing)?;
     Ok(())
 }
 

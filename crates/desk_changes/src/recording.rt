@@ -42,12 +42,21 @@ impl Recording {
         Ok(Recording { changes, meta })
     }
 
+    /// Records the meta row as it is now.
+    fn push_meta(&mut self) -> Result<(), AllocError>
+        ensures changes { OnOk result (self.new.changes.items ≡ self.old.changes.items ++ PutMeta self.old.meta ∷ []) }
+        ensures meta { OnOk result (self.new.meta ≡ self.old.meta) }
+    {
+        self.changes.push(Change::PutMeta(self.meta.clone()?))?;
+        Ok(())
+    }
+
     /// Records the meta row as it is now, and a change.
     fn push(&mut self, change: Change) -> Result<(), AllocError>
         ensures changes { OnOk result (self.new.changes.items ≡ self.old.changes.items ++ PutMeta self.old.meta ∷ change ∷ []) }
         ensures meta { OnOk result (self.new.meta ≡ self.old.meta) }
     {
-        self.changes.push(Change::PutMeta(self.meta.clone()?))?;
+        self.push_meta()?;
         self.changes.push(change)?;
         Ok(())
     }
@@ -142,7 +151,7 @@ impl Recording {
         ensures meta { OnOk result (self.new.meta ≡ self.old.meta) }
     {
         let moment = self.meta.clock.moment();
-        self.changes.push(Change::PutMeta(self.meta.clone()?))?;
+        self.push_meta()?;
         put_accounts(&mut self.changes, book, entry, moment)?;
         put_authorizations(&mut self.changes, alloc, book, entry, moment)?;
         put_orders(&mut self.changes, alloc, book, entry, moment)
@@ -185,19 +194,46 @@ impl Recording {
         ensures meta { OnOk result (self.new.meta ≡ ordered_meta self.old.meta account wanted.now) }
         ensures order { IfOk result (λ o. o ≡ next_order self.old.meta account wanted.now) }
     {
+        let rows = self.make_rows(alloc, account, wanted)?;
+        let order = self.next_order(alloc, account, &rows)?;
+        self.meta.orders += 1;
+        self.push_made(rows, &order)?;
+        Ok(order)
+    }
+
+    /// The authorizations of the next order, which are counted.
+    fn make_rows(
+        &mut self,
+        alloc: Global,
+        account: u64,
+        wanted: &[Wanted],
+    ) -> Result<Vec<AuthorizationRow>, AllocError>
+        requires authorizations { self.old.meta.authorizations + length wanted.now ≤ 2 ^ 62 }
+        requires challenges { self.old.meta.challenges + count_tokens wanted.now ≤ 2 ^ 62 }
+        ensures rows { IfOk result (λ v. v.items ≡ next_rows self.old.meta account wanted.now) }
+        ensures meta { OnOk result (self.new.meta ≡ record (ordered_meta self.old.meta account wanted.now) { orders = self.old.meta.orders }) }
+        ensures changes { OnOk result (self.new.changes.items ≡ self.old.changes.items) }
+    {
         let mut rows = Vec::new(alloc);
         let making = self.next_making(account);
         let number = self.meta.authorizations + 1;
         let challenge = self.meta.challenges + 1;
         let next = push_authorizations(alloc, &mut rows, making, wanted, number, challenge)?;
-        let order = self.next_order(alloc, account, &rows)?;
-        self.meta.orders += 1;
         self.meta.authorizations += rows.len() as u64;
         self.meta.challenges = next - 1;
-        self.changes.push(Change::PutMeta(self.meta.clone()?))?;
+        Ok(rows)
+    }
+
+    /// Records the meta row as it is now, and the rows of a new order.
+    fn push_made(&mut self, rows: Vec<AuthorizationRow>, order: &OrderRow) -> Result<(), AllocError>
+        ensures changes { OnOk result (self.new.changes.items ≡ self.old.changes.items
+            ++ PutMeta self.old.meta ∷ (map PutAuthorization rows.items ++ PutOrder order.now ∷ [])) }
+        ensures meta { OnOk result (self.new.meta ≡ self.old.meta) }
+    {
+        self.push_meta()?;
         put_made(&mut self.changes, rows)?;
         self.changes.push(Change::PutOrder(order.clone()?))?;
-        Ok(order)
+        Ok(())
     }
 
     /// What the authorizations of the next order have in common.
@@ -222,6 +258,7 @@ impl Recording {
         ensures { IfOk result (λ o. (n : ℕ) → Ascends (λ r. r.number) n rows.now → o ≡ restated_order self.now.meta.clock rows.now (bare_order self.now.meta account rows.now)) }
     {
         let moment = self.meta.clock.moment();
+        let statuses = statuses_of(alloc, rows)?;
         let mut listed = Vec::new(alloc);
         push_places(&mut listed, rows, 1)?;
         let mut row = OrderRow {
@@ -235,7 +272,6 @@ impl Recording {
             failed: None,
             status: OrderStatus::Pending,
         };
-        let statuses = statuses_of(alloc, rows)?;
         row.status = derived_order(moment, &row, &statuses);
         Ok(row)
     }

@@ -7,6 +7,7 @@ ghost use Rattle.desk_model.specs.Effect.{has_row, names_order, lists_one, touch
 
 use desk_book::Book;
 use desk_model::{AccountRow, AuthorizationRow, Entry, Listed, OrderRow};
+use swept_rows::challenge_of;
 
 /// Whether an entry touches an account.
 pub(crate) fn touches_account(entry: &Entry, row: &AccountRow) -> bool
@@ -23,10 +24,10 @@ pub(crate) fn touches_account(entry: &Entry, row: &AccountRow) -> bool
 pub(crate) fn has_challenge(row: &AuthorizationRow, challenge: u64) -> bool
     ensures { result ≡ has_row challenge row.now }
 {
-    row.challenges
-        .as_slice()
-        .iter()
-        .any(|row| challenge == row.number)
+    match challenge_of(row, challenge) {
+        Some(_) => true,
+        None => false,
+    }
 }
 
 /// Whether an entry touches an authorization.

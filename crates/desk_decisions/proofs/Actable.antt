@@ -1,5 +1,5 @@
 -- A verdict shows what its entry made, or one object that it moved.
-use Rattle.std.proofs.Common.{ℕ, length, List, [], ◌∷◌, Bool, true, false, not, Option, Some, None, Result, Ok, Err, refl}
+use Rattle.std.proofs.Common.{ℕ, length, List, [], ◌∷◌, Bool, not, Option, Some, None, Result, Ok, Err, refl}
 use Rattle.std.specs.Prelude.{nat_le}
 use Rattle.desk_model.specs.declared.refusal.Refusal.{Refusal}
 use Rattle.desk_model.specs.declared.refusal.Refusal.TheVariants as refusal

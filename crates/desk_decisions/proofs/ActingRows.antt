@@ -1,5 +1,5 @@
 -- What a verdict's entry makes, as the reply shows it.
-use Rattle.std.proofs.Common.{◌≡◌, ℕ, ◌+◌, ◌<◌, ◌≤◌, List, [], ◌∷◌, ◌++◌, map, Option, Some, None, true, false, refl, sym, ap, subst, ◌∙◌, arith, cond}
+use Rattle.std.proofs.Common.{◌≡◌, ℕ, ◌+◌, ◌<◌, ◌≤◌, List, [], ◌∷◌, ◌++◌, map, Some, None, true, false, refl, sym, ap, ◌∙◌, arith, cond}
 use Rattle.std.specs.Prelude.{◌==◌, find}
 use Rattle.std.specs.Option.{option_map}
 use Rattle.std.proofs.lemmas.Bool.{eq-eqb}
@@ -19,7 +19,6 @@ use Rattle.desk_model.specs.declared.rows.AccountRow.{AccountRow}
 use Rattle.desk_model.specs.declared.rows.AuthorizationRow.{AuthorizationRow}
 use Rattle.desk_model.specs.declared.rows.Meta.{Meta}
 use Rattle.desk_model.specs.declared.rows.OrderRow.{OrderRow}
-use Rattle.desk_model.specs.declared.verdict.Shows.{Shows}
 use Rattle.desk_model.specs.declared.verdict.Shows.TheVariants as show
 use Rattle.desk_model.specs.declared.verdict.Verdict.{Verdict}
 use Rattle.desk_model.specs.declared.verdict.Verdict.TheVariants.{Refused as refused, Accepted as accepted}
@@ -28,10 +27,9 @@ use Rattle.desk_laws.specs.LegalLaws.{last_end}
 use Rattle.desk_laws.proofs.Chain.{account_number, order_number}
 use Rattle.desk_laws.proofs.Local.{swept_order_number}
 use Rattle.desk_laws.proofs.RowLists.{ascends_above, ascends_found, none_below}
-use Rattle.desk_changes.specs.Acting.{IsActable, IsAt, IsShownWith, MakesNone, is_recording}
+use Rattle.desk_changes.specs.Acting.{IsActable, IsAt, is_recording}
 use Rattle.desk_decisions.specs.HasTexts.{HasTexts}
 use Rattle.desk_changes.specs.Made.{made_rows, next_account, next_order, next_rows}
-use Rattle.desk_rules.specs.Needs.{NumbersLeft}
 use Rattle.desk_changes.specs.Recorded.{recorded_changes}
 use Rattle.desk_model.specs.Change.{all_changes, sweep_changes}
 use Rattle.desk_model.specs.Decide.{entries_of}
@@ -40,18 +38,7 @@ use Rattle.desk_changes.proofs.Moving.{below_standing, ordered_one}
 use Rattle.desk_decisions.proofs.ShownTexts.{order_text}
 use Rattle.swept_rows.proofs.SweptRows.{find-moved}
 
--- what is shown of rows that move makes none
-pub shown_makes_none : (entry : Option Entry) (what : Shows) → IsShownWith entry what → MakesNone entry
-shown_makes_none None what h = tt
-shown_makes_none (Some e) (show.Account n) h = h
-shown_makes_none (Some e) (show.Order n) h = h
-shown_makes_none (Some e) (show.FinalizedOrder n) h = h
-shown_makes_none (Some e) (show.Authorization n) h = h
-shown_makes_none (Some e) (show.Challenge n) h = h
-shown_makes_none (Some e) (show.ClientChallenge n) h = h
-shown_makes_none (Some e) _ h = absurd h
-
--- what a verdict needs and names does not hang on the count of nonces
+-- what a verdict names does not hang on the count of nonces
 pub actable_at : (m : ℕ) (B : Tables) (M : Meta) (v : Verdict) → IsAt m B M → IsActable B.meta v → IsActable M v
 actable_at m B M (refused n ss) is h = tt
 actable_at m B M (accepted (Some (opened key contacts)) what) is h = h ∙ ap (λ (x : Meta). show.OpenedAccount (x.accounts + 1)) (sym is)
@@ -59,31 +46,13 @@ actable_at m B M (accepted (Some (ordered account wanted)) what) is h = h ∙ ap
 actable_at m B M (accepted None what) is h = h
 actable_at m B M (accepted (Some _) what) is h = h
 
-pub numbers_at : (m : ℕ) (B : Tables) (M : Meta) (v : Verdict) → IsAt m B M → NumbersLeft B.meta v → NumbersLeft M v
-numbers_at m B M v is h = subst (λ x. NumbersLeft x v) (sym is) (still v h)
-  where
-    still : (v : Verdict) → NumbersLeft B.meta v → NumbersLeft (record B.meta { clock = m; nonces = M.nonces }) v
-    still (refused n ss) h = tt
-    still (accepted None what) h = tt
-    still (accepted (Some (opened key contacts)) what) h = h
-    still (accepted (Some (ordered account wanted)) what) h = h
-    still (accepted (Some _) what) h = tt
-
 -- the meta row when a recording has begun
 pub at_begun : (m : ℕ) (B : Tables) (M : Meta) → M ≡ record B.meta { clock = m } → IsAt m B M
 at_begun m B M is = is ∙ (λ i. record B.meta { clock = m; nonces = (sym is i).nonces })
 
 -- and when a nonce was spent and one issued
-pub at_issued : (m : ℕ) (B : Tables) (begun spent issued : Meta) → begun ≡ record B.meta { clock = m } → spent ≡ begun → issued ≡ record spent { nonces = spent.nonces + 1 } → IsAt m B issued
-at_issued m B begun spent issued is same more =
-    by (more ∙ ap (λ (x : Meta). record x { nonces = x.nonces + 1 }) (same ∙ is))
-  where
-    by : issued ≡ record B.meta { clock = m; nonces = B.meta.nonces + 1 } → IsAt m B issued
-    by p = p ∙ (λ i. record B.meta { clock = m; nonces = (sym p i).nonces })
-
--- its moment
-pub clock_at : (m last : ℕ) (B : Tables) (M : Meta) → IsAt m B M → m ≤ last → M.clock ≤ last
-clock_at m last B M is le = subst (λ (x : Meta). x.clock ≤ last) (sym is) le
+pub at_issued : (m : ℕ) (B : Tables) (M : Meta) → M ≡ record B.meta { clock = m; nonces = B.meta.nonces + 1 } → IsAt m B M
+at_issued m B M is = is ∙ (λ i. record B.meta { clock = m; nonces = (sym is i).nonces })
 
 -- ---- an account that is opened
 

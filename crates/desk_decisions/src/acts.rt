@@ -1,11 +1,14 @@
 //! What a verdict records and shows.
 ghost use Rattle.std.specs.Prelude.{◌≡◌, ◌++◌, ◌∷◌, [], ◌<◌, ◌≤◌, ◌+◌, ◌^◌, ℕ, List, length, map, IfOk, OnOk};
+ghost use Rattle.desk_laws.specs.LegalLaws.{last_end};
 ghost use Rattle.desk_laws.specs.Ordered.{IsOrdered};
 ghost use Rattle.desk_model.specs.Decide.{entries_of, listed_entry, verdict_reply};
+ghost use Rattle.desk_model.specs.Document.{listed_rows};
 ghost use Rattle.desk_model.specs.Effect.{effects, swept};
 ghost use Rattle.desk_model.specs.Legal.{wanted_name};
 ghost use Rattle.desk_model.specs.Run.{count_tokens};
-ghost use Rattle.desk_model.specs.Shown.{reply_of};
+ghost use Rattle.desk_model.specs.Shown.{located_order, reply_of};
+ghost use Rattle.desk_model.specs.Tables.{Tables};
 ghost use Rattle.desk_model.specs.declared.entry.Entry.{Entry as EntryOf};
 ghost use Rattle.desk_model.specs.declared.entry.Entry.TheVariants.{Opened as opened, Ordered as ordered};
 ghost use Rattle.desk_model.specs.declared.verdict.Shows.TheVariants as show;
@@ -18,27 +21,29 @@ ghost use Rattle.desk_changes.specs.Recorded.{IsRecorded, IsUntouched};
 use crate::showing::show;
 use desk_book::Book;
 use desk_changes::Recording;
-use desk_model::{DnsName, Entry, Jwk, Reply, Sequence, Shows, Text, Verdict, Wanted};
+use desk_model::{
+    DnsName, Entry, Jwk, OrderRow, Policy, Reply, Sequence, Shows, Text, Verdict, Wanted,
+};
 use desk_replies::{located_account, located_order, refusal_reply};
 use std::alloc::{AllocError, Global};
 
 /// Records an entry that moves rows, if there is one, and shows what the verdict names.
-fn act_on_rows(
+fn shift_and_show(
     alloc: Global,
     book: &Book,
     recording: &mut Recording,
-    entry: Option<Entry>,
+    entry: &Option<Entry>,
     shows: Shows,
 ) -> Result<Reply, AllocError>
-    ensures recorded { OnOk result (MakesNone entry → (m : ℕ) (es : List EntryOf) → IsUntouched m book.now es
+    ensures recorded { OnOk result (MakesNone entry.now → (m : ℕ) (es : List EntryOf) → IsUntouched m book.now es
         → IsRecorded m book.now es recording.old.changes.items recording.old.meta
-        → IsRecorded m book.now (es ++ listed_entry entry) recording.new.changes.items recording.new.meta) }
-    ensures reply { IfOk result (λ r. IsShownWith entry shows → HasTexts (tables_with recording.old.meta.clock book.now entry)
-        → r ≡ reply_of (tables_with recording.old.meta.clock book.now entry) shows) }
+        → IsRecorded m book.now (es ++ listed_entry entry.now) recording.new.changes.items recording.new.meta) }
+    ensures reply { IfOk result (λ r. IsShownWith entry.now shows → HasTexts (tables_with recording.old.meta.clock book.now entry.now)
+        → r ≡ reply_of (tables_with recording.old.meta.clock book.now entry.now) shows) }
 {
     let moment = recording.meta.clock.moment();
-    record_moves(alloc, book, recording, &entry)?;
-    let reply = show(alloc, book, &entry, moment, shows)?;
+    record_moves(alloc, book, recording, entry)?;
+    let reply = show(alloc, book, entry, moment, shows)?;
     Ok(reply)
 }
 
@@ -56,6 +61,23 @@ fn record_moves(
         Some(entry) => recording.shift(alloc, book, entry),
         None => Ok(()),
     }
+}
+
+/// The same of an entry that is owned.
+fn act_on_rows(
+    alloc: Global,
+    book: &Book,
+    recording: &mut Recording,
+    entry: Option<Entry>,
+    shows: Shows,
+) -> Result<Reply, AllocError>
+    ensures recorded { OnOk result (MakesNone entry → (m : ℕ) (es : List EntryOf) → IsUntouched m book.now es
+        → IsRecorded m book.now es recording.old.changes.items recording.old.meta
+        → IsRecorded m book.now (es ++ listed_entry entry) recording.new.changes.items recording.new.meta) }
+    ensures reply { IfOk result (λ r. IsShownWith entry shows → HasTexts (tables_with recording.old.meta.clock book.now entry)
+        → r ≡ reply_of (tables_with recording.old.meta.clock book.now entry) shows) }
+{
+    shift_and_show(alloc, book, recording, &entry, shows)
 }
 
 /// Opens an account, and shows it.
@@ -90,6 +112,21 @@ fn names_of(alloc: Global, wanted: &[Wanted]) -> Result<Vec<DnsName>, AllocError
     Ok(names)
 }
 
+/// The reply with a new order, whose names are those that were wanted.
+fn made_order_reply(
+    alloc: Global,
+    policy: &Policy,
+    row: &OrderRow,
+    wanted: &[Wanted],
+) -> Result<Reply, AllocError>
+    ensures { IfOk result (λ r. (T : Tables) → T.meta.policy ≡ policy.now → map (λ a. a.name) (listed_rows T row.now) ≡ map wanted_name wanted.now
+        → row.now.expires ≤ last_end → r ≡ located_order 201 T row.now) }
+{
+    let names = names_of(alloc, wanted)?;
+    let reply = located_order(alloc, policy, 201, row, &names)?;
+    Ok(reply)
+}
+
 /// Makes an order, and shows it.
 fn act_on_order(
     alloc: Global,
@@ -109,8 +146,7 @@ fn act_on_order(
         → r ≡ reply_of (effects m (swept m book.now) (ordered account wanted.now ∷ [])) (show.MadeOrder (recording.old.meta.orders + 1))) }
 {
     let row = recording.order(alloc, account, wanted)?;
-    let names = names_of(alloc, wanted)?;
-    let reply = located_order(alloc, &book.meta().policy, 201, &row, &names)?;
+    let reply = made_order_reply(alloc, &book.meta().policy, &row, wanted)?;
     Ok(reply)
 }
 

@@ -1,5 +1,5 @@
 //! The decision on a call: what changes in the book, and what is answered.
-ghost use Rattle.std.specs.Prelude.{◌≡◌, ◌↔◌, ◌<◌, ◌≤◌, ◌^◌, ◌++◌, ◌∷◌, [], true, false, length, take, drop, IfOk, IfErr, MatchResult};
+ghost use Rattle.std.specs.Prelude.{◌≡◌, ◌↔◌, ◌<◌, ◌≤◌, ◌+◌, ◌^◌, ◌++◌, ◌∷◌, [], ℕ, List, true, false, length, take, drop, IfOk, IfErr, MatchResult, OnOk};
 ghost use Rattle.desk_model.specs.Decide.{entries_of, nonce_entries, verdict_reply};
 ghost use Rattle.desk_model.specs.Effect.{effects, swept};
 ghost use Rattle.desk_model.specs.Rules.{office_verdict, open_nonce, signed_verdict as verdict_of};
@@ -7,19 +7,21 @@ ghost use Rattle.desk_laws.specs.Ordered.{IsOrdered};
 ghost use Rattle.desk_model.specs.Change.{all_changes, sweep_changes};
 ghost use Rattle.desk_rules.specs.declared.fault.CoreFault.TheVariants.{Memory};
 ghost use Rattle.desk_model.specs.Shown.{fresh_nonce, with_nonce};
-ghost use Rattle.desk_model.specs.declared.entry.Entry.TheVariants.{Issued as issued_entry};
+ghost use Rattle.desk_model.specs.declared.entry.Entry.TheVariants.{Issued as issued_entry, Spent as spent_entry};
+ghost use Rattle.desk_model.specs.declared.entry.Entry.{Entry as EntryOf};
 ghost use Rattle.desk_model.specs.Entry.{History};
 ghost use Rattle.desk_model.specs.Legal.{Legal};
 ghost use Rattle.desk_model.specs.Tables.{picture};
 ghost use Rattle.desk_model.specs.Run.{IsFormedCall, IsFormedSigned};
 ghost use Rattle.desk_model.specs.Texts.{IsTextProblem};
-ghost use Rattle.desk_changes.specs.Acting.{IsActable, is_recording};
+ghost use Rattle.desk_model.specs.Tokens.{nonce_text};
+ghost use Rattle.desk_changes.specs.Acting.{IsActable, IsAt, is_recording};
 ghost use Rattle.desk_decisions.specs.HasTexts.{HasTexts};
 ghost use Rattle.desk_decisions.specs.Decided.{IsDecision, IsFaultOf};
 ghost use Rattle.desk_parts.specs.IsPart.{IsPartFor};
 ghost use Rattle.desk_rules.specs.Needs.{NumbersLeft};
 ghost use Rattle.desk_decisions.specs.Outcomes.{IsAskFault, IsLater, IsPassedFault, IsShort, IsSignedFault, MeetsAsk, MeetsSigned, Passes, Settles};
-ghost use Rattle.desk_changes.specs.Recorded.{recorded_changes};
+ghost use Rattle.desk_changes.specs.Recorded.{IsRecorded, IsUntouched, recorded_changes};
 ghost use Rattle.desk_decisions.specs.Room.{IsIssueFault};
 
 use crate::acts::act;
@@ -40,6 +42,32 @@ pub struct Outcome {
     pub reply: Reply,
 }
 
+/// The random bytes of the nonce that a call issues.
+fn fresh_random(book: &Book, random: &[u8]) -> Result<[u8; 16], CoreFault>
+    ensures { MatchResult result
+        (λ r. (r ≡ take 16 random.now) × (book.now.meta.nonces < 2 ^ 62) × (16 ≤ length random.now))
+        (λ e. IsIssueFault book.now random.now e) }
+{
+    has_room(book.meta().nonces)?;
+    first_random(random)
+}
+
+/// What a call records that issues a nonce and nothing else.
+fn issue(
+    alloc: Global,
+    book: &Book,
+    moment: u64,
+    random: [u8; 16],
+) -> Result<Vec<Change>, AllocError>
+    requires moment { moment ≤ 250000000000 }
+    requires nonces { book.now.meta.nonces < 2 ^ 62 }
+    ensures { IfOk result (λ v. v.items ≡ recorded_changes moment book.now (issued_entry random ∷ [])) }
+{
+    let mut recording = Recording::begin(alloc, book, moment)?;
+    recording.issue(random)?;
+    Ok(recording.changes)
+}
+
 /// Issues a nonce and nothing else, with this reply.
 fn issued(
     alloc: Global,
@@ -54,16 +82,52 @@ fn issued(
     ensures room { IfOk result (λ _. (book.now.meta.nonces < 2 ^ 62) × (16 ≤ length random.now)) }
     ensures fault { IfErr result (λ e. IsIssueFault book.now random.now e) }
 {
+    let bytes = fresh_random(book, random)?;
+    let changes = issue(alloc, book, moment, bytes)?;
     let last = book.meta().nonces;
-    has_room(last)?;
-    let bytes = first_random(random)?;
-    let mut recording = Recording::begin(alloc, book, moment)?;
-    recording.issue(bytes)?;
     let reply = with_nonce(alloc, last + 1, bytes, reply)?;
-    Ok(Outcome {
-        changes: recording.changes,
-        reply,
-    })
+    Ok(Outcome { changes, reply })
+}
+
+/// Begins what a signed request records: its nonce is spent, and one is issued.
+fn begin_signed(
+    alloc: Global,
+    book: &Book,
+    moment: u64,
+    serial: u64,
+    random: [u8; 16],
+) -> Result<Recording, AllocError>
+    requires moment { moment ≤ 250000000000 }
+    requires nonces { book.now.meta.nonces < 2 ^ 62 }
+    ensures recorded { IfOk result (λ r. IsRecorded moment book.now (spent_entry serial ∷ issued_entry random ∷ []) r.changes.items r.meta) }
+    ensures meta { IfOk result (λ r. r.meta ≡ record book.now.meta { clock = moment; nonces = book.now.meta.nonces + 1 }) }
+{
+    let mut recording = Recording::begin(alloc, book, moment)?;
+    recording.spend(serial)?;
+    recording.issue(random)?;
+    Ok(recording)
+}
+
+/// Carries the verdict on a signed request out, and gives the reply with the fresh nonce.
+fn act_with_nonce(
+    alloc: Global,
+    book: &Book,
+    recording: &mut Recording,
+    verdict: Verdict,
+    random: [u8; 16],
+) -> Result<Reply, AllocError>
+    requires nonces { book.now.meta.nonces < 2 ^ 62 }
+    requires numbers { NumbersLeft recording.old.meta verdict }
+    ensures recorded { OnOk result (IsActable recording.old.meta verdict → (m : ℕ) (es : List EntryOf) → IsOrdered book.now → IsUntouched m book.now es
+        → IsRecorded m book.now es recording.old.changes.items recording.old.meta
+        → IsRecorded m book.now (es ++ entries_of verdict) recording.new.changes.items recording.new.meta) }
+    ensures reply { IfOk result (λ r. IsActable recording.old.meta verdict → (m : ℕ) → IsAt m book.now recording.old.meta → IsOrdered book.now
+        → HasTexts (effects m (swept m book.now) (entries_of verdict))
+        → r ≡ with_nonce (nonce_text (book.now.meta.nonces + 1) random) (verdict_reply true (effects m (swept m book.now) (entries_of verdict)) verdict)) }
+{
+    let reply = act(alloc, book, recording, verdict, true)?;
+    let reply = with_nonce(alloc, book.meta().nonces + 1, random, reply)?;
+    Ok(reply)
 }
 
 /// A signed request whose nonce was open: the nonce is spent and a fresh one issued, and the verdict is carried out.
@@ -86,11 +150,8 @@ fn passed(
     ensures fault { IfErr result (λ e. IsShort random.now e) }
 {
     let bytes = first_random(random)?;
-    let mut recording = Recording::begin(alloc, book, moment)?;
-    recording.spend(serial)?;
-    recording.issue(bytes)?;
-    let reply = act(alloc, book, &mut recording, verdict, true)?;
-    let reply = with_nonce(alloc, book.meta().nonces + 1, bytes, reply)?;
+    let mut recording = begin_signed(alloc, book, moment, serial, bytes)?;
+    let reply = act_with_nonce(alloc, book, &mut recording, verdict, bytes)?;
     Ok(Outcome {
         changes: recording.changes,
         reply,

@@ -1,7 +1,7 @@
 //! What a verdict names, shown as its rows stand at a moment and after an entry, if there is one (RFC 8555, 7).
 ghost use Rattle.std.specs.Prelude.{◌≡◌, IfOk};
-ghost use Rattle.desk_model.specs.Questions.{order_on};
-ghost use Rattle.desk_model.specs.Shown.{located_order, reply_of, shown};
+ghost use Rattle.desk_model.specs.Questions.{account_on, order_on};
+ghost use Rattle.desk_model.specs.Shown.{located_account, located_order, reply_of, shown};
 ghost use Rattle.desk_model.specs.declared.verdict.Shows.TheVariants as show;
 ghost use Rattle.desk_changes.specs.Acting.{IsShownWith, MakesNone, tables_with};
 ghost use Rattle.desk_decisions.specs.HasTexts.{HasTexts};
@@ -33,36 +33,20 @@ fn show_account(
     }
 }
 
-fn show_known_account(
+fn show_located_account(
     alloc: Global,
     book: &Book,
     entry: &Option<Entry>,
     moment: u64,
     number: u64,
+    status: u16,
 ) -> Result<Reply, AllocError>
-    ensures { IfOk result (λ r. MakesNone entry.now → r ≡ reply_of (tables_with moment book.now entry.now) (show.KnownAccount number)) }
+    ensures { IfOk result (λ r. MakesNone entry.now
+        → r ≡ shown (located_account status (tables_with moment book.now entry.now)) (account_on (tables_with moment book.now entry.now) number)) }
 {
     match shown_account(book, entry, moment, number)? {
         Some(row) => {
-            let reply = located_account(alloc, &book.meta().policy, 200, &row)?;
-            Ok(reply)
-        }
-        None => Ok(plain(200)),
-    }
-}
-
-fn show_opened_account(
-    alloc: Global,
-    book: &Book,
-    entry: &Option<Entry>,
-    moment: u64,
-    number: u64,
-) -> Result<Reply, AllocError>
-    ensures { IfOk result (λ r. MakesNone entry.now → r ≡ reply_of (tables_with moment book.now entry.now) (show.OpenedAccount number)) }
-{
-    match shown_account(book, entry, moment, number)? {
-        Some(row) => {
-            let reply = located_account(alloc, &book.meta().policy, 201, &row)?;
+            let reply = located_account(alloc, &book.meta().policy, status, &row)?;
             Ok(reply)
         }
         None => Ok(plain(200)),
@@ -211,8 +195,12 @@ pub(crate) fn show(
 {
     match shows {
         Shows::Account(number) => show_account(alloc, book, entry, moment, number),
-        Shows::KnownAccount(number) => show_known_account(alloc, book, entry, moment, number),
-        Shows::OpenedAccount(number) => show_opened_account(alloc, book, entry, moment, number),
+        Shows::KnownAccount(number) => {
+            show_located_account(alloc, book, entry, moment, number, 200)
+        }
+        Shows::OpenedAccount(number) => {
+            show_located_account(alloc, book, entry, moment, number, 201)
+        }
         Shows::Order(number) => show_order(alloc, book, entry, moment, number),
         Shows::MadeOrder(number) => show_located_order(alloc, book, entry, moment, number, 201),
         Shows::FinalizedOrder(number) => {

@@ -1,9 +1,9 @@
-use Rattle.std.proofs.Common.{◌++◌, ◌∷◌, [], map, ap, sym, ◌∙◌, append-nil}
+use Rattle.std.proofs.Common.{◌++◌, true, map, ap, sym, ◌∙◌, append-nil}
 use Rattle.desk_model.specs.Change.{order_differs}
 use Rattle.desk_model.specs.Effect.{swept_order, touches_order}
 use Rattle.desk_model.specs.declared.rows.Change.TheVariants.{PutOrder}
-use Rattle.desk_changes.specs.Moved.{stated_order, standing_rows}
-use Rattle.desk_changes.proofs.MovedRows.{moved_one-untouched, moved_one-same, moved_one-moved, touches_standing}
+use Rattle.desk_changes.specs.Moved.{moved_one, stated_order, standing_rows}
+use Rattle.desk_changes.proofs.MovedRows.{moved_one-untouched, moved_one-touched, touches_standing}
 use Rattle.desk_changes.proofs.moved.put_order.Goals as goal
 
 pub returns-then-not-touches_order : goal.returns-then-not-touches_order
@@ -13,21 +13,10 @@ returns-then-not-touches_order c =
     (sym (moved_one-untouched (touches_order c.args.entry.now (standing_rows c.args.moment c.args.book.now.authorizations)) order_differs (stated_order c.args.entry.now c.args.moment c.args.book.now.authorizations) (swept_order c.args.moment c.args.book.now.authorizations c.args.row.now)
     (touches_standing c.args.entry.now c.args.moment c.args.book.now.authorizations c.args.row.now ∙ sym c.touches_order.ensures ∙ c.if-not-touches_order.true)))
 
-pub returns-then-not-order_differs : goal.returns-then-not-order_differs
-returns-then-not-order_differs c =
-    sym (append-nil c.args.changes.now.items)
-    ∙ ap (λ l. c.args.changes.now.items ++ map PutOrder l)
-    (sym (moved_one-same (touches_order c.args.entry.now (standing_rows c.args.moment c.args.book.now.authorizations)) order_differs (stated_order c.args.entry.now c.args.moment c.args.book.now.authorizations) (swept_order c.args.moment c.args.book.now.authorizations c.args.row.now)
-    (touches_standing c.args.entry.now c.args.moment c.args.book.now.authorizations c.args.row.now ∙ sym c.touches_order.ensures ∙ c.if-not-touches_order.false)
-    ((λ i. order_differs (sym c.in_ok-standing.ensures i) (stated_order c.args.entry.now c.args.moment c.args.book.now.authorizations (sym c.in_ok-standing.ensures i)))
-    ∙ ap (order_differs c.in_ok-standing.standing) (sym c.in_ok-next.ensures) ∙ sym c.order_differs.ensures ∙ c.if-not-order_differs.true)))
-
 pub returns : goal.returns
 returns c =
-    c.in_ok-push.ensures.items
-    ∙ ap (λ r. c.args.changes.now.items ++ PutOrder r ∷ []) (c.in_ok-next.ensures ∙ ap (stated_order c.args.entry.now c.args.moment c.args.book.now.authorizations) c.in_ok-standing.ensures)
+    c.in_ok-put_stated_order.ensures
+    ∙ ap (λ r. c.args.changes.now.items ++ map PutOrder (moved_one (λ _. true) order_differs (stated_order c.args.entry.now c.args.moment c.args.book.now.authorizations) r)) c.in_ok-standing.ensures
     ∙ ap (λ l. c.args.changes.now.items ++ map PutOrder l)
-    (sym (moved_one-moved (touches_order c.args.entry.now (standing_rows c.args.moment c.args.book.now.authorizations)) order_differs (stated_order c.args.entry.now c.args.moment c.args.book.now.authorizations) (swept_order c.args.moment c.args.book.now.authorizations c.args.row.now)
-    (touches_standing c.args.entry.now c.args.moment c.args.book.now.authorizations c.args.row.now ∙ sym c.touches_order.ensures ∙ c.if-not-touches_order.false)
-    ((λ i. order_differs (sym c.in_ok-standing.ensures i) (stated_order c.args.entry.now c.args.moment c.args.book.now.authorizations (sym c.in_ok-standing.ensures i)))
-    ∙ ap (order_differs c.in_ok-standing.standing) (sym c.in_ok-next.ensures) ∙ sym c.order_differs.ensures ∙ c.if-not-order_differs.false)))
+    (sym (moved_one-touched (touches_order c.args.entry.now (standing_rows c.args.moment c.args.book.now.authorizations)) order_differs (stated_order c.args.entry.now c.args.moment c.args.book.now.authorizations) (swept_order c.args.moment c.args.book.now.authorizations c.args.row.now)
+    (touches_standing c.args.entry.now c.args.moment c.args.book.now.authorizations c.args.row.now ∙ sym c.touches_order.ensures ∙ c.if-not-touches_order.false)))

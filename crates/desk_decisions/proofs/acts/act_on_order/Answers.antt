@@ -16,7 +16,6 @@ returns-clause-reply c =
     let T : Tables = effect m (swept m c.args.book.now) (ordered c.args.account c.args.wanted.now) in
     c.in_ok-reply.ensures T (sym (ap (λ (x : Meta). x.policy) c.meta.ensures))
     (ap (λ r. map (λ a. a.name) (listed_rows T r)) c.in_ok-row.ensures.order
-    ∙ ordered_names m c.args.book.now c.args.recording.now.meta c.args.account c.args.wanted.now at is
-    ∙ sym c.in_ok-names.ensures ∙ sym c.deref.ensures.value)
+    ∙ ordered_names m c.args.book.now c.args.recording.now.meta c.args.account c.args.wanted.now at is)
     (subst (λ (r : OrderRow). r.expires ≤ last_end) (sym c.in_ok-row.ensures.order) (ordered_text m c.args.book.now c.args.recording.now.meta c.args.account c.args.wanted.now at is texts))
     ∙ ap (shown (located_order 201 T)) (ap (λ r. Some r) c.in_ok-row.ensures.order ∙ sym (ordered_found m c.args.book.now c.args.recording.now.meta c.args.account c.args.wanted.now at is))

@@ -4,6 +4,4 @@ use Rattle.desk_changes.specs.Recorded.{recorded_changes}
 use Rattle.desk_decisions.proofs.decisions.issued.Goals as goal
 
 pub returns-clause-changes : goal.returns-clause-changes
-returns-clause-changes c =
-    (c.in_ok-issue.ensures.recorded c.args.moment c.args.book.now [] c.in_ok-recording.ensures.recorded).changes
-    ∙ ap (λ r. recorded_changes c.args.moment c.args.book.now (issued r ∷ [])) c.in_ok-bytes.ensures.0
+returns-clause-changes c = c.in_ok-changes.ensures ∙ ap (λ r. recorded_changes c.args.moment c.args.book.now (issued r ∷ [])) c.in_ok-bytes.ensures.0

@@ -1,5 +1,6 @@
-use Rattle.std.proofs.Common.{◌+◌, ◌∷◌, [], ap, ◌∙◌}
-use Rattle.desk_model.specs.Decide.{entries_of}
+use Rattle.std.proofs.Common.{◌+◌, ◌∷◌, [], true, ap, ◌∙◌}
+use Rattle.desk_model.specs.Decide.{entries_of, verdict_reply}
+use Rattle.desk_model.specs.Effect.{effects, swept}
 use Rattle.desk_model.specs.Shown.{with_nonce}
 use Rattle.desk_model.specs.Tokens.{nonce_text}
 use Rattle.desk_model.specs.declared.entry.Entry.TheVariants.{Issued as issued, Spent as spent}
@@ -11,24 +12,20 @@ use Rattle.desk_decisions.proofs.decisions.passed.Goals as goal
 use Rattle.desk_decisions.proofs.decisions.passed.Goals.{After-drop-recording-2}
 
 -- the meta row when the verdict is carried out
-issued_at : (c : After-drop-recording-2) → IsAt c.args.moment c.args.book.now c.issue.new.self.meta
-issued_at c =
-    at_issued c.args.moment c.args.book.now c.in_ok-recording.recording.meta c.spend.new.self.meta c.issue.new.self.meta
-    c.in_ok-recording.ensures.meta c.in_ok-spend.ensures.meta c.in_ok-issue.ensures.meta
+issued_at : (c : After-drop-recording-2) → IsAt c.args.moment c.args.book.now c.in_ok-recording.recording.meta
+issued_at c = at_issued c.args.moment c.args.book.now c.in_ok-recording.recording.meta c.in_ok-recording.ensures.meta
 
 pub returns-clause-changes : goal.returns-clause-changes
 returns-clause-changes c =
     λ ordered actable.
-    (c.in_ok-reply.ensures.recorded (actable_at c.args.moment c.args.book.now c.issue.new.self.meta c.args.verdict (issued_at c) actable)
+    (c.in_ok-reply.ensures.recorded (actable_at c.args.moment c.args.book.now c.in_ok-recording.recording.meta c.args.verdict (issued_at c) actable)
     c.args.moment (spent c.args.serial ∷ issued c.in_ok-bytes.bytes ∷ []) ordered (untouched_nonces c.args.moment c.args.book.now c.args.serial c.in_ok-bytes.bytes)
-    (c.in_ok-issue.ensures.recorded c.args.moment c.args.book.now (spent c.args.serial ∷ [])
-    (c.in_ok-spend.ensures.recorded c.args.moment c.args.book.now [] c.in_ok-recording.ensures.recorded))).changes
+    c.in_ok-recording.ensures.recorded).changes
     ∙ ap (λ r. recorded_changes c.args.moment c.args.book.now (spent c.args.serial ∷ issued r ∷ entries_of c.args.verdict)) c.in_ok-bytes.ensures.0
 
 pub returns-clause-reply : goal.returns-clause-reply
 returns-clause-reply c =
     λ ordered actable texts.
-    c.in_ok-reply-2.ensures
-    ∙ (λ i. with_nonce (nonce_text ((c.meta.ensures i).nonces + 1) (c.in_ok-bytes.ensures.0 i))
-    (c.in_ok-reply.ensures.reply (actable_at c.args.moment c.args.book.now c.issue.new.self.meta c.args.verdict (issued_at c) actable)
-    c.args.moment (issued_at c) ordered texts i))
+    c.in_ok-reply.ensures.reply (actable_at c.args.moment c.args.book.now c.in_ok-recording.recording.meta c.args.verdict (issued_at c) actable)
+    c.args.moment (issued_at c) ordered texts
+    ∙ ap (λ r. with_nonce (nonce_text (c.args.book.now.meta.nonces + 1) r) (verdict_reply true (effects c.args.moment (swept c.args.moment c.args.book.now) (entries_of c.args.verdict)) c.args.verdict)) c.in_ok-bytes.ensures.0
