@@ -5,7 +5,7 @@ use Rattle.std.specs.Option.{option_map}
 use Rattle.std.specs.Prelude.{codes}
 use Rattle.serde_json.specs.Data.{string, number, unsigned}
 use Rattle.desk_model.specs.Json.{document, list}
-use Rattle.desk_model.specs.Tokens.{base64url, token_text}
+use Rattle.desk_model.specs.Tokens.{base64url}
 use Rattle.desk_model.specs.Name.{Name}
 use Rattle.desk_model.specs.Names.{shown_name}
 use Rattle.desk_model.specs.Tables.{Tables}
@@ -13,9 +13,8 @@ use Rattle.desk_model.specs.Order.{is_processing}
 use Rattle.desk_model.specs.Effect.{swept, swept_authorization, swept_order}
 use Rattle.desk_model.specs.Questions.{authorization_on}
 use Rattle.desk_model.specs.declared.rows.AuthorizationRow.{AuthorizationRow}
-use Rattle.desk_model.specs.declared.rows.ChallengeRow.{ChallengeRow}
 use Rattle.desk_model.specs.declared.rows.OrderRow.{OrderRow}
-use Rattle.desk_model.specs.Document.{and_row, rows_of, listed_rows, order_url, is_listed, bytes_of, work_of, expected, kind_text, work_document, order_work_document}
+use Rattle.desk_model.specs.Document.{and_row, rows_of, listed_rows, order_url, is_listed, bytes_of, work_of, order_work_document}
 use Rattle.desk_replies.specs.Shown.{work_at}
 use Rattle.desk_replies.proofs.ShownOrders.{map-map}
 use Rattle.swept_rows.proofs.SweptRows.{swept_authorization-status, swept_order-status, swept_authorization_on}
@@ -65,14 +64,6 @@ orders-listed m account T =
     map-filter-map (λ (o : OrderRow). string (order_url T.meta.policy o.number)) (is_listed account) (swept_order m T.authorizations) (λ o. string (order_url T.meta.policy o.number))
     (λ o. sym (ap (λ (r : OrderRow). string (order_url T.meta.policy r.number)) (swept_order-status m T.authorizations o)))
     T.orders
-
--- a challenge that waits for the validator, by the texts that it shows
-pub work_document-is : (T : Tables) (a : AuthorizationRow) (c : ChallengeRow) (wanted name token kind : List ℕ) →
-    wanted ≡ expected T a c → name ≡ a.name.base → token ≡ token_text c.token → kind ≡ kind_text c.kind →
-    document ((codes "challenge", number (unsigned c.number)) ∷ (codes "expected", string wanted) ∷ (codes "name", string name) ∷ (codes "token", string token) ∷ (codes "type", string kind) ∷ [])
-    ≡ work_document T a c
-work_document-is T a c wanted name token kind p q r s =
-    λ i. document ((codes "challenge", number (unsigned c.number)) ∷ (codes "expected", string (p i)) ∷ (codes "name", string (q i)) ∷ (codes "token", string (r i)) ∷ (codes "type", string (s i)) ∷ [])
 
 -- the challenges that wait for the validator
 pub challenges-waiting : (m : ℕ) (T : Tables) → flat_map (work_of (swept m T)) (swept m T).authorizations ≡ flat_map (work_at m T) T.authorizations

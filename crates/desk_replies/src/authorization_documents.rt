@@ -95,28 +95,6 @@ fn put_report(
 }
 
 /// The members that the document of every challenge has.
-fn challenge_members_of(
-    alloc: Global,
-    status: Value,
-    token: Value,
-    kind: Value,
-    url: Value,
-) -> Result<Map<String, Value>, AllocError>
-    ensures { IfOk result (λ m. members_view m.entries ≡ members (
-        (codes "status", view status)
-        ∷ (codes "token", view token)
-        ∷ (codes "type", view kind)
-        ∷ (codes "url", view url)
-        ∷ [])) }
-{
-    let mut members = Map::new(alloc);
-    put(&mut members, alloc, "status", status)?;
-    put(&mut members, alloc, "token", token)?;
-    put(&mut members, alloc, "type", kind)?;
-    put(&mut members, alloc, "url", url)?;
-    Ok(members)
-}
-
 fn challenge_members(
     alloc: Global,
     policy: &Policy,
@@ -129,11 +107,16 @@ fn challenge_members(
         ∷ (codes "url", string (challenge_url policy.now row.now.number))
         ∷ [])) }
 {
+    let mut members = Map::new(alloc);
     let status = Value::try_from_str(alloc, challenge_status_text(row.status))?;
-    let token = text_value(keys::token_text(alloc, row.token)?);
+    put(&mut members, alloc, "status", status)?;
+    let token = keys::token_text(alloc, row.token)?;
+    put(&mut members, alloc, "token", text_value(token))?;
     let kind = Value::try_from_str(alloc, kind_text(row.kind))?;
-    let url = text_value(challenge_url(alloc, policy, row.number)?);
-    challenge_members_of(alloc, status, token, kind, url)
+    put(&mut members, alloc, "type", kind)?;
+    let url = challenge_url(alloc, policy, row.number)?;
+    put(&mut members, alloc, "url", text_value(url))?;
+    Ok(members)
 }
 
 fn challenge_value(alloc: Global, policy: &Policy, row: &ChallengeRow) -> Result<Value, AllocError>
@@ -205,28 +188,6 @@ fn shown_challenges(
 }
 
 /// The members that the document of every authorization has.
-fn authorization_members_of(
-    alloc: Global,
-    challenges: Value,
-    expires: Value,
-    identifier: Value,
-    status: Value,
-) -> Result<Map<String, Value>, AllocError>
-    ensures { IfOk result (λ m. members_view m.entries ≡ members (
-        (codes "challenges", view challenges)
-        ∷ (codes "expires", view expires)
-        ∷ (codes "identifier", view identifier)
-        ∷ (codes "status", view status)
-        ∷ [])) }
-{
-    let mut members = Map::new(alloc);
-    put(&mut members, alloc, "challenges", challenges)?;
-    put(&mut members, alloc, "expires", expires)?;
-    put(&mut members, alloc, "identifier", identifier)?;
-    put(&mut members, alloc, "status", status)?;
-    Ok(members)
-}
-
 fn authorization_members(
     alloc: Global,
     policy: &Policy,
@@ -239,11 +200,16 @@ fn authorization_members(
         ∷ (codes "status", string (authorization_status_text row.now.status))
         ∷ [])) }
 {
-    let challenges = list_value(shown_challenges(alloc, policy, row.challenges.as_slice())?);
+    let mut members = Map::new(alloc);
+    let challenges = shown_challenges(alloc, policy, row.challenges.as_slice())?;
+    put(&mut members, alloc, "challenges", list_value(challenges))?;
     let expires = moment_value(alloc, row.expires)?;
+    put(&mut members, alloc, "expires", expires)?;
     let identifier = identifier_value(alloc, row.name.base())?;
+    put(&mut members, alloc, "identifier", identifier)?;
     let status = Value::try_from_str(alloc, authorization_status_text(row.status))?;
-    authorization_members_of(alloc, challenges, expires, identifier, status)
+    put(&mut members, alloc, "status", status)?;
+    Ok(members)
 }
 
 /// Adds that the authorization is for a wildcard name, where it is.

@@ -32,7 +32,7 @@ pub(crate) fn text_list(alloc: Global, texts: &[Text]) -> Result<Value, AllocErr
 {
     let mut items = Vec::new(alloc);
     for text in texts {
-        items.push(Value::String(String::from_str(alloc, text.as_str())?))?;
+        items.push(Value::try_from_str(alloc, text.as_str())?)?;
     }
     Ok(list_value(items))
 }
@@ -60,8 +60,11 @@ pub(crate) fn error_value(
 ) -> Result<Value, AllocError>
     ensures { IfOk result (λ v. view v ≡ error kind.now detail.now status) }
 {
-    let kind = format!(in alloc; "urn:ietf:params:acme:error:{kind}")?;
-    json!(in alloc; {"detail": detail, "status": status, "type": kind})
+    json!(in alloc; {
+        "detail": detail,
+        "status": status,
+        "type": format!(in alloc; "urn:ietf:params:acme:error:{kind}")?
+    })
 }
 
 /// The type of a challenge as RFC 8555 spells it (8.3, 8.4).

@@ -13,10 +13,11 @@ use std::alloc::{AllocError, Global};
 fn directory_value(alloc: Global, policy: &Policy) -> Result<Value, AllocError>
     ensures { IfOk result (λ v. view v ≡ directory policy.now) }
 {
-    let account = url(alloc, policy, "/new-account")?;
-    let nonce = url(alloc, policy, "/new-nonce")?;
-    let order = url(alloc, policy, "/new-order")?;
-    json!(in alloc; {"newAccount": account, "newNonce": nonce, "newOrder": order})
+    json!(in alloc; {
+        "newAccount": url(alloc, policy, "/new-account")?,
+        "newNonce": url(alloc, policy, "/new-nonce")?,
+        "newOrder": url(alloc, policy, "/new-order")?
+    })
 }
 
 /// The directory (RFC 8555, 7.1.1).
@@ -41,10 +42,11 @@ fn account_status_text(status: AccountStatus) -> &'static str
 fn account_value(alloc: Global, policy: &Policy, row: &AccountRow) -> Result<Value, AllocError>
     ensures { IfOk result (λ v. view v ≡ account_document policy.now row.now) }
 {
-    let contact = text_list(alloc, row.contacts.as_slice())?;
-    let orders = orders_url(alloc, policy, row.number)?;
-    let status = account_status_text(row.status);
-    json!(in alloc; {"contact": contact, "orders": orders, "status": status})
+    json!(in alloc; {
+        "contact": text_list(alloc, row.contacts.as_slice())?,
+        "orders": orders_url(alloc, policy, row.number)?,
+        "status": account_status_text(row.status)
+    })
 }
 
 /// The document of an account (RFC 8555, 7.1.2).

@@ -65,31 +65,6 @@ fn identifiers(alloc: Global, names: &[DnsName]) -> Result<Vec<Value>, AllocErro
 }
 
 /// The members that the document of every order has.
-fn members_of(
-    alloc: Global,
-    authorizations: Value,
-    expires: Value,
-    finalize: Value,
-    identifiers: Value,
-    status: Value,
-) -> Result<Map<String, Value>, AllocError>
-    ensures { IfOk result (λ m. members_view m.entries ≡ members (
-        (codes "authorizations", view authorizations)
-        ∷ (codes "expires", view expires)
-        ∷ (codes "finalize", view finalize)
-        ∷ (codes "identifiers", view identifiers)
-        ∷ (codes "status", view status)
-        ∷ [])) }
-{
-    let mut members = Map::new(alloc);
-    put(&mut members, alloc, "authorizations", authorizations)?;
-    put(&mut members, alloc, "expires", expires)?;
-    put(&mut members, alloc, "finalize", finalize)?;
-    put(&mut members, alloc, "identifiers", identifiers)?;
-    put(&mut members, alloc, "status", status)?;
-    Ok(members)
-}
-
 fn order_members(
     alloc: Global,
     policy: &Policy,
@@ -104,19 +79,18 @@ fn order_members(
         ∷ (codes "status", string (order_status_text row.now.status))
         ∷ [])) }
 {
-    let authorizations = list_value(authorization_urls(alloc, policy, row.listed.as_slice())?);
+    let mut members = Map::new(alloc);
+    let urls = authorization_urls(alloc, policy, row.listed.as_slice())?;
+    put(&mut members, alloc, "authorizations", list_value(urls))?;
     let expires = moment_value(alloc, row.expires)?;
-    let finalize = text_value(finalize_url(alloc, policy, row.number)?);
-    let identifiers = list_value(identifiers(alloc, names)?);
+    put(&mut members, alloc, "expires", expires)?;
+    let finalize = finalize_url(alloc, policy, row.number)?;
+    put(&mut members, alloc, "finalize", text_value(finalize))?;
+    let identifiers = identifiers(alloc, names)?;
+    put(&mut members, alloc, "identifiers", list_value(identifiers))?;
     let status = Value::try_from_str(alloc, order_status_text(row.status))?;
-    members_of(
-        alloc,
-        authorizations,
-        expires,
-        finalize,
-        identifiers,
-        status,
-    )
+    put(&mut members, alloc, "status", status)?;
+    Ok(members)
 }
 
 /// Adds the URL of the certificate, where there is one.

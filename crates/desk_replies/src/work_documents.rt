@@ -1,16 +1,16 @@
 //! The documents of what waits for the validator and for the signing office.
-ghost use Rattle.std.specs.Prelude.{◌≡◌, ◌++◌, ◌∷◌, [], map, codes, string_bytes, IfOk, OnOk};
+ghost use Rattle.std.specs.Prelude.{◌≡◌, ◌++◌, map, string_bytes, IfOk, OnOk};
 ghost use Rattle.std.specs.List.{filter, flat_map};
-ghost use Rattle.serde_json.specs.Data.{string, number, unsigned};
+ghost use Rattle.serde_json.specs.Data.{string};
 ghost use Rattle.serde_json.specs.View.{view};
-ghost use Rattle.desk_model.specs.Json.{list, document};
+ghost use Rattle.desk_model.specs.Json.{list};
 ghost use Rattle.desk_model.specs.Names.{shown_name};
 ghost use Rattle.desk_model.specs.Tokens.{base64url};
 ghost use Rattle.desk_model.specs.Legal.{is_processing_challenge};
 ghost use Rattle.desk_model.specs.Order.{is_processing};
 ghost use Rattle.desk_model.specs.Effect.{swept, swept_order};
 ghost use Rattle.desk_model.specs.declared.rows.ChallengeRow.{ChallengeRow};
-ghost use Rattle.desk_model.specs.Document.{answer_key, bytes_of, listed_rows, work_document, work_of, challenge_work, order_work_document, order_work};
+ghost use Rattle.desk_model.specs.Document.{answer_key, expected, bytes_of, listed_rows, work_document, work_of, challenge_work, order_work_document, order_work};
 ghost use Rattle.desk_replies.specs.Shown.{work_at};
 
 use crate::document_values::{kind_text, list_value, text_value};
@@ -36,26 +36,20 @@ fn answer_key<'b>(book: &'b Book, row: &AuthorizationRow) -> &'b str
     }
 }
 
-/// A challenge that waits for the validator, by what it shows.
-fn work_shown(
+/// What the validator has to find for a challenge (RFC 8555, 8.3, 8.4).
+fn expected(
     alloc: Global,
-    challenge: u64,
-    expected: String,
-    name: &str,
-    token: String,
-    kind: &str,
-) -> Result<Value, AllocError>
-    ensures { IfOk result (λ v. view v ≡ document (
-        (codes "challenge", number (unsigned challenge))
-        ∷ (codes "expected", string (string_bytes expected))
-        ∷ (codes "name", string name.now)
-        ∷ (codes "token", string (string_bytes token))
-        ∷ (codes "type", string kind.now)
-        ∷ [])) }
+    book: &Book,
+    row: &AuthorizationRow,
+    challenge: &ChallengeRow,
+) -> Result<String, AllocError>
+    ensures { IfOk result (λ t. string_bytes t ≡ expected book.now row.now challenge.now) }
 {
-    json!(in alloc; {"challenge": challenge, "expected": expected, "name": name, "token": token, "type": kind})
+    let key = answer_key(book, row);
+    expected_text(alloc, challenge.kind, challenge.token, key)
 }
 
+/// A challenge that waits for the validator.
 fn work_value(
     alloc: Global,
     book: &Book,
@@ -64,13 +58,13 @@ fn work_value(
 ) -> Result<Value, AllocError>
     ensures { IfOk result (λ v. view v ≡ work_document book.now row.now challenge.now) }
 {
-    let key = answer_key(book, row);
-    let expected = expected_text(alloc, challenge.kind, challenge.token, key)?;
-    let token = keys::token_text(alloc, challenge.token)?;
-    let name = row.name.base();
-    let kind = kind_text(challenge.kind);
-    let value = work_shown(alloc, challenge.number, expected, name, token, kind)?;
-    Ok(value)
+    json!(in alloc; {
+        "challenge": challenge.number,
+        "expected": expected(alloc, book, row, challenge)?,
+        "name": row.name.base(),
+        "token": keys::token_text(alloc, challenge.token)?,
+        "type": kind_text(challenge.kind)
+    })
 }
 
 fn is_processing_challenge(status: ChallengeStatus) -> bool
@@ -181,10 +175,11 @@ fn name_list(alloc: Global, book: &Book, row: &OrderRow) -> Result<Value, AllocE
 fn order_value(alloc: Global, book: &Book, row: &OrderRow) -> Result<Value, AllocError>
     ensures { IfOk result (λ v. view v ≡ order_work_document book.now row.now) }
 {
-    let csr = csr_text(alloc, &row.finalized)?;
-    let names = name_list(alloc, book, row)?;
-    let number = row.number;
-    json!(in alloc; {"csr": csr, "names": names, "order": number})
+    json!(in alloc; {
+        "csr": csr_text(alloc, &row.finalized)?,
+        "names": name_list(alloc, book, row)?,
+        "order": row.number
+    })
 }
 
 fn is_processing(status: OrderStatus) -> bool

@@ -1,0 +1,9 @@
+use Rattle.std.proofs.Common.{sym, ap, ◌∙◌, [], ◌∷◌, ◌++◌, append_assoc}
+use Rattle.desk_loading.proofs.book_source.all_rows.Goals as goal
+
+pub loop-row-preserved : goal.loop-row-preserved
+loop-row-preserved g c =
+    ap (λ l. l ++ c.next.new.self) (c.in_ok-push.ensures.items ∙ ap (λ y. c.loop-row.rows.items ++ y ∷ []) (g.met.R.Row.clones _ _ c.in_ok-clone.ensures.cases))
+    ∙ append_assoc c.loop-row.rows.items (c.in-Some.row.now ∷ []) c.next.new.self
+    ∙ ap (λ l. c.loop-row.rows.items ++ l) (sym c.in-Some.ensures.steps)
+    ∙ c.loop-row.invariant
