@@ -5,7 +5,7 @@ HAS_RT := command -v rt >/dev/null || { echo 'desk: rt is not on PATH; the kit h
 
 PREFIX ?= /usr/local
 
-.PHONY: all bench edits first growths hostile install planted test try
+.PHONY: all bench edits first growths hostile install kills planted test try
 
 all: bin/desk
 
@@ -58,9 +58,11 @@ test: edits
 	@python3 -B scripts/serve.py bin/desk
 	@echo 'Refusing memory to the program that serves, each ninth growth (make growths: each one).'
 	@python3 -B scripts/growths.py bin/desk --step 9
+	@echo 'Killing the program at random moments while it serves, 20 times (make kills: 200).'
+	@python3 -B scripts/kills.py bin/desk --times 20
 
-# Each growth of memory of a request refused in turn, minutes; and five minutes of hostile requests.
-growths hostile:
+# Each growth of memory of a request refused in turn, minutes; five minutes of hostile requests; 200 kills while it serves.
+growths hostile kills:
 	@test -x bin/desk || { echo 'desk: there is no bin/desk; make builds it' >&2; exit 1; }
 	@python3 -B scripts/$@.py bin/desk
 

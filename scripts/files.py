@@ -5,8 +5,12 @@ A desk in a file gives the replies of the batches in examples/, in one run and i
 and terms end as docs/SPECIFICATION.md says, section 14; and where SQLite's own shell is there, it reads the file.
 """
 import os
+import resource
 import shutil
+import signal
+import socket
 import sqlite3
+import struct
 import subprocess
 import sys
 import tempfile
@@ -90,6 +94,7 @@ STRANGE = [
     ("a status that is none", ["UPDATE ord SET status = 'open'"], 23),
     ("a capital in a base name", ["UPDATE authz SET name = 'Example.org'"], 23),
     ("a number above its counter", ["UPDATE meta SET orders = 0"], 23),
+    ("an order lists an authorization that is none", ["PRAGMA foreign_keys = OFF", "UPDATE ord_authz SET authz = 99"], 23),
     ("a later format", ["UPDATE meta SET format = 2"], 27),
     ("a status that is wrong", ["UPDATE ord SET status = 'ready'"], None),
 ]
@@ -189,9 +194,44 @@ def shell(program, folder):
     see("indexes", len(ask("SELECT name FROM sqlite_schema WHERE type = 'index' AND name NOT LIKE 'sqlite_%'")), 8)
 
 
+def full_output(program, folder):
+    """An output that takes so many bytes and no more ends a batch."""
+    with open(f"{ROOT}/examples/first.jsonl", "rb") as file:
+        calls = file.read()
+    with open(f"{ROOT}/examples/first.expected", "rb") as file:
+        wanted = file.read()
+    for room in (0, 5, wanted.index(b"\n"), wanted.index(b"\n") + 1, len(wanted) - 1):
+        def limit():
+            signal.signal(signal.SIGXFSZ, signal.SIG_IGN)
+            resource.setrlimit(resource.RLIMIT_FSIZE, (room, room))
+        with open(f"{folder}/full", "w+b") as out:
+            ran = subprocess.run([program, "batch"], input=calls, stdout=out, stderr=subprocess.PIPE, preexec_fn=limit)
+            see(f"an output of {room} bytes", (ran.returncode, ran.stderr), (1, b"desk: output\n"))
+            out.seek(0)
+            see(f"what an output of {room} bytes has", out.read(), wanted[:room])
+
+
+def broken_input(program, _):
+    """An input that fails after a line, or in a line, ends a batch; the lines before it are answered."""
+    with open(f"{ROOT}/examples/first.jsonl", "rb") as file:
+        calls = file.read().splitlines(keepends=True)
+    with open(f"{ROOT}/examples/first.expected", "rb") as file:
+        wanted = file.read().splitlines(keepends=True)
+    for part in (b"", calls[1][:9]):
+        with socket.create_server(("127.0.0.1", 0)) as server:
+            given = socket.create_connection(server.getsockname())
+            taken, _ = server.accept()
+        with taken, subprocess.Popen([program, "batch"], stdin=taken, stdout=subprocess.PIPE, stderr=subprocess.PIPE) as ran:
+            given.sendall(calls[0] + part)
+            see("the line before the input fails", ran.stdout.readline(), wanted[0])
+            given.setsockopt(socket.SOL_SOCKET, socket.SO_LINGER, struct.pack("ii", 1, 0))
+            given.close()
+            see("an input that fails", (ran.stdout.read(), ran.stderr.read(), ran.wait()), (b"", b"desk: input\n", 1))
+
+
 def main(program):
     with tempfile.TemporaryDirectory(prefix="desk-") as folder:
-        for tries in (batches, ends, strange, used_up, cut_short, together, shell):
+        for tries in (batches, ends, strange, used_up, cut_short, full_output, broken_input, together, shell):
             tries(program, folder)
     print("\n".join(faults + [f"Files: {len(faults)} not as they should be."]))
     return 1 if faults else 0

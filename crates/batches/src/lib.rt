@@ -1,8 +1,6 @@
 //! Batches of calls, answered by a desk over any store.
 #![tactic(auto)]
 
-#[cfg(test)]
-mod failing_streams;
 mod line_requests;
 mod lines;
 #[cfg(test)]

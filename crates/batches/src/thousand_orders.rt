@@ -1,15 +1,14 @@
-//! A desk with many orders: the rows that a call touches, and the check of statuses.
+//! A desk with many orders: the rows that a call touches.
 use desk_book::{Book, Table};
 use desk_loading::touched_book;
 use desk_model::{
     AccountRow, AccountStatus, Ask, AuthorizationRow, AuthzStatus, Call, ChallengeRow,
     ChallengeStatus, Clock, DnsName, Jwk, Kind, Listed, Meta, OrderRow, OrderStatus, Policy,
-    Sequence, Signed, StatusFault, Target, Text,
+    Sequence, Signed, Target, Text,
 };
 use std::alloc::Global;
 use std::process::Abort;
 use std::test::Fail;
-use stored_rows::check;
 
 const KEY: &str = r#"{"crv":"P-256","kty":"EC","x":"AQ","y":"Ag"}"#;
 
@@ -58,7 +57,7 @@ fn authorization(rt: &impl Abort, alloc: Global, number: u64) -> Result<Authoriz
     })
 }
 
-fn order(alloc: Global, number: u64, status: OrderStatus) -> Result<OrderRow, Fail> {
+fn order(alloc: Global, number: u64) -> Result<OrderRow, Fail> {
     let mut listed = Vec::new(alloc);
     listed.push(Listed {
         place: 1,
@@ -73,7 +72,7 @@ fn order(alloc: Global, number: u64, status: OrderStatus) -> Result<OrderRow, Fa
         finalized: None,
         certified: None,
         failed: None,
-        status,
+        status: OrderStatus::Pending,
     })
 }
 
@@ -104,19 +103,17 @@ fn authorizations(rt: &impl Abort, alloc: Global) -> Result<Table<AuthorizationR
     Ok(authorizations)
 }
 
-// The orders, of which the first has this status.
-fn orders(alloc: Global, first: OrderStatus) -> Result<Table<OrderRow>, Fail> {
+fn orders(alloc: Global) -> Result<Table<OrderRow>, Fail> {
     let mut orders = Table::new(alloc);
-    orders.put(order(alloc, 1, first)?)?;
-    for number in 2..ORDERS + 1 {
-        orders.put(order(alloc, number, OrderStatus::Pending)?)?;
+    for number in 1..ORDERS + 1 {
+        orders.put(order(alloc, number)?)?;
     }
     Ok(orders)
 }
 
-// A desk of one account, which has many orders, each for one name; the first order has this status.
-fn desk(rt: &impl Abort, alloc: Global, first: OrderStatus) -> Result<Book, Fail> {
-    let orders = orders(alloc, first)?;
+// A desk of one account, which has many orders, each for one name.
+fn desk(rt: &impl Abort, alloc: Global) -> Result<Book, Fail> {
+    let orders = orders(alloc)?;
     let authorizations = authorizations(rt, alloc)?;
     let accounts = accounts(rt, alloc)?;
     let meta = meta(rt, alloc)?;
@@ -168,37 +165,12 @@ fn touched_by_request(
 
 // The same, of a new desk.
 fn touched_of_thousand(rt: &impl Abort, alloc: Global) -> Result<Option<[usize; 4]>, Fail> {
-    let mut desk = desk(rt, alloc, OrderStatus::Pending)?;
+    let mut desk = desk(rt, alloc)?;
     touched_by_request(rt, alloc, &mut desk)
 }
 
 #[test]
 fn one_order_of_a_thousand_is_touched(rt: HostRuntime) -> Result<(), Fail> {
     assert!(rt; touched_of_thousand(&rt, rt.alloc())? == Some([1, 1, 2, 1]));
-    Ok(())
-}
-
-// Whether the only row with a wrong status is the first order.
-fn is_only_fault(alloc: Global, desk: &Book) -> bool {
-    let first = StatusFault::Order {
-        number: 1,
-        stored: OrderStatus::Ready,
-        derived: OrderStatus::Pending,
-    };
-    match check(alloc, desk) {
-        Ok(found) => found.as_slice() == [first].as_slice(),
-        Err(_) => false,
-    }
-}
-
-// Whether it is found where its status is wrong.
-fn finds_wrong_status(rt: &impl Abort, alloc: Global) -> Result<bool, Fail> {
-    let desk = desk(rt, alloc, OrderStatus::Ready)?;
-    Ok(is_only_fault(alloc, &desk))
-}
-
-#[test]
-fn a_wrong_status_is_found(rt: HostRuntime) -> Result<(), Fail> {
-    assert!(rt; finds_wrong_status(&rt, rt.alloc())?);
     Ok(())
 }
