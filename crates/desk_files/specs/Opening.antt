@@ -25,6 +25,7 @@ use Rattle.desk_openings.specs.LeftFiles.{LeftFiles, file_sight}
 -- the fault of files that the engine refuses
 abbrev pub fault_of_refusal : Error → OpenFault
 fault_of_refusal (SqliteFailure code.OutOfMemory) = Storage fault.Memory
+fault_of_refusal (SqliteFailure code.NotADatabase) = NotADesk
 fault_of_refusal (SqliteFailure code.DatabaseCorrupt) = NotADesk
 fault_of_refusal _ = Storage fault.Device
 

@@ -11,13 +11,16 @@ pub(crate) const MEMORY: OpenFault = OpenFault::Storage(StorageFault::Memory);
 
 pub(crate) const DEVICE: OpenFault = OpenFault::Storage(StorageFault::Device);
 
-/// The fault of files that the engine does not open; those that it calls corrupt are no desk's.
+/// The fault of files that the engine does not open. Those that it calls corrupt, or whose rows break their schema (a foreign
+/// key to no row, say), are no desk's.
 pub(crate) fn refusal_fault(error: Error) -> OpenFault
     ensures { result ≡ fault_of_refusal error }
 {
     match error {
         Error::SqliteFailure(ErrorCode::OutOfMemory) => MEMORY,
-        Error::SqliteFailure(ErrorCode::DatabaseCorrupt) => OpenFault::NotADesk,
+        Error::SqliteFailure(ErrorCode::NotADatabase | ErrorCode::DatabaseCorrupt) => {
+            OpenFault::NotADesk
+        }
         _ => DEVICE,
     }
 }

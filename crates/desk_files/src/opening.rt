@@ -52,8 +52,8 @@ fn connect<S: Start>(
 ///
 /// # Errors
 ///
-/// `Storage` where the files or their store failed, `NotADesk` where the engine refuses the files as corrupt. On a connection:
-/// as `Store::open`.
+/// `Storage` where the files or their store failed, `NotADesk` where the engine refuses the files as corrupt or
+/// because their rows break their schema. On a connection: as `Store::open`.
 pub fn open_from<S: Start>(
     rt: &HostRuntime,
     path: &str,
@@ -83,8 +83,8 @@ pub fn open_from<S: Start>(
 ///
 /// # Errors
 ///
-/// `Storage` where the files or their store failed, `NotADesk` where the engine refuses the files as corrupt. On a connection:
-/// as `Store::make`.
+/// `Storage` where the files or their store failed, `NotADesk` where the engine refuses the files as corrupt or
+/// because their rows break their schema. On a connection: as `Store::make`.
 pub fn make_from<S: Start>(
     rt: &HostRuntime,
     path: &str,
