@@ -1,10 +1,11 @@
 //! Lines and connections, answered by a desk.
+use crate::desks::adopt;
 use crate::fault::Fault;
-use crate::tasks::{Tables, Task, adopt};
 use batches::batch;
 use connections::{bind, serve_all};
 use desk_calls::Desk;
 use desk_storage::Storage;
+use file_tasks::{Tables, Task};
 use std::alloc::Global;
 use std::io::{Read, Write};
 
@@ -33,6 +34,8 @@ impl<'a, R: Read + Drop, W: Write, E: Write> OverDesk for AnswerLines<'a, R, W, 
 }
 
 impl<'a, R: Read + Drop, W: Write, E: Write> Task for AnswerLines<'a, R, W, E> {
+    type Fault = Fault;
+
     fn run<K: Tables + Drop>(&mut self, store: K) -> Result<(K, u8), Fault> {
         let mut desk = adopt(self.alloc, store)?;
         let status = self.answer(&mut desk);
@@ -70,6 +73,8 @@ impl<'a, W: Write, E: Write> ServeConnections<'a, W, E> {
 }
 
 impl<'a, W: Write, E: Write> Task for ServeConnections<'a, W, E> {
+    type Fault = Fault;
+
     fn run<K: Tables + Drop>(&mut self, store: K) -> Result<(K, u8), Fault> {
         let mut desk = adopt(self.rt.alloc(), store)?;
         match self.serve(&mut desk) {

@@ -1,14 +1,14 @@
 //! The commands, each over its reader and its writers.
 use crate::answering::{AnswerLines, OverDesk, ServeConnections};
+use crate::desks::adopt;
 use crate::fault::{Fault, tell};
-use crate::files::run_over_file;
 use crate::reporting::{CheckStatuses, ListOrders};
 use crate::revoking::Revoke;
-use crate::tasks::adopt;
 use command_line::{Order, Terms, WordsFault, read_words};
 use desk_calls::{Desk, DeskFault, Memory};
 use desk_files::make;
 use desk_model::{Clock, Policy};
+use file_tasks::run_over_file;
 use std::alloc::Global;
 use std::io::{Read, Write};
 

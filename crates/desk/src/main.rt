@@ -3,11 +3,10 @@
 
 mod answering;
 mod commands;
+mod desks;
 mod fault;
-mod files;
 mod reporting;
 mod revoking;
-mod tasks;
 
 use std::io;
 use std::process::ExitCode;

@@ -1,7 +1,7 @@
 //! Reports on the rows of a store.
 use crate::fault::Fault;
-use crate::tasks::{Tables, Task};
 use desk_calls::DeskFault;
+use file_tasks::{Tables, Task};
 use reports::{write_faults, write_orders};
 use std::alloc::Global;
 use std::io::{self, ErrorKind, Write};
@@ -26,6 +26,8 @@ pub(crate) struct ListOrders<'a, W: Write> {
 }
 
 impl<'a, W: Write> Task for ListOrders<'a, W> {
+    type Fault = Fault;
+
     fn run<K: Tables + Drop>(&mut self, store: K) -> Result<(K, u8), Fault> {
         let mut store = store;
         let book = store.load_all(self.alloc)?;
@@ -44,6 +46,8 @@ pub(crate) struct CheckStatuses<'a, W: Write> {
 }
 
 impl<'a, W: Write> Task for CheckStatuses<'a, W> {
+    type Fault = Fault;
+
     fn run<K: Tables + Drop>(&mut self, store: K) -> Result<(K, u8), Fault> {
         let mut store = store;
         let book = store.load_all(self.alloc)?;

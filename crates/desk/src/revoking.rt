@@ -1,11 +1,12 @@
 //! What the operator revokes.
+use crate::desks::adopt;
 use crate::fault::Fault;
-use crate::tasks::{Tables, Task, adopt};
 use command_line::Target;
 use connections::moment;
 use desk_calls::Desk;
 use desk_model::{Ask, Body, Call, Sequence};
 use desk_storage::Storage;
+use file_tasks::{Tables, Task};
 use std::io::{self, Write};
 
 /// Revokes an authorization or an account, at the machine's clock.
@@ -45,6 +46,8 @@ impl<'a, W: Write> Revoke<'a, W> {
 }
 
 impl<'a, W: Write> Task for Revoke<'a, W> {
+    type Fault = Fault;
+
     fn run<K: Tables + Drop>(&mut self, store: K) -> Result<(K, u8), Fault> {
         let mut desk = adopt(self.rt.alloc(), store)?;
         self.revoke(&mut desk)?;

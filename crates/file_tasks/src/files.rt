@@ -1,5 +1,4 @@
 //! A task by the store of a file.
-use crate::fault::Fault;
 use crate::tasks::{Tables, Task};
 use desk_book::Book;
 use desk_files::{DeskFile, close, open};
@@ -17,24 +16,31 @@ impl Tables for Store<DeskFile> {
     }
 }
 
-/// Does a task by the store of a file, and gives the exit status.
-pub(crate) fn run_over_file<T: Task + Drop>(
-    rt: &HostRuntime,
-    file: &str,
-    task: T,
-) -> Result<u8, Fault> {
+/// Opens the desk of a file, does a task with its store, closes it, and gives the exit status.
+///
+/// # Errors
+///
+/// The task's own, and those of opening and closing the file; where the task gives another exit status than 0, closing
+/// adds no fault.
+pub fn run_over_file<T: Task + Drop>(rt: &HostRuntime, file: &str, task: T) -> Result<u8, T::Fault>
+where
+    T::Fault: From<OpenFault>,
+{
     let mut task = task;
     match open(rt, file) {
         Ok(store) => run_over(store, &mut task),
-        Err(fault) => Err(Fault::from(fault)),
+        Err(fault) => Err(T::Fault::from(fault)),
     }
 }
 
 // Does a task by a store, and closes it.
-fn run_over<K: Tables + Drop, T: Task>(store: K, task: &mut T) -> Result<u8, Fault> {
+fn run_over<K: Tables + Drop, T: Task>(store: K, task: &mut T) -> Result<u8, T::Fault>
+where
+    T::Fault: From<OpenFault>,
+{
     let (store, status) = task.run(store)?;
     match store.end() {
-        Err(fault) if status == 0 => Err(Fault::from(fault)),
+        Err(fault) if status == 0 => Err(T::Fault::from(fault)),
         _ => Ok(status),
     }
 }
