@@ -3,9 +3,5 @@
 
 mod line_requests;
 mod lines;
-#[cfg(test)]
-mod tests;
-#[cfg(test)]
-mod thousand_orders;
 
 pub use lines::{AnswerFault, batch, batch_line};

@@ -4,8 +4,6 @@
 mod client;
 mod fault;
 mod serving;
-#[cfg(test)]
-mod tests;
 
 pub use fault::ServeFault;
 pub use serving::{bind, moment, serve_all};

@@ -3,9 +3,15 @@
 
 #[cfg(test)]
 mod failing_streams;
+#[cfg(test)]
+mod loopback;
 mod serving;
 #[cfg(test)]
 mod tests;
+#[cfg(test)]
+mod thousand_orders;
+#[cfg(test)]
+mod worked_replies;
 
 pub use http_replies::reply_text;
 pub use http_requests::{Heard, Manner, ReadFailed, read_call};

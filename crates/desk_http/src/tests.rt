@@ -1,77 +1,12 @@
 use crate::failing_streams::{FailingReader, FailingWriter};
-use crate::{IoFault, Served, serve_one};
-use desk_calls::{Desk, Memory};
-use desk_model::{Clock, Policy};
+use crate::worked_replies::{ASKS_NONCE, FIRST_NONCE, WORKED, new_desk, serve};
+use crate::{IoFault, Served};
+use desk_calls::{Desk, DeskFault, Memory};
 use std::alloc::Global;
-use std::io::{Read, Write};
-use std::process::Abort;
 use std::test::Fail;
-
-// The specification's worked replies, and what asks for them (docs/SPECIFICATION.md, 12).
-const ASKS_DIRECTORY: &[u8] = b"GET /directory HTTP/1.1\r\n\r\n";
-
-const DIRECTORY: &[u8] = b"HTTP/1.1 200 OK\r\n\
-    Connection: close\r\n\
-    Content-Length: 131\r\n\
-    Content-Type: application/json\r\n\r\n\
-    {\"newAccount\":\"https://ca.example/new-account\",\
-    \"newNonce\":\"https://ca.example/new-nonce\",\
-    \"newOrder\":\"https://ca.example/new-order\"}";
-
-const ASKS_NONCE: &[u8] = b"GET /new-nonce HTTP/1.1\r\n\r\n";
-
-const FIRST_NONCE: &[u8] = b"HTTP/1.1 204 No Content\r\n\
-    Connection: close\r\n\
-    Cache-Control: no-store\r\n\
-    Link: <https://ca.example/directory>;rel=\"index\"\r\n\
-    Replay-Nonce: AAAAAAAAAAEAAAAAAAAAAAAAAAAAAAAA\r\n\r\n";
-
-const ASKS_BY_GET: &[u8] = b"GET /new-order HTTP/1.1\r\n\r\n";
-
-const ONLY_BY_POST: &[u8] = b"HTTP/1.1 405 Method Not Allowed\r\n\
-    Connection: close\r\n\
-    Allow: POST\r\n\
-    Content-Length: 102\r\n\
-    Content-Type: application/problem+json\r\n\
-    Link: <https://ca.example/directory>;rel=\"index\"\r\n\r\n\
-    {\"detail\":\"this method is not served here\",\"status\":405,\
-    \"type\":\"urn:ietf:params:acme:error:malformed\"}";
-
-const ASKS_NOTHING: &[u8] = b"GET /nothing HTTP/1.1\r\n\r\n";
-
-const NOTHING_HERE: &[u8] = b"HTTP/1.1 404 Not Found\r\n\
-    Connection: close\r\n\
-    Content-Length: 93\r\n\
-    Content-Type: application/problem+json\r\n\
-    Link: <https://ca.example/directory>;rel=\"index\"\r\n\r\n\
-    {\"detail\":\"there is nothing here\",\"status\":404,\
-    \"type\":\"urn:ietf:params:acme:error:malformed\"}";
-
-const WORKED: [(&[u8], &[u8]); 4] = [
-    (ASKS_DIRECTORY, DIRECTORY),
-    (ASKS_NONCE, FIRST_NONCE),
-    (ASKS_BY_GET, ONLY_BY_POST),
-    (ASKS_NOTHING, NOTHING_HERE),
-];
 
 // A request with a body.
 const POSTED: &[u8] = b"POST /new-account HTTP/1.1\r\nContent-Length: 2\r\n\r\n{}";
-
-fn new_desk(rt: &impl Abort, alloc: Global) -> Result<Desk<Memory>, Fail> {
-    let policy = Policy::new(alloc, "https://ca.example", 3600, 604800, 2592000)?;
-    let store = Memory::make(alloc, policy.expect(rt, "a policy"), Clock::at(0));
-    Ok(Desk::adopt(alloc, store).ok().expect(rt, "a desk"))
-}
-
-// Serves one request at 0, with random bytes that are all zero.
-fn serve<R: Read, W: Write>(
-    alloc: Global,
-    reader: &mut R,
-    writer: &mut W,
-    desk: &mut Desk<Memory>,
-) -> Result<Served, IoFault> {
-    serve_one(alloc, reader, writer, desk, 0, &[0u8; 1616])
-}
 
 // Whether the desk gives this reply.
 fn gives(alloc: Global, desk: &mut Desk<Memory>, asked: &[u8], reply: &[u8]) -> bool {
@@ -133,6 +68,24 @@ fn a_writer_that_fails_is_told(rt: HostRuntime) -> Result<(), Fail> {
     for room in 0..FIRST_NONCE.len() + 1 {
         let desk = new_desk(&rt, rt.alloc())?;
         assert!(rt; fails_to_write(rt.alloc(), desk, room));
+    }
+    Ok(())
+}
+
+#[test]
+fn faults_have_numbers_and_texts(rt: HostRuntime) -> Result<(), Fail> {
+    let alloc = rt.alloc();
+    for (fault, wanted) in [
+        (DeskFault::Memory, "fault 20 memory"),
+        (DeskFault::Device, "fault 21 device"),
+        (DeskFault::Reopen, "fault 22 reopen"),
+        (DeskFault::NotADesk, "fault 23 not a desk"),
+        (DeskFault::Moment, "fault 24 moment"),
+        (DeskFault::ShortRandom, "fault 25 short random"),
+        (DeskFault::Full, "fault 26 full"),
+        (DeskFault::NewerFormat, "fault 27 newer format"),
+    ] {
+        assert!(rt; fault.to_string(alloc)?.as_str() == wanted, "{wanted}");
     }
     Ok(())
 }
