@@ -1,3 +1,4 @@
+pub mod Above
 pub mod AnswersAs
 pub mod IsPart
 pub mod Laws

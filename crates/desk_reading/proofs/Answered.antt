@@ -10,8 +10,8 @@ use Rattle.sqlite_value.specs.declared.keys.Key.{Key}
 use Rattle.sqlite_value.specs.Order.{Row}
 use Rattle.sqlite_value.proofs.OrderLemmas.{value_cmp-Int}
 use Rattle.sqlite_trees.specs.Tree.{Trees}
-use Rattle.sqlite_sql.specs.Term.{Term, Env, lit, col, holds}
-use Rattle.sqlite_sql.specs.Query.{Query, Output, inner, end, IsAnswer, output, output_cmp}
+use Rattle.sqlite_sql.specs.Term.{Term, Env, lit, col, eval, holds}
+use Rattle.sqlite_sql.specs.Query.{Query, Output, inner, end, IsAnswer, as_count, limited, output, output_cmp}
 use Rattle.sqlite_sql.specs.Program.{overlay}
 use Rattle.sqlite_sql.proofs.QueryLemmas.{output_cmp_total}
 use Rattle.sqlite_schema.specs.declared.command.Command.TheVariants.{Select}
@@ -31,9 +31,16 @@ use Rattle.desk_reading.proofs.Lists.{map-map}
 abbrev pub by : ℕ → Term × Key
 by place = (col 1 place, record { collation = Binary; descending = false })
 
--- the rows of a tree that pass the tests, in an order
-abbrev pub picked : ℕ → List Term → List Term → List (Term × Key) → Query
-picked tree tests project order = record {
+-- all rows, and the first alone
+abbrev pub all_rows : Term
+all_rows = lit (Int (negsuc 0))
+
+abbrev pub first_row : Term
+first_row = lit (Int (pos 1))
+
+-- the rows of a tree that pass the tests, in an order, up to a limit
+abbrev pub picked_up_to : Term → ℕ → List Term → List Term → List (Term × Key) → Query
+picked_up_to limit tree tests project order = record {
   from = inner tree end;
   filter = tests;
   group = None;
@@ -41,17 +48,25 @@ picked tree tests project order = record {
   distinct = false;
   collations = [];
   order = order;
-  limit = lit (Int (negsuc 0));
+  limit = limit;
   offset = lit (Int (pos 0));
 }
 
+-- all of them
+abbrev pub picked : ℕ → List Term → List Term → List (Term × Key) → Query
+picked = picked_up_to all_rows
+
 -- what a text means
-pub record IsReading (text : List ℕ) (tree : ℕ) (tests project : List Term) (order : List (Term × Key)) : Type 0 where
+pub record IsReadingUpTo (limit : Term) (text : List ℕ) (tree : ℕ) (tests project : List Term) (order : List (Term × Key)) : Type 0 where
   pub names : List (List ℕ)
-  pub command : command_of (understood desk_schema text) ≡ Select (record { lets = []; body = picked tree tests project order }) names
+  pub command : command_of (understood desk_schema text) ≡ Select (record { lets = []; body = picked_up_to limit tree tests project order }) names
   pub plain : IsPlain (understood desk_schema text)
   pub unlisted : reads_listing desk_schema text ≡ false
   pub selecting : IsQuery text
+
+-- a text that reads all rows
+abbrev pub IsReading : List ℕ → ℕ → List Term → List Term → List (Term × Key) → Type 0
+IsReading = IsReadingUpTo all_rows
 
 -- a row passes the tests
 abbrev pub passes : List Term → Row → Row → Bool
@@ -100,13 +115,15 @@ module _ {X Y : Type 0} (image : X → Row) (part : X → Y) (tree : ℕ) (tests
       go true more = λ i. shown_is x i ∷ more i
       go false more = more
 
-  -- the answer is that of the rows which pass the model's test
-  pub answers : (text : List ℕ) → IsReading text tree tests project order → ((db : Trees) → overlay db [] tree ≡ db tree)
+  -- the answer is cut from that of the rows which pass the model's test
+  pub answers_up_to : (limit : Term) (text : List ℕ) → IsReadingUpTo limit text tree tests project order
+      → ((db : Trees) → overlay db [] tree ≡ db tree)
       → (old new : State) (xs : List X) (rows : List Row) → old.now.schema ≡ desk_schema → old.now.trees tree ≡ map image xs
       → Shown text params old new rows
-      → IsOrderedAs (picked tree tests project order) (map shown (filter test (map part xs))) rows
-  answers text is low old new xs rows schema has h =
-      let q = picked tree tests project order in
+      → (all : List Row) × IsOrderedAs (picked tree tests project order) (map shown (filter test (map part xs))) all
+      × (rows ≡ limited (as_count (eval limit (params ∷ []))) all)
+  answers_up_to limit text is low old new xs rows schema has h =
+      let q = picked_up_to limit tree tests project order in
       let read = reads_as text params old new desk_schema schema _ is.command is.plain is.unlisted rows h in
       let a : IsAnswer q (overlay old.now.trees []) params rows = read.answer Null in
       let staged : a.staged ≡ map (λ r. params ∷ r ∷ []) (filter (passes tests params) (old.now.trees tree)) =
@@ -115,8 +132,20 @@ module _ {X Y : Type 0} (image : X → Row) (part : X → Y) (tree : ℕ) (tests
       a.distinct
       ∙ ap (map (output q)) staged
       ∙ ap (λ rs. map (output q) (map (λ r. params ∷ r ∷ []) (filter (passes tests params) rs))) has
-      ∙ outputs xs in
-      record { ordered = a.ordered; same = subst (λ os. IsPermutation os a.ordered) kept a.same; sorted = a.sorted; shown = a.shown }
+      ∙ outputs xs in (
+        map (λ (o : Output). o.1) a.ordered,
+        record { ordered = a.ordered; same = subst (λ os. IsPermutation os a.ordered) kept a.same; sorted = a.sorted; shown = refl },
+        a.shown,
+      )
+
+  -- of all rows
+  pub answers : (text : List ℕ) → IsReading text tree tests project order → ((db : Trees) → overlay db [] tree ≡ db tree)
+      → (old new : State) (xs : List X) (rows : List Row) → old.now.schema ≡ desk_schema → old.now.trees tree ≡ map image xs
+      → Shown text params old new rows
+      → IsOrderedAs (picked tree tests project order) (map shown (filter test (map part xs))) rows
+  answers text is low old new xs rows schema has h =
+      let it = answers_up_to all_rows text is low old new xs rows schema has h in
+      subst (λ rs. IsOrderedAs (picked tree tests project order) (map shown (filter test (map part xs))) rs) (sym it.2) it.1
 
 -- ---- in an order
 

@@ -8,9 +8,10 @@ use Rattle.desk_laws.proofs.Basics.{each-map}
 use Rattle.desk_laws.proofs.Keeps.{each-filter}
 use Rattle.desk_model.specs.Kept.{EachOf}
 use Rattle.desk_tables.specs.Layouts.{HasRows, Layout}
-use Rattle.desk_reading.proofs.Answered.{IsReading, by, passes}
-use Rattle.desk_reading.proofs.KeyedReadings.{reads_keyed}
-use Rattle.desk_reading.proofs.Lists.{map-map}
+use Rattle.desk_parts.specs.Above.{first_of}
+use Rattle.desk_reading.proofs.Answered.{IsReading, IsReadingUpTo, by, first_row, passes}
+use Rattle.desk_reading.proofs.KeyedReadings.{reads_first, reads_keyed}
+use Rattle.desk_reading.proofs.Lists.{each-first, map-map}
 use Rattle.desk_reading.proofs.Told.{IsSpelled}
 
 -- ---- rows and their columns
@@ -57,3 +58,23 @@ found_keyed L bare write IsStored spelled project is apart text tests params sql
     (each-map IsStored bare (filter sql xs) (each-filter (λ x. IsStored (bare x)) sql xs limits))
     (sym spells ∙ columns ∙ sym (map-map write bare (filter sql xs)))
     ∙ ap (map bare) same
+
+-- and a look-up of the first row above a number finds that one
+pub found_first : {X R C : Type 0} (L : Layout X) (bare : X → R) (write : R → C) (IsStored : R → Type 0) (spelled : Row → C) (project : List Term)
+    → IsSpelled L (λ x. write (bare x)) spelled project → AreToldApart write IsStored
+    → (text : List ℕ) (tests : List Term) (params : Row) (sql test : X → Bool)
+    → IsReadingUpTo first_row text L.table.tree tests project (by 0 ∷ [])
+    → ((x : X) → passes tests params (L.image x) ≡ sql x) → ((x : X) → IsStored (bare x) → sql x ≡ test x)
+    → (old new : State) (values : Row) (xs : List X) (rows : List Row) (found : List R)
+    → HasRows L old.now xs → EachOf IsStored (map bare xs) → values ≡ params → Shown text values old new rows → EachOf IsStored found
+    → map spelled rows ≡ map write found → found ≡ map bare (first_of (filter test xs))
+found_first {X} L bare write IsStored spelled project is apart text tests params sql test reading tests_are agree old new values xs rows found has stored
+    given h kept spells =
+    let P = λ (x : X). IsStored (bare x) in
+    let limits = each_unmap IsStored bare xs stored in
+    let shown = subst (λ v. Shown text v old new rows) given h in
+    let columns = reads_first L (λ x. write (bare x)) spelled project is text tests params sql reading tests_are old new xs rows has shown in
+    rows_told write IsStored apart found (map bare (first_of (filter sql xs))) kept
+    (each-map IsStored bare (first_of (filter sql xs)) (each-first P (filter sql xs) (each-filter P sql xs limits)))
+    (sym spells ∙ columns ∙ sym (map-map write bare (first_of (filter sql xs))))
+    ∙ ap (λ ys. map bare (first_of ys)) (filter-each P sql test agree xs limits)

@@ -1,12 +1,14 @@
 -- What a reading gives of a table that has a number as its key.
 use Rattle.std.proofs.Common.{◌≡◌, ℕ, Bool, List, [], ◌∷◌, map, filter, ap, ◌∙◌}
 use Rattle.sqlite_value.specs.Order.{Row}
-use Rattle.sqlite_sql.specs.Term.{Term}
+use Rattle.sqlite_sql.specs.Query.{as_count, limited}
+use Rattle.sqlite_sql.specs.Term.{Term, eval}
 use Rattle.sqlite.specs.State.{State, Shown}
 use Rattle.desk_laws.proofs.RowLists.{ascends_filter}
+use Rattle.desk_parts.specs.Above.{first_of}
 use Rattle.desk_tables.specs.Layouts.{HasRows, Layout}
-use Rattle.desk_reading.proofs.Answered.{IsReading, answers, beside, by, passes, picked, shown_in_order, strictly}
-use Rattle.desk_reading.proofs.Lists.{as_it_is, map-id, map-map, map-same}
+use Rattle.desk_reading.proofs.Answered.{IsReading, IsReadingUpTo, all_rows, answers_up_to, beside, by, first_row, passes, picked, shown_in_order, strictly}
+use Rattle.desk_reading.proofs.Lists.{as_it_is, first-map, map-id, map-map, map-same}
 use Rattle.desk_reading.proofs.Told.{IsSpelled}
 
 -- what is read of rows is what they spell
@@ -17,22 +19,34 @@ columns_of spelled row columns back ys rows are =
     ∙ map-map spelled (λ y. row (columns y)) ys
     ∙ map-same (λ y. spelled (row (columns y))) columns ys (λ y. back (columns y))
 
--- the rows that pass a test are shown, in the order of their keys
+-- a cut from the rows that pass a test is shown, in the order of their keys
+pub shown_up_to : {X C : Type 0} (limit : Term) (L : Layout X) (columns : X → C) (spelled : Row → C) (project : List Term)
+    → (is : IsSpelled L columns spelled project)
+    → (text : List ℕ) (tests : List Term) (params : Row) (test : X → Bool) → IsReadingUpTo limit text L.table.tree tests project (by 0 ∷ [])
+    → ((x : X) → passes tests params (L.image x) ≡ test x)
+    → (old new : State) (xs : List X) (rows : List Row) → HasRows L old.now xs → Shown text params old new rows
+    → rows ≡ limited (as_count (eval limit (params ∷ []))) (map (λ x. is.row (columns x)) (filter test xs))
+shown_up_to {X} limit L columns spelled project is text tests params test reading tests_are old new xs rows has h =
+    let row = λ (x : X). is.row (columns x) in
+    let order = by 0 ∷ [] in
+    let answered = answers_up_to L.image (λ (x : X). x) L.table.tree tests project order params test (beside L.table.tree tests project 0 L.key row)
+    tests_are (λ x i. (is.key x i ∷ [], is.shows params x i)) limit text reading is.low old new xs rows has.schema has.rows_are h in
+    let up = strictly L.table.tree tests project 0 L.key row 0 (filter test xs) (ascends_filter L.key test 0 xs has.rising) in
+    answered.2
+    ∙ ap (limited (as_count (eval limit (params ∷ []))))
+    (shown_in_order (picked L.table.tree tests project order) (beside L.table.tree tests project 0 L.key row)
+    (filter test (map (λ (x : X). x) xs)) (filter test xs) answered.0
+    (as_it_is (filter test (map (λ (x : X). x) xs)) (filter test xs) (ap (filter test) (map-id xs))) up answered.1)
+
+-- all of them
 pub shown_keyed : {X C : Type 0} (L : Layout X) (columns : X → C) (spelled : Row → C) (project : List Term)
     → (is : IsSpelled L columns spelled project)
     → (text : List ℕ) (tests : List Term) (params : Row) (test : X → Bool) → IsReading text L.table.tree tests project (by 0 ∷ [])
     → ((x : X) → passes tests params (L.image x) ≡ test x)
     → (old new : State) (xs : List X) (rows : List Row) → HasRows L old.now xs → Shown text params old new rows
     → rows ≡ map (λ x. is.row (columns x)) (filter test xs)
-shown_keyed {X} L columns spelled project is text tests params test reading tests_are old new xs rows has h =
-    let row = λ (x : X). is.row (columns x) in
-    let order = by 0 ∷ [] in
-    let answered = answers L.image (λ (x : X). x) L.table.tree tests project order params test (beside L.table.tree tests project 0 L.key row) tests_are
-    (λ x i. (is.key x i ∷ [], is.shows params x i)) text reading is.low old new xs rows has.schema has.rows_are h in
-    let up = strictly L.table.tree tests project 0 L.key row 0 (filter test xs) (ascends_filter L.key test 0 xs has.rising) in
-    shown_in_order (picked L.table.tree tests project order) (beside L.table.tree tests project 0 L.key row)
-    (filter test (map (λ (x : X). x) xs)) (filter test xs) rows
-    (as_it_is (filter test (map (λ (x : X). x) xs)) (filter test xs) (ap (filter test) (map-id xs))) up answered
+shown_keyed L columns spelled project is text tests params test reading tests_are old new xs rows has h =
+    shown_up_to all_rows L columns spelled project is text tests params test reading tests_are old new xs rows has h
 
 -- and so their columns are read
 pub reads_keyed : {X C : Type 0} (L : Layout X) (columns : X → C) (spelled : Row → C) (project : List Term) → IsSpelled L columns spelled project
@@ -43,3 +57,14 @@ pub reads_keyed : {X C : Type 0} (L : Layout X) (columns : X → C) (spelled : R
 reads_keyed L columns spelled project is text tests params test reading tests_are old new xs rows has h =
     columns_of spelled is.row columns is.back (filter test xs) rows
     (shown_keyed L columns spelled project is text tests params test reading tests_are old new xs rows has h)
+
+-- the first of them
+pub reads_first : {X C : Type 0} (L : Layout X) (columns : X → C) (spelled : Row → C) (project : List Term) → IsSpelled L columns spelled project
+    → (text : List ℕ) (tests : List Term) (params : Row) (test : X → Bool) → IsReadingUpTo first_row text L.table.tree tests project (by 0 ∷ [])
+    → ((x : X) → passes tests params (L.image x) ≡ test x)
+    → (old new : State) (xs : List X) (rows : List Row) → HasRows L old.now xs → Shown text params old new rows
+    → map spelled rows ≡ map columns (first_of (filter test xs))
+reads_first {X} L columns spelled project is text tests params test reading tests_are old new xs rows has h =
+    columns_of spelled is.row columns is.back (first_of (filter test xs)) rows
+    (shown_up_to first_row L columns spelled project is text tests params test reading tests_are old new xs rows has h
+    ∙ first-map (λ (x : X). is.row (columns x)) (filter test xs))

@@ -1,3 +1,4 @@
+pub mod AboveRows
 pub mod Answered
 pub mod Asking
 pub mod Failing

@@ -2,6 +2,8 @@
 use Rattle.std.proofs.Common.{◌≡◌, List, [], ◌∷◌, map, filter, Bool, true, false, cond, refl, ap, subst}
 use Rattle.std.specs.List.Sorted.{IsPermutation}
 use Rattle.std.proofs.lemmas.List.Sorted.{IsPermutation-refl}
+use Rattle.desk_model.specs.Kept.{EachOf}
+use Rattle.desk_parts.specs.Above.{first_of}
 
 -- two maps, one after the other
 pub map-map : {A B C : Type 0} (g : B → C) (f : A → B) (xs : List A) → map g (map f xs) ≡ map (λ x. g (f x)) xs
@@ -41,3 +43,15 @@ filter-map {A} p f (x ∷ xs) = by (p (f x)) (filter-map p f xs)
 -- equal lists are permutations
 pub as_it_is : {X : Type 0} (xs ys : List X) → xs ≡ ys → IsPermutation xs ys
 as_it_is xs ys same = subst (λ zs. IsPermutation xs zs) same (IsPermutation-refl xs)
+
+-- ---- the first item
+
+-- of a map
+pub first-map : {A B : Type 0} (f : A → B) (xs : List A) → first_of (map f xs) ≡ map f (first_of xs)
+first-map f [] = refl
+first-map f (x ∷ xs) = refl
+
+-- what holds of each item holds of the first
+pub each-first : {A : Type 0} (P : A → Type 0) (xs : List A) → EachOf P xs → EachOf P (first_of xs)
+each-first P [] h = tt
+each-first P (x ∷ xs) h = (h.0, tt)

@@ -1,7 +1,7 @@
 -- SQL's tests of a column are the model's.
 use Rattle.std.proofs.Common.{◌≡◌, ℕ, ℤ, pos, ◌<◌, ◌≤◌, ◌^◌, ◌&&◌, List, Bool, true, false, Some, refl, sym, ap, ◌∙◌, arith, int_cmp, inl, inr, nat_cmp}
 use Rattle.std.specs.Prelude.{◌==◌, nat_lt, nat_le, bytes_eq, if◌then◌else◌}
-use Rattle.std.specs.Ordering.{is_eq, is_lt}
+use Rattle.std.specs.Ordering.{is_eq, is_gt, is_lt}
 use Rattle.std.specs.Cmp.Lexicographic.{slice_cmp}
 use Rattle.std.proofs.lemmas.Bool.Decides.{nat_tests}
 use Rattle.std.proofs.lemmas.Map.Text.{is_eq-slice_cmp}
@@ -9,7 +9,7 @@ use Rattle.sqlite.specs.declared.types.Value.TheVariants.{Int, Text}
 use Rattle.sqlite_value.specs.declared.keys.Collation.TheVariants.{Binary}
 use Rattle.sqlite_value.proofs.OrderLemmas.{value_cmp-Int, value_cmp-Text}
 use Rattle.sqlite_sql.specs.declared.ops.BinaryOp.TheVariants.{Compare}
-use Rattle.sqlite_sql.specs.declared.ops.CompareOp.TheVariants.{Eq, Lt}
+use Rattle.sqlite_sql.specs.declared.ops.CompareOp.TheVariants.{Eq, Gt, Lt}
 use Rattle.sqlite_sql.specs.Ops.{binary, is_true, from_truth}
 use Rattle.desk_tables.proofs.Found.{equal_is}
 use Rattle.desk_tables.proofs.Keyed.{ranked, three}
@@ -89,6 +89,23 @@ is_below a n = less_is (pos a) (pos n) ∙ lt_as a n
 pub below_test : (a n : ℕ) → (is_true (binary (Compare Lt Binary) (Int (pos a)) (Int (pos n))) && true) ≡ nat_lt a n
 below_test a n = alone _ ∙ is_below a n
 
+-- SQL's `>`
+gt_as : (a b : ℕ) → is_gt (three a b) ≡ nat_lt b a
+gt_as a b = elim (ranked a b) [
+  | inl less ↦ rw (less.ranks, not_before b a (omega (arith, less.low))) refl
+  | inr (inl tied) ↦ rw (tied.ranks, not_before b a (omega (arith, tied.same))) refl
+  | inr (inr more) ↦ rw (more.ranks, before_is b a more.high) refl
+]
+
+-- SQL's `>` of two numbers
+more_is : (m n : ℤ) → is_true (binary (Compare Gt Binary) (Int m) (Int n)) ≡ is_gt (int_cmp m n)
+unfolding binary
+more_is m n = rw (value_cmp-Int m n) (told (is_gt (int_cmp m n)))
+
+-- a number alone in WHERE is above a limit
+pub above_test : (a n : ℕ) → (is_true (binary (Compare Gt Binary) (Int (pos a)) (Int (pos n))) && true) ≡ nat_lt n a
+above_test a n = alone _ ∙ more_is (pos a) (pos n) ∙ gt_as a n
+
 -- ---- texts
 
 -- a text is the one that is looked for
@@ -132,3 +149,14 @@ below_bounded a n low = go (nat_le n 9223372036854775807) refl
         let high : 9223372036854775807 < n = beyond n is in
         ap (λ b. nat_lt a (if b then n else 9223372036854775807)) is ∙ before_is a 9223372036854775807 (omega (arith, low)) ∙ sym
         (before_is a n (omega (arith, low, high)))
+
+-- no number of a row is above the greatest of SQL
+pub above_bounded : (a n : ℕ) → a ≤ 2 ^ 62 → nat_lt (bounded n) a ≡ nat_lt n a
+above_bounded a n low = go (nat_le n 9223372036854775807) refl
+  where
+    go : (b : Bool) → nat_le n 9223372036854775807 ≡ b → nat_lt (bounded n) a ≡ nat_lt n a
+    go true is = ap (λ b. nat_lt (if b then n else 9223372036854775807) a) is
+    go false is =
+        let high : 9223372036854775807 < n = beyond n is in
+        ap (λ b. nat_lt (if b then n else 9223372036854775807) a) is ∙ not_before 9223372036854775807 a (omega (arith, low)) ∙ sym
+        (not_before n a (omega (arith, low, high)))

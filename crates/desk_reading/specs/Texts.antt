@@ -92,3 +92,21 @@ select_challenges_numbered = codes "SELECT num, authz, kind, token, answered, re
 -- challenges of an authorization
 abbrev pub select_challenges_of : List ℕ
 select_challenges_of = codes "SELECT num, authz, kind, token, answered, reported, outcome, status FROM chall WHERE authz = ?1 ORDER BY num"
+
+-- ---- the first row above a number
+
+-- an account
+abbrev pub select_account_above : List ℕ
+select_account_above = codes "SELECT num, jwk, contacts, opened, ended, end_kind, status FROM account WHERE num > ?1 ORDER BY num LIMIT 1"
+
+-- an order
+abbrev pub select_order_above : List ℕ
+select_order_above = codes "SELECT num, account, made, expires, finalized, csr, certified, cert, failed, problem, status FROM ord WHERE num > ?1 ORDER BY num LIMIT 1"
+
+-- an authorization
+abbrev pub select_authorization_above : List ℕ
+select_authorization_above = codes "SELECT num, account, name, wildcard, made, expires, ended, end_kind, status FROM authz WHERE num > ?1 ORDER BY num LIMIT 1"
+
+-- a challenge
+abbrev pub select_challenge_above : List ℕ
+select_challenge_above = codes "SELECT num, authz, kind, token, answered, reported, outcome, status FROM chall WHERE num > ?1 ORDER BY num LIMIT 1"

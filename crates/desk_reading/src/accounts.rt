@@ -2,6 +2,7 @@
 ghost use Rattle.std.specs.Prelude.{◌≡◌, IfOk, OnOk};
 ghost use Rattle.sqlite.specs.State.{HasCleanDisk, IsUnchanged};
 ghost use Rattle.sqlite.specs.Held.{state};
+ghost use Rattle.desk_parts.specs.Above.{accounts_above, first_of};
 ghost use Rattle.desk_parts.specs.LookUps.{accounts_numbered, accounts_with_key};
 ghost use Rattle.desk_schema.specs.Stays.{Asks};
 ghost use Rattle.desk_reading.specs.Held.{ForHeld};
@@ -78,6 +79,29 @@ pub fn accounts_with_key<S: Alter>(
         alloc,
         conn,
         "SELECT num, jwk, contacts, opened, ended, end_kind, status FROM account WHERE jwk = ?1 ORDER BY num",
+        &params,
+    )
+}
+
+/// The account of the least number above this one, if there is one.
+///
+/// # Errors
+///
+/// The engine's, and `NotARow` where a row is not one of a desk; nothing is changed.
+pub fn account_above<S: Alter>(
+    alloc: Global,
+    conn: &mut Connection<S>,
+    number: u64,
+) -> Result<Vec<AccountRow>, ReadFault>
+    ensures found { ForHeld (state S.Store conn.old) (state S.Store conn.new) (λ T. IsStoredBook T → IfOk result (λ rows. rows.items ≡ first_of (accounts_above T number))) }
+    ensures unchanged { HasCleanDisk (state S.Store conn.new) → OnOk result (IsUnchanged (state S.Store conn.old) (state S.Store conn.new)) }
+    ensures asks { Asks (state S.Store conn.old) (state S.Store conn.new) }
+{
+    let params = number_param(number);
+    find_rows::<S, AccountColumns>(
+        alloc,
+        conn,
+        "SELECT num, jwk, contacts, opened, ended, end_kind, status FROM account WHERE num > ?1 ORDER BY num LIMIT 1",
         &params,
     )
 }

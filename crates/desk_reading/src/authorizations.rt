@@ -5,6 +5,7 @@ ghost use Rattle.sqlite.specs.Held.{state};
 ghost use Rattle.desk_columns.specs.Flat.{challenge_rows, without_challenges};
 ghost use Rattle.desk_model.specs.Kept.{EachOf};
 ghost use Rattle.desk_model.specs.declared.rows.AuthorizationRow.{AuthorizationRow as Row};
+ghost use Rattle.desk_parts.specs.Above.{authorizations_above, challenges_above, first_of};
 ghost use Rattle.desk_parts.specs.LookUps.{authorizations_numbered, authorizations_of, authorizations_past, owners_of};
 ghost use Rattle.desk_schema.specs.Stays.{Asks};
 ghost use Rattle.desk_reading.specs.Held.{ForHeld};
@@ -183,4 +184,52 @@ pub fn owners_of<S: Alter>(
         &params,
     )?;
     Ok(owners(alloc, rows)?)
+}
+
+/// The authorization of the least number above this one, if there is one.
+///
+/// # Errors
+///
+/// The engine's, and `NotARow` where a row is not one of a desk; nothing is changed.
+pub fn authorization_above<S: Alter>(
+    alloc: Global,
+    conn: &mut Connection<S>,
+    number: u64,
+) -> Result<Vec<AuthorizationRow>, ReadFault>
+    ensures found { ForHeld (state S.Store conn.old) (state S.Store conn.new) (λ T. IsStoredBook T → IfOk result (λ rows. rows.items ≡ first_of (authorizations_above T number))) }
+    ensures unchanged { HasCleanDisk (state S.Store conn.new) → OnOk result (IsUnchanged (state S.Store conn.old) (state S.Store conn.new)) }
+    ensures asks { Asks (state S.Store conn.old) (state S.Store conn.new) }
+{
+    let params = number_param(number);
+    let heads = find_rows::<S, AuthzColumns>(
+        alloc,
+        conn,
+        "SELECT num, account, name, wildcard, made, expires, ended, end_kind, status FROM authz WHERE num > ?1 ORDER BY num LIMIT 1",
+        &params,
+    )?;
+    nest_challenges(alloc, conn, heads)
+}
+
+/// The challenge of the least number above this one, of whatever authorization, if there is one.
+///
+/// # Errors
+///
+/// The engine's, and `NotARow` where a row is not one of a desk; nothing is changed.
+pub fn challenge_above<S: Alter>(
+    alloc: Global,
+    conn: &mut Connection<S>,
+    number: u64,
+) -> Result<Vec<ChallengeRow>, ReadFault>
+    ensures found { ForHeld (state S.Store conn.old) (state S.Store conn.new) (λ T. IsStoredBook T → IfOk result (λ rows. rows.items ≡ first_of (challenges_above T number))) }
+    ensures unchanged { HasCleanDisk (state S.Store conn.new) → OnOk result (IsUnchanged (state S.Store conn.old) (state S.Store conn.new)) }
+    ensures asks { Asks (state S.Store conn.old) (state S.Store conn.new) }
+{
+    let params = number_param(number);
+    let rows = find_rows::<S, ChallColumns>(
+        alloc,
+        conn,
+        "SELECT num, authz, kind, token, answered, reported, outcome, status FROM chall WHERE num > ?1 ORDER BY num LIMIT 1",
+        &params,
+    )?;
+    Ok(without_owners(alloc, rows)?)
 }

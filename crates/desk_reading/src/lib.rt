@@ -17,15 +17,18 @@ mod stored;
 mod tables;
 mod values;
 
-pub use accounts::{accounts_numbered, accounts_with_key, all_accounts};
+pub use accounts::{account_above, accounts_numbered, accounts_with_key, all_accounts};
 pub use authorizations::{
-    all_authorizations, authorizations_numbered, authorizations_of, authorizations_past, owners_of,
+    all_authorizations, authorization_above, authorizations_numbered, authorizations_of,
+    authorizations_past, challenge_above, owners_of,
 };
 pub use fault::ReadFault;
 pub use format::is_newer;
 pub use meta::meta_row;
 pub use nonces::{all_nonces, nonces_before, nonces_numbered};
-pub use orders::{all_orders, listed_by, orders_listing, orders_numbered, orders_of, orders_past};
+pub use orders::{
+    all_orders, listed_by, order_above, orders_listing, orders_numbered, orders_of, orders_past,
+};
 pub use stored::load_stored;
 pub use tables::{
     account_table, authorization_table, challenge_table, listed_table, meta_table, nonce_table,

@@ -5,6 +5,7 @@ ghost use Rattle.sqlite.specs.Held.{state};
 ghost use Rattle.desk_columns.specs.Flat.{listed_rows, without_listed};
 ghost use Rattle.desk_model.specs.Kept.{EachOf};
 ghost use Rattle.desk_model.specs.declared.rows.OrderRow.{OrderRow as Row};
+ghost use Rattle.desk_parts.specs.Above.{first_of, orders_above};
 ghost use Rattle.desk_parts.specs.LookUps.{listed_by, orders_listing, orders_numbered, orders_of, orders_past};
 ghost use Rattle.desk_schema.specs.Stays.{Asks};
 ghost use Rattle.desk_reading.specs.Held.{ForHeld};
@@ -207,4 +208,28 @@ pub fn listed_by<S: Alter>(
         &params,
     )?;
     Ok(authorizations_of_listed(alloc, rows)?)
+}
+
+/// The order of the least number above this one, if there is one.
+///
+/// # Errors
+///
+/// The engine's, and `NotARow` where a row is not one of a desk; nothing is changed.
+pub fn order_above<S: Alter>(
+    alloc: Global,
+    conn: &mut Connection<S>,
+    number: u64,
+) -> Result<Vec<OrderRow>, ReadFault>
+    ensures found { ForHeld (state S.Store conn.old) (state S.Store conn.new) (λ T. IsStoredBook T → IfOk result (λ rows. rows.items ≡ first_of (orders_above T number))) }
+    ensures unchanged { HasCleanDisk (state S.Store conn.new) → OnOk result (IsUnchanged (state S.Store conn.old) (state S.Store conn.new)) }
+    ensures asks { Asks (state S.Store conn.old) (state S.Store conn.new) }
+{
+    let params = number_param(number);
+    let heads = find_rows::<S, OrderColumns>(
+        alloc,
+        conn,
+        "SELECT num, account, made, expires, finalized, csr, certified, cert, failed, problem, status FROM ord WHERE num > ?1 ORDER BY num LIMIT 1",
+        &params,
+    )?;
+    nest_listed(alloc, conn, heads)
 }

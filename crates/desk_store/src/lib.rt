@@ -6,6 +6,7 @@ mod look_ups;
 mod making;
 mod open_fault;
 mod opening;
+mod rows_above;
 mod storage;
 mod store;
 

@@ -1,4 +1,5 @@
 pub mod FaultNumbers
 pub mod IsBook
 pub mod Nesting
+pub mod RowFaults
 pub mod Tests

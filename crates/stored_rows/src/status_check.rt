@@ -1,16 +1,16 @@
 //! The check of statuses: which rows store another status than their columns give (RFC 8555, 7.1.6).
 ghost use Rattle.std.specs.Prelude.{◌≡◌, ◌++◌, [], List, IfOk, OnOk, option_map};
 ghost use Rattle.std.specs.List.{flat_map};
-ghost use Rattle.desk_model.specs.Derived.{account_faults, authorization_faults, authorization_numbered, challenge_faults, numbers_of, order_faults, sorted_challenges, status_faults, stored_statuses, unless};
+ghost use Rattle.desk_model.specs.Derived.{account_faults, authorization_faults, authorization_numbered, challenge_faults, numbers_of, order_faults, sorted_challenges, status_faults, stored_statuses};
 ghost use Rattle.desk_model.specs.Entry.{History};
 ghost use Rattle.desk_model.specs.Legal.{Legal};
 ghost use Rattle.desk_model.specs.Tables.{picture};
 ghost use Rattle.desk_model.specs.declared.rows.ChallengeRow.{ChallengeRow as Row};
 ghost use Rattle.stored_rows.specs.FaultNumbers.{challenges_of, fault_number};
+ghost use Rattle.stored_rows.specs.RowFaults.{listed_fault};
 
-use desk_book::{
-    Book, Table, derived_account, derived_authorization, derived_challenge, derived_order,
-};
+use crate::row_faults::{account_fault, authorization_fault, challenge_fault, order_fault};
+use desk_book::{Book, Table};
 use desk_model::{
     AccountRow, AuthorizationRow, AuthzStatus, ChallengeRow, Listed, OrderRow, StatusFault,
 };
@@ -47,15 +47,11 @@ fn faults_by_kind(alloc: Global, book: &Book) -> Result<Vec<StatusFault>, AllocE
     Ok(faults)
 }
 
-/// Puts a fault, unless the row is fine.
-fn push_unless(
-    faults: &mut Vec<StatusFault>,
-    is_fine: bool,
-    fault: StatusFault,
-) -> Result<(), AllocError>
-    ensures { OnOk result (faults.new.items ≡ faults.old.items ++ unless is_fine fault) }
+/// Puts a fault, if there is one.
+fn push_fault(faults: &mut Vec<StatusFault>, found: Option<StatusFault>) -> Result<(), AllocError>
+    ensures { OnOk result (faults.new.items ≡ faults.old.items ++ listed_fault found) }
 {
-    if !is_fine {
+    if let Some(fault) = found {
         faults.push(fault)?;
     }
     Ok(())
@@ -66,13 +62,7 @@ fn push_unless(
 fn push_account(faults: &mut Vec<StatusFault>, row: &AccountRow) -> Result<(), AllocError>
     ensures { OnOk result (faults.new.items ≡ faults.old.items ++ account_faults row.now) }
 {
-    let derived = derived_account(row);
-    let fault = StatusFault::Account {
-        number: row.number,
-        stored: row.status,
-        derived,
-    };
-    push_unless(faults, row.status == derived, fault)
+    push_fault(faults, account_fault(row))
 }
 
 fn push_accounts(
@@ -122,13 +112,8 @@ fn push_order(
     ensures { OnOk result (faults.new.items ≡ faults.old.items ++ order_faults book.now.meta.clock book.now.authorizations row.now) }
 {
     let statuses = listed_statuses(alloc, book, row.listed.as_slice())?;
-    let derived = derived_order(book.meta().clock.moment(), row, &statuses);
-    let fault = StatusFault::Order {
-        number: row.number,
-        stored: row.status,
-        derived,
-    };
-    push_unless(faults, row.status == derived, fault)
+    let found = order_fault(book.meta().clock.moment(), row, &statuses);
+    push_fault(faults, found)
 }
 
 fn push_orders(faults: &mut Vec<StatusFault>, alloc: Global, book: &Book) -> Result<(), AllocError>
@@ -150,13 +135,7 @@ fn push_authorization(
 ) -> Result<(), AllocError>
     ensures { OnOk result (faults.new.items ≡ faults.old.items ++ authorization_faults moment row.now) }
 {
-    let derived = derived_authorization(moment, row);
-    let fault = StatusFault::Authz {
-        number: row.number,
-        stored: row.status,
-        derived,
-    };
-    push_unless(faults, row.status == derived, fault)
+    push_fault(faults, authorization_fault(moment, row))
 }
 
 fn push_authorizations(
@@ -177,13 +156,7 @@ fn push_authorizations(
 fn push_challenge(faults: &mut Vec<StatusFault>, row: &ChallengeRow) -> Result<(), AllocError>
     ensures { OnOk result (faults.new.items ≡ faults.old.items ++ challenge_faults row.now) }
 {
-    let derived = derived_challenge(row);
-    let fault = StatusFault::Chall {
-        number: row.number,
-        stored: row.status,
-        derived,
-    };
-    push_unless(faults, row.status == derived, fault)
+    push_fault(faults, challenge_fault(row))
 }
 
 fn push_challenges(faults: &mut Vec<StatusFault>, rows: &[ChallengeRow]) -> Result<(), AllocError>

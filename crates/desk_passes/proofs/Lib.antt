@@ -1,0 +1,3 @@
+pub mod Alls
+pub mod Firsts
+pub mod Rows

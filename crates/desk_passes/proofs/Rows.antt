@@ -1,0 +1,73 @@
+-- The rows above a number, one after the other.
+use Rattle.std.proofs.Common.{◌≡◌, ◌<◌, ◌≤◌, ℕ, ◌+◌, List, [], ◌∷◌, ◌++◌, Bool, true, false, cond, refl, sym, ap, subst, ◌∙◌, arith, ltb}
+use Rattle.std.specs.List.{flat_map}
+use Rattle.std.proofs.lemmas.Bool.{ltb-true, lt-ltb}
+use Rattle.desk_laws.specs.Ordered.{Ascends}
+use Rattle.desk_parts.specs.Above.{above, first_of}
+
+-- a number that is not greater is not above
+not_above : (k n : ℕ) → n ≤ k → ltb k n ≡ false
+not_above k n h = by (ltb k n) refl
+  where
+    by : (b : Bool) → ltb k n ≡ b → b ≡ false
+    by true e = let lt : k < n = ltb-true k n e in absurd (omega arith)
+    by false e = refl
+
+-- a number that is not above is not greater
+not_greater : (k n : ℕ) → ltb k n ≡ false → n ≤ k
+not_greater k n h = grind (arith, lt-ltb k n)
+
+-- rows that ascend from above a number are all above it
+pub all_above : {X : Type 0} (number : X → ℕ) (n m : ℕ) (xs : List X) → n < m → Ascends number m xs → above number n xs ≡ xs
+all_above number n m [] lt h = refl
+all_above number n m (x ∷ xs) lt h =
+    let a : m ≤ number x = h.0 in
+    let more : ltb n (number x) ≡ true = lt-ltb n (number x) (omega arith) in
+    let rest : above number n xs ≡ xs = all_above number n (number x + 1) xs (omega arith) h.1 in
+    λ i. cond (more i) (x ∷ rest i) (rest i)
+
+-- the first row above a number is above it
+first_is_above : {X : Type 0} (number : X → ℕ) (n : ℕ) (x : X) (xs : List X) → first_of (above number n xs) ≡ x ∷ [] → n < number x
+first_is_above number n x [] e = absurd (cc e)
+first_is_above number n x (y ∷ ys) e = by (ltb n (number y)) refl (first_is_above number n x ys) e
+  where
+    by : (b : Bool) → ltb n (number y) ≡ b → (first_of (above number n ys) ≡ x ∷ [] → n < number x)
+        → first_of (cond b (y ∷ above number n ys) (above number n ys)) ≡ x ∷ [] → n < number x
+    by true more later is = let same : y ≡ x = cc is in subst (λ z. n < number z) same (ltb-true n (number y) more)
+    by false less later is = later is
+
+-- where rows ascend, those above a number are the first of them and those above its number
+pub above_step : {X : Type 0} (number : X → ℕ) (n m : ℕ) (x : X) (xs : List X) → Ascends number m xs → first_of (above number n xs) ≡ x ∷ [] →
+    above number n xs ≡ x ∷ above number (number x) xs
+above_step number n m x [] h e = absurd (cc e)
+above_step number n m x (y ∷ ys) h e = by (ltb n (number y)) refl (above_step number n (number y + 1) x ys h.1) e
+  where
+    by : (b : Bool) → ltb n (number y) ≡ b → (first_of (above number n ys) ≡ x ∷ [] → above number n ys ≡ x ∷ above number (number x) ys)
+        → first_of (cond b (y ∷ above number n ys) (above number n ys)) ≡ x ∷ []
+        → cond b (y ∷ above number n ys) (above number n ys) ≡ x ∷ above number (number x) (y ∷ ys)
+    by true more later is =
+        let same : y ≡ x = cc is in
+        let lower : n < number y = ltb-true n (number y) more in
+        let here : ltb (number y) (number y) ≡ false = not_above (number y) (number y) (omega arith) in
+        let rest : above number n ys ≡ above number (number y) ys =
+        all_above number n (number y + 1) ys (omega arith) h.1 ∙ sym (all_above number (number y) (number y + 1) ys (omega arith) h.1) in
+        let skips : above number (number y) (y ∷ ys) ≡ above number (number y) ys = λ i. cond (here i) (y ∷ above number (number y) ys) (above number (number y) ys) in
+        subst (λ z. y ∷ above number n ys ≡ z ∷ above number (number z) (y ∷ ys)) same (ap (λ l. y ∷ l) (rest ∙ sym skips))
+    by false less later is =
+        let upper : n < number x = first_is_above number n x ys is in
+        let lower : number y ≤ n = not_greater n (number y) less in
+        let here : ltb (number x) (number y) ≡ false = not_above (number x) (number y) (omega arith) in
+        let skips : above number (number x) (y ∷ ys) ≡ above number (number x) ys = λ i. cond (here i) (y ∷ above number (number x) ys) (above number (number x) ys) in
+        later is ∙ ap (λ l. x ∷ l) (sym skips)
+
+-- where there is no first, there is none
+pub none_first : {X : Type 0} (xs : List X) → first_of xs ≡ [] → xs ≡ []
+none_first [] e = refl
+none_first (x ∷ xs) e = absurd (cc e)
+
+-- what is found at the first of the rows above a number, and what is left above its number
+pub found_step : {X F : Type 0} (number : X → ℕ) (found_at : X → List F) (n m : ℕ) (x : X) (xs : List X) (found : List F) →
+    Ascends number m xs → first_of (above number n xs) ≡ x ∷ [] → found ≡ found_at x →
+    flat_map found_at (above number n xs) ≡ found ++ flat_map found_at (above number (number x) xs)
+found_step number found_at n m x xs found h e same =
+    ap (flat_map found_at) (above_step number n m x xs h e) ∙ ap (λ l. l ++ flat_map found_at (above number (number x) xs)) (sym same)

@@ -1,0 +1,15 @@
+use Rattle.std.proofs.Common.{subst}
+use Rattle.desk_model.specs.Derived.{account_faults}
+use Rattle.desk_model.specs.declared.rows.AccountRow.{AccountRow}
+use Rattle.desk_parts.specs.Above.{accounts_above}
+use Rattle.stored_rows.specs.RowFaults.{listed_fault}
+use Rattle.desk_passes.specs.Stepping.{IsFirst}
+use Rattle.desk_passes.proofs.Rows.{found_step}
+use Rattle.desk_passes.proofs.checked.check_account.Goals as goal
+
+pub returns-clause-steps : goal.returns-clause-steps
+returns-clause-steps g c honest T holds h =
+    let rows = accounts_above T c.args.above in
+    let first : IsFirst _ rows = c.in_ok-row.ensures.first rows (c.in_ok-rows.ensures.found honest T holds) in
+    found_step (λ (x : AccountRow). x.number) account_faults c.args.above 1 c.in-Some.row T.accounts (listed_fault c.account_fault.result) h.tables.accounts.0
+    (subst (λ r. IsFirst r rows) c.in-Some.is first) c.account_fault.ensures

@@ -1,0 +1,4 @@
+pub mod InOrder
+pub mod Laws
+pub mod Left
+pub mod Stepping

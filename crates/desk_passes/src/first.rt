@@ -1,0 +1,28 @@
+//! The first of the rows above a number.
+ghost use Rattle.std.specs.Prelude.{◌≡◌, ◌<◌, List, IfOk, OnSome, IfSome};
+ghost use Rattle.desk_parts.specs.Above.{first_of};
+ghost use Rattle.desk_passes.specs.Stepping.{IsFirst};
+
+use desk_book::Row;
+use desk_storage::StorageFault;
+
+/// The row that was found above a number, if one was.
+///
+/// # Errors
+///
+/// `Reopen` where the row is not above the number.
+pub(crate) fn first_above<R: Row + Drop>(
+    mut rows: Vec<R>,
+    above: u64,
+) -> Result<Option<R>, StorageFault>
+    ensures first { IfOk result (λ row. (all : List R) → rows.items ≡ first_of all → IsFirst row all) }
+    ensures onward { IfOk result (λ row. IfSome row (λ r. above < R.number r)) }
+{
+    let Some(row) = rows.pop() else {
+        return Ok(None);
+    };
+    if row.number() <= above {
+        return Err(StorageFault::Reopen);
+    }
+    Ok(Some(row))
+}

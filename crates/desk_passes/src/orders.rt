@@ -1,0 +1,99 @@
+//! The orders of a desk, one after the other.
+ghost use Rattle.std.specs.Prelude.{◌≡◌, ◌<◌, IfOk, IfErr, IfSome, OnSome, None, Some};
+ghost use Rattle.desk_parts.specs.Above.{orders_above};
+ghost use Rattle.desk_storage.specs.Sight.{ForTables, Reads};
+ghost use Rattle.desk_storage.specs.declared.fault.StorageFault.{StorageFault as Fault};
+ghost use Rattle.desk_model.specs.Tables.{Tables};
+ghost use Rattle.desk_passes.specs.InOrder.{IsInOrder};
+ghost use Rattle.desk_passes.specs.Left.{IsNext};
+ghost use Rattle.desk_passes.specs.Stepping.{IsFirst};
+
+use crate::first::first_above;
+use desk_loading::RowsAbove;
+use desk_model::OrderRow;
+use desk_storage::StorageFault;
+use std::alloc::Global;
+
+/// The order of the least number above this one, if there is one.
+pub(crate) fn order_after<S: RowsAbove>(
+    alloc: Global,
+    source: &mut S,
+    above: u64,
+) -> Result<Option<OrderRow>, StorageFault>
+    ensures reads { Reads S.sight source.old source.new result }
+    ensures first { ForTables S.sight source.old source.new (λ T. IfOk result (λ order. IsFirst order (orders_above T above))) }
+    ensures onward { IfOk result (λ order. IfSome order (λ o. above < o.number)) }
+{
+    let rows = source.order_above(alloc, above)?;
+    let order = first_above(rows, above)?;
+    Ok(order)
+}
+
+/// A pass through the orders of a desk, by number, which keeps one of them at most.
+///
+/// After a fault it gives the same fault again, and reads no more.
+#[derive(Drop)]
+pub struct Orders<'a, S: RowsAbove> {
+    source: &'a mut S,
+    above: u64,
+    fault: Option<StorageFault>,
+}
+
+impl<'a, S: RowsAbove> Orders<'a, S> {
+    /// A pass through all orders of this source.
+    pub fn new(source: &'a mut S) -> Orders<'a, S>
+        ensures same_source { result.source.ghost_name ≡ source.entry.ghost_name }
+        ensures unread { result.source.now ≡ source.old }
+        ensures unfailed { result.fault ≡ None }
+        ensures all { (T : Tables) → IsInOrder T → orders_above T result.above ≡ T.orders }
+    {
+        Orders {
+            source,
+            above: 0,
+            fault: None,
+        }
+    }
+
+    /// The next order, or `None` after the last.
+    ///
+    /// # Errors
+    ///
+    /// `Memory` where a growth was refused, `Device` where the disk failed, `Reopen` where the rows could not be read or do not
+    /// stand by number.
+    pub fn next(&mut self, alloc: Global) -> Result<Option<OrderRow>, StorageFault>
+        ensures same_source { self.new.source.ghost_name ≡ self.old.source.ghost_name }
+        ensures reads { Reads S.sight self.old.source.now self.new.source.now result }
+        ensures next { ForTables S.sight self.old.source.now self.new.source.now (λ T. IsInOrder T →
+            IfOk result (λ order. IsNext order (orders_above T self.old.above) (orders_above T self.new.above))) }
+        ensures onward { IfOk result (λ order. OnSome order (self.old.above < self.new.above)) }
+        ensures failed { IfErr result (λ fault. self.new.fault ≡ Some fault) }
+        ensures again { (fault : Fault) → self.old.fault ≡ Some fault → (result ≡ Err fault) × (self.new ≡ self.old) }
+    {
+        match self.fault {
+            Some(fault) => Err(fault),
+            None => self.advance(alloc),
+        }
+    }
+
+    /// Reads the next order.
+    fn advance(&mut self, alloc: Global) -> Result<Option<OrderRow>, StorageFault>
+        ensures same_source { self.new.source.ghost_name ≡ self.old.source.ghost_name }
+        ensures reads { Reads S.sight self.old.source.now self.new.source.now result }
+        ensures next { ForTables S.sight self.old.source.now self.new.source.now (λ T. IsInOrder T →
+            IfOk result (λ order. IsNext order (orders_above T self.old.above) (orders_above T self.new.above))) }
+        ensures onward { IfOk result (λ order. OnSome order (self.old.above < self.new.above)) }
+        ensures failed { IfErr result (λ fault. self.new.fault ≡ Some fault) }
+    {
+        match order_after(alloc, self.source, self.above) {
+            Ok(Some(order)) => {
+                self.above = order.number;
+                Ok(Some(order))
+            }
+            Ok(None) => Ok(None),
+            Err(fault) => {
+                self.fault = Some(fault);
+                Err(fault)
+            }
+        }
+    }
+}

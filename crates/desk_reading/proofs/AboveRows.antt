@@ -1,0 +1,165 @@
+-- What each look-up of the first row above a number finds.
+use Rattle.std.proofs.Common.{◌≡◌, ℕ, pos, List, [], ◌∷◌, ◌++◌, map, filter, refl, sym, ap, subst, ◌∙◌, codes}
+use Rattle.std.specs.Prelude.{nat_lt}
+use Rattle.std.specs.List.{flat_map}
+use Rattle.std.proofs.lemmas.List.{map-append}
+use Rattle.sqlite.specs.declared.types.Value.TheVariants.{Int}
+use Rattle.sqlite_value.specs.declared.keys.Collation.TheVariants.{Binary}
+use Rattle.sqlite_value.specs.Order.{Row}
+use Rattle.sqlite_sql.specs.declared.ops.BinaryOp.TheVariants.{Compare}
+use Rattle.sqlite_sql.specs.declared.ops.CompareOp.TheVariants.{Gt}
+use Rattle.sqlite_sql.specs.Term.{Term, col, op2}
+use Rattle.sqlite_tied.specs.Compute.{everything}
+use Rattle.sqlite.specs.Listing.{understood}
+use Rattle.sqlite.specs.State.{State, Shown}
+use Rattle.desk_columns.specs.Columns.{account_columns, authorization_columns, challenge_columns, order_columns}
+use Rattle.desk_columns.specs.Flat.{challenge_rows, owned_by, without_challenges, without_listed}
+use Rattle.desk_columns.specs.Limits.{IsStoredAccount, IsStoredAuthorization, IsStoredChallenge, IsStoredOrder}
+use Rattle.desk_columns.specs.declared.flat_rows.Owned.{Owned}
+use Rattle.desk_columns.proofs.RowsApart.{accounts-apart, authorizations-apart, challenges-apart, orders-apart}
+use Rattle.desk_model.specs.Kept.{EachOf}
+use Rattle.desk_model.specs.Tables.{Tables}
+use Rattle.desk_model.specs.declared.rows.AccountRow.{AccountRow}
+use Rattle.desk_model.specs.declared.rows.AuthorizationRow.{AuthorizationRow}
+use Rattle.desk_model.specs.declared.rows.ChallengeRow.{ChallengeRow}
+use Rattle.desk_model.specs.declared.rows.OrderRow.{OrderRow}
+use Rattle.desk_parts.specs.Above.{accounts_above, authorizations_above, challenges_above, first_of, orders_above}
+use Rattle.desk_tables.specs.Holds.{Holds}
+use Rattle.desk_tables.specs.Layouts.{account_layout, authorization_layout, challenge_layout, order_layout}
+use Rattle.desk_tables.proofs.Holding.{accounts_held, authorizations_held, challenges_held, orders_held}
+use Rattle.desk_reading.specs.Bounded.{bounded}
+use Rattle.desk_reading.specs.Spelled.{account_in, authorization_in, challenge_in, order_in}
+use Rattle.desk_reading.specs.StoredBook.{IsStoredBook}
+use Rattle.desk_reading.specs.Texts.{select_account_above, select_authorization_above, select_challenge_above, select_order_above}
+use Rattle.desk_reading.proofs.Answered.{IsReadingUpTo, by, first_row}
+use Rattle.desk_reading.proofs.FoundRows.{found_first}
+use Rattle.desk_reading.proofs.Lists.{filter-map, first-map, map-id, map-map}
+use Rattle.desk_reading.proofs.Tests.{above_bounded, above_test}
+use Rattle.desk_reading.proofs.Told.{account_project, account_spelled, authorization_project, authorization_spelled, challenge_project, challenge_spelled, order_project, order_spelled}
+
+-- ---- texts
+
+-- the number is above the first parameter
+abbrev is_higher : List Term
+is_higher = op2 (Compare Gt Binary) (col 1 0) (col 0 0) ∷ []
+
+-- an account
+pub account_above_reading : IsReadingUpTo first_row select_account_above 2 is_higher account_project (by 0 ∷ [])
+unfolding understood everything
+account_above_reading = record {
+  names = codes "num" ∷ codes "jwk" ∷ codes "contacts" ∷ codes "opened" ∷ codes "ended" ∷ codes "end_kind" ∷ codes "status" ∷ [];
+  command = refl;
+  plain = (refl, refl);
+  unlisted = refl;
+  selecting = refl;
+}
+
+-- an order
+pub order_above_reading : IsReadingUpTo first_row select_order_above 4 is_higher order_project (by 0 ∷ [])
+unfolding understood everything
+order_above_reading = record {
+  names = codes "num" ∷ codes "account" ∷ codes "made" ∷ codes "expires" ∷ codes "finalized" ∷ codes "csr"
+      ∷ codes "certified" ∷ codes "cert" ∷ codes "failed" ∷ codes "problem" ∷ codes "status" ∷ [];
+  command = refl;
+  plain = (refl, refl);
+  unlisted = refl;
+  selecting = refl;
+}
+
+-- an authorization
+pub authorization_above_reading : IsReadingUpTo first_row select_authorization_above 5 is_higher authorization_project (by 0 ∷ [])
+unfolding understood everything
+authorization_above_reading = record {
+  names = codes "num" ∷ codes "account" ∷ codes "name" ∷ codes "wildcard" ∷ codes "made" ∷ codes "expires"
+      ∷ codes "ended" ∷ codes "end_kind" ∷ codes "status" ∷ [];
+  command = refl;
+  plain = (refl, refl);
+  unlisted = refl;
+  selecting = refl;
+}
+
+-- a challenge
+pub challenge_above_reading : IsReadingUpTo first_row select_challenge_above 8 is_higher challenge_project (by 0 ∷ [])
+unfolding understood everything
+challenge_above_reading = record {
+  names = codes "num" ∷ codes "authz" ∷ codes "kind" ∷ codes "token" ∷ codes "answered" ∷ codes "reported"
+      ∷ codes "outcome" ∷ codes "status" ∷ [];
+  command = refl;
+  plain = (refl, refl);
+  unlisted = refl;
+  selecting = refl;
+}
+
+-- ---- challenges without their owners
+
+-- those of one authorization
+own_rows : (n : ℕ) (cs : List ChallengeRow) → map (λ (c : Owned ChallengeRow). c.row) (owned_by n cs) ≡ cs
+own_rows n [] = refl
+own_rows n (c ∷ cs) = ap (λ l. c ∷ l) (own_rows n cs)
+
+-- those of all
+rows_owned : (rs : List AuthorizationRow) → map (λ (c : Owned ChallengeRow). c.row) (challenge_rows rs) ≡ flat_map (λ (r : AuthorizationRow). r.challenges) rs
+rows_owned [] = refl
+rows_owned (r ∷ rs) =
+    map-append (λ (c : Owned ChallengeRow). c.row) (owned_by r.number r.challenges) (challenge_rows rs)
+    ∙ (λ i. own_rows r.number r.challenges i ++ rows_owned rs i)
+
+-- the first above a number
+pub first_challenge : (T : Tables) (n : ℕ) → map (λ (c : Owned ChallengeRow). c.row)
+    (first_of (filter (λ (c : Owned ChallengeRow). nat_lt n c.row.number) (challenge_rows T.authorizations))) ≡ first_of (challenges_above T n)
+first_challenge T n =
+    sym (first-map (λ (c : Owned ChallengeRow). c.row) (filter (λ (c : Owned ChallengeRow). nat_lt n c.row.number) (challenge_rows T.authorizations)))
+    ∙ ap first_of (sym (filter-map (λ (c : ChallengeRow). nat_lt n c.number) (λ (c : Owned ChallengeRow). c.row) (challenge_rows T.authorizations)))
+    ∙ ap (λ cs. first_of (filter (λ (c : ChallengeRow). nat_lt n c.number) cs)) (rows_owned T.authorizations)
+
+-- ---- what is found
+
+module _ (old new : State) (T : Tables) (rows : List Row) (values : Row) (has : Holds old.now T) (book : IsStoredBook T) (n : ℕ)
+    (given : values ≡ Int (pos (bounded n)) ∷ []) where
+  -- an account
+  pub account_above_found : (found : List AccountRow) → EachOf IsStoredAccount found → map account_in rows ≡ map account_columns found
+      → Shown select_account_above values old new rows → found ≡ first_of (accounts_above T n)
+  account_above_found found kept spells h =
+      found_first account_layout (λ (x : AccountRow). x) account_columns IsStoredAccount account_in account_project account_spelled accounts-apart
+      select_account_above is_higher (Int (pos (bounded n)) ∷ []) (λ x. nat_lt (bounded n) x.number) (λ x. nat_lt n x.number) account_above_reading
+      (λ x. above_test x.number (bounded n)) (λ x k. above_bounded x.number n k.number.1) old new values T.accounts rows found (accounts_held old.now T has)
+      (subst (EachOf IsStoredAccount) (sym (map-id T.accounts)) book.stored.accounts) given h kept spells
+      ∙ map-id (first_of (accounts_above T n))
+
+  -- an order, without what it lists
+  pub order_above_found : (found : List OrderRow) → EachOf IsStoredOrder found → map order_in rows ≡ map order_columns found
+      → Shown select_order_above values old new rows → found ≡ map without_listed (first_of (orders_above T n))
+  order_above_found found kept spells h =
+      found_first order_layout without_listed order_columns IsStoredOrder order_in order_project order_spelled orders-apart
+      select_order_above is_higher (Int (pos (bounded n)) ∷ []) (λ x. nat_lt (bounded n) x.number) (λ x. nat_lt n x.number) order_above_reading
+      (λ x. above_test x.number (bounded n)) (λ x k. above_bounded x.number n k.number.1) old new values T.orders rows found (orders_held old.now T has)
+      book.stored.orders given h kept spells
+
+  -- an authorization, without its challenges
+  pub authorization_above_found : (found : List AuthorizationRow) → EachOf IsStoredAuthorization found
+      → map authorization_in rows ≡ map authorization_columns found
+      → Shown select_authorization_above values old new rows → found ≡ map without_challenges (first_of (authorizations_above T n))
+  authorization_above_found found kept spells h =
+      found_first authorization_layout without_challenges authorization_columns IsStoredAuthorization authorization_in authorization_project
+      authorization_spelled authorizations-apart
+      select_authorization_above is_higher (Int (pos (bounded n)) ∷ []) (λ x. nat_lt (bounded n) x.number) (λ x. nat_lt n x.number)
+      authorization_above_reading
+      (λ x. above_test x.number (bounded n)) (λ x k. above_bounded x.number n k.number.1) old new values T.authorizations rows found
+      (authorizations_held old.now T has) book.stored.authorizations given h kept spells
+
+  -- a challenge, under its authorization
+  pub challenge_above_found : (found : List (Owned ChallengeRow)) → EachOf IsStoredChallenge found → map challenge_in rows ≡ map challenge_columns found
+      → Shown select_challenge_above values old new rows
+      → map (λ (c : Owned ChallengeRow). c.row) found ≡ first_of (challenges_above T n)
+  challenge_above_found found kept spells h =
+      let all = challenge_rows T.authorizations in
+      let is : found ≡ map (λ (x : Owned ChallengeRow). x) (first_of (filter (λ (c : Owned ChallengeRow). nat_lt n c.row.number) all)) =
+      found_first challenge_layout (λ (x : Owned ChallengeRow). x) challenge_columns IsStoredChallenge challenge_in challenge_project challenge_spelled
+      challenges-apart select_challenge_above is_higher (Int (pos (bounded n)) ∷ []) (λ c. nat_lt (bounded n) c.row.number) (λ c. nat_lt n c.row.number)
+      challenge_above_reading
+      (λ c. above_test c.row.number (bounded n)) (λ c k. above_bounded c.row.number n k.number.1) old new values all rows found
+      (challenges_held old.now T has)
+      (subst (EachOf IsStoredChallenge) (sym (map-id all)) book.stored.challenges) given h kept spells in
+      ap (map (λ (c : Owned ChallengeRow). c.row))
+      (is ∙ map-id (first_of (filter (λ (c : Owned ChallengeRow). nat_lt n c.row.number) all)))
+      ∙ first_challenge T n
