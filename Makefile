@@ -87,5 +87,7 @@ bench:
 	@python3 bench/bench.py > bin/PERFORMANCE.md
 	@echo 'Timing requests over loopback.'
 	@python3 bench/loopback.py >> bin/PERFORMANCE.md
+	@echo 'Timing the reports.'
+	@python3 bench/reports.py >> bin/PERFORMANCE.md
 	@mv bin/PERFORMANCE.md docs/PERFORMANCE.md
 	@cat docs/PERFORMANCE.md

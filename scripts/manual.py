@@ -5,18 +5,20 @@ import subprocess
 import sys
 
 WORDS = ("make", "serve", "batch", "status", "check", "revoke-authz", "revoke-account")
-EXITS = (
-    ("0", "done"),
-    ("1", "a fault or a refusal, with a line on standard error that begins with desk:"),
-    ("2", "wrong words, or a limit of the terms that is broken"),
-    ("3", "check found a stored status that is wrong"),
-)
+EXITS = "Exit statuses:"
+
+
+def said_by(program, *words):
+    """The lines that the program writes."""
+    ran = subprocess.run([program, *words], stdout=subprocess.PIPE, check=True, text=True)
+    return ran.stdout.rstrip("\n").split("\n")
 
 
 def help_of(program, *words):
-    """The lines of the program's help."""
-    ran = subprocess.run([program, *words, "--help"], stdout=subprocess.PIPE, check=True, text=True)
-    return ran.stdout.rstrip("\n").split("\n")
+    """The lines of the program's help, without the exit statuses, and those of the exit statuses."""
+    lines = said_by(program, *words, "--help")
+    place = lines.index(EXITS)
+    return lines[:place - 1], lines[place + 1:]
 
 
 def roff(line):
@@ -31,12 +33,15 @@ def verbatim(lines):
 
 def page(program):
     """The lines of the manual page."""
-    lines = ['.TH DESK 1 "" "" "User Commands"', ".SH NAME", "desk \\- the order desk of an ACME certificate authority",
-             ".SH SYNOPSIS", "\\fBdesk\\fR \\fIWORD\\fR [\\fIARGUMENT\\fR ...]", ".SH DESCRIPTION", *verbatim(help_of(program))]
+    said, exits = help_of(program)
+    lines = [f'.TH DESK 1 "" "{roff(said_by(program, "--version")[0])}" "User Commands"', ".SH NAME",
+             "desk \\- the order desk of an ACME certificate authority", ".SH SYNOPSIS",
+             "\\fBdesk\\fR \\fIWORD\\fR [\\fIARGUMENT\\fR ...]", ".SH DESCRIPTION", *verbatim(said)]
     for word in WORDS:
-        lines += [f".SS {roff(word)}", *verbatim(help_of(program, word))]
+        lines += [f".SS {roff(word)}", *verbatim(help_of(program, word)[0])]
     lines += [".SH EXIT STATUS"]
-    for status, meaning in EXITS:
+    for line in exits:
+        status, meaning = line.split(None, 1)
         lines += [".TP", f"\\fB{status}\\fR", roff(meaning)]
     lines += [".SH FILES", ".TP", "\\fIFILE\\fR", "the desk", ".TP", roff("FILE-wal"), "the engine's log, until the file is closed",
               ".SH SEE ALSO", "RFC 8555"]

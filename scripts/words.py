@@ -2,7 +2,7 @@
 """Tries the operator's words on files: scripts/words.py PROGRAM
 
 `status`, `check`, `revoke-authz` and `revoke-account` print what docs/SPECIFICATION.md says, section 14, and end with the
-status that it gives; the reports change nothing.
+status that it gives; the reports change nothing. Help names the options of each word, their limits, and the exit statuses.
 """
 import os
 import sqlite3
@@ -18,6 +18,18 @@ NO_FIT = (1, b"", b"desk: the report does not fit the records\n")
 NOTHING_HERE = (1, b"", b"desk: there is nothing here\n")
 FULL = (1, None, b"desk: output\n")
 LAST = 2**62
+OTHER_KEY = {"crv": "P-256", "kty": "EC", "x": "Aw", "y": "BA"}
+LIFE = "1 to 315360000"
+HELP = {
+    "make": ("FILE", "--base", "8 to 256 bytes", "--nonce-life", "3600", "--order-life", "604800", "--authz-life", "2592000", LIFE),
+    "serve": ("FILE", "--port", "0 to 65535", "--count", "2^64 - 1"),
+    "batch": ("--file", "in memory"),
+    "status": ("FILE", "--account", "1 to 2^62", "--status", "pending, ready, processing, valid, invalid", "--json"),
+    "check": ("FILE", "--json", "status 3"),
+    "revoke-authz": ("FILE", "N", "1 to 2^62"),
+    "revoke-account": ("FILE", "N", "1 to 2^62"),
+}
+EXITS = ("0  done", "1  a fault or a refusal", "2  wrong words, or a limit that is broken", "3  check found a stored status that is wrong")
 
 
 def run(program, *words, out=subprocess.PIPE):
@@ -51,6 +63,10 @@ def order_line(number, account, status, expires):
     return f"{number:>10} {account:>10} {status:<10} {expires}\n".encode()
 
 
+def order_document(number, account, status, expires):
+    return f'{{"number":{number},"account":{account},"status":"{status}","expires":"{expires}"}}\n'.encode()
+
+
 def reports(program, folder):
     """Orders are listed, and stored statuses that are wrong."""
     os.mkdir(f"{folder}/empty")
@@ -81,6 +97,54 @@ def wrong_statuses(program, folder):
     wanted = [b"account 1: stored revoked, derived valid", b"order 2: stored pending, derived invalid", b"authz 2: stored expired, derived pending",
               b"chall 4: stored processing, derived pending"]
     see("several, in order", said.splitlines(), wanted)
+
+
+def narrowed(program, folder):
+    """Orders are listed by account, by status and by both, as text and as JSON."""
+    desk = desk_with_orders(program, folder, "narrowed")
+    see("a second account", desk.answer(desk.signed("/new-account", {}, key=OTHER_KEY))[0], "201")
+    wanted = {"identifiers": [{"type": "dns", "value": "c.example"}]}
+    see("its order", desk.answer(desk.signed("/new-order", wanted, key=OTHER_KEY, random="00" * 48))[0], "201")
+    change(desk.path, "UPDATE ord SET status = 'ready' WHERE num = 2")
+    end = "1970-01-08T00:00:00Z"
+    orders = {1: (1, 1, "pending", end), 2: (2, 1, "ready", end), 3: (3, 2, "pending", end)}
+    one, two, pending, ready = ("--account", "1"), ("--account", "2"), ("--status", "pending"), ("--status", "ready")
+    rows = (((), (1, 2, 3)), (one, (1, 2)), (two, (3,)), (pending, (1, 3)), (ready, (2,)), (one + pending, (1,)), (ready + one, (2,)),
+            (two + ready, ()), (("--account", str(LAST)), ()), (("--status", "processing"), ()), (("--status", "valid"), ()),
+            (("--status", "invalid"), ()))
+    for words, numbers in rows:
+        text = b"".join(order_line(*orders[number]) for number in numbers) + f"orders {len(numbers)}\n".encode()
+        see(f"status {words}", run(program, "status", desk.path, *words), (0, text, b""))
+        documents = b"".join(order_document(*orders[number]) for number in numbers)
+        see(f"status {words} as JSON", run(program, "status", desk.path, *words, "--json"), (0, documents, b""))
+    with open("/dev/full", "wb") as full:
+        see("JSON on a full output", run(program, "status", desk.path, "--json", out=full), FULL)
+        see("no JSON on a full output", run(program, "status", desk.path, "--json", *two, *ready, out=full), (0, None, b""))
+    wrong = [("--account", number) for number in ("0", str(LAST + 1), "-1", "one", "")]
+    wrong += [("--status", word) for word in ("expired", "Pending", "pend", "")]
+    for words in (*wrong, ("--account",), ("--status",), one + two, pending + ready, ("--json", "--json"), ("--json=true",)):
+        see(f"status {words}", run(program, "status", desk.path, *words)[:2], (2, b""))
+    for words in (one, pending, ("--json", "--json"), ("--json=true",)):
+        see(f"check {words}", run(program, "check", desk.path, *words)[:2], (2, b""))
+
+
+def wrong_statuses_as_json(program, folder):
+    """Each kind of stored status that is wrong is a document of its own."""
+    desk = desk_with_orders(program, folder, "documents")
+    check = (program, "check", desk.path, "--json")
+    see("no document", run(*check), (0, b"", b""))
+    with open("/dev/full", "wb") as full:
+        see("no document on a full output", run(*check, out=full), (0, None, b""))
+    change(desk.path, "UPDATE account SET status = 'revoked'", "UPDATE chall SET status = 'processing' WHERE num = 4",
+           "UPDATE authz SET status = 'expired' WHERE num = 2")
+    ended, said, errors = run(*check)
+    see("documents", (ended, errors), (3, b""))
+    wanted = [b'{"kind":"account","number":1,"stored":"revoked","derived":"valid"}', b'{"kind":"order","number":2,"stored":"pending","derived":"invalid"}',
+              b'{"kind":"authz","number":2,"stored":"expired","derived":"pending"}', b'{"kind":"chall","number":4,"stored":"processing","derived":"pending"}']
+    see("documents, in order", said.splitlines(), wanted)
+    see("a last line end", said[-1:], b"\n")
+    with open("/dev/full", "wb") as full:
+        see("documents on a full output", run(*check, out=full), FULL)
 
 
 def revocations(program, folder):
@@ -122,14 +186,22 @@ def wrong_words(program, folder):
         see(f"{word} of a missing file", run(program, word, f"{folder}/none.db"), NOT_A_DESK)
         see(f"{word} with more words", run(program, word, desk.path, "1")[:2], (2, b""))
     see("no file is made", os.path.exists(f"{folder}/none.db"), False)
-    for word in ("make", "serve", "batch", "status", "check", "revoke-authz", "revoke-account"):
-        ended, said, errors = run(program, word, "--help")
-        see(f"help of {word}", (ended, said != b"", errors), (0, True, b""))
+
+
+def helps(program, folder):
+    """The version, and what help says of each word."""
+    see("version", run(program, "--version"), (0, b"desk 0.1.0\n", b""))
+    see("no version of a word", run(program, "status", "--version")[:2], (2, b""))
+    for word, texts in {"": tuple(HELP), **HELP}.items():
+        ended, said, errors = run(program, *word.split(), "--help")
+        see(f"help of {word!r}", (ended, errors), (0, b""))
+        for text in (*texts, f"Example:\n  desk {word or 'status'} ", *EXITS):
+            see(f"{text!r} in the help of {word!r}", text in said.decode(), True)
 
 
 def main(program):
     with tempfile.TemporaryDirectory(prefix="desk-words-") as folder:
-        for tries in (reports, wrong_statuses, revocations, wrong_words):
+        for tries in (reports, wrong_statuses, narrowed, wrong_statuses_as_json, revocations, wrong_words, helps):
             tries(program, folder)
     print("\n".join(faults + [f"Words: {len(faults)} not as they should be."]))
     return 1 if faults else 0

@@ -7,7 +7,7 @@ use std::fmt::Write;
 /// Why words ask for nothing, with the text that says it.
 #[derive(Debug, Drop, PartialEq, Eq)]
 pub enum WordsFault {
-    /// They ask for help: its text goes to standard output.
+    /// They ask for help or the version: its text goes to standard output.
     Help(String),
     /// They are wrong: the text goes to standard error.
     Wrong(String),

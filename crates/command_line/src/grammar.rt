@@ -1,185 +1,211 @@
 //! The words that the program knows.
-use crate::fault::WordsFault;
-use crate::order::{Order, Target, Terms};
+use crate::help;
 use clap::builder::ValueParser;
-use clap::error::ErrorKind;
-use clap::{Arg, ArgAction, ArgMatches, Command};
+use clap::{Arg, ArgAction, Command};
 use std::alloc::{AllocError, Global};
-
-// An argument that is a number of seconds.
-fn seconds<'a>(alloc: Global, id: &'a str, default: &'a str, help: &'a str) -> Arg<'a> {
-    Arg::new(alloc, id)
-        .long(id)
-        .value_name("N")
-        .action(ArgAction::Set)
-        .value_parser(clap::value_parser!(u64))
-        .default_value(default)
-        .help(help)
-}
 
 // The last number that a desk gives, 2^62.
 const LAST_NUMBER: u64 = 4611686018427387904;
 
-// The file of a desk that is there.
-fn desk_file<'a>(alloc: Global) -> Arg<'a> {
-    Arg::new(alloc, "FILE")
+// The statuses of an order (RFC 8555, 7.1.6).
+const ORDER_STATUSES: &[&str] = &["pending", "ready", "processing", "valid", "invalid"];
+
+// An option that takes a value.
+fn option<'a>(alloc: Global, id: &'a str, value: &'a str, help: &'a str) -> Arg<'a> {
+    Arg::new(alloc, id)
+        .long(id)
+        .value_name(value)
+        .action(ArgAction::Set)
+        .help(help)
+}
+
+// An option that is a number of seconds.
+fn seconds<'a>(alloc: Global, id: &'a str, default: &'a str, help: &'a str) -> Arg<'a> {
+    option(alloc, id, "N", help)
+        .value_parser(clap::value_parser!(u64))
+        .default_value(default)
+}
+
+// An argument that has to be there.
+fn required<'a>(alloc: Global, id: &'a str, help: &'a str) -> Arg<'a> {
+    Arg::new(alloc, id)
         .required(true)
         .action(ArgAction::Set)
-        .help("the file that holds the desk")
+        .help(help)
+}
+
+// The option that makes a report JSON.
+fn json<'a>(alloc: Global, help: &'a str) -> Arg<'a> {
+    Arg::new(alloc, "json")
+        .long("json")
+        .action(ArgAction::SetTrue)
+        .help(help)
+}
+
+// A word, with what help says of it above its options and below them.
+fn word<'a>(alloc: Global, name: &'a str, about: &'a str, after: &'a str) -> Command<'a> {
+    Command::new(alloc, name).about(about).after_help(after)
+}
+
+// A word for a desk that is there.
+fn word_on_file<'a>(
+    alloc: Global,
+    name: &'a str,
+    about: &'a str,
+    after: &'a str,
+) -> Result<Command<'a>, AllocError> {
+    let file = required(alloc, "FILE", "the file that holds the desk");
+    word(alloc, name, about, after).arg(file)
 }
 
 fn make<'a>(alloc: Global) -> Result<Command<'a>, AllocError> {
-    let file = Arg::new(alloc, "FILE")
-        .required(true)
-        .action(ArgAction::Set)
-        .help("the new file that will hold the desk");
-    let base = Arg::new(alloc, "base")
-        .long("base")
-        .value_name("URL")
-        .required(true)
-        .action(ArgAction::Set)
-        .help("what each URL begins with, as https://ca.example");
-    Command::new(alloc, "make")
-        .about("Makes a desk in a new file")
-        .arg(file)?
-        .arg(base)?
-        .arg(seconds(alloc, "nonce-life", "3600", "seconds that a nonce is open"))?
-        .arg(seconds(alloc, "order-life", "604800", "seconds that an order lives"))?
+    let base = option(
+        alloc,
+        "base",
+        "URL",
+        "what each URL begins with, as https://ca.example: http:// or https://, 8 to 256 bytes, no / at its end",
+    );
+    word(alloc, "make", "Makes a desk in a new file", help::MAKE)
+        .arg(required(alloc, "FILE", "the new file that will hold the desk"))?
+        .arg(base.required(true))?
+        .arg(seconds(
+            alloc,
+            "nonce-life",
+            "3600",
+            "seconds that a nonce is open, 1 to 315360000",
+        ))?
+        .arg(seconds(
+            alloc,
+            "order-life",
+            "604800",
+            "seconds that an order lives, 1 to 315360000",
+        ))?
         .arg(seconds(
             alloc,
             "authz-life",
             "2592000",
-            "seconds that an authorization lives",
+            "seconds that an authorization lives, 1 to 315360000",
         ))
 }
 
 fn serve<'a>(alloc: Global) -> Result<Command<'a>, AllocError> {
-    let port = Arg::new(alloc, "port")
-        .long("port")
-        .value_name("N")
-        .required(true)
-        .action(ArgAction::Set)
-        .value_parser(clap::value_parser!(u16))
-        .help("the port of 127.0.0.1, 0 for one that the machine chooses");
-    let count = Arg::new(alloc, "count")
-        .long("count")
-        .value_name("N")
-        .action(ArgAction::Set)
-        .value_parser(clap::value_parser!(u64))
-        .help("how many connections to serve; without it the desk serves on");
-    Command::new(alloc, "serve")
-        .about("Serves HTTP, one request a connection")
-        .arg(desk_file(alloc))?
-        .arg(port)?
-        .arg(count)
-}
-
-// A word that reports on a desk.
-fn report<'a>(alloc: Global, name: &'a str, about: &'a str) -> Result<Command<'a>, AllocError> {
-    Command::new(alloc, name).about(about).arg(desk_file(alloc))
-}
-
-// A word that revokes what has a number.
-fn revoke<'a>(alloc: Global, name: &'a str, about: &'a str) -> Result<Command<'a>, AllocError> {
-    let number = Arg::new(alloc, "N")
-        .required(true)
-        .action(ArgAction::Set)
-        .value_parser(ValueParser::unsigned(1, LAST_NUMBER))
-        .help("its number, from 1 on");
-    report(alloc, name, about)?.arg(number)
+    let port = option(
+        alloc,
+        "port",
+        "N",
+        "the port of 127.0.0.1, 0 to 65535; 0 for one that the machine chooses",
+    );
+    let count = option(
+        alloc,
+        "count",
+        "N",
+        "how many connections to serve, 0 to 2^64 - 1; without it 2^64 - 1",
+    );
+    word_on_file(
+        alloc,
+        "serve",
+        "Serves HTTP, one request a connection",
+        help::SERVE,
+    )?
+    .arg(port.required(true).value_parser(clap::value_parser!(u16)))?
+    .arg(count.value_parser(clap::value_parser!(u64)))
 }
 
 fn batch<'a>(alloc: Global) -> Result<Command<'a>, AllocError> {
-    let file = Arg::new(alloc, "file")
-        .long("file")
-        .value_name("FILE")
-        .action(ArgAction::Set)
-        .help("the file that holds the desk; a new desk in memory without it");
-    Command::new(alloc, "batch")
-        .about("Answers the lines of standard input, a call each")
-        .arg(file)
+    let file = option(
+        alloc,
+        "file",
+        "FILE",
+        "the file that holds the desk; without it a new desk in memory",
+    );
+    word(
+        alloc,
+        "batch",
+        "Answers the lines of standard input, a call each",
+        help::BATCH,
+    )
+    .arg(file)
 }
 
-fn desk<'a>(alloc: Global) -> Result<Command<'a>, AllocError> {
-    Command::new(alloc, "desk")
-        .about("The order desk of an ACME certificate authority (RFC 8555)")
+fn status<'a>(alloc: Global) -> Result<Command<'a>, AllocError> {
+    let account = option(
+        alloc,
+        "account",
+        "N",
+        "only orders of the account of this number, 1 to 2^62; without it of all accounts",
+    );
+    let status = option(
+        alloc,
+        "status",
+        "WORD",
+        "only orders of this status; without it of every status",
+    );
+    word_on_file(
+        alloc,
+        "status",
+        "Lists the orders: number, account, status, end; last how many these are",
+        help::STATUS,
+    )?
+    .arg(account.value_parser(ValueParser::unsigned(1, LAST_NUMBER)))?
+    .arg(status.value_parser(ORDER_STATUSES))?
+    .arg(json(
+        alloc,
+        "one JSON document a line, an order each, and no count",
+    ))
+}
+
+fn check<'a>(alloc: Global) -> Result<Command<'a>, AllocError> {
+    word_on_file(
+        alloc,
+        "check",
+        "Lists the stored statuses that are wrong, and then ends with status 3",
+        help::CHECK,
+    )?
+    .arg(json(
+        alloc,
+        "one JSON document a line, a wrong status each; nothing where there is none",
+    ))
+}
+
+// A word that revokes what has a number.
+fn revoke<'a>(
+    alloc: Global,
+    name: &'a str,
+    about: &'a str,
+    after: &'a str,
+) -> Result<Command<'a>, AllocError> {
+    let number = required(alloc, "N", "its number, 1 to 2^62");
+    word_on_file(alloc, name, about, after)?.arg(number.value_parser(ValueParser::unsigned(
+        1,
+        LAST_NUMBER,
+    )))
+}
+
+/// The program's words, each with its arguments and its help.
+///
+/// # Errors
+///
+/// Where a growth was refused.
+pub(crate) fn desk<'a>(alloc: Global) -> Result<Command<'a>, AllocError> {
+    let about = "The order desk of an ACME certificate authority (RFC 8555)";
+    word(alloc, "desk", about, help::DESK)
+        .version(help::VERSION)
         .subcommand_required(true)
         .subcommand(make(alloc)?)?
         .subcommand(serve(alloc)?)?
         .subcommand(batch(alloc)?)?
-        .subcommand(report(
+        .subcommand(status(alloc)?)?
+        .subcommand(check(alloc)?)?
+        .subcommand(revoke(
             alloc,
-            "status",
-            "Lists the orders: number, account, status, end",
+            "revoke-authz",
+            "Revokes an authorization",
+            help::REVOKE_AUTHZ,
         )?)?
-        .subcommand(report(
+        .subcommand(revoke(
             alloc,
-            "check",
-            "Lists the stored statuses that are wrong, and then ends with status 3",
-        )?)?
-        .subcommand(revoke(alloc, "revoke-authz", "Revokes an authorization")?)?
-        .subcommand(revoke(alloc, "revoke-account", "Revokes an account")?)
-}
-
-// What the matches ask for.
-fn order<'a>(matches: &ArgMatches<'a>) -> Option<Order<'a>> {
-    let (name, given) = matches.subcommand()?;
-    match name {
-        "make" => Some(Order::Make {
-            file: given.get_str("FILE")?,
-            terms: terms(given)?,
-        }),
-        "serve" => Some(Order::Serve {
-            file: given.get_str("FILE")?,
-            port: given.get_one::<u16>("port")?,
-            count: given.get_one::<u64>("count"),
-        }),
-        "batch" => Some(Order::Batch {
-            file: given.get_str("file"),
-        }),
-        "status" => Some(Order::Status {
-            file: given.get_str("FILE")?,
-        }),
-        "check" => Some(Order::Check {
-            file: given.get_str("FILE")?,
-        }),
-        "revoke-authz" => Some(Order::Revoke {
-            file: given.get_str("FILE")?,
-            target: Target::Authorization(given.get_one::<u64>("N")?),
-        }),
-        "revoke-account" => Some(Order::Revoke {
-            file: given.get_str("FILE")?,
-            target: Target::Account(given.get_one::<u64>("N")?),
-        }),
-        _ => None,
-    }
-}
-
-// The terms among them.
-fn terms<'a>(given: &ArgMatches<'a>) -> Option<Terms<'a>> {
-    Some(Terms {
-        base: given.get_str("base")?,
-        nonce_life: given.get_one::<u64>("nonce-life")?,
-        order_life: given.get_one::<u64>("order-life")?,
-        authz_life: given.get_one::<u64>("authz-life")?,
-    })
-}
-
-/// What the words of a command line ask for, of which the first is the program's name.
-///
-/// # Errors
-///
-/// `Help` where they ask for help, `Wrong` where they are wrong, each with its text; `Memory` where a growth was refused.
-pub fn read_words<'a>(alloc: Global, words: &'a [String]) -> Result<Order<'a>, WordsFault> {
-    let mut command = desk(alloc)?;
-    match command.try_get_matches_from_mut(words) {
-        Ok(matches) => match order(&matches) {
-            Some(order) => Ok(order),
-            None => {
-                let error = command.error(ErrorKind::MissingSubcommand, "no command")?;
-                Err(WordsFault::of(alloc, &error))
-            }
-        },
-        Err(error) => Err(WordsFault::of(alloc, &error)),
-    }
+            "revoke-account",
+            "Revokes an account",
+            help::REVOKE_ACCOUNT,
+        )?)
 }

@@ -3,8 +3,10 @@
 
 mod fault;
 mod grammar;
+mod help;
 mod order;
+mod reading;
 
 pub use fault::WordsFault;
-pub use grammar::read_words;
-pub use order::{Order, Target, Terms};
+pub use order::{Listing, Order, Target, Terms};
+pub use reading::read_words;

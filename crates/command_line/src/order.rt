@@ -23,11 +23,15 @@ pub enum Order<'a> {
     Status {
         /// The path of the file that holds the desk.
         file: &'a str,
+        /// Which of them, and how.
+        listing: Listing<'a>,
     },
     /// To list the stored statuses that are wrong.
     Check {
         /// The path of the file that holds the desk.
         file: &'a str,
+        /// Whether as JSON.
+        json: bool,
     },
     /// To revoke an authorization or an account.
     Revoke {
@@ -63,4 +67,15 @@ pub struct Terms<'a> {
     pub order_life: u64,
     /// How long an authorization lives, in seconds.
     pub authz_life: u64,
+}
+
+/// Which orders are listed, and how.
+#[derive(Clone, Copy, Debug, PartialEq, Eq)]
+pub struct Listing<'a> {
+    /// The account whose orders they are, or `None` for all accounts.
+    pub account: Option<u64>,
+    /// The status that they have (RFC 8555, 7.1.6), or `None` for every status.
+    pub status: Option<&'a str>,
+    /// Whether as JSON.
+    pub json: bool,
 }

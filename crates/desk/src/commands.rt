@@ -65,21 +65,35 @@ fn run_order<R: Read + Drop, W: Write, E: Write>(
             };
             run_over_file(rt, file, task)
         }
-        Order::Status { file } => run_over_file(rt, file, ListOrders { alloc, out }),
-        Order::Check { file } => run_over_file(rt, file, CheckStatuses { alloc, out }),
-        Order::Revoke { file, target } => run_over_file(rt, file, Revoke { rt, target, out }),
-        Order::Batch { file } => {
-            let task = AnswerLines {
-                alloc,
-                reader: Some(reader),
-                out,
-                errors,
-            };
-            match file {
-                Some(file) => run_over_file(rt, file, task),
-                None => answer_in_memory(alloc, task),
-            }
+        Order::Status { file, listing } => {
+            run_over_file(rt, file, ListOrders::new(alloc, out, listing))
         }
+        Order::Check { file, json } => {
+            run_over_file(rt, file, CheckStatuses::new(alloc, out, json))
+        }
+        Order::Revoke { file, target } => run_over_file(rt, file, Revoke { rt, target, out }),
+        Order::Batch { file } => answer_lines(rt, file, reader, out, errors),
+    }
+}
+
+// Answers the lines of a reader, by the desk of a file or by a new one in memory.
+fn answer_lines<R: Read + Drop, W: Write, E: Write>(
+    rt: &HostRuntime,
+    file: Option<&str>,
+    reader: R,
+    out: &mut W,
+    errors: &mut E,
+) -> Result<u8, Fault> {
+    let alloc = rt.alloc();
+    let task = AnswerLines {
+        alloc,
+        reader: Some(reader),
+        out,
+        errors,
+    };
+    match file {
+        Some(file) => run_over_file(rt, file, task),
+        None => answer_in_memory(alloc, task),
     }
 }
 

@@ -1,4 +1,5 @@
 //! The list of status faults.
+use crate::form::Form;
 use desk_model::StatusFault;
 use std::io::{self, Write};
 use written_rows::{
@@ -65,23 +66,34 @@ fn said_of(fault: StatusFault) -> Line {
     }
 }
 
-/// Writes a line for each fault, or that there is none.
+// The line of a fault. No member of the document needs an escape.
+fn write_fault<W: Write>(out: &mut W, form: Form, line: Line) -> io::Result<()> {
+    let Line {
+        kind,
+        number,
+        stored,
+        derived,
+    } = line;
+    match form {
+        Form::Text => writeln!(out, "{kind} {number}: stored {stored}, derived {derived}"),
+        Form::Json => writeln!(
+            out,
+            "{{\"kind\":\"{kind}\",\"number\":{number},\"stored\":\"{stored}\",\"derived\":\"{derived}\"}}"
+        ),
+    }
+}
+
+/// Writes a line for each fault; as text, where there is none, that there is none.
 ///
 /// # Errors
 ///
 /// Those of the writer.
-pub fn write_faults<W: Write>(out: &mut W, faults: &[StatusFault]) -> io::Result<()> {
-    if faults.is_empty() {
+pub fn write_faults<W: Write>(out: &mut W, form: Form, faults: &[StatusFault]) -> io::Result<()> {
+    if faults.is_empty() && form == Form::Text {
         return writeln!(out, "no fault");
     }
     for fault in faults {
-        let Line {
-            kind,
-            number,
-            stored,
-            derived,
-        } = said_of(*fault);
-        writeln!(out, "{kind} {number}: stored {stored}, derived {derived}")?;
+        write_fault(out, form, said_of(*fault))?;
     }
     Ok(())
 }

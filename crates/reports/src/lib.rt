@@ -1,8 +1,10 @@
-//! Reports on the rows of a desk, for people.
+//! Reports on the rows of a desk, for people and, as JSON, for programs.
 #![tactic(auto)]
 
 mod faults;
+mod form;
 mod orders;
 
 pub use faults::write_faults;
-pub use orders::write_orders;
+pub use form::Form;
+pub use orders::{OrderFilter, order_status, write_orders};

@@ -1,25 +1,97 @@
 //! The list of orders.
+ghost use Rattle.std.specs.Prelude.{◌≡◌, IsTrue, ◌↔◌};
+ghost use Rattle.desk_model.specs.Document.{order_status_text};
+ghost use Rattle.desk_columns.specs.Reading.{IsRead, Unlimited};
+ghost use Rattle.reports.specs.Filter.{Allows};
+
+use crate::form::Form;
 use desk_book::Table;
-use desk_model::OrderRow;
+use desk_model::{OrderRow, OrderStatus};
 use moments::{LAST_END, moment_text};
 use std::alloc::Global;
 use std::io::{self, Write};
 use written_rows::order_status_text;
 
-// The line of an order: its number and its account's, right in ten places, its stored status, left in ten, and the moment at
-// which it expires.
-fn write_order<W: Write>(alloc: Global, out: &mut W, row: &OrderRow) -> io::Result<()> {
+// The statuses of an order (RFC 8555, 7.1.6).
+const STATUSES: [OrderStatus; 5] = [
+    OrderStatus::Pending,
+    OrderStatus::Ready,
+    OrderStatus::Processing,
+    OrderStatus::Valid,
+    OrderStatus::Invalid,
+];
+
+/// The status of an order that a text spells, or `None` where it spells none (RFC 8555, 7.1.6).
+pub fn order_status(text: &str) -> Option<OrderStatus>
+    ensures { IsRead order_status_text Unlimited text.now result }
+{
+    for status in STATUSES {
+        if order_status_text(status) == text {
+            return Some(status);
+        }
+    }
+    None
+}
+
+/// Which orders are listed.
+#[derive(Clone, Copy, Debug, PartialEq, Eq)]
+pub struct OrderFilter {
+    /// The account whose orders they are, or `None` for all accounts.
+    pub account: Option<u64>,
+    /// The status that they have (RFC 8555, 7.1.6), or `None` for every status.
+    pub status: Option<OrderStatus>,
+}
+
+impl OrderFilter {
+    /// Whether an order is listed.
+    pub fn keeps(&self, row: &OrderRow) -> bool
+        ensures { IsTrue result ↔ (Allows self.now.account row.now.account × Allows self.now.status row.now.status) }
+    {
+        allows_account(self.account, row.account) && allows_status(self.status, row.status)
+    }
+}
+
+// Whether an account is one that is asked for.
+fn allows_account(asked: Option<u64>, account: u64) -> bool
+    ensures { IsTrue result ↔ Allows asked account }
+{
+    match asked {
+        Some(asked) => asked == account,
+        None => true,
+    }
+}
+
+// Whether a status is one that is asked for.
+fn allows_status(asked: Option<OrderStatus>, status: OrderStatus) -> bool
+    ensures { IsTrue result ↔ Allows asked status }
+{
+    match asked {
+        Some(asked) => asked == status,
+        None => true,
+    }
+}
+
+// The line of an order with the moment at which it expires. As text: its number and its account's, right in ten places, its
+// stored status, left in ten, and the moment. No member of the document needs an escape.
+fn write_order<W: Write>(alloc: Global, out: &mut W, form: Form, row: &OrderRow) -> io::Result<()> {
+    let OrderRow {
+        number,
+        account,
+        ..
+    } = row;
     let status = order_status_text(row.status);
     let expires = moment_text(alloc, row.expires.min(LAST_END))?;
     let expires = expires.as_str();
-    writeln!(
-        out,
-        "{:>10} {:>10} {:<10} {}",
-        row.number, row.account, status, expires
-    )
+    match form {
+        Form::Text => writeln!(out, "{number:>10} {account:>10} {status:<10} {expires}"),
+        Form::Json => writeln!(
+            out,
+            "{{\"number\":{number},\"account\":{account},\"status\":\"{status}\",\"expires\":\"{expires}\"}}"
+        ),
+    }
 }
 
-/// Writes a line for each order, and last how many there are.
+/// Writes a line for each order that a filter keeps; as text last how many these are.
 ///
 /// # Errors
 ///
@@ -27,12 +99,19 @@ fn write_order<W: Write>(alloc: Global, out: &mut W, row: &OrderRow) -> io::Resu
 pub fn write_orders<W: Write>(
     alloc: Global,
     out: &mut W,
+    form: Form,
+    filter: OrderFilter,
     orders: &Table<OrderRow>,
 ) -> io::Result<()> {
     let mut count: u64 = 0;
     for row in orders.iter() {
-        write_order(alloc, out, row)?;
-        count = count.saturating_add(1);
+        if filter.keeps(row) {
+            write_order(alloc, out, form, row)?;
+            count = count.saturating_add(1);
+        }
     }
-    writeln!(out, "orders {count}")
+    match form {
+        Form::Text => writeln!(out, "orders {count}"),
+        Form::Json => Ok(()),
+    }
 }

@@ -1,0 +1,45 @@
+//! What help says below the options, and the version.
+
+/// The version of the program.
+pub(crate) const VERSION: &str = "0.1.0";
+
+// What stands below the options of a word: an example, and the exit statuses, which all words share.
+macro_rules! after {
+    ($example:literal) => {
+        concat!(
+            "Example:\n  ",
+            $example,
+            "\n\nExit statuses:\n",
+            "  0  done\n",
+            "  1  a fault or a refusal, with a line on standard error that begins with desk:\n",
+            "  2  wrong words, or a limit that is broken\n",
+            "  3  check found a stored status that is wrong"
+        )
+    };
+}
+
+/// Below the words.
+pub(crate) const DESK: &str = after!("desk status --help");
+
+/// Below the options of `make`.
+pub(crate) const MAKE: &str = after!(
+    "desk make /var/lib/desk/desk.db --base https://ca.example --nonce-life 600"
+);
+
+/// Below the options of `serve`.
+pub(crate) const SERVE: &str = after!("desk serve /var/lib/desk/desk.db --port 8080");
+
+/// Below the options of `batch`.
+pub(crate) const BATCH: &str = after!("desk batch --file /var/lib/desk/desk.db < calls.jsonl");
+
+/// Below the options of `status`.
+pub(crate) const STATUS: &str = after!("desk status /var/lib/desk/desk.db --status pending");
+
+/// Below the options of `check`.
+pub(crate) const CHECK: &str = after!("desk check /var/lib/desk/desk.db --json");
+
+/// Below the arguments of `revoke-authz`.
+pub(crate) const REVOKE_AUTHZ: &str = after!("desk revoke-authz /var/lib/desk/desk.db 7");
+
+/// Below the arguments of `revoke-account`.
+pub(crate) const REVOKE_ACCOUNT: &str = after!("desk revoke-account /var/lib/desk/desk.db 1");

@@ -1,0 +1,90 @@
+//! Words read as what they ask for.
+use crate::fault::WordsFault;
+use crate::grammar::desk;
+use crate::order::{Listing, Order, Target, Terms};
+use clap::ArgMatches;
+use clap::error::ErrorKind;
+use std::alloc::Global;
+
+// What the matches ask for.
+fn order<'a>(matches: &ArgMatches<'a>) -> Option<Order<'a>> {
+    let (name, given) = matches.subcommand()?;
+    if name == "batch" {
+        return Some(Order::Batch {
+            file: given.get_str("file"),
+        });
+    }
+    let file = given.get_str("FILE")?;
+    match name {
+        "make" => Some(Order::Make {
+            file,
+            terms: terms(given)?,
+        }),
+        "serve" => Some(Order::Serve {
+            file,
+            port: given.get_one::<u16>("port")?,
+            count: given.get_one::<u64>("count"),
+        }),
+        "status" => Some(Order::Status {
+            file,
+            listing: listing(given),
+        }),
+        "check" => Some(Order::Check {
+            file,
+            json: given.get_flag("json"),
+        }),
+        _ => Some(Order::Revoke {
+            file,
+            target: target(name, given)?,
+        }),
+    }
+}
+
+// The terms among them.
+fn terms<'a>(given: &ArgMatches<'a>) -> Option<Terms<'a>> {
+    Some(Terms {
+        base: given.get_str("base")?,
+        nonce_life: given.get_one::<u64>("nonce-life")?,
+        order_life: given.get_one::<u64>("order-life")?,
+        authz_life: given.get_one::<u64>("authz-life")?,
+    })
+}
+
+// Which orders are listed, and how.
+fn listing<'a>(given: &ArgMatches<'a>) -> Listing<'a> {
+    Listing {
+        account: given.get_one::<u64>("account"),
+        status: given.get_str("status"),
+        json: given.get_flag("json"),
+    }
+}
+
+// What a word revokes.
+fn target(name: &str, given: &ArgMatches<'_>) -> Option<Target> {
+    let number = given.get_one::<u64>("N")?;
+    match name {
+        "revoke-authz" => Some(Target::Authorization(number)),
+        "revoke-account" => Some(Target::Account(number)),
+        _ => None,
+    }
+}
+
+/// What the words of a command line ask for, of which the first is the program's name.
+///
+/// # Errors
+///
+/// `Help` where they ask for help or the version, `Wrong` where they are wrong, each with its text; `Memory` where a growth
+/// was refused.
+pub fn read_words<'a>(alloc: Global, words: &'a [String]) -> Result<Order<'a>, WordsFault> {
+    let mut command = desk(alloc)?;
+    match command.try_get_matches_from_mut(words) {
+        Ok(matches) => match order(&matches) {
+            Some(order) => Ok(order),
+            None => {
+                let error = command.error(ErrorKind::MissingSubcommand, "no command")?;
+                Err(WordsFault::of(alloc, &error))
+            }
+        },
+        Err(error) => Err(WordsFault::of(alloc, &error)),
+    }
+}
