@@ -55,7 +55,7 @@ def said(seconds):
 def page(found, turns):
     """The lines of the section."""
     text = f"""`bench/reports.py` writes this section. Opening reads and checks the whole file, as for every word; `status` and
-        `check` then load all rows. A time is the median of
+        `check` then read their rows one by one. A time is the median of
         {turns} runs; opening is a batch without lines, and a report's time is what its word took beyond that. Memory is
         the most that the whole process had."""
     lines = ["", "## Reports", "", *textwrap.wrap(" ".join(text.split()), 118), ""]

@@ -4,6 +4,7 @@ use desk_calls::DeskFault;
 use desk_model::Refusal;
 use desk_storage::StorageFault;
 use desk_store::OpenFault;
+use reports::ReportFault;
 use std::fmt;
 use std::io::Write;
 
@@ -55,6 +56,15 @@ impl From<DeskFault> for Fault {
 impl From<StorageFault> for Fault {
     fn from(fault: StorageFault) -> Fault {
         Fault::Desk(DeskFault::from(fault))
+    }
+}
+
+impl From<ReportFault> for Fault {
+    fn from(fault: ReportFault) -> Fault {
+        match fault {
+            ReportFault::Storage(fault) => Fault::from(fault),
+            ReportFault::Output => Fault::Output,
+        }
     }
 }
 

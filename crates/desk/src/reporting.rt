@@ -1,23 +1,13 @@
 //! Reports on the rows of a store.
 use crate::fault::Fault;
 use command_line::Listing;
-use desk_calls::DeskFault;
 use file_tasks::{Tables, Task};
-use reports::{Form, OrderFilter, order_status, write_faults, write_orders};
+use reports::{Form, OrderFilter, order_status};
 use std::alloc::Global;
-use std::io::{self, ErrorKind, Write};
-use stored_rows::check;
+use std::io::Write;
 
 // The exit status where a stored status is wrong.
 const FOUND: u8 = 3;
-
-// The fault of a report that was not written.
-fn unwritten(error: &io::Error) -> Fault {
-    match error.kind() {
-        ErrorKind::OutOfMemory => Fault::Desk(DeskFault::Memory),
-        _ => Fault::Output,
-    }
-}
 
 // The form that the words ask for.
 fn form(json: bool) -> Form {
@@ -61,11 +51,8 @@ impl<'a, W: Write> Task for ListOrders<'a, W> {
 
     fn run<K: Tables + Drop>(&mut self, store: K) -> Result<(K, u8), Fault> {
         let mut store = store;
-        let book = store.load_all(self.alloc)?;
-        match write_orders(self.alloc, self.out, self.form, self.filter, book.orders()) {
-            Ok(()) => Ok((store, 0)),
-            Err(error) => Err(unwritten(&error)),
-        }
+        store.list_orders(self.alloc, self.out, self.form, self.filter)?;
+        Ok((store, 0))
     }
 }
 
@@ -93,14 +80,7 @@ impl<'a, W: Write> Task for CheckStatuses<'a, W> {
 
     fn run<K: Tables + Drop>(&mut self, store: K) -> Result<(K, u8), Fault> {
         let mut store = store;
-        let book = store.load_all(self.alloc)?;
-        let Ok(faults) = check(self.alloc, &book) else {
-            return Err(Fault::Desk(DeskFault::Memory));
-        };
-        match write_faults(self.out, self.form, faults.as_slice()) {
-            Ok(()) if faults.is_empty() => Ok((store, 0)),
-            Ok(()) => Ok((store, FOUND)),
-            Err(error) => Err(unwritten(&error)),
-        }
+        let found = store.list_faults(self.alloc, self.out, self.form)?;
+        Ok((store, if found { FOUND } else { 0 }))
     }
 }

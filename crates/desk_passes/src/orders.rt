@@ -1,5 +1,5 @@
 //! The orders of a desk, one after the other.
-ghost use Rattle.std.specs.Prelude.{◌≡◌, ◌<◌, IfOk, IfErr, IfSome, OnSome, None, Some};
+ghost use Rattle.std.specs.Prelude.{◌≡◌, ◌<◌, ◌^◌, IfOk, IfErr, IfSome, OnSome, None, Some};
 ghost use Rattle.desk_parts.specs.Above.{orders_above};
 ghost use Rattle.desk_storage.specs.Sight.{ForTables, Reads};
 ghost use Rattle.desk_storage.specs.declared.fault.StorageFault.{StorageFault as Fault};
@@ -65,7 +65,7 @@ impl<'a, S: RowsAbove> Orders<'a, S> {
         ensures reads { Reads S.sight self.old.source.now self.new.source.now result }
         ensures next { ForTables S.sight self.old.source.now self.new.source.now (λ T. IsInOrder T →
             IfOk result (λ order. IsNext order (orders_above T self.old.above) (orders_above T self.new.above))) }
-        ensures onward { IfOk result (λ order. OnSome order (self.old.above < self.new.above)) }
+        ensures onward { IfOk result (λ order. OnSome order (self.old.above < self.new.above × self.new.above < 2 ^ 64)) }
         ensures failed { IfErr result (λ fault. self.new.fault ≡ Some fault) }
         ensures again { (fault : Fault) → self.old.fault ≡ Some fault → (result ≡ Err fault) × (self.new ≡ self.old) }
     {
@@ -81,7 +81,7 @@ impl<'a, S: RowsAbove> Orders<'a, S> {
         ensures reads { Reads S.sight self.old.source.now self.new.source.now result }
         ensures next { ForTables S.sight self.old.source.now self.new.source.now (λ T. IsInOrder T →
             IfOk result (λ order. IsNext order (orders_above T self.old.above) (orders_above T self.new.above))) }
-        ensures onward { IfOk result (λ order. OnSome order (self.old.above < self.new.above)) }
+        ensures onward { IfOk result (λ order. OnSome order (self.old.above < self.new.above × self.new.above < 2 ^ 64)) }
         ensures failed { IfErr result (λ fault. self.new.fault ≡ Some fault) }
     {
         match order_after(alloc, self.source, self.above) {

@@ -1,5 +1,5 @@
 //! The status faults of a desk, one after the other.
-ghost use Rattle.std.specs.Prelude.{◌≡◌, ◌<◌, IfOk, IfErr, IfSome, OnSome, None, Some};
+ghost use Rattle.std.specs.Prelude.{◌≡◌, ◌<◌, ◌^◌, IfOk, IfErr, IfSome, OnSome, None, Some};
 ghost use Rattle.desk_model.specs.Tables.{Tables};
 ghost use Rattle.desk_storage.specs.Sight.{ForTables, Reads};
 ghost use Rattle.desk_storage.specs.declared.fault.StorageFault.{StorageFault as Fault};
@@ -70,7 +70,7 @@ impl<'a, S: RowsAbove> StatusFaults<'a, S> {
         ensures next { ForTables S.sight self.old.source.now self.new.source.now (λ T. IsInOrder T →
             IfOk result (λ found. IsNext found (faults_above T self.old.kind self.old.moment self.old.above)
             (faults_above T self.new.kind self.new.moment self.new.above))) }
-        ensures onward { IfOk result (λ found. OnSome found (self.old.above < self.new.above)) }
+        ensures onward { IfOk result (λ found. OnSome found (self.old.above < self.new.above × self.new.above < 2 ^ 64)) }
         ensures failed { IfErr result (λ fault. self.new.fault ≡ Some fault) }
         ensures again { (fault : Fault) → self.old.fault ≡ Some fault → (result ≡ Err fault) × (self.new ≡ self.old) }
     {
@@ -87,7 +87,7 @@ impl<'a, S: RowsAbove> StatusFaults<'a, S> {
         ensures next { ForTables S.sight self.old.source.now self.new.source.now (λ T. IsInOrder T →
             IfOk result (λ found. IsNext found (faults_above T self.old.kind self.old.moment self.old.above)
             (faults_above T self.new.kind self.new.moment self.new.above))) }
-        ensures onward { IfOk result (λ found. OnSome found (self.old.above < self.new.above)) }
+        ensures onward { IfOk result (λ found. OnSome found (self.old.above < self.new.above × self.new.above < 2 ^ 64)) }
         ensures failed { IfErr result (λ fault. self.new.fault ≡ Some fault) }
     {
         while let Some(checked) = self.step(alloc)? {
@@ -106,7 +106,7 @@ impl<'a, S: RowsAbove> StatusFaults<'a, S> {
         ensures reads { Reads S.sight self.old.source.now self.new.source.now result }
         ensures steps { ForTables S.sight self.old.source.now self.new.source.now (λ T. IsInOrder T →
             IfOk result (λ checked. Steps checked (faults_above T self.old.kind self.old.moment) self.old.above)) }
-        ensures onward { IfOk result (λ checked. IfSome checked (λ c. self.old.above < c.number × self.new.above ≡ c.number)) }
+        ensures onward { IfOk result (λ checked. IfSome checked (λ c. self.old.above < c.number × self.new.above ≡ c.number × c.number < 2 ^ 64)) }
         ensures failed { IfErr result (λ fault. self.new.fault ≡ Some fault) }
     {
         match check_after(alloc, self.source, self.kind, self.moment, self.above) {

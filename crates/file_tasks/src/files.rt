@@ -1,14 +1,29 @@
 //! A task by the store of a file.
 use crate::tasks::{Tables, Task};
-use desk_book::Book;
 use desk_files::{DeskFile, close, open};
-use desk_storage::StorageFault;
 use desk_store::{OpenFault, Store};
+use reports::{Form, OrderFilter, ReportFault};
 use std::alloc::Global;
+use std::io::Write;
 
 impl Tables for Store<DeskFile> {
-    fn load_all(&mut self, alloc: Global) -> Result<Book, StorageFault> {
-        self.load(alloc)
+    fn list_orders<W: Write>(
+        &mut self,
+        alloc: Global,
+        out: &mut W,
+        form: Form,
+        filter: OrderFilter,
+    ) -> Result<(), ReportFault> {
+        reports::list_orders(alloc, self, out, form, filter)
+    }
+
+    fn list_faults<W: Write>(
+        &mut self,
+        alloc: Global,
+        out: &mut W,
+        form: Form,
+    ) -> Result<bool, ReportFault> {
+        reports::list_faults(alloc, self, out, form)
     }
 
     fn end(self) -> Result<(), OpenFault> {

@@ -1,14 +1,29 @@
 //! What is done with the store of a desk's file.
-use desk_book::Book;
-use desk_storage::{Storage, StorageFault};
+use desk_storage::Storage;
 use desk_store::OpenFault;
+use reports::{Form, OrderFilter, ReportFault};
 use std::alloc::Global;
+use std::io::Write;
 
-/// A store whose tables can be read whole, and which can be closed for good. What is done with it is over any such store,
+/// A store whose tables can be reported on, and which can be closed for good. What is done with it is over any such store,
 /// since a check pays for each call that names the engine's own type.
 pub trait Tables: Storage {
-    /// All rows.
-    fn load_all(&mut self, alloc: Global) -> Result<Book, StorageFault>;
+    /// Writes the list of its orders, by `reports::list_orders`.
+    fn list_orders<W: Write>(
+        &mut self,
+        alloc: Global,
+        out: &mut W,
+        form: Form,
+        filter: OrderFilter,
+    ) -> Result<(), ReportFault>;
+
+    /// Writes the list of its wrong statuses, by `reports::list_faults`, and says whether there is one.
+    fn list_faults<W: Write>(
+        &mut self,
+        alloc: Global,
+        out: &mut W,
+        form: Form,
+    ) -> Result<bool, ReportFault>;
 
     /// Closes the store.
     fn end(self) -> Result<(), OpenFault>;

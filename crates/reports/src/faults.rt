@@ -1,6 +1,17 @@
 //! The list of status faults.
+ghost use Rattle.std.specs.Prelude.{◌≡◌, ◌↔◌, ◌≢◌, [], IfOk, IsTrue};
+ghost use Rattle.desk_model.specs.Derived.{status_faults};
+ghost use Rattle.desk_passes.specs.InOrder.{IsInOrder};
+ghost use Rattle.desk_passes.specs.Left.{faults_of};
+ghost use Rattle.desk_storage.specs.Sight.{ForTables};
+ghost use Rattle.reports.specs.Reported.{Reports};
+
+use crate::fault::ReportFault;
 use crate::form::Form;
+use desk_loading::RowsAbove;
 use desk_model::StatusFault;
+use desk_passes::{FaultKind, StatusFaults, moment_of};
+use std::alloc::Global;
 use std::io::{self, Write};
 use written_rows::{
     account_status_text, authorization_status_text, challenge_status_text, order_status_text,
@@ -83,17 +94,64 @@ fn write_fault<W: Write>(out: &mut W, form: Form, line: Line) -> io::Result<()> 
     }
 }
 
-/// Writes a line for each fault; as text, where there is none, that there is none.
-///
-/// # Errors
-///
-/// Those of the writer.
-pub fn write_faults<W: Write>(out: &mut W, form: Form, faults: &[StatusFault]) -> io::Result<()> {
-    if faults.is_empty() && form == Form::Text {
-        return writeln!(out, "no fault");
+// Writes a line for each status fault of a kind at a moment, and says whether there is one.
+fn write_kind<K: RowsAbove, W: Write>(
+    alloc: Global,
+    source: &mut K,
+    out: &mut W,
+    form: Form,
+    kind: FaultKind,
+    moment: u64,
+) -> Result<bool, ReportFault>
+    ensures reads { Reports K.sight source.old source.new result }
+    ensures found { ForTables K.sight source.old source.new (λ T. IsInOrder T → moment ≡ T.meta.clock →
+        IfOk result (λ found. IsTrue found ↔ faults_of T kind ≢ [])) }
+{
+    let mut found = false;
+    let mut faults = StatusFaults::new(source, kind, moment);
+    while let Some(fault) = faults.next(alloc)? {
+        write_fault(out, form, said_of(fault))?;
+        found = true;
     }
-    for fault in faults {
-        write_fault(out, form, said_of(*fault))?;
+    Ok(found)
+}
+
+// Writes a line for each status fault, one kind after the other, and says whether there is one.
+fn write_kinds<K: RowsAbove, W: Write>(
+    alloc: Global,
+    source: &mut K,
+    out: &mut W,
+    form: Form,
+    moment: u64,
+) -> Result<bool, ReportFault>
+    ensures reads { Reports K.sight source.old source.new result }
+    ensures found { ForTables K.sight source.old source.new (λ T. IsInOrder T → moment ≡ T.meta.clock →
+        IfOk result (λ found. IsTrue found ↔ status_faults T ≢ [])) }
+{
+    let mut found = false;
+    for kind in FaultKind::ALL {
+        if write_kind(alloc, source, out, form, kind, moment)? {
+            found = true;
+        }
     }
-    Ok(())
+    Ok(found)
+}
+
+/// Writes a line for each status fault, and says whether there is one; as text, where there is none, a line says so.
+pub(crate) fn write_faults<K: RowsAbove, W: Write>(
+    alloc: Global,
+    source: &mut K,
+    out: &mut W,
+    form: Form,
+) -> Result<bool, ReportFault>
+    ensures reads { Reports K.sight source.old source.new result }
+    ensures found { ForTables K.sight source.old source.new (λ T. IsInOrder T →
+        IfOk result (λ found. IsTrue found ↔ status_faults T ≢ [])) }
+{
+    let moment = moment_of(alloc, source)?;
+    let found = write_kinds(alloc, source, out, form, moment)?;
+    if !found && form == Form::Text {
+        writeln!(out, "no fault")?;
+    }
+    Ok(found)
 }

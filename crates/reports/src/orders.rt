@@ -3,10 +3,13 @@ ghost use Rattle.std.specs.Prelude.{◌≡◌, IsTrue, ◌↔◌};
 ghost use Rattle.desk_model.specs.Document.{order_status_text};
 ghost use Rattle.desk_columns.specs.Reading.{IsRead, Unlimited};
 ghost use Rattle.reports.specs.Filter.{Allows};
+ghost use Rattle.reports.specs.Reported.{Reports};
 
+use crate::fault::ReportFault;
 use crate::form::Form;
-use desk_book::Table;
+use desk_loading::RowsAbove;
 use desk_model::{OrderRow, OrderStatus};
+use desk_passes::Orders;
 use moments::{LAST_END, moment_text};
 use std::alloc::Global;
 use std::io::{self, Write};
@@ -91,27 +94,40 @@ fn write_order<W: Write>(alloc: Global, out: &mut W, form: Form, row: &OrderRow)
     }
 }
 
-/// Writes a line for each order that a filter keeps; as text last how many these are.
-///
-/// # Errors
-///
-/// Those of the writer, and `OutOfMemory` where a growth was refused.
-pub fn write_orders<W: Write>(
+// Writes the line of each order that a filter keeps, and gives how many these are.
+fn write_kept<K: RowsAbove, W: Write>(
     alloc: Global,
+    source: &mut K,
     out: &mut W,
     form: Form,
     filter: OrderFilter,
-    orders: &Table<OrderRow>,
-) -> io::Result<()> {
+) -> Result<u64, ReportFault>
+    ensures { Reports K.sight source.old source.new result }
+{
     let mut count: u64 = 0;
-    for row in orders.iter() {
-        if filter.keeps(row) {
-            write_order(alloc, out, form, row)?;
+    let mut orders = Orders::new(source);
+    while let Some(order) = orders.next(alloc)? {
+        if filter.keeps(&order) {
+            write_order(alloc, out, form, &order)?;
             count = count.saturating_add(1);
         }
     }
-    match form {
-        Form::Text => writeln!(out, "orders {count}"),
-        Form::Json => Ok(()),
+    Ok(count)
+}
+
+/// Writes the line of each order that a filter keeps; as text last how many these are.
+pub(crate) fn write_orders<K: RowsAbove, W: Write>(
+    alloc: Global,
+    source: &mut K,
+    out: &mut W,
+    form: Form,
+    filter: OrderFilter,
+) -> Result<(), ReportFault>
+    ensures { Reports K.sight source.old source.new result }
+{
+    let count = write_kept(alloc, source, out, form, filter)?;
+    if form == Form::Text {
+        writeln!(out, "orders {count}")?;
     }
+    Ok(())
 }

@@ -1,0 +1,17 @@
+use Rattle.std.proofs.Common.{◌≡◌, ◌-◌, ◌^◌}
+use Rattle.desk_storage.specs.Sight.{ForTables, Stands}
+use Rattle.desk_passes.specs.InOrder.{IsInOrder}
+use Rattle.desk_passes.specs.Left.{faults_above, faults_of}
+use Rattle.reports.proofs.Searching.{Searches}
+use Rattle.reports.proofs.faults.write_kind.Given as goal
+
+abbrev pub invariant-loop-fault : goal.invariant-loop-fault
+invariant-loop-fault g l = record {
+  name : l.faults.source.ghost_name ≡ l.initial.faults.source.ghost_name;
+  stands : Stands g.K.LookUps.sight l.fn.source l.faults.source.now;
+  found : ForTables g.K.LookUps.sight l.fn.source l.faults.source.now (λ T. IsInOrder T → l.moment ≡ T.meta.clock
+      → Searches l.found (faults_of T l.fn.kind) (faults_above T l.faults.kind l.faults.moment l.faults.above));
+}
+
+abbrev pub decreases-loop-fault : goal.decreases-loop-fault
+decreases-loop-fault g l = 2 ^ 64 - l.faults.above

@@ -1,0 +1,39 @@
+use Rattle.std.proofs.Common.{rules, ◌≢◌, ◌↔◌, ◌+◌, List, [], ◌∷◌, IsTrue, drop, subst, sym}
+use Rattle.std.proofs.lemmas.List.{drop_all}
+use Rattle.std.specs.List.{flat_map}
+use Rattle.desk_passes.proofs.Alls.{kinds_make_all}
+use Rattle.desk_passes.specs.Left.{faults_of}
+use Rattle.desk_passes.specs.declared.fault_kind.FaultKind.{FaultKind}
+use Rattle.desk_passes.specs.declared.fault_kind.FaultKind.TheVariants.{Account, Order, Authorization, Challenge}
+use Rattle.reports.proofs.Searching.{Searches, tells, turn_found, turn_passed}
+use Rattle.reports.proofs.faults.write_kinds.Goals.{then-branch, else-branch}
+use Rattle.reports.proofs.faults.write_kinds.Goals as goal
+
+-- all kinds
+abbrev kinds : List FaultKind
+kinds = Account ∷ Order ∷ Authorization ∷ Challenge ∷ []
+
+-- the next kind
+pub loop-kind-preserved : goal.loop-kind-preserved
+loop-kind-preserved g c = record {
+  stands = search rules;
+  found = λ honest T holds h now.
+      let before = c.in_ok-write_kind.ensures.reads.honest honest in
+      let here = c.in_ok-write_kind.ensures.found honest T (c.loop-kind.invariant.stands.tables before T holds) h now in
+      let so_far = c.loop-kind.invariant.found before T holds h now in
+      elim c.if-branch.branch [
+        | then-branch w ↦ subst (λ f. Searches f (flat_map (faults_of T) kinds) (flat_map (faults_of T) (drop (c.loop-kind.kind-index + 1) kinds)))
+            (sym w.found-is) (turn_found (faults_of T) kinds c.loop-kind.kind-index Account c.loop-kind.found c.loop-kind-test.true so_far (here.0 w.if-branch.true))
+        | else-branch w ↦ subst (λ f. Searches f (flat_map (faults_of T) kinds) (flat_map (faults_of T) (drop (c.loop-kind.kind-index + 1) kinds)))
+            (sym w.found-is) (turn_passed (faults_of T) kinds c.loop-kind.kind-index Account c.loop-kind.found c.loop-kind-test.true so_far
+            (λ some. cc (here.1 some, w.if-branch.false)))
+      ];
+}
+
+-- the four kinds make all faults
+pub returns-clause-found : goal.returns-clause-found
+returns-clause-found g c honest T holds h now =
+    subst (λ all. IsTrue c.loop-kind.found ↔ all ≢ []) (kinds_make_all T h)
+    (tells c.loop-kind.found (flat_map (faults_of T) kinds)
+    (subst (λ l. Searches c.loop-kind.found (flat_map (faults_of T) kinds) (flat_map (faults_of T) l))
+    (drop_all c.loop-kind.kind-index kinds c.loop-kind-test.false) (c.loop-kind.invariant.found honest T holds h now)))

@@ -1,0 +1,36 @@
+//! Why a report ends early.
+use desk_storage::StorageFault;
+use std::io::{self, ErrorKind};
+
+/// Why a report is not written to its end.
+#[derive(Clone, Copy, Debug, PartialEq, Eq)]
+pub enum ReportFault {
+    /// A growth was refused, or the rows could not be read.
+    Storage(StorageFault),
+    /// The writer failed.
+    Output,
+}
+
+impl From<StorageFault> for ReportFault {
+    ghost use Rattle.std.specs.Prelude.{◌≡◌};
+    ghost use Rattle.reports.specs.declared.fault.ReportFault.TheVariants.{Storage};
+
+    ghost from_gives = { λ fault e. e ≡ Storage fault };
+
+    fn from(fault: StorageFault) -> ReportFault {
+        ReportFault::Storage(fault)
+    }
+}
+
+impl From<io::Error> for ReportFault {
+    ghost use Rattle.reports.specs.Reported.{LeavesRows};
+
+    ghost from_gives = { λ _ e. LeavesRows e };
+
+    fn from(error: io::Error) -> ReportFault {
+        match error.kind() {
+            ErrorKind::OutOfMemory => ReportFault::Storage(StorageFault::Memory),
+            _ => ReportFault::Output,
+        }
+    }
+}
