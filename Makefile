@@ -52,11 +52,11 @@ test: edits
 	@python3 -B scripts/files.py bin/desk
 	@echo "Trying the operator's words: reports and revocations."
 	@python3 -B scripts/words.py bin/desk
-	@echo 'Stopping the program at each write to a file.'
+	@echo 'Stopping the program at each write to a file, and failing each call to the disk once.'
 	@python3 -B scripts/stops.py bin/desk
 	@echo 'Serving over loopback: replies byte for byte, requests that are none, clients that are gone, what ends the program.'
 	@python3 -B scripts/serve.py bin/desk
-	@echo 'Refusing memory to the program that serves, each ninth growth (make growths: each one).'
+	@echo 'Refusing memory to the program, each ninth growth where it serves (make growths: each one).'
 	@python3 -B scripts/growths.py bin/desk --step 9
 	@echo 'Killing the program at random moments while it serves, 20 times (make kills: 200).'
 	@python3 -B scripts/kills.py bin/desk --times 20

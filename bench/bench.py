@@ -598,4 +598,5 @@ def main():
     print_page(counted_syncs(words.only), disk, memory)
 
 
-main()
+if __name__ == "__main__":
+    main()

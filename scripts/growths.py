@@ -1,11 +1,15 @@
 #!/usr/bin/env python3
-"""Refuses growths of memory to `serve`: scripts/growths.py PROGRAM [--step N]
+"""Refuses growths of memory to the program: scripts/growths.py PROGRAM [--step N]
 
-Each kind of request is made again and again, while its first growth of memory is refused, its second, and so on, until a
+Each kind of request is made to `serve` again and again, while its first growth of memory is refused, its second, and so on, until a
 request ends without one; once that growth alone, once that growth and all after it. The reply is the one with ample memory,
 refusal 15 without a nonce, or nothing; the tables are those before the request or those after it: the latter, where the reply
 is the one with ample memory. The next request is served, or the program ended by a fault that closes the desk, and a new one
-serves over its file. With a step only each N-th growth is refused. Without gcc nothing is tried, and it says so.
+serves over its file.
+
+Then each growth of a `batch` of one call over a file is refused, those of its opening and closing too. It ends as with ample
+memory, or by fault 20 or 22 and with status 1; the tables are those before the call or those after it, and `check` finds no
+fault. With a step only each N-th growth is refused, and of a batch each 17 N-th. Without gcc nothing is tried, and it says so.
 """
 import argparse
 import base64
@@ -20,11 +24,13 @@ import sys
 import tempfile
 
 from served import DIRECTORY, NEW_NONCE, Client, Reply, Server, finish, make, refusal, see
-from stops import KEY, ROOT, tables_of
+from stops import KEY, ROOT, SCENARIOS, Desk, checked, copy, first_calls, tables_of
 
 ALL = 2**62
 # The ends of the program that a refused growth may bring, by their line on standard error.
 CLOSED = (b"desk: fault 22 reopen\n", b"desk: fault 21 device\n")
+# And those of a batch.
+REFUSED = (b"desk: fault 20 memory\n", b"desk: fault 22 reopen\n")
 
 
 class Growths:
@@ -162,6 +168,59 @@ class Tries:
         see(f"{kind.name}: growths refused", came.total() > 0, True)
 
 
+def ended(ran, whole, has_entries):
+    """How a batch of one call ended."""
+    if (ran.returncode, ran.stdout, ran.stderr) == (0, whole, b""):
+        return "the reply"
+    if ran.returncode == 1 and ran.stdout in (b"", whole) and ran.stderr in REFUSED:
+        return ran.stderr.decode()[6:-1] + (", recorded" if has_entries else "")
+    return None
+
+
+def batch_of_one(name, desk, call, preload, folder, step):
+    """Refuses each growth of a batch of one call in turn, alone or with those after it."""
+    path = f"{folder}/refused.db"
+    words = [desk.program, "batch", "--file", path]
+    copy(desk.path, path)
+    before = tables_of(path, folder)
+    whole = subprocess.run(words, input=call, stdout=subprocess.PIPE).stdout
+    after = tables_of(path, folder)
+    growths = Growths(f"{folder}/growths")
+    env = {**os.environ, "LD_PRELOAD": preload, "GROWTHS": f"{folder}/growths", "GROWTHS_OF_ALL": "1"}
+    for is_alone in (True, False):
+        came = collections.Counter()
+        for first in range(1, ALL, 17 * step):
+            copy(desk.path, path)
+            growths.refuse(first, first if is_alone else ALL)
+            ran = subprocess.run(words, input=call, stdout=subprocess.PIPE, stderr=subprocess.PIPE, env=env)
+            count, refused = growths.counted()
+            if not refused:
+                see(f"{name}: no growth refused", (ran.returncode, ran.stdout), (0, whole))
+                break
+            said, left = f"{name} without growth {first}{'' if is_alone else ' and those after it'}", tables_of(path, folder)
+            found = ended(ran, whole, left == after)
+            see(f"{said}: its end {ran!r}", found is None, False)
+            see(f"{said}: tables as before or after", left in ((after,) if ran.stdout else (before, after)), True)
+            see(f"{said}: opened again", checked(desk.program, path), (0, b"no fault\n", b""))
+            came[found] += 1
+        told = ", ".join(f"{what} {times}" for what, times in came.most_common())
+        print(f"{name}, a batch with {count} growths, {'each alone' if is_alone else 'each and all after it'}: {told}", flush=True)
+
+
+def batches(program, preload, folder, step):
+    """The calls that scripts/stops.py stops, without memory."""
+    for number, (name, prepared, terms, _) in enumerate(SCENARIOS):
+        room = f"{folder}/{number}"
+        os.mkdir(room)
+        desk = Desk(program, room, terms)
+        batch_of_one(name, desk, prepared(desk), preload, folder, step)
+    os.mkdir(f"{folder}/first")
+    desk = Desk(program, f"{folder}/first")
+    for name, call, _ in first_calls(desk):
+        batch_of_one(name, desk, call, preload, folder, step)
+        desk.answer(call)
+
+
 def main():
     parser = argparse.ArgumentParser()
     parser.add_argument("program")
@@ -178,6 +237,7 @@ def main():
             for alone in (True, False):
                 tries.every(kind, alone, words.step)
         see("the end", tries.server.stop()[0], -signal.SIGTERM)
+        batches(os.path.abspath(words.program), preload, folder, words.step)
     return finish("Growths")
 
 

@@ -1,6 +1,6 @@
 /* Refuses growths of memory while a connection is served, for scripts/growths.py. Preloaded into the program: GROWTHS is the path of
    a file of four numbers that the script shares: the first growth to refuse since a connection was accepted (0: none), the last one,
-   how many there were, and how many were refused. */
+   how many there were, and how many were refused. With GROWTHS_OF_ALL in the environment they are counted from the program's start. */
 #define _GNU_SOURCE
 #include <dlfcn.h>
 #include <errno.h>
@@ -40,6 +40,11 @@ static void begin(void) {
         share();
     if (shared)
         shared->seen = shared->refused = 0;
+}
+
+__attribute__((constructor)) static void begin_at_start(void) {
+    if (getenv("GROWTHS_OF_ALL"))
+        begin();
 }
 
 static int is_refused(void) {

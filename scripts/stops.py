@@ -2,11 +2,13 @@
 """Stops the program at each write to a desk's file and its log: scripts/stops.py PROGRAM
 
 Each scenario is a call that is made again and again on copies of one file, while the program is stopped before, or half way
-through, its first write, its second, and so on, until a run ends by itself. After each stop the program opens the file
+through, its first write, its second, and so on, until a run ends by itself. Then the same with a disk that fails once: the first read,
+write or sync fails, the second, and so on, and the program goes on. After each stop or failure the program opens the file
 again, and its tables are those before the call or those after it: the latter, where the reply was printed. Without gcc
 nothing is tried, and it says so.
 """
 import base64
+import collections
 import json
 import os
 import shutil
@@ -18,6 +20,8 @@ import tempfile
 ROOT = os.path.dirname(os.path.dirname(os.path.abspath(__file__)))
 KEY = {"crv": "P-256", "kty": "EC", "x": "AQ", "y": "Ag"}
 STOPPED = 77
+# How a command ends where a call to the disk failed.
+FAILED = [(1, b"desk: fault %s\n" % text) for text in (b"21 device", b"22 reopen", b"23 not a desk")]
 TABLES = ("meta", "nonce", "account", "ord", "authz", "ord_authz", "chall")
 faults = []
 
@@ -117,6 +121,17 @@ def stopped(preload, path, at, half, words, given):
     return subprocess.run(words, input=given, stdout=subprocess.PIPE, stderr=subprocess.PIPE, env=env)
 
 
+def failed(preload, path, at, words, given):
+    """A run of the program in which a call to the disk fails, and whether it did."""
+    mark = f"{path}.failed"
+    env = {**os.environ, "LD_PRELOAD": preload, "STOP_FILE": path, "STOP_AT": str(at), "STOP_FAILED": mark}
+    ran = subprocess.run(words, input=given, stdout=subprocess.PIPE, stderr=subprocess.PIPE, env=env)
+    if not os.path.exists(mark):
+        return ran, False
+    os.remove(mark)
+    return ran, True
+
+
 def checked(program, path):
     """The end, the output and the errors of a check of the stored statuses, which opens the file again."""
     ran = subprocess.run([program, "check", path], stdout=subprocess.PIPE, stderr=subprocess.PIPE)
@@ -145,6 +160,30 @@ def try_call(name, desk, call, statuses, preload, folder):
             left = tables_of(path, folder)
             see(f"{name}, stopped at write {at}: tables as before or after", left in ((after,) if ran.stdout else (before, after)), True)
     print(f"{name}: stopped at {count} writes")
+
+
+def try_failures(name, desk, call, preload, folder):
+    """Has each call to the disk fail in turn while the program answers a call on a copy of the desk's file."""
+    path = f"{folder}/failed.db"
+    words = [desk.program, "batch", "--file", path]
+    copy(desk.path, path)
+    before = tables_of(path, folder)
+    whole = subprocess.run(words, input=call, stdout=subprocess.PIPE)
+    after = tables_of(path, folder)
+    ends = collections.Counter()
+    for at in range(1, 10000):
+        copy(desk.path, path)
+        ran, has_failed = failed(preload, path, at, words, call)
+        if not has_failed:
+            see(f"{name}: a run that does not fail", (ran.returncode, ran.stdout), (0, whole.stdout))
+            break
+        ends[ran.stderr.decode().strip() or "answered"] += 1
+        see(f"{name}, call {at} failed: its end", ran.returncode == 0 if not ran.stderr else (ran.returncode, ran.stderr) in FAILED, True)
+        see(f"{name}, call {at} failed: opened again", checked(desk.program, path), (0, b"no fault\n", b""))
+        see(f"{name}, call {at} failed: the reply", ran.stdout in (b"", whole.stdout), True)
+        left = tables_of(path, folder)
+        see(f"{name}, call {at} failed: tables as before or after", left in ((after,) if ran.stdout else (before, after)), True)
+    print(f"{name}: {sum(ends.values())} calls to the disk failed: {', '.join(f'{end} {count}' for end, count in sorted(ends.items()))}")
 
 
 def try_make(program, preload, folder):
@@ -184,14 +223,14 @@ def new_nonce(desk, preload, folder):
     see("the nonce, used again", desk.answer(use)[0], "400")
 
 
-def first_requests(desk, preload, folder):
-    """The first requests on a new desk, each stopped at each write."""
+def first_calls(desk):
+    """The first requests on a new desk, each with the statuses of the orders before it and after it."""
     other = {**KEY, "x": "Aw"}
     spelled = {"y": "Ag", "alg": "ES256", "x": "AQ", "use": "sig", "kty": "EC", "crv": "P-256"}
     contact = {"contact": ["mailto:a@b.example"], "termsOfServiceAgreed": True}
     names = {"identifiers": [{"type": "dns", "value": name} for name in ("Example.ORG", "example.org", "*.example.org")]}
     nonces = [nonce_text(serial) for serial in range(1, 6)]
-    calls = [
+    return [
         ("a first nonce", desk.line("GET", "/new-nonce", random="00" * 16), ("", "")),
         ("a first account", desk.signed("/new-account", contact, nonce=nonces[0]), ("", "")),
         ("a nonce that is used twice", desk.signed("/new-account", contact, nonce=nonces[0]), ("", "")),
@@ -199,8 +238,13 @@ def first_requests(desk, preload, folder):
         ("a key without an account", desk.signed("/new-account", {"onlyReturnExisting": True}, key=other, nonce=nonces[2]), ("", "")),
         ("a first order", desk.signed("/new-order", names, nonce=nonces[3], random="00" * 64), ("", "pending")),
     ]
-    for name, call, statuses in calls:
+
+
+def first_requests(desk, preload, folder):
+    """The first requests on a new desk, each stopped at each write."""
+    for name, call, statuses in first_calls(desk):
         try_call(name, desk, call, statuses, preload, folder)
+        try_failures(name, desk, call, preload, folder)
         desk.answer(call)
 
 
@@ -253,7 +297,9 @@ def main(program):
             room = f"{folder}/{number}"
             os.mkdir(room)
             desk = Desk(program, room, terms)
-            try_call(name, desk, prepared(desk), statuses, preload, folder)
+            call = prepared(desk)
+            try_call(name, desk, call, statuses, preload, folder)
+            try_failures(name, desk, call, preload, folder)
         os.mkdir(f"{folder}/first")
         first_requests(Desk(program, f"{folder}/first"), preload, folder)
         os.mkdir(f"{folder}/nonce")

@@ -82,6 +82,11 @@ def reports(program, folder):
     with open("/dev/full", "wb") as full:
         for word in ("status", "check"):
             see(f"{word} on a full output", run(program, word, desk.path, out=full), FULL)
+    reader, writer = os.pipe()
+    os.close(reader)
+    for word in ("status", "check"):
+        see(f"{word} to a closed pipe", run(program, word, desk.path, out=writer), FULL)
+    os.close(writer)
 
 
 def wrong_statuses(program, folder):

@@ -5,34 +5,27 @@ use desk_model::Refusal;
 use desk_storage::StorageFault;
 use desk_store::OpenFault;
 use reports::ReportFault;
-use std::fmt;
 use std::io::Write;
+use thiserror::Error;
 
 /// Why a command ends.
-#[derive(Clone, Copy, Debug, PartialEq, Eq)]
+#[derive(Clone, Copy, Debug, PartialEq, Eq, Error)]
 pub(crate) enum Fault {
     /// A limit of the terms is broken.
+    #[error("bad policy")]
     BadPolicy,
     /// A fault of the desk, 20 to 27.
-    Desk(DeskFault),
+    #[error(transparent)]
+    Desk(#[from] DeskFault),
     /// Standard output failed.
+    #[error("output")]
     Output,
     /// The desk refuses what the operator asks.
+    #[error("{}", .0.detail())]
     Refused(Refusal),
     /// The machine failed, or the desk is served no longer.
-    Serve(ServeFault),
-}
-
-impl fmt::Display for Fault {
-    fn fmt<W: fmt::Write>(&self, f: &mut fmt::Formatter<W>) -> fmt::Result {
-        match self {
-            Fault::BadPolicy => f.write_str("bad policy"),
-            Fault::Desk(fault) => write!(f, "{fault}"),
-            Fault::Output => f.write_str("output"),
-            Fault::Refused(refusal) => f.write_str(refusal.detail()),
-            Fault::Serve(fault) => write!(f, "{fault}"),
-        }
-    }
+    #[error(transparent)]
+    Serve(#[from] ServeFault),
 }
 
 impl From<OpenFault> for Fault {
@@ -44,12 +37,6 @@ impl From<OpenFault> for Fault {
             OpenFault::NotADesk => DeskFault::NotADesk,
             OpenFault::NewerFormat => DeskFault::NewerFormat,
         })
-    }
-}
-
-impl From<DeskFault> for Fault {
-    fn from(fault: DeskFault) -> Fault {
-        Fault::Desk(fault)
     }
 }
 
@@ -65,12 +52,6 @@ impl From<ReportFault> for Fault {
             ReportFault::Storage(fault) => Fault::from(fault),
             ReportFault::Output => Fault::Output,
         }
-    }
-}
-
-impl From<ServeFault> for Fault {
-    fn from(fault: ServeFault) -> Fault {
-        Fault::Serve(fault)
     }
 }
 
