@@ -58,7 +58,7 @@ def page(found, turns):
         `check` then read their rows one by one. A time is the median of
         {turns} runs; opening is a batch without lines, and a report's time is what its word took beyond that. Memory is
         the most that the whole process had."""
-    lines = ["", "## Reports", "", *textwrap.wrap(" ".join(text.split()), 118), ""]
+    lines = ["## Reports", "", *textwrap.wrap(" ".join(text.split()), 118), ""]
     lines += ["| orders | opening | status | check | memory, opening | with status | with check |", "|---|---|---|---|---|---|---|"]
     for size, of in found.items():
         first = of["opening"][0]
