@@ -1,0 +1,2 @@
+pub mod AtPaths
+pub mod Members
