@@ -20,10 +20,10 @@ directory_urls t = record { new_account = refl; new_nonce = refl; new_order = re
 
 -- an order has its URLs, whatever became of it
 order_urls : (T : Tables) (o : OrderRow) (k : Option DatedBytes) (f : Option DatedProblem) → HasOrderUrls T (record o { certified = k; failed = f })
-order_urls T o None None = record { finalize = refl; certificate = λ certified. cc }
-order_urls T o None (Some f) = record { finalize = refl; certificate = λ certified. cc }
-order_urls T o (Some k) None = record { finalize = refl; certificate = λ certified. refl }
-order_urls T o (Some k) (Some f) = record { finalize = refl; certificate = λ certified. refl }
+order_urls T o None None = record { authorizations = refl; finalize = refl; certificate = λ certified. cc }
+order_urls T o None (Some f) = record { authorizations = refl; finalize = refl; certificate = λ certified. cc }
+order_urls T o (Some k) None = record { authorizations = refl; finalize = refl; certificate = λ certified. refl }
+order_urls T o (Some k) (Some f) = record { authorizations = refl; finalize = refl; certificate = λ certified. refl }
 
 -- a challenge has its URL
 abbrev HasItsUrl : Terms → ChallengeRow → Type 0
@@ -47,10 +47,11 @@ have_urls T =
     record {
       directory = directory_urls T.meta.policy;
       account = λ a. refl;
+      orders = λ n. refl;
       order = λ o. order_urls T o o.certified o.failed;
       challenge = λ c. challenge_has T.meta.policy c c.reported;
     }
 
 -- and so have replies
 pub name_urls : RepliesNameUrls
-name_urls T = record { account = λ status a. refl; order = λ status o. refl; authorization = λ n a. refl }
+name_urls T = record { account = λ status a. refl; order = λ status o. refl; directory = refl; authorization = λ n a. refl }
