@@ -6,6 +6,7 @@ mod authorization_rules;
 mod challenge_rules;
 mod contacts;
 mod fault;
+mod identified;
 mod judging;
 mod limits;
 mod new_orders;

@@ -4,82 +4,19 @@ ghost use Rattle.std.specs.List.{list_any};
 ghost use Rattle.desk_rules.specs.Needs.{NumbersLeft, BytesLeft, IsNeedFault};
 ghost use Rattle.desk_model.specs.Authorization.{kinds_of};
 ghost use Rattle.desk_model.specs.Name.{same_bool, same_name};
-ghost use Rattle.desk_model.specs.Names.{name_of};
-ghost use Rattle.desk_model.specs.Rules.{fault_of, is_dns, kept, names_in, new_order_verdict, pieces, subproblems, wanted};
+ghost use Rattle.desk_model.specs.Rules.{kept, new_order_verdict, pieces, wanted};
 ghost use Rattle.desk_model.specs.Run.{count_tokens};
 ghost use Rattle.desk_model.specs.Verdict.{records as recording};
 ghost use Rattle.desk_model.specs.declared.entry.Entry.TheVariants.{Ordered as ordered};
 ghost use Rattle.desk_model.specs.declared.verdict.Shows.TheVariants.{MadeOrder};
 
 use crate::fault::CoreFault;
+use crate::identified::{Identified, identify};
 use crate::limits::{first_piece, has_room, has_room_for, has_tokens, later_random};
 use crate::verdicts::{records, refused};
 use desk_book::Book;
-use desk_model::{
-    DnsName, Entry, Identifier, Meta, Refusal, Sequence, Shows, Subproblem, Verdict, Wanted,
-};
-use identifiers::{NameFault, read_name};
+use desk_model::{DnsName, Entry, Identifier, Meta, Refusal, Sequence, Shows, Verdict, Wanted};
 use std::alloc::{AllocError, Global};
-
-/// The name that a text stands for, `None` where it stands for none.
-fn name_of(alloc: Global, text: &str) -> Result<Option<DnsName>, AllocError>
-    ensures { IfOk result (λ o. o ≡ name_of text.now) }
-{
-    match read_name(alloc, text) {
-        Ok(name) => Ok(Some(name)),
-        Err(NameFault::Refused) => Ok(None),
-        Err(NameFault::Memory) => Err(AllocError),
-    }
-}
-
-fn is_dns(identifier: &Identifier) -> bool
-    ensures { result ≡ is_dns identifier.now }
-{
-    identifier.kind.as_str() == "dns"
-}
-
-/// Why an identifier is refused, if it is.
-fn fault_of(alloc: Global, identifier: &Identifier) -> Result<Option<Refusal>, AllocError>
-    ensures { IfOk result (λ o. o ≡ fault_of identifier.now) }
-{
-    if !is_dns(identifier) {
-        return Ok(Some(Refusal::UnsupportedIdentifier));
-    }
-    match name_of(alloc, identifier.value.as_str())? {
-        Some(_) => Ok(None),
-        None => Ok(Some(Refusal::RejectedIdentifier)),
-    }
-}
-
-/// Each faulty identifier, in order.
-fn subproblems(alloc: Global, identifiers: &[Identifier]) -> Result<Vec<Subproblem>, AllocError>
-    ensures { IfOk result (λ v. v.items ≡ subproblems identifiers.now) }
-{
-    let mut found = Vec::new(alloc);
-    for identifier in identifiers {
-        if let Some(refusal) = fault_of(alloc, identifier)? {
-            found.push(Subproblem {
-                refusal,
-                kind: identifier.kind.clone()?,
-                value: identifier.value.clone()?,
-            })?;
-        }
-    }
-    Ok(found)
-}
-
-/// The names that identifiers stand for, in order.
-fn names_in(alloc: Global, identifiers: &[Identifier]) -> Result<Vec<DnsName>, AllocError>
-    ensures { IfOk result (λ v. v.items ≡ names_in identifiers.now) }
-{
-    let mut names = Vec::new(alloc);
-    for identifier in identifiers {
-        if let Some(name) = name_of(alloc, identifier.value.as_str())? {
-            names.push(name)?;
-        }
-    }
-    Ok(names)
-}
 
 fn is_same_mark(wildcard: bool, other: bool) -> bool
     ensures { result ≡ same_bool wildcard other }
@@ -211,13 +148,12 @@ pub(crate) fn new_order_verdict(
     if identifiers.is_empty() || identifiers.len() > 50 {
         return Ok(refused(alloc, Refusal::Malformed));
     }
-    let faulty = subproblems(alloc, identifiers)?;
+    let Identified { names, faulty } = identify(alloc, identifiers)?;
     if let Some(first) = faulty.first() {
         return Ok(Verdict::Refused {
             refusal: first.refusal,
             subproblems: Sequence::new(faulty),
         });
     }
-    let names = kept(alloc, names_in(alloc, identifiers)?)?;
-    order_for(alloc, book, random, account, names)
+    order_for(alloc, book, random, account, kept(alloc, names)?)
 }

@@ -1,0 +1,63 @@
+//! What the identifiers of a new order stand for (RFC 8555, 7.1.3 and 7.4).
+ghost use Rattle.std.specs.Prelude.{◌≡◌, [], None, Some, IfOk, MatchResult};
+ghost use Rattle.desk_model.specs.Names.{name_of};
+ghost use Rattle.desk_model.specs.Rules.{fault_of, is_dns, names_in, subproblems};
+
+use desk_model::{DnsName, Identifier, Refusal, Subproblem};
+use identifiers::{NameFault, read_name};
+use std::alloc::{AllocError, Global};
+
+/// The names that identifiers stand for, and a subproblem for each that is faulty, both in order.
+#[derive(Drop)]
+pub(crate) struct Identified {
+    pub(crate) names: Vec<DnsName>,
+    pub(crate) faulty: Vec<Subproblem>,
+}
+
+fn is_dns(identifier: &Identifier) -> bool
+    ensures { result ≡ is_dns identifier.now }
+{
+    identifier.kind.as_str() == "dns"
+}
+
+/// The name that an identifier stands for, or why it is refused.
+fn name_in(alloc: Global, identifier: &Identifier) -> Result<Result<DnsName, Refusal>, AllocError>
+    ensures named { IfOk result (λ read. IfOk read (λ name. name_of identifier.now.value ≡ Some name)) }
+    ensures faulty { IfOk result (λ read. MatchResult read (λ _. fault_of identifier.now ≡ None) (λ why. fault_of identifier.now ≡ Some why)) }
+{
+    if !is_dns(identifier) {
+        return Ok(Err(Refusal::UnsupportedIdentifier));
+    }
+    match read_name(alloc, identifier.value.as_str()) {
+        Ok(name) => Ok(Ok(name)),
+        Err(NameFault::Refused) => Ok(Err(Refusal::RejectedIdentifier)),
+        Err(NameFault::Memory) => Err(AllocError),
+    }
+}
+
+/// A faulty identifier, with its type and value as received.
+fn subproblem(identifier: &Identifier, refusal: Refusal) -> Result<Subproblem, AllocError>
+    ensures { IfOk result (λ s. s ≡ record { refusal = refusal; kind = identifier.now.kind; value = identifier.now.value }) }
+{
+    Ok(Subproblem {
+        refusal,
+        kind: identifier.kind.clone()?,
+        value: identifier.value.clone()?,
+    })
+}
+
+/// Reads identifiers, each once; the names are those of all where none is faulty.
+pub(crate) fn identify(alloc: Global, identifiers: &[Identifier]) -> Result<Identified, AllocError>
+    ensures faulty { IfOk result (λ read. read.faulty.items ≡ subproblems identifiers.now) }
+    ensures named { IfOk result (λ read. read.faulty.items ≡ [] → read.names.items ≡ names_in identifiers.now) }
+{
+    let mut names = Vec::new(alloc);
+    let mut faulty = Vec::new(alloc);
+    for identifier in identifiers {
+        match name_in(alloc, identifier)? {
+            Ok(name) => names.push(name)?,
+            Err(refusal) => faulty.push(subproblem(identifier, refusal)?)?,
+        }
+    }
+    Ok(Identified { names, faulty })
+}
