@@ -1,8 +1,9 @@
 //! Reports on the rows of a store.
 use crate::fault::Fault;
 use command_line::Listing;
+use desk_columns::read_order_status;
 use file_tasks::{Tables, Task};
-use reports::{Form, OrderFilter, order_status};
+use reports::{Form, OrderFilter};
 use std::alloc::Global;
 use std::io::Write;
 
@@ -38,7 +39,7 @@ impl<'a, W: Write> ListOrders<'a, W> {
             filter: OrderFilter {
                 account,
                 status: match status {
-                    Some(text) => order_status(text),
+                    Some(text) => read_order_status(text),
                     None => None,
                 },
             },

@@ -33,4 +33,5 @@ pub use listed::read_listed;
 pub use meta::read_meta;
 pub use nonce::read_nonce;
 pub use order::read_order;
+pub use spelling::read_order_status;
 pub use stored::read_rows;

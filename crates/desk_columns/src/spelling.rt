@@ -20,8 +20,8 @@ pub(crate) fn read_account_status(text: &str) -> Option<AccountStatus>
     }
 }
 
-// The status of an order.
-pub(crate) fn read_order_status(text: &str) -> Option<OrderStatus>
+/// The status of an order that a text spells (RFC 8555, 7.1.6), or `None` where it spells none.
+pub fn read_order_status(text: &str) -> Option<OrderStatus>
     ensures { IsRead order_status_text Unlimited text.now result }
 {
     match text {

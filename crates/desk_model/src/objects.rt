@@ -1,4 +1,7 @@
 //! What a history makes, as it was made.
+ghost use Rattle.std.specs.Prelude.{◌≡◌};
+ghost use Rattle.desk_model.specs.Document.{kind_text};
+
 use crate::dns_name::DnsName;
 use crate::entry::{Ending, Outcome};
 use crate::jwk::Jwk;
@@ -56,6 +59,18 @@ pub struct Challenge {
 pub enum Kind {
     Http01,
     Dns01,
+}
+
+impl Kind {
+    /// The type of the challenge as RFC 8555, 8.3 and 8.4, spell it.
+    pub fn as_str(self) -> &'static str
+        ensures { result.now ≡ kind_text self }
+    {
+        match self {
+            Kind::Http01 => "http-01",
+            Kind::Dns01 => "dns-01",
+        }
+    }
 }
 
 /// When a challenge was reported, and what the report showed.

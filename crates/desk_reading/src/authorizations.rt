@@ -20,7 +20,6 @@ use desk_columns::{AuthzColumns, ChallColumns};
 use desk_model::{AuthorizationRow, AuthzStatus, ChallengeRow, Sequence};
 use sqlite::{Alter, Connection};
 use std::alloc::Global;
-use written_rows::authorization_status_text;
 
 /// The challenges of the authorization of a number.
 ///
@@ -152,7 +151,7 @@ pub fn authorizations_past<S: Alter>(
     ensures unchanged { HasCleanDisk (state S.Store conn.new) → OnOk result (IsUnchanged (state S.Store conn.old) (state S.Store conn.new)) }
     ensures asks { Asks (state S.Store conn.old) (state S.Store conn.new) }
 {
-    let params = text_and_number(authorization_status_text(status), moment);
+    let params = text_and_number(status.as_str(), moment);
     let heads = find_rows::<S, AuthzColumns>(
         alloc,
         conn,

@@ -20,7 +20,6 @@ use desk_columns::{OrderAuthzColumns, OrderColumns};
 use desk_model::{Listed, OrderRow, OrderStatus, Sequence};
 use sqlite::{Alter, Connection};
 use std::alloc::Global;
-use written_rows::order_status_text;
 
 /// What the order of a number lists.
 ///
@@ -152,7 +151,7 @@ pub fn orders_past<S: Alter>(
     ensures unchanged { HasCleanDisk (state S.Store conn.new) → OnOk result (IsUnchanged (state S.Store conn.old) (state S.Store conn.new)) }
     ensures asks { Asks (state S.Store conn.old) (state S.Store conn.new) }
 {
-    let params = text_and_number(order_status_text(status), moment);
+    let params = text_and_number(status.as_str(), moment);
     let heads = find_rows::<S, OrderColumns>(
         alloc,
         conn,

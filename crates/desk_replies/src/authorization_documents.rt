@@ -9,41 +9,11 @@ ghost use Rattle.desk_model.specs.Tokens.{token_text};
 ghost use Rattle.desk_model.specs.Document.{authorization_status_text, challenge_status_text, kind_text, challenge_url, identifier, error_of, report_error, validated, validated_by, challenge_document, shown_challenges, authorization_document};
 ghost use Rattle.desk_replies.specs.Shown.{capped, capped_report, capped_challenge, capped_authorization, with_members, HasDatedReport, HasMoments};
 
-use crate::document_values::{
-    error_value, identifier_value, kind_text, list_value, moment_value, text_value,
-};
+use crate::document_values::{error_value, identifier_value, list_value, moment_value, text_value};
 use crate::urls::challenge_url;
-use desk_model::{
-    AuthorizationRow, AuthzStatus, ChallengeRow, ChallengeStatus, Document, Outcome, Policy, Report,
-};
+use desk_model::{AuthorizationRow, ChallengeRow, Document, Outcome, Policy, Report};
 use serde_json::{Map, Value, put};
 use std::alloc::{AllocError, Global};
-
-/// The status of an authorization as RFC 8555 spells it.
-fn authorization_status_text(status: AuthzStatus) -> &'static str
-    ensures { result.now ≡ authorization_status_text status }
-{
-    match status {
-        AuthzStatus::Pending => "pending",
-        AuthzStatus::Valid => "valid",
-        AuthzStatus::Invalid => "invalid",
-        AuthzStatus::Deactivated => "deactivated",
-        AuthzStatus::Expired => "expired",
-        AuthzStatus::Revoked => "revoked",
-    }
-}
-
-/// The status of a challenge as RFC 8555 spells it.
-fn challenge_status_text(status: ChallengeStatus) -> &'static str
-    ensures { result.now ≡ challenge_status_text status }
-{
-    match status {
-        ChallengeStatus::Pending => "pending",
-        ChallengeStatus::Processing => "processing",
-        ChallengeStatus::Valid => "valid",
-        ChallengeStatus::Invalid => "invalid",
-    }
-}
 
 /// Adds an error of the validator.
 fn put_fault(
@@ -108,11 +78,11 @@ fn challenge_members(
         ∷ [])) }
 {
     let mut members = Map::new(alloc);
-    let status = Value::try_from_str(alloc, challenge_status_text(row.status))?;
+    let status = Value::try_from_str(alloc, row.status.as_str())?;
     put(&mut members, alloc, "status", status)?;
     let token = keys::token_text(alloc, row.token)?;
     put(&mut members, alloc, "token", text_value(token))?;
-    let kind = Value::try_from_str(alloc, kind_text(row.kind))?;
+    let kind = Value::try_from_str(alloc, row.kind.as_str())?;
     put(&mut members, alloc, "type", kind)?;
     let url = challenge_url(alloc, policy, row.number)?;
     put(&mut members, alloc, "url", text_value(url))?;
@@ -207,7 +177,7 @@ fn authorization_members(
     put(&mut members, alloc, "expires", expires)?;
     let identifier = identifier_value(alloc, row.name.base())?;
     put(&mut members, alloc, "identifier", identifier)?;
-    let status = Value::try_from_str(alloc, authorization_status_text(row.status))?;
+    let status = Value::try_from_str(alloc, row.status.as_str())?;
     put(&mut members, alloc, "status", status)?;
     Ok(members)
 }

@@ -3,11 +3,11 @@ ghost use Rattle.std.specs.Prelude.{◌≡◌, map, codes, string_bytes, IfOk};
 ghost use Rattle.serde_json.specs.Data.{string};
 ghost use Rattle.serde_json.specs.View.{view};
 ghost use Rattle.desk_model.specs.Json.{list};
-ghost use Rattle.desk_model.specs.Document.{identifier, error, kind_text};
+ghost use Rattle.desk_model.specs.Document.{identifier, error};
 ghost use Rattle.desk_model.specs.Moment.{moment_text as text_of_moment};
 ghost use Rattle.desk_replies.specs.Shown.{capped};
 
-use desk_model::{Kind, Text};
+use desk_model::Text;
 use moments::LAST_END;
 use serde_json::{Value, json};
 use std::alloc::{AllocError, Global};
@@ -65,14 +65,4 @@ pub(crate) fn error_value(
         "status": status,
         "type": format!(in alloc; "urn:ietf:params:acme:error:{kind}")?
     })
-}
-
-/// The type of a challenge as RFC 8555 spells it (8.3, 8.4).
-pub(crate) fn kind_text(kind: Kind) -> &'static str
-    ensures { result.now ≡ kind_text kind }
-{
-    match kind {
-        Kind::Http01 => "http-01",
-        Kind::Dns01 => "dns-01",
-    }
 }

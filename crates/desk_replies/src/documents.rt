@@ -1,12 +1,12 @@
 //! The documents of the directory and of accounts (RFC 8555, 7.1.1, 7.1.2).
 ghost use Rattle.std.specs.Prelude.{◌≡◌, codes, IfOk};
 ghost use Rattle.serde_json.specs.View.{view};
-ghost use Rattle.desk_model.specs.Document.{directory, account_status_text, account_document};
+ghost use Rattle.desk_model.specs.Document.{directory, account_document};
 
 use crate::document_values::text_list;
 pub(crate) use crate::urls::account_url;
 use crate::urls::{orders_url, url};
-use desk_model::{AccountRow, AccountStatus, Document, Policy};
+use desk_model::{AccountRow, Document, Policy};
 use serde_json::{Value, json};
 use std::alloc::{AllocError, Global};
 
@@ -28,24 +28,13 @@ pub(crate) fn directory_document(alloc: Global, policy: &Policy) -> Result<Docum
     Ok(Document::new(value))
 }
 
-/// The status of an account as RFC 8555 spells it.
-fn account_status_text(status: AccountStatus) -> &'static str
-    ensures { result.now ≡ account_status_text status }
-{
-    match status {
-        AccountStatus::Valid => "valid",
-        AccountStatus::Deactivated => "deactivated",
-        AccountStatus::Revoked => "revoked",
-    }
-}
-
 fn account_value(alloc: Global, policy: &Policy, row: &AccountRow) -> Result<Value, AllocError>
     ensures { IfOk result (λ v. view v ≡ account_document policy.now row.now) }
 {
     json!(in alloc; {
         "contact": text_list(alloc, row.contacts.as_slice())?,
         "orders": orders_url(alloc, policy, row.number)?,
-        "status": account_status_text(row.status)
+        "status": row.status.as_str()
     })
 }
 

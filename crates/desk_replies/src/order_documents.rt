@@ -23,19 +23,6 @@ use serde_json::{Map, Value, json, put};
 use std::alloc::{AllocError, Global};
 use swept_rows::order_status;
 
-/// The status of an order as RFC 8555 spells it.
-fn order_status_text(status: OrderStatus) -> &'static str
-    ensures { result.now ≡ order_status_text status }
-{
-    match status {
-        OrderStatus::Pending => "pending",
-        OrderStatus::Ready => "ready",
-        OrderStatus::Processing => "processing",
-        OrderStatus::Valid => "valid",
-        OrderStatus::Invalid => "invalid",
-    }
-}
-
 /// The URLs of the authorizations that are listed.
 fn authorization_urls(
     alloc: Global,
@@ -88,7 +75,7 @@ fn order_members(
     put(&mut members, alloc, "finalize", text_value(finalize))?;
     let identifiers = identifiers(alloc, names)?;
     put(&mut members, alloc, "identifiers", list_value(identifiers))?;
-    let status = Value::try_from_str(alloc, order_status_text(row.status))?;
+    let status = Value::try_from_str(alloc, row.status.as_str())?;
     put(&mut members, alloc, "status", status)?;
     Ok(members)
 }

@@ -13,7 +13,7 @@ ghost use Rattle.desk_model.specs.declared.rows.ChallengeRow.{ChallengeRow};
 ghost use Rattle.desk_model.specs.Document.{answer_key, expected, bytes_of, listed_rows, work_document, work_of, challenge_work, order_work_document, order_work};
 ghost use Rattle.desk_replies.specs.Shown.{work_at};
 
-use crate::document_values::{kind_text, list_value, text_value};
+use crate::document_values::{list_value, text_value};
 use crate::order_documents::order_names;
 use base64::engine::general_purpose::URL_SAFE_NO_PAD;
 use desk_book::Book;
@@ -63,7 +63,7 @@ fn work_value(
         "expected": expected(alloc, book, row, challenge)?,
         "name": row.name.base(),
         "token": keys::token_text(alloc, challenge.token)?,
-        "type": kind_text(challenge.kind)
+        "type": challenge.kind.as_str()
     })
 }
 

@@ -13,9 +13,6 @@ use desk_model::StatusFault;
 use desk_passes::{FaultKind, StatusFaults, moment_of};
 use std::alloc::Global;
 use std::io::{self, Write};
-use written_rows::{
-    account_status_text, authorization_status_text, challenge_status_text, order_status_text,
-};
 
 // A row whose status is not the one that its columns give.
 struct Line {
@@ -32,42 +29,22 @@ fn said_of(fault: StatusFault) -> Line {
             number,
             stored,
             derived,
-        } => (
-            "account",
-            number,
-            account_status_text(stored),
-            account_status_text(derived),
-        ),
+        } => ("account", number, stored.as_str(), derived.as_str()),
         StatusFault::Order {
             number,
             stored,
             derived,
-        } => (
-            "order",
-            number,
-            order_status_text(stored),
-            order_status_text(derived),
-        ),
+        } => ("order", number, stored.as_str(), derived.as_str()),
         StatusFault::Authz {
             number,
             stored,
             derived,
-        } => (
-            "authz",
-            number,
-            authorization_status_text(stored),
-            authorization_status_text(derived),
-        ),
+        } => ("authz", number, stored.as_str(), derived.as_str()),
         StatusFault::Chall {
             number,
             stored,
             derived,
-        } => (
-            "chall",
-            number,
-            challenge_status_text(stored),
-            challenge_status_text(derived),
-        ),
+        } => ("chall", number, stored.as_str(), derived.as_str()),
     };
     Line {
         kind,

@@ -9,5 +9,5 @@ mod stores;
 
 pub use fault::ReportFault;
 pub use form::Form;
-pub use orders::{OrderFilter, order_status};
+pub use orders::OrderFilter;
 pub use stores::{list_faults, list_orders};

@@ -1,7 +1,5 @@
 //! The list of orders.
-ghost use Rattle.std.specs.Prelude.{◌≡◌, IsTrue, ◌↔◌};
-ghost use Rattle.desk_model.specs.Document.{order_status_text};
-ghost use Rattle.desk_columns.specs.Reading.{IsRead, Unlimited};
+ghost use Rattle.std.specs.Prelude.{IsTrue, ◌↔◌};
 ghost use Rattle.reports.specs.Filter.{Allows};
 ghost use Rattle.reports.specs.Reported.{Reports};
 
@@ -13,28 +11,6 @@ use desk_passes::Orders;
 use moments::{LAST_END, moment_text};
 use std::alloc::Global;
 use std::io::{self, Write};
-use written_rows::order_status_text;
-
-// The statuses of an order (RFC 8555, 7.1.6).
-const STATUSES: [OrderStatus; 5] = [
-    OrderStatus::Pending,
-    OrderStatus::Ready,
-    OrderStatus::Processing,
-    OrderStatus::Valid,
-    OrderStatus::Invalid,
-];
-
-/// The status of an order that a text spells, or `None` where it spells none (RFC 8555, 7.1.6).
-pub fn order_status(text: &str) -> Option<OrderStatus>
-    ensures { IsRead order_status_text Unlimited text.now result }
-{
-    for status in STATUSES {
-        if order_status_text(status) == text {
-            return Some(status);
-        }
-    }
-    None
-}
 
 /// Which orders are listed.
 #[derive(Clone, Copy, Debug, PartialEq, Eq)]
@@ -82,7 +58,7 @@ fn write_order<W: Write>(alloc: Global, out: &mut W, form: Form, row: &OrderRow)
         account,
         ..
     } = row;
-    let status = order_status_text(row.status);
+    let status = row.status.as_str();
     let expires = moment_text(alloc, row.expires.min(LAST_END))?;
     let expires = expires.as_str();
     match form {

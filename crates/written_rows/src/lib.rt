@@ -16,6 +16,3 @@ pub use rows::{
     account_columns, authorization_columns, challenge_columns, listed_columns, meta_columns,
     nonce_columns, order_columns,
 };
-pub use spelling::{
-    account_status_text, authorization_status_text, challenge_status_text, order_status_text,
-};

@@ -11,10 +11,6 @@ use crate::facts::{
 };
 use crate::fault::WriteFault;
 use crate::numbers::{number_column, wildcard_column};
-use crate::spelling::{
-    account_status_text, authorization_status_text, challenge_status_text, kind_text,
-    order_status_text,
-};
 use crate::values::{bytes_column, text_column};
 use desk_columns::{
     AccountColumns, AuthzColumns, ChallColumns, MetaColumns, NonceColumns, OrderAuthzColumns,
@@ -81,7 +77,7 @@ pub fn account_columns(alloc: Global, row: &AccountRow) -> Result<AccountColumns
         opened: number_column(row.opened)?,
         ended,
         end_kind,
-        status: text_column(alloc, account_status_text(row.status))?,
+        status: text_column(alloc, row.status.as_str())?,
     })
 }
 
@@ -108,7 +104,7 @@ pub fn order_columns(alloc: Global, row: &OrderRow) -> Result<OrderColumns, Writ
         cert,
         failed,
         problem,
-        status: text_column(alloc, order_status_text(row.status))?,
+        status: text_column(alloc, row.status.as_str())?,
     })
 }
 
@@ -134,7 +130,7 @@ pub fn authorization_columns(
         expires: number_column(row.expires)?,
         ended,
         end_kind,
-        status: text_column(alloc, authorization_status_text(row.status))?,
+        status: text_column(alloc, row.status.as_str())?,
     })
 }
 
@@ -171,11 +167,11 @@ pub fn challenge_columns(
     Ok(ChallColumns {
         num: number_column(row.number)?,
         authz: number_column(authorization)?,
-        kind: text_column(alloc, kind_text(row.kind))?,
+        kind: text_column(alloc, row.kind.as_str())?,
         token: bytes_column(alloc, &row.token)?,
         answered: answered_column(row.answered)?,
         reported,
         outcome,
-        status: text_column(alloc, challenge_status_text(row.status))?,
+        status: text_column(alloc, row.status.as_str())?,
     })
 }

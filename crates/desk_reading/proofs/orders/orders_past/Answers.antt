@@ -22,7 +22,7 @@ returns-clause-found g c clean T has book =
     let it = c.in_ok-heads.ensures.read clean_one in
     let same = c.in_ok-heads.ensures.unchanged clean_one in
     let heads = orders_past_found before one T it.0 _ has book c.in_ok-heads.heads.items it.2 it.3 c.args.status c.args.moment
-    (c.text_and_number-params.ensures ∙ ap (λ t. Text t ∷ Int (pos (bounded c.args.moment)) ∷ []) c.order_status_text.ensures) it.1 in
+    (c.text_and_number-params.ensures ∙ ap (λ t. Text t ∷ Int (pos (bounded c.args.moment)) ∷ []) c.as_str.ensures) it.1 in
     c.nest_listed.ensures.found clean T (holds_still before one T same has) book same.0.is_open _
     (each-filter _ _ T.orders (orders_have 0 T.orders has.rising.orders)) heads
 
