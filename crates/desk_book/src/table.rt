@@ -53,6 +53,10 @@ impl<R: Row + Drop> Table<R> {
     }
 
     /// Puts a row in the place of the one with its number.
+    ///
+    /// # Errors
+    ///
+    /// Where there is no memory for it: the table is then as it was.
     pub fn put(&mut self, row: R) -> Result<(), AllocError>
         ensures done { OnOk result (self.new ≡ put (λ r. R.number r) row self.old) }
         ensures unchanged { OnErr result (self.new ≡ self.old) }

@@ -25,7 +25,9 @@ pub struct Desk<K: Storage + Drop> {
 /// Why there is no desk, and the store that was given.
 #[derive(Drop)]
 pub struct Unadopted<K: Storage + Drop> {
+    /// Of the one look at the store, which is for its policy.
     pub fault: StorageFault,
+    /// As that look left it.
     pub store: K,
 }
 

@@ -25,12 +25,18 @@ use swept_rows::sweep_changes;
 /// The changes that a call makes so far, and the meta row after them.
 #[derive(Drop)]
 pub struct Recording {
+    /// In their order: the sweep's, then those of each entry.
     pub changes: Vec<Change>,
+    /// Its clock is the moment of the call, its counts are those after the entries so far.
     pub meta: Meta,
 }
 
 impl Recording {
     /// Begins with the passing of time up to a moment.
+    ///
+    /// # Errors
+    ///
+    /// Where there is no memory for the changes of the sweep.
     pub fn begin(alloc: Global, book: &Book, moment: u64) -> Result<Recording, AllocError>
         requires { moment ≤ 250000000000 }
         ensures recorded { IfOk result (λ r. IsRecorded moment book.now [] r.changes.items r.meta) }
@@ -62,6 +68,10 @@ impl Recording {
     }
 
     /// Spends the nonce of a serial.
+    ///
+    /// # Errors
+    ///
+    /// Where there is no memory for its changes; what was recorded is then of no use.
     pub fn spend(&mut self, serial: u64) -> Result<(), AllocError>
         ensures changes { OnOk result (self.new.changes.items ≡ self.old.changes.items ++ PutMeta self.old.meta ∷ RemoveNonce serial ∷ []) }
         ensures meta { OnOk result (self.new.meta ≡ self.old.meta) }
@@ -73,6 +83,10 @@ impl Recording {
     }
 
     /// Issues the next nonce with these random bytes.
+    ///
+    /// # Errors
+    ///
+    /// Where there is no memory for its changes; what was recorded is then of no use.
     pub fn issue(&mut self, random: [u8; 16]) -> Result<(), AllocError>
         requires { self.old.meta.nonces < 2 ^ 62 }
         ensures changes { OnOk result (self.new.changes.items ≡ self.old.changes.items
@@ -103,6 +117,10 @@ impl Recording {
     }
 
     /// Opens the next account, and gives its row.
+    ///
+    /// # Errors
+    ///
+    /// Where there is no memory for its changes; what was recorded is then of no use.
     pub fn open(&mut self, key: Jwk, contacts: Sequence<Text>) -> Result<AccountRow, AllocError>
         requires { self.old.meta.accounts < 2 ^ 62 }
         ensures account { IfOk result (λ r. r ≡ next_account self.old.meta key contacts) }
@@ -135,6 +153,10 @@ impl Recording {
     }
 
     /// Records an entry that moves rows of a book, as they stand at the moment, and makes none.
+    ///
+    /// # Errors
+    ///
+    /// Where there is no memory for the rows that it moves; what was recorded is then of no use.
     pub fn shift(&mut self, alloc: Global, book: &Book, entry: &Entry) -> Result<(), AllocError>
         ensures changes { OnOk result (self.new.changes.items ≡ self.old.changes.items ++ PutMeta self.old.meta ∷ book_moves self.old.meta.clock book.now entry.now) }
         ensures meta { OnOk result (self.new.meta ≡ self.old.meta) }
@@ -158,6 +180,10 @@ impl Recording {
     }
 
     /// Makes the next order of an account, with an authorization for each of these names, and gives its row.
+    ///
+    /// # Errors
+    ///
+    /// Where there is no memory for its rows; what was recorded is then of no use.
     pub fn order(
         &mut self,
         alloc: Global,

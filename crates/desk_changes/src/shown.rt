@@ -54,6 +54,10 @@ fn order_with(
 }
 
 /// The account of a number.
+///
+/// # Errors
+///
+/// Where there is no memory for a copy of the row.
 pub fn shown_account(
     book: &Book,
     entry: &Option<Entry>,
@@ -72,6 +76,10 @@ pub fn shown_account(
 }
 
 /// The authorization of a number.
+///
+/// # Errors
+///
+/// Where there is no memory for a copy of the row.
 pub fn shown_authorization(
     alloc: Global,
     book: &Book,
@@ -91,6 +99,10 @@ pub fn shown_authorization(
 }
 
 /// The authorization that a challenge is of.
+///
+/// # Errors
+///
+/// Where there is no memory for a copy of the row.
 pub fn shown_owner(
     alloc: Global,
     book: &Book,
@@ -110,6 +122,10 @@ pub fn shown_owner(
 }
 
 /// The order of a number.
+///
+/// # Errors
+///
+/// Where there is no memory for a copy of the row.
 pub fn shown_order(
     alloc: Global,
     book: &Book,

@@ -6,15 +6,20 @@ use desk_model::{
 /// A row that belongs to another, and the number of that other row.
 #[derive(Drop, Debug)]
 pub struct Owned<T> {
+    /// The number of the order or authorization that it belongs to.
     pub owner: u64,
+    /// The row without that number.
     pub row: T,
 }
 
 /// The rows of each table, in any order.
 #[derive(Drop, Debug)]
 pub struct FlatRows {
+    /// The desk's own row; that there is one is not asked here.
     pub metas: Sequence<Meta>,
+    /// The nonces that are neither spent nor removed by a sweep.
     pub nonces: Sequence<Nonce>,
+    /// The accounts, whole.
     pub accounts: Sequence<AccountRow>,
     /// The orders, which list nothing here.
     pub orders: Sequence<OrderRow>,

@@ -38,7 +38,9 @@ use std::alloc::{AllocError, Global};
 /// What a call does: the changes that it makes, none where nothing is recorded, and the reply.
 #[derive(Drop)]
 pub struct Outcome {
+    /// In their order: the sweep's, then those of each entry.
     pub changes: Vec<Change>,
+    /// What is given once the changes are made.
     pub reply: Reply,
 }
 

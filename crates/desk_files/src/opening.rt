@@ -18,6 +18,7 @@ use sqlite_disk::Disk;
 /// Why no desk is opened or made, and what there is of the files.
 #[derive(Drop)]
 pub struct NotOpened<A: Alter, D: Disk> {
+    /// Of the disk and the engine, or of what the files hold.
     pub fault: OpenFault,
     /// The files, if the engine refused them.
     pub refused: Option<Leftover<D>>,

@@ -57,6 +57,10 @@ pub const WORKED: [(&[u8], &[u8]); 4] = [
 ];
 
 /// A new desk in memory.
+///
+/// # Errors
+///
+/// Where there is no memory for it.
 pub fn new_desk(rt: &impl Abort, alloc: Global) -> Result<Desk<Memory>, Fail> {
     let policy = Policy::new(alloc, "https://ca.example", 3600, 604800, 2592000)?;
     let store = Memory::make(alloc, policy.expect(rt, "a policy"), Clock::at(0));
@@ -64,6 +68,10 @@ pub fn new_desk(rt: &impl Abort, alloc: Global) -> Result<Desk<Memory>, Fail> {
 }
 
 /// Serves one request at 0, with random bytes that are all zero.
+///
+/// # Errors
+///
+/// As of `serve_one`.
 pub fn serve<R: Read, W: Write>(
     alloc: Global,
     reader: &mut R,

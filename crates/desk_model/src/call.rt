@@ -10,6 +10,7 @@ pub struct Call {
     pub at: u64,
     /// Taken in pieces of 16 bytes: one for a nonce, then one for each challenge that is made.
     pub random: Sequence<u8>,
+    /// What the caller wants to know or to have recorded.
     pub ask: Ask,
 }
 
@@ -43,8 +44,11 @@ pub enum Ask {
 /// A signed request, as the front hands it in.
 #[derive(Drop, Debug)]
 pub struct Signed {
+    /// Where it was sent, as its path tells.
     pub target: Target,
+    /// The key that the signature was checked under, which stands for the account, too (RFC 8555, 6.2).
     pub key: Result<Jwk, BadKey>,
+    /// The text of the nonce as received, `None` where the request has none (RFC 8555, 6.5.2).
     pub nonce: Option<Text>,
     /// The JSON text of the payload, empty for POST-as-GET (RFC 8555, 6.3).
     pub payload: Text,
@@ -57,35 +61,51 @@ pub struct BadKey;
 /// The resource that a signed request is sent to (RFC 8555, 7.1).
 #[derive(Clone, Copy, Debug, PartialEq, Eq)]
 pub enum Target {
+    /// Where accounts are opened or looked up by their key (RFC 8555, 7.3).
     NewAccount,
+    /// Where orders are made (RFC 8555, 7.4).
     NewOrder,
+    /// The account of this number, read, changed or deactivated (RFC 8555, 7.3.2, 7.3.6).
     Account(u64),
+    /// The list of orders of the account of this number (RFC 8555, 7.1.2.1).
     Orders(u64),
+    /// The order of this number, read (RFC 8555, 7.1.3).
     Order(u64),
+    /// The order of this number, which takes a CSR (RFC 8555, 7.4).
     Finalize(u64),
+    /// The certificate of the order of this number (RFC 8555, 7.4.2).
     Cert(u64),
+    /// The authorization of this number, read or deactivated (RFC 8555, 7.5, 7.5.2).
     Authz(u64),
+    /// The challenge of this number, read or answered (RFC 8555, 7.5.1).
     Chall(u64),
 }
 
 /// What the validator saw: the body of the HTTP resource, the TXT records, or neither.
 #[derive(Drop, Debug)]
 pub enum Finding {
+    /// The bytes at the well-known path of the name, for http-01 (RFC 8555, 8.3).
     Body(Sequence<u8>),
+    /// The texts at `_acme-challenge` of the name, one a record, for dns-01 (RFC 8555, 8.4).
     Records(Sequence<Text>),
+    /// No answer that could be compared.
     Error(FetchError),
 }
 
 /// Why the validator saw nothing (RFC 8555, 6.7: connection, dns).
 #[derive(Clone, Copy, Debug, PartialEq, Eq)]
 pub enum FetchError {
+    /// The server of the name could not be reached (RFC 8555, 6.7, `connection`).
     Connection,
+    /// The name could not be looked up (RFC 8555, 6.7, `dns`).
     Dns,
 }
 
 /// Why an order failed: an error type without its prefix, and a text for people (RFC 8555, 6.7).
 #[derive(Drop, Debug, Clone)]
 pub struct OrderProblem {
+    /// The error type; only `badCSR` and `serverInternal` are recorded.
     pub kind: Text,
+    /// The text that the order then shows its client; 1 to 256 bytes are recorded.
     pub detail: Text,
 }

@@ -9,24 +9,33 @@ use crate::text::Text;
 /// How an account ends, and how a client or the operator ends an authorization.
 #[derive(Clone, Copy, Debug, PartialEq, Eq)]
 pub enum Ending {
+    /// By the client, who owns it (RFC 8555, 7.3.6, 7.5.2).
     Deactivated,
+    /// By the operator (RFC 8555, 7.1.6).
     Revoked,
 }
 
 /// What a validation showed.
 #[derive(Clone, Copy, Debug, PartialEq, Eq)]
 pub enum Outcome {
+    /// What was found is what was expected; the authorization may become valid.
     Good,
+    /// Something else was found (RFC 8555, 6.7, `incorrectResponse`).
     IncorrectResponse,
+    /// The server of the name was not reached (RFC 8555, 6.7, `connection`).
     Connection,
+    /// The name was not looked up (RFC 8555, 6.7, `dns`).
     Dns,
 }
 
 /// A name of an order: a new authorization, with a token for each challenge that it gets.
 #[derive(Drop, Debug)]
 pub enum Wanted {
+    /// An authorization is made for the name; none that exists already is used again.
     New {
+        /// The name as its canonical text has it.
         name: DnsName,
+        /// 16 random bytes for each challenge, in the order of their making (RFC 8555, 8).
         tokens: Sequence<[u8; 16]>,
     },
 }
@@ -34,24 +43,39 @@ pub enum Wanted {
 /// A fact. Accounts, orders, authorizations, challenges and nonces are named by their numbers.
 #[derive(Drop, Debug)]
 pub enum Entry {
+    /// The desk was made, under this policy: the first entry, and no later one.
     Made(Policy),
+    /// A nonce was issued, of these random bytes and the next serial (RFC 8555, 6.5).
     Issued([u8; 16]),
+    /// The nonce of this serial was used by a signed request, and is not accepted again.
     Spent(u64),
+    /// An account was opened, with this key and these contacts (RFC 8555, 7.3).
     Opened(Jwk, Sequence<Text>),
+    /// The account got these contacts in the place of those that it had (RFC 8555, 7.3.2).
     ContactsChanged(u64, Sequence<Text>),
+    /// The account ended, and each authorization of it that was pending or valid with it.
     AccountEnded(u64, Ending),
+    /// An order of the account was made, for one to fifty different names (RFC 8555, 7.4).
     Ordered(u64, Sequence<Wanted>),
+    /// The client said that the challenge may be tried (RFC 8555, 7.5.1).
     Answered(u64),
+    /// The validator tried the challenge, once and for all (RFC 8555, 8).
     Reported(u64, Outcome),
+    /// The authorization was ended by its client or the operator.
     AuthorizationEnded(u64, Ending),
+    /// The order got its CSR, 1 to 8192 bytes, which nobody read here (RFC 8555, 7.4).
     Finalized(u64, Sequence<u8>),
+    /// The signing office made the certificate of the order, 1 to 65536 bytes (RFC 8555, 7.4.2).
     Certified(u64, Sequence<u8>),
+    /// The signing office gave the order up, for this reason (RFC 8555, 7.1.3, `error`).
     Failed(u64, OrderProblem),
 }
 
 /// An entry with the moment at which it was recorded, in seconds since 1970.
 #[derive(Drop, Debug)]
 pub struct Dated {
+    /// The moment that its call acted at: dates never fall in a history.
     pub date: u64,
+    /// What was recorded.
     pub entry: Entry,
 }

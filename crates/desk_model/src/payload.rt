@@ -5,6 +5,7 @@ use crate::text::Text;
 /// A newAccount payload (RFC 8555, 7.3).
 #[derive(Drop, Debug)]
 pub struct NewAccount {
+    /// The member `contact` as received, empty where it is left out.
     pub contacts: Sequence<Text>,
     /// Whether only an account that the key has already is asked for (RFC 8555, 7.3.1).
     pub only_existing: bool,
@@ -13,7 +14,9 @@ pub struct NewAccount {
 /// What a request to an account asks (RFC 8555, 7.3.2, 7.3.6).
 #[derive(Drop, Debug)]
 pub enum AccountChange {
+    /// Nothing but its document: the payload is empty.
     Read,
+    /// Its end: `status` is `deactivated`, and the other members do not count (RFC 8555, 7.3.6).
     Deactivate,
     /// Its contacts are replaced, if others are given.
     Update(Option<Sequence<Text>>),
@@ -22,20 +25,26 @@ pub enum AccountChange {
 /// What a request to an authorization asks (RFC 8555, 7.5, 7.5.2).
 #[derive(Clone, Copy, Debug, PartialEq, Eq)]
 pub enum AuthorizationChange {
+    /// Nothing but its document: the payload is empty.
     Read,
+    /// Its end: `status` is `deactivated` (RFC 8555, 7.5.2).
     Deactivate,
 }
 
 /// What a request to a challenge asks (RFC 8555, 7.5.1).
 #[derive(Clone, Copy, Debug, PartialEq, Eq)]
 pub enum ChallengeChange {
+    /// Nothing but its document: the payload is empty.
     Read,
+    /// That it be tried: the payload is an object (RFC 8555, 7.5.1).
     Answer,
 }
 
 /// An identifier as an order gives it (RFC 8555, 7.4).
 #[derive(Drop, Debug)]
 pub struct Identifier {
+    /// The member `type`, of which `dns` alone is accepted (RFC 8555, 9.7.7).
     pub kind: Text,
+    /// The name as received, before IDNA.
     pub value: Text,
 }

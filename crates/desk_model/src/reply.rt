@@ -7,6 +7,7 @@ use crate::text::Text;
 /// A reply: an HTTP status, the fields that some replies carry, and a body.
 #[derive(Drop, Debug)]
 pub struct Reply {
+    /// The HTTP status (RFC 9110, 15).
     pub status: u16,
     /// The URL of the object that was made or found.
     pub location: Option<Text>,
@@ -14,21 +15,29 @@ pub struct Reply {
     pub up: Option<Text>,
     /// The fresh nonce (RFC 8555, 6.5).
     pub nonce: Option<Text>,
+    /// What stands behind the fields.
     pub body: Body,
 }
 
+/// The body of a reply, whose media type follows from its kind.
 #[derive(Drop, Debug)]
 pub enum Body {
+    /// No byte.
     Empty,
+    /// The document of an object or a list (application/json).
     Json(Document),
+    /// Why the request was refused (application/problem+json, RFC 7807).
     Problem(Problem),
+    /// The bytes that the signing office handed in (application/pem-certificate-chain, RFC 8555, 7.4.2).
     Certificate(Sequence<u8>),
 }
 
 /// A refusal (RFC 8555, 6.7), with what its text needs of the request.
 #[derive(Drop, Debug)]
 pub struct Problem {
+    /// What the status, the error type and the text are those of.
     pub refusal: Refusal,
+    /// The identifiers that were refused, where the refusal is of these; else none (RFC 8555, 6.7.1).
     pub subproblems: Sequence<Subproblem>,
     /// The methods that the path serves, where the refusal is of the method.
     pub allow: Allow,
@@ -39,15 +48,23 @@ pub struct Problem {
 /// The refusal of one identifier, with its type and value as received (RFC 8555, 6.7.1).
 #[derive(Drop, Debug)]
 pub struct Subproblem {
+    /// Why this identifier was refused, as if it stood alone.
     pub refusal: Refusal,
+    /// Its member `type`.
     pub kind: Text,
+    /// Its member `value`, before IDNA.
     pub value: Text,
 }
 
+/// The methods that a path serves, which the field Allow lists (RFC 9110, 10.2.1).
 #[derive(Clone, Copy, Debug, PartialEq, Eq)]
 pub enum Allow {
+    /// No such field: the refusal is not of the method.
     No,
+    /// GET alone, for what is read without a signature.
     Get,
+    /// GET and HEAD, for a fresh nonce (RFC 8555, 7.2).
     GetHead,
+    /// POST alone, for signed requests and for what the offices hand in.
     Post,
 }

@@ -15,13 +15,19 @@ use std::alloc::AllocError;
 /// The one row of a desk's own: its policy, its clock, and the last number given of each kind.
 #[derive(Drop, Debug)]
 pub struct Meta {
+    /// What the operator fixed when the desk was made; no call changes it.
     pub policy: Policy,
     /// The latest recorded moment.
     pub clock: Clock,
+    /// How many nonces were issued, which is the last serial, 2^62 at most.
     pub nonces: u64,
+    /// How many accounts were opened, 2^62 at most.
     pub accounts: u64,
+    /// How many orders were made, 2^62 at most.
     pub orders: u64,
+    /// How many authorizations were made, 2^62 at most.
     pub authorizations: u64,
+    /// How many challenges were made, 2^62 at most.
     pub challenges: u64,
 }
 
@@ -41,13 +47,20 @@ impl Clone for Meta {
     }
 }
 
+/// An account as it stands (RFC 8555, 7.1.2).
 #[derive(Drop, Debug)]
 pub struct AccountRow {
+    /// The key of the table, from 1.
     pub number: u64,
+    /// What its requests are known by; no other row has it.
     pub key: Jwk,
+    /// Its URLs, as received when it was opened or last changed.
     pub contacts: Sequence<Text>,
+    /// When, in seconds since 1970-01-01T00:00:00Z.
     pub opened: u64,
+    /// When and how it ended, `None` as long as it has not.
     pub ended: Option<AccountEnd>,
+    /// The stored status: valid, or how it ended.
     pub status: AccountStatus,
 }
 
@@ -66,13 +79,20 @@ impl Clone for AccountRow {
     }
 }
 
+/// A challenge as it stands, within its authorization (RFC 8555, 7.1.5, 8).
 #[derive(Drop, Debug)]
 pub struct ChallengeRow {
+    /// The key of the table, from 1, over all authorizations.
     pub number: u64,
+    /// What the validator has to look at.
     pub kind: Kind,
+    /// Random bytes, which its document shows in base64url (RFC 8555, 8.1).
     pub token: [u8; 16],
+    /// When its client said that it may be tried, in seconds since 1970-01-01T00:00:00Z.
     pub answered: Option<u64>,
+    /// What the validator found, and when.
     pub reported: Option<Report>,
+    /// The stored status, which no passing of time moves.
     pub status: ChallengeStatus,
 }
 
@@ -94,13 +114,21 @@ impl Clone for ChallengeRow {
 /// An authorization with its challenges.
 #[derive(Drop, Debug)]
 pub struct AuthorizationRow {
+    /// The key of the table, from 1.
     pub number: u64,
+    /// The number of its account, whose row the file refers to.
     pub account: u64,
+    /// The base name and the mark of a wildcard, a column each.
     pub name: DnsName,
+    /// When its order was made, in seconds since 1970-01-01T00:00:00Z.
     pub made: u64,
+    /// The last moment at which it may be pending or valid, in seconds since 1970-01-01T00:00:00Z.
     pub expires: u64,
+    /// The first end that counts, `None` as long as there is none.
     pub ended: Option<AuthorizationEnd>,
+    /// Its challenges by number, in a table of their own in the file.
     pub challenges: Sequence<ChallengeRow>,
+    /// The stored status, as of the clock of `Meta`: the sweep moves it later.
     pub status: AuthzStatus,
 }
 
@@ -124,21 +152,27 @@ impl Clone for AuthorizationRow {
 /// The place of an authorization in its order, from 1, and its number.
 #[derive(Clone, Copy, Debug, PartialEq, Eq)]
 pub struct Listed {
+    /// 1 for the first name of the order; no two of an order are equal.
     pub place: u64,
+    /// The number of the authorization that stands there.
     pub authorization: u64,
 }
 
 /// When bytes were handed in, and the bytes: a CSR or a certificate.
 #[derive(Drop, Debug)]
 pub struct DatedBytes {
+    /// When it was recorded, in seconds since 1970-01-01T00:00:00Z.
     pub date: u64,
+    /// The bytes as received, which nobody reads here.
     pub bytes: Sequence<u8>,
 }
 
 /// When the signing office failed an order, and why.
 #[derive(Drop, Debug)]
 pub struct DatedProblem {
+    /// When it was recorded, in seconds since 1970-01-01T00:00:00Z.
     pub date: u64,
+    /// What its order shows as `error` (RFC 8555, 7.1.3).
     pub problem: OrderProblem,
 }
 
@@ -167,14 +201,23 @@ impl Clone for DatedProblem {
 /// An order with the authorizations that it lists.
 #[derive(Drop, Debug)]
 pub struct OrderRow {
+    /// The key of the table, from 1.
     pub number: u64,
+    /// The number of its account, whose row the file refers to.
     pub account: u64,
+    /// When, in seconds since 1970-01-01T00:00:00Z.
     pub made: u64,
+    /// The last moment at which it may go on, in seconds since 1970-01-01T00:00:00Z.
     pub expires: u64,
+    /// Its authorizations by place, in a table of their own in the file.
     pub listed: Sequence<Listed>,
+    /// The CSR, 1 to 8192 bytes (RFC 8555, 7.4).
     pub finalized: Option<DatedBytes>,
+    /// The certificate, 1 to 65536 bytes (RFC 8555, 7.4.2).
     pub certified: Option<DatedBytes>,
+    /// Why the signing office gave it up.
     pub failed: Option<DatedProblem>,
+    /// The stored status, as of the clock of `Meta`: the sweep moves it later.
     pub status: OrderStatus,
 }
 
@@ -199,35 +242,57 @@ impl Clone for OrderRow {
 /// A row put in the place of the one with its number, or the row of a nonce removed.
 #[derive(Drop, Debug)]
 pub enum Change {
+    /// The desk's own row: its clock and its counts; the policy in it stays.
     PutMeta(Meta),
+    /// A nonce that was just issued.
     PutNonce(Nonce),
+    /// The nonce of this serial is spent or past its life.
     RemoveNonce(u64),
+    /// An account that was opened or changed.
     PutAccount(AccountRow),
+    /// An authorization with its challenges, which have the numbers of those in the row that it replaces.
     PutAuthorization(AuthorizationRow),
+    /// An order with what it lists, which has the places of the row that it replaces.
     PutOrder(OrderRow),
 }
 
 /// A row whose stored status is not the one that its columns give.
 #[derive(Clone, Copy, Debug, PartialEq, Eq)]
 pub enum StatusFault {
+    /// In the table of accounts.
     Account {
+        /// The number of the row.
         number: u64,
+        /// The status that it has.
         stored: AccountStatus,
+        /// The status that its other columns give at the moment of the check.
         derived: AccountStatus,
     },
+    /// In the table of orders.
     Order {
+        /// The number of the row.
         number: u64,
+        /// The status that it has.
         stored: OrderStatus,
+        /// The status that its other columns give at the moment of the check.
         derived: OrderStatus,
     },
+    /// In the table of authorizations.
     Authz {
+        /// The number of the row.
         number: u64,
+        /// The status that it has.
         stored: AuthzStatus,
+        /// The status that its other columns give at the moment of the check.
         derived: AuthzStatus,
     },
+    /// In the table of challenges, by its number over all authorizations.
     Chall {
+        /// The number of the row.
         number: u64,
+        /// The status that it has.
         stored: ChallengeStatus,
+        /// The status that its other columns give at the moment of the check.
         derived: ChallengeStatus,
     },
 }

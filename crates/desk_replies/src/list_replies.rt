@@ -14,6 +14,10 @@ use desk_model::{Reply, Shows};
 use std::alloc::{AllocError, Global};
 
 /// The reply with the directory or a list of a book at a moment.
+///
+/// # Errors
+///
+/// Where there is no memory for the document.
 pub fn list_reply(
     alloc: Global,
     book: &Book,

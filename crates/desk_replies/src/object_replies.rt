@@ -34,6 +34,10 @@ pub(crate) fn json_reply(status: u16, document: Document) -> Reply
 }
 
 /// The reply with an account (RFC 8555, 7.1.2).
+///
+/// # Errors
+///
+/// Where there is no memory for the document.
 pub fn account_reply(
     alloc: Global,
     policy: &Policy,
@@ -47,6 +51,10 @@ pub fn account_reply(
 }
 
 /// The reply with an order whose authorizations have these names (RFC 8555, 7.1.3).
+///
+/// # Errors
+///
+/// Where there is no memory for the document.
 pub fn order_reply(
     alloc: Global,
     policy: &Policy,
@@ -62,6 +70,10 @@ pub fn order_reply(
 }
 
 /// The reply with an order and its Location (RFC 8555, 7.4).
+///
+/// # Errors
+///
+/// Where there is no memory for the document or the URL.
 pub fn located_order(
     alloc: Global,
     policy: &Policy,
@@ -81,6 +93,10 @@ pub fn located_order(
 }
 
 /// The reply with the certificate of an order (RFC 8555, 7.4.2).
+///
+/// # Errors
+///
+/// Where there is no memory for a copy of the certificate.
 pub fn certificate_reply(row: &OrderRow) -> Result<Reply, AllocError>
     ensures { IfOk result (λ r. r ≡ certificate_reply row.now.certified) }
 {
@@ -100,6 +116,10 @@ pub fn certificate_reply(row: &OrderRow) -> Result<Reply, AllocError>
 }
 
 /// The reply with an authorization (RFC 8555, 7.1.4).
+///
+/// # Errors
+///
+/// Where there is no memory for the document.
 pub fn authorization_reply(
     alloc: Global,
     policy: &Policy,
@@ -120,6 +140,10 @@ fn challenge_reply(alloc: Global, policy: &Policy, row: &ChallengeRow) -> Result
 }
 
 /// The reply with the challenge of a number in its authorization (RFC 8555, 8).
+///
+/// # Errors
+///
+/// Where there is no memory for the document.
 pub fn challenge_in(
     alloc: Global,
     policy: &Policy,
@@ -138,6 +162,10 @@ pub fn challenge_in(
 }
 
 /// The reply with a challenge to its client, which names its authorization (RFC 8555, 7.5.1).
+///
+/// # Errors
+///
+/// Where there is no memory for the document or the URL.
 pub fn client_challenge_in(
     alloc: Global,
     policy: &Policy,
@@ -155,6 +183,10 @@ pub fn client_challenge_in(
 }
 
 /// The reply with the key of an account.
+///
+/// # Errors
+///
+/// Where there is no memory for the document.
 pub fn key_reply(alloc: Global, row: &AccountRow) -> Result<Reply, AllocError>
     ensures { IfOk result (λ r. r ≡ ok 200 (key_document row.now.key)) }
 {

@@ -168,6 +168,10 @@ fn listed_names(
 }
 
 /// The names of the authorizations that an order lists, in their places; the passing of time moves none of them.
+///
+/// # Errors
+///
+/// Where there is no memory for copies of the names.
 pub fn order_names(alloc: Global, book: &Book, row: &OrderRow) -> Result<Vec<DnsName>, AllocError>
     ensures stored { IfOk result (λ v. v.items ≡ map (λ a. a.name) (listed_rows book.now row.now)) }
     ensures swept { IfOk result (λ v. (moment : ℕ) → v.items ≡ map (λ a. a.name) (listed_rows (swept moment book.now) row.now)) }

@@ -37,6 +37,10 @@ pub fn nonce_reply(head: bool) -> Reply
 }
 
 /// The reply with the fresh nonce of a serial and its random bytes.
+///
+/// # Errors
+///
+/// Where there is no memory for the nonce's text.
 pub fn with_nonce(
     alloc: Global,
     serial: u64,
@@ -53,6 +57,10 @@ pub fn with_nonce(
 }
 
 /// An account with its Location.
+///
+/// # Errors
+///
+/// Where there is no memory for the document or the URL.
 pub fn located_account(
     alloc: Global,
     policy: &Policy,

@@ -7,6 +7,10 @@ use crate::fault::CoreFault;
 pub(crate) const LAST_NUMBER: u64 = 1 << 62;
 
 /// Whether a number may be given after the last one.
+///
+/// # Errors
+///
+/// `Full` where the number would be above 2^62.
 pub fn has_room(last: u64) -> Result<(), CoreFault>
     ensures { MatchResult result (λ _. last < 2 ^ 62) (λ e. (e ≡ CoreFault.Full) × (2 ^ 62 ≤ last)) }
 {
@@ -41,6 +45,10 @@ pub(crate) fn has_tokens(random: &[u8], count: usize) -> Result<(), CoreFault>
 }
 
 /// The first 16 random bytes of a call.
+///
+/// # Errors
+///
+/// `ShortRandom` where there are fewer than 16.
 pub fn first_random(random: &[u8]) -> Result<[u8; 16], CoreFault>
     ensures { MatchResult result (λ r. (r ≡ take 16 random.now) × (16 ≤ length random.now)) (λ e. (e ≡ CoreFault.ShortRandom) × (length random.now < 16)) }
 {

@@ -285,6 +285,10 @@ fn key_verdict(alloc: Global, book: &Book, number: u64) -> Verdict
 
 /// The verdict on an ask that carries no nonce, by the tables of a book at a moment; newNonce and signed requests,
 /// which are none, are refused as not found.
+///
+/// # Errors
+///
+/// Where there is no memory for what is recorded or compared.
 pub fn judge_office(
     alloc: Global,
     book: &Book,

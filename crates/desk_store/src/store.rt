@@ -35,7 +35,9 @@ pub struct Store<S: Alter> {
 /// Why there is no store, and the connection that was given.
 #[derive(Drop)]
 pub struct Unopened<S: Alter> {
+    /// Of the store, or of what the database holds.
     pub fault: OpenFault,
+    /// As the attempt left it.
     pub conn: Connection<S>,
 }
 

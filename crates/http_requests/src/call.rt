@@ -28,6 +28,7 @@ pub struct Manner {
 /// What was read of a request.
 #[derive(Drop, Debug)]
 pub struct Heard {
+    /// How its reply is written.
     pub manner: Manner,
     /// What it asks, or its refusal; an error where memory for it was refused.
     pub request: Result<Request, AllocError>,

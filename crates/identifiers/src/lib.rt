@@ -16,7 +16,9 @@ use std::alloc::Global;
 /// Why a name was not read.
 #[derive(Debug, Drop, Clone, Copy, PartialEq, Eq)]
 pub enum NameFault {
+    /// The text stands for no name whose base has the form that is asked of it.
     Refused,
+    /// A growth was refused; whether it is a name is not known.
     Memory,
 }
 

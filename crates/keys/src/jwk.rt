@@ -12,7 +12,9 @@ use std::alloc::{AllocError, Global};
 /// Why a key was not read.
 #[derive(Debug, Drop, Clone, Copy, PartialEq, Eq)]
 pub enum KeyFault {
+    /// The value is no object with the members of a key that is served (RFC 7518, 6; RFC 8037, 2).
     Bad,
+    /// A growth was refused; whether it is a key is not known.
     Memory,
 }
 

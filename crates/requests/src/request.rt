@@ -11,7 +11,9 @@ use std::alloc::{AllocError, Global};
 /// What a request asks, or the refusal of one that is no call.
 #[derive(Drop, Debug)]
 pub enum Request {
+    /// What a call would ask; its moment and random bytes come from elsewhere.
     Asks(Ask),
+    /// The reply, in which the desk has no part: it has no nonce.
     Refused(Reply),
 }
 

@@ -13,7 +13,9 @@ const LAST_NUMBER: u64 = 1 << 62;
 /// A resource of the desk.
 #[derive(Clone, Copy, Debug, PartialEq, Eq)]
 pub enum Resource {
+    /// The directory (RFC 8555, 7.1.1), by GET.
     Directory,
+    /// Fresh nonces (RFC 8555, 7.2), by GET and HEAD.
     NewNonce,
     /// What signed requests are sent to.
     Signed(Target),
@@ -24,11 +26,17 @@ pub enum Resource {
 /// A resource for the validator and the signing office.
 #[derive(Clone, Copy, Debug, PartialEq, Eq)]
 pub enum OfficeResource {
+    /// The key of the account of this number, by GET.
     Key(u64),
+    /// The challenges that wait for the validator, by GET.
     ChallengeWork,
+    /// The orders that wait for the signing office, by GET.
     OrderWork,
+    /// What was found for the challenge of this number, a JSON object, by POST.
     Report(u64),
+    /// The certificate of the order of this number, any bytes, by POST.
     Certify(u64),
+    /// Why the order of this number is given up, a JSON object, by POST.
     FailOrder(u64),
 }
 
