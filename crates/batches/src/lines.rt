@@ -23,12 +23,12 @@ pub enum AnswerFault {
     Memory,
 }
 
-/// Why a batch ends before its input does.
+// Why a batch ends before its input does.
 #[derive(Clone, Copy, Debug, PartialEq, Eq)]
 enum BatchFault {
     Input,
     Output,
-    /// The line of this number, from 1, is no call.
+    // The line of this number, from 1, is no call.
     NotACall(u64),
     Desk(DeskFault),
 }

@@ -16,7 +16,7 @@ pub enum WordsFault {
 }
 
 impl WordsFault {
-    // What an error of the parser says.
+    /// What an error of the parser says.
     pub(crate) fn of(alloc: Global, error: &Error) -> WordsFault {
         if error.kind() == ErrorKind::OutOfMemory {
             return WordsFault::Memory;

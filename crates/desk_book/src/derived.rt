@@ -54,7 +54,7 @@ fn is_good(outcome: Outcome) -> bool
     matches!(outcome, Outcome::Good)
 }
 
-/// Whether a good report stands on one of the challenges of an authorization.
+// Whether a good report stands on one of the challenges of an authorization.
 fn is_proved(row: &AuthorizationRow) -> bool
     ensures { result ≡ is_proved row.now }
 {
@@ -131,7 +131,7 @@ fn all_valid(statuses: &[AuthzStatus]) -> bool
     statuses.iter().all(|status| is_valid(*status))
 }
 
-/// Whether an order can lead to no certificate any more: it failed, is past its `expires`, or lost an authorization.
+// Whether an order can lead to no certificate any more: it failed, is past its `expires`, or lost an authorization.
 fn has_fallen(moment: u64, row: &OrderRow, statuses: &[AuthzStatus]) -> bool
     ensures { result ≡ (is_some row.now.failed || (nat_lt row.now.expires moment || list_any is_over statuses.now)) }
 {

@@ -39,7 +39,7 @@ impl<K: Storage + Drop> Model for Desk<K> {
     ghost view = { λ desk. record { store = desk.store; policy = desk.policy; is_closed = desk.is_closed } };
 }
 
-/// The reply to a call, over an open store.
+// The reply to a call, over an open store.
 fn attempt<K: Storage + Drop>(alloc: Global, store: &mut K, call: &Call) -> Result<Reply, DeskFault>
     ensures late { result ≡ Err fault.Moment → 250000000000 < call.now.at }
     ensures met { IfErr result (IsMet K.Storage.may_meet) }

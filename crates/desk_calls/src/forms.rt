@@ -4,7 +4,7 @@ ghost use Rattle.desk_model.specs.Texts.{IsTextProblem};
 
 use desk_model::{Ask, Call, OrderProblem, Signed};
 
-/// What the type of a problem keeps: its texts are UTF-8.
+// What the type of a problem keeps: its texts are UTF-8.
 fn keep_problem(problem: &OrderProblem)
     ensures { IsTextProblem problem.now }
 {
@@ -12,7 +12,7 @@ fn keep_problem(problem: &OrderProblem)
     let _detail = problem.detail.as_str();
 }
 
-/// What the types of a request keep: an accepted key has its canonical text, and the payload is UTF-8.
+// What the types of a request keep: an accepted key has its canonical text, and the payload is UTF-8.
 fn keep_request(request: &Signed)
     ensures { IsFormedSigned request.now }
 {

@@ -6,7 +6,7 @@ ghost use Rattle.desk_model.specs.Change.{is_gained, account_differs, challenge_
 
 use desk_model::{AccountRow, AuthorizationRow, ChallengeRow, OrderRow, Text};
 
-/// Whether there was no fact and now is one.
+// Whether there was no fact and now is one.
 fn is_gained<F>(before: &Option<F>, after: &Option<F>) -> bool
     ensures { result ≡ is_gained before.now after.now }
 {
@@ -28,7 +28,7 @@ pub(crate) fn account_differs(before: &AccountRow, after: &AccountRow) -> bool
         || before.status != after.status
 }
 
-/// Whether a challenge has an answer or a report that it had not, or another status.
+// Whether a challenge has an answer or a report that it had not, or another status.
 fn challenge_differs(before: &ChallengeRow, after: &ChallengeRow) -> bool
     ensures { result ≡ challenge_differs before.now after.now }
 {

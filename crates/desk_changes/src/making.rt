@@ -33,7 +33,7 @@ fn new_challenge(number: u64, kind: Kind, token: [u8; 16]) -> ChallengeRow
     }
 }
 
-/// The challenges of a name with these tokens, numbered from here.
+// The challenges of a name with these tokens, numbered from here.
 fn new_challenges(
     alloc: Global,
     name: &DnsName,
@@ -59,7 +59,7 @@ fn new_challenges(
     Ok(Sequence::new(rows))
 }
 
-/// The authorization for a name, with its challenges numbered from here.
+// The authorization for a name, with its challenges numbered from here.
 fn new_authorization(
     alloc: Global,
     making: Making,

@@ -165,7 +165,7 @@ pub(crate) fn put_authorizations(
 
 // ---- orders
 
-/// The status of the authorization of a number after an entry.
+// The status of the authorization of a number after an entry.
 fn status_after(
     alloc: Global,
     book: &Book,

@@ -143,7 +143,7 @@ fn kind_of(ending: Ending) -> EndKind
     }
 }
 
-/// The end of an authorization by a report, which is bad, on one of its challenges.
+// The end of an authorization by a report, which is bad, on one of its challenges.
 fn reported_end(
     challenge: u64,
     outcome: Outcome,
@@ -161,7 +161,7 @@ fn reported_end(
     })
 }
 
-/// How an entry ends an authorization, if it does.
+// How an entry ends an authorization, if it does.
 fn end_by(entry: &Entry, moment: u64, row: &AuthorizationRow) -> Option<AuthorizationEnd>
     ensures { result ≡ row_ends row.now entry.now moment }
 {
@@ -182,7 +182,7 @@ fn end_by(entry: &Entry, moment: u64, row: &AuthorizationRow) -> Option<Authoriz
     None
 }
 
-/// An end that comes no later than the authorization expires.
+// An end that comes no later than the authorization expires.
 fn in_time(expires: u64, end: Option<AuthorizationEnd>) -> Option<AuthorizationEnd>
     ensures { result ≡ in_time expires end }
 {

@@ -48,7 +48,7 @@ impl Recording {
         Ok(Recording { changes, meta })
     }
 
-    /// Records the meta row as it is now.
+    // Records the meta row as it is now.
     fn push_meta(&mut self) -> Result<(), AllocError>
         ensures changes { OnOk result (self.new.changes.items ≡ self.old.changes.items ++ PutMeta self.old.meta ∷ []) }
         ensures meta { OnOk result (self.new.meta ≡ self.old.meta) }
@@ -57,7 +57,7 @@ impl Recording {
         Ok(())
     }
 
-    /// Records the meta row as it is now, and a change.
+    // Records the meta row as it is now, and a change.
     fn push(&mut self, change: Change) -> Result<(), AllocError>
         ensures changes { OnOk result (self.new.changes.items ≡ self.old.changes.items ++ PutMeta self.old.meta ∷ change ∷ []) }
         ensures meta { OnOk result (self.new.meta ≡ self.old.meta) }
@@ -167,7 +167,7 @@ impl Recording {
         self.push_moves(alloc, book, entry)
     }
 
-    /// Records the meta row as it is now, and the rows that an entry moves.
+    // Records the meta row as it is now, and the rows that an entry moves.
     fn push_moves(&mut self, alloc: Global, book: &Book, entry: &Entry) -> Result<(), AllocError>
         ensures changes { OnOk result (self.new.changes.items ≡ self.old.changes.items ++ PutMeta self.old.meta ∷ book_moves self.old.meta.clock book.now entry.now) }
         ensures meta { OnOk result (self.new.meta ≡ self.old.meta) }
@@ -227,7 +227,7 @@ impl Recording {
         Ok(order)
     }
 
-    /// The authorizations of the next order, which are counted.
+    // The authorizations of the next order, which are counted.
     fn make_rows(
         &mut self,
         alloc: Global,
@@ -250,7 +250,7 @@ impl Recording {
         Ok(rows)
     }
 
-    /// Records the meta row as it is now, and the rows of a new order.
+    // Records the meta row as it is now, and the rows of a new order.
     fn push_made(&mut self, rows: Vec<AuthorizationRow>, order: &OrderRow) -> Result<(), AllocError>
         ensures changes { OnOk result (self.new.changes.items ≡ self.old.changes.items
             ++ PutMeta self.old.meta ∷ (map PutAuthorization rows.items ++ PutOrder order.now ∷ [])) }
@@ -262,7 +262,7 @@ impl Recording {
         Ok(())
     }
 
-    /// What the authorizations of the next order have in common.
+    // What the authorizations of the next order have in common.
     fn next_making(&self, account: u64) -> Making
         ensures { result ≡ record { account = account; date = self.now.meta.clock; expires = self.now.meta.clock + self.now.meta.policy.authz_life } }
     {
@@ -273,7 +273,7 @@ impl Recording {
         }
     }
 
-    /// The row of the next order, which lists these authorizations.
+    // The row of the next order, which lists these authorizations.
     fn next_order(
         &self,
         alloc: Global,
@@ -303,7 +303,7 @@ impl Recording {
     }
 }
 
-/// Puts these authorizations.
+// Puts these authorizations.
 fn put_made(changes: &mut Vec<Change>, rows: Vec<AuthorizationRow>) -> Result<(), AllocError>
     ensures { OnOk result (changes.new.items ≡ changes.old.items ++ map PutAuthorization rows.items) }
 {

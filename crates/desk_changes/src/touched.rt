@@ -43,7 +43,7 @@ pub(crate) fn touches_authorization(entry: &Entry, row: &AuthorizationRow) -> bo
     }
 }
 
-/// Whether an entry names the order of a number.
+// Whether an entry names the order of a number.
 fn names_order(entry: &Entry, number: u64) -> bool
     ensures { result ≡ names_order entry.now number }
 {
@@ -55,7 +55,7 @@ fn names_order(entry: &Entry, number: u64) -> bool
     }
 }
 
-/// Whether an entry touches the authorization of a number.
+// Whether an entry touches the authorization of a number.
 fn touches_number(entry: &Entry, book: &Book, number: u64) -> bool
     ensures { result ≡ holds (touches_authorization entry.now) (authorization_numbered number book.now.authorizations) }
 {
@@ -73,7 +73,7 @@ fn touches_listed(entry: &Entry, book: &Book, listed: &[Listed]) -> bool
         .any(|listed| touches_number(entry, book, listed.authorization))
 }
 
-/// Whether an entry touches one of the authorizations that an order lists.
+// Whether an entry touches one of the authorizations that an order lists.
 fn lists_touched(entry: &Entry, book: &Book, row: &OrderRow) -> bool
     ensures { result ≡ lists_one (touches_authorization entry.now) book.now.authorizations (numbers_of row.now.listed) }
 {

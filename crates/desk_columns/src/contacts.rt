@@ -12,7 +12,7 @@ use json_values::value_of;
 use serde_json::Value;
 use std::alloc::{AllocError, Global};
 
-// The contacts that a column spells.
+/// The contacts that a column spells.
 pub(crate) fn read_contacts(alloc: Global, text: &str) -> Result<Option<Sequence<Text>>, AllocError>
     ensures { IfOk result (λ contacts. IsRead contacts_text Unlimited text.now contacts) }
 {

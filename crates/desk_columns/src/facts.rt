@@ -10,7 +10,7 @@ use crate::spelling::{read_end_kind, read_ending, read_outcome};
 use desk_model::{AccountEnd, AuthorizationEnd, DatedBytes, DatedProblem, Report, Sequence, Text};
 use std::alloc::{AllocError, Global};
 
-// When and how an account ended.
+/// When and how an account ended.
 pub(crate) fn read_account_end(
     ended: Option<i64>,
     end_kind: Option<Text>,
@@ -28,7 +28,7 @@ pub(crate) fn read_account_end(
     }
 }
 
-// When and how an authorization ended.
+/// When and how an authorization ended.
 pub(crate) fn read_authorization_end(
     ended: Option<i64>,
     end_kind: Option<Text>,
@@ -46,7 +46,7 @@ pub(crate) fn read_authorization_end(
     }
 }
 
-// When a challenge was reported, and what the report showed.
+/// When a challenge was reported, and what the report showed.
 pub(crate) fn read_report(reported: Option<i64>, outcome: Option<Text>) -> Option<Option<Report>>
     ensures { IsRead report_columns (IfRecorded IsReport) (reported, outcome) result }
 {
@@ -61,7 +61,7 @@ pub(crate) fn read_report(reported: Option<i64>, outcome: Option<Text>) -> Optio
     }
 }
 
-// When bytes were handed in, and the bytes.
+/// When bytes were handed in, and the bytes.
 pub(crate) fn read_dated_bytes(
     dated: Option<i64>,
     bytes: Option<Sequence<u8>>,
@@ -78,7 +78,7 @@ pub(crate) fn read_dated_bytes(
     }
 }
 
-// When an order failed, and why.
+/// When an order failed, and why.
 pub(crate) fn read_dated_problem(
     alloc: Global,
     failed: Option<i64>,
@@ -100,7 +100,7 @@ pub(crate) fn read_dated_problem(
     }
 }
 
-// A moment that may be NULL.
+/// A moment that may be NULL.
 pub(crate) fn read_answered(answered: Option<i64>) -> Option<Option<u64>>
     ensures { IsRead (λ m. option_map (λ n. pos n) m) (IfRecorded IsMoment) answered result }
 {
@@ -113,7 +113,7 @@ pub(crate) fn read_answered(answered: Option<i64>) -> Option<Option<u64>>
     }
 }
 
-// The bytes of a nonce or a token.
+/// The bytes of a nonce or a token.
 pub(crate) fn read_sixteen(bytes: &[u8]) -> Option<[u8; 16]>
     ensures { IsRead (λ b. b) IsSixteen bytes.now result }
 {

@@ -13,7 +13,7 @@ use json_values::value_of;
 use serde_json::{Value, json};
 use std::alloc::{AllocError, Global};
 
-// The problem that a column spells.
+/// The problem that a column spells.
 pub(crate) fn read_problem(alloc: Global, text: &str) -> Result<Option<OrderProblem>, AllocError>
     ensures { IfOk result (λ problem. IsRead problem_text IsProblem text.now problem) }
 {

@@ -8,7 +8,7 @@ use desk_model::{
     AccountStatus, AuthzStatus, ChallengeStatus, EndKind, Ending, Kind, OrderStatus, Outcome,
 };
 
-// The status of an account.
+/// The status of an account.
 pub(crate) fn read_account_status(text: &str) -> Option<AccountStatus>
     ensures { IsRead account_status_text Unlimited text.now result }
 {
@@ -34,7 +34,7 @@ pub fn read_order_status(text: &str) -> Option<OrderStatus>
     }
 }
 
-// The status of an authorization.
+/// The status of an authorization.
 pub(crate) fn read_authorization_status(text: &str) -> Option<AuthzStatus>
     ensures { IsRead authorization_status_text Unlimited text.now result }
 {
@@ -49,7 +49,7 @@ pub(crate) fn read_authorization_status(text: &str) -> Option<AuthzStatus>
     }
 }
 
-// The status of a challenge.
+/// The status of a challenge.
 pub(crate) fn read_challenge_status(text: &str) -> Option<ChallengeStatus>
     ensures { IsRead challenge_status_text Unlimited text.now result }
 {
@@ -62,7 +62,7 @@ pub(crate) fn read_challenge_status(text: &str) -> Option<ChallengeStatus>
     }
 }
 
-// The kind of a challenge.
+/// The kind of a challenge.
 pub(crate) fn read_kind(text: &str) -> Option<Kind>
     ensures { IsRead kind_text Unlimited text.now result }
 {
@@ -73,7 +73,7 @@ pub(crate) fn read_kind(text: &str) -> Option<Kind>
     }
 }
 
-// How an account ended.
+/// How an account ended.
 pub(crate) fn read_ending(text: &str) -> Option<Ending>
     ensures { IsRead ending_text Unlimited text.now result }
 {
@@ -84,7 +84,7 @@ pub(crate) fn read_ending(text: &str) -> Option<Ending>
     }
 }
 
-// How an authorization ended.
+/// How an authorization ended.
 pub(crate) fn read_end_kind(text: &str) -> Option<EndKind>
     ensures { IsRead end_kind_text Unlimited text.now result }
 {
@@ -96,7 +96,7 @@ pub(crate) fn read_end_kind(text: &str) -> Option<EndKind>
     }
 }
 
-// What a validation showed.
+/// What a validation showed.
 pub(crate) fn read_outcome(text: &str) -> Option<Outcome>
     ensures { IsRead outcome_text Unlimited text.now result }
 {
@@ -109,7 +109,7 @@ pub(crate) fn read_outcome(text: &str) -> Option<Outcome>
     }
 }
 
-// Whether a name is a wildcard.
+/// Whether a name is a wildcard.
 pub(crate) fn read_wildcard(column: i64) -> Option<bool>
     ensures { IsRead wildcard_column Unlimited column result }
 {

@@ -6,7 +6,7 @@ ghost use Rattle.desk_columns.specs.Reading.{IsRead};
 use desk_model::Sequence;
 use std::alloc::{AllocError, Global};
 
-// Columns that spell the rows of a table.
+/// Columns that spell the rows of a table.
 pub(crate) trait Columns: Drop {
     type Row: Drop;
 
@@ -16,12 +16,12 @@ pub(crate) trait Columns: Drop {
     // What a row keeps in the table.
     ghost IsStored: { Self.Row → Type 0 };
 
-    // The row with these columns.
+    /// The row with these columns.
     fn read(self, alloc: Global) -> Result<Option<Self::Row>, AllocError>
         ensures { IfOk result (λ row. IsRead write IsStored self row) };
 }
 
-// The rows with these columns, or `None` where no row in its limits has some of them.
+/// The rows with these columns, or `None` where no row in its limits has some of them.
 pub(crate) fn read_table<C: Columns>(
     alloc: Global,
     table: Sequence<C>,

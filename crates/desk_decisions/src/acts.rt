@@ -27,7 +27,7 @@ use desk_model::{
 use desk_replies::{located_account, located_order, refusal_reply};
 use std::alloc::{AllocError, Global};
 
-/// Records an entry that moves rows, if there is one, and shows what the verdict names.
+// Records an entry that moves rows, if there is one, and shows what the verdict names.
 fn shift_and_show(
     alloc: Global,
     book: &Book,
@@ -63,7 +63,7 @@ fn record_moves(
     }
 }
 
-/// The same of an entry that is owned.
+// The same of an entry that is owned.
 fn act_on_rows(
     alloc: Global,
     book: &Book,
@@ -80,7 +80,7 @@ fn act_on_rows(
     shift_and_show(alloc, book, recording, &entry, shows)
 }
 
-/// Opens an account, and shows it.
+// Opens an account, and shows it.
 fn act_on_account(
     alloc: Global,
     book: &Book,
@@ -100,7 +100,7 @@ fn act_on_account(
     Ok(reply)
 }
 
-/// The names of a new order.
+// The names of a new order.
 fn names_of(alloc: Global, wanted: &[Wanted]) -> Result<Vec<DnsName>, AllocError>
     ensures { IfOk result (λ v. v.items ≡ map wanted_name wanted.now) }
 {
@@ -112,7 +112,7 @@ fn names_of(alloc: Global, wanted: &[Wanted]) -> Result<Vec<DnsName>, AllocError
     Ok(names)
 }
 
-/// The reply with a new order, whose names are those that were wanted.
+// The reply with a new order, whose names are those that were wanted.
 fn made_order_reply(
     alloc: Global,
     policy: &Policy,
@@ -127,7 +127,7 @@ fn made_order_reply(
     Ok(reply)
 }
 
-/// Makes an order, and shows it.
+// Makes an order, and shows it.
 fn act_on_order(
     alloc: Global,
     book: &Book,
@@ -150,7 +150,7 @@ fn act_on_order(
     Ok(reply)
 }
 
-/// What an accepted request records, and its reply without a nonce.
+// What an accepted request records, and its reply without a nonce.
 fn act_on_accepted(
     alloc: Global,
     book: &Book,

@@ -44,7 +44,7 @@ pub struct Outcome {
     pub reply: Reply,
 }
 
-/// The random bytes of the nonce that a call issues.
+// The random bytes of the nonce that a call issues.
 fn fresh_random(book: &Book, random: &[u8]) -> Result<[u8; 16], CoreFault>
     ensures { MatchResult result
         (λ r. (r ≡ take 16 random.now) × (book.now.meta.nonces < 2 ^ 62) × (16 ≤ length random.now))
@@ -54,7 +54,7 @@ fn fresh_random(book: &Book, random: &[u8]) -> Result<[u8; 16], CoreFault>
     first_random(random)
 }
 
-/// What a call records that issues a nonce and nothing else.
+// What a call records that issues a nonce and nothing else.
 fn issue(
     alloc: Global,
     book: &Book,
@@ -70,7 +70,7 @@ fn issue(
     Ok(recording.changes)
 }
 
-/// Issues a nonce and nothing else, with this reply.
+// Issues a nonce and nothing else, with this reply.
 fn issued(
     alloc: Global,
     book: &Book,
@@ -91,7 +91,7 @@ fn issued(
     Ok(Outcome { changes, reply })
 }
 
-/// Begins what a signed request records: its nonce is spent, and one is issued.
+// Begins what a signed request records: its nonce is spent, and one is issued.
 fn begin_signed(
     alloc: Global,
     book: &Book,
@@ -110,7 +110,7 @@ fn begin_signed(
     Ok(recording)
 }
 
-/// Carries the verdict on a signed request out, and gives the reply with the fresh nonce.
+// Carries the verdict on a signed request out, and gives the reply with the fresh nonce.
 fn act_with_nonce(
     alloc: Global,
     book: &Book,
@@ -132,7 +132,7 @@ fn act_with_nonce(
     Ok(reply)
 }
 
-/// A signed request whose nonce was open: the nonce is spent and a fresh one issued, and the verdict is carried out.
+// A signed request whose nonce was open: the nonce is spent and a fresh one issued, and the verdict is carried out.
 fn passed(
     alloc: Global,
     book: &Book,
@@ -160,7 +160,7 @@ fn passed(
     })
 }
 
-/// A signed request whose nonce was open, by the verdict on it.
+// A signed request whose nonce was open, by the verdict on it.
 fn spent(
     alloc: Global,
     book: &Book,
@@ -181,7 +181,7 @@ fn spent(
     Ok(outcome)
 }
 
-/// A signed request (RFC 8555, 6.5): refused with a fresh nonce where its nonce is not open.
+// A signed request (RFC 8555, 6.5): refused with a fresh nonce where its nonce is not open.
 fn signed(
     alloc: Global,
     book: &Book,
@@ -205,7 +205,7 @@ fn signed(
     }
 }
 
-/// Whether a verdict records an entry.
+// Whether a verdict records an entry.
 fn records_entry(verdict: &Verdict) -> bool
     ensures { result ≡ is_recording verdict.now }
 {
@@ -215,7 +215,7 @@ fn records_entry(verdict: &Verdict) -> bool
     }
 }
 
-/// A request without a nonce that records an entry.
+// A request without a nonce that records an entry.
 fn recorded(
     alloc: Global,
     book: &Book,
@@ -237,7 +237,7 @@ fn recorded(
     })
 }
 
-/// The reply to a request without a nonce that records nothing.
+// The reply to a request without a nonce that records nothing.
 fn unrecorded(
     alloc: Global,
     book: &Book,
@@ -258,7 +258,7 @@ fn unrecorded(
     }
 }
 
-/// A request without a nonce, by the verdict on it.
+// A request without a nonce, by the verdict on it.
 fn settled(alloc: Global, book: &Book, moment: u64, verdict: Verdict) -> Result<Outcome, AllocError>
     requires moment { moment ≤ 250000000000 }
     requires numbers { NumbersLeft book.now.meta verdict }
@@ -275,7 +275,7 @@ fn settled(alloc: Global, book: &Book, moment: u64, verdict: Verdict) -> Result<
     })
 }
 
-/// A request of the validator, the signing office or the operator, or for the directory.
+// A request of the validator, the signing office or the operator, or for the directory.
 fn office(alloc: Global, book: &Book, moment: u64, ask: &Ask) -> Result<Outcome, CoreFault>
     requires { moment ≤ 250000000000 }
     ensures { MatchResult result
@@ -287,7 +287,7 @@ fn office(alloc: Global, book: &Book, moment: u64, ask: &Ask) -> Result<Outcome,
     Ok(outcome)
 }
 
-/// The answer to an ask.
+// The answer to an ask.
 fn decide_at(
     alloc: Global,
     book: &Book,
@@ -308,7 +308,7 @@ fn decide_at(
     }
 }
 
-/// What the type of a problem keeps: its texts are UTF-8.
+// What the type of a problem keeps: its texts are UTF-8.
 fn keep_problem(problem: &OrderProblem)
     ensures { IsTextProblem problem.now }
 {
@@ -316,7 +316,7 @@ fn keep_problem(problem: &OrderProblem)
     let _detail = problem.detail.as_str();
 }
 
-/// What the types of a request keep: an accepted key has its canonical text, and the payload is UTF-8.
+// What the types of a request keep: an accepted key has its canonical text, and the payload is UTF-8.
 fn keep_request(request: &Signed)
     ensures { IsFormedSigned request.now }
 {
@@ -326,7 +326,7 @@ fn keep_request(request: &Signed)
     }
 }
 
-/// What the types of a call keep.
+// What the types of a call keep.
 fn keep_form(call: &Call)
     ensures { IsFormedCall call.now }
 {

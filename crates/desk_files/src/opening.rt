@@ -26,7 +26,7 @@ pub struct NotOpened<A: Alter, D: Disk> {
     pub conn: Option<Connection<A>>,
 }
 
-/// A connection to the files at a path, which are made where there are none.
+// A connection to the files at a path, which are made where there are none.
 fn connect<S: Start>(
     rt: &HostRuntime,
     path: &str,

@@ -15,7 +15,7 @@ use std::alloc::{AllocError, Global};
 
 // ---- rows
 
-/// Copies of the rows that pass a test.
+// Copies of the rows that pass a test.
 fn rows_where<R: Row + Drop, F: Fn(&R) -> bool>(
     alloc: Global,
     table: &Table<R>,
@@ -34,7 +34,7 @@ fn rows_where<R: Row + Drop, F: Fn(&R) -> bool>(
     Ok(rows)
 }
 
-/// Copies of all rows.
+// Copies of all rows.
 fn all_rows<R: Row + Drop>(alloc: Global, table: &Table<R>) -> Result<Vec<R>, AllocError>
     ensures { IfOk result (λ rows. rows.items ≡ table.now) }
 {
@@ -45,14 +45,14 @@ fn all_rows<R: Row + Drop>(alloc: Global, table: &Table<R>) -> Result<Vec<R>, Al
     Ok(rows)
 }
 
-/// Whether an order of a stored status is past its end.
+// Whether an order of a stored status is past its end.
 fn is_past_order(row: &OrderRow, status: OrderStatus, moment: u64) -> bool
     ensures { result ≡ ((order_code row.now.status == order_code status) && nat_lt row.now.expires moment) }
 {
     row.status == status && row.expires < moment
 }
 
-/// Whether an authorization of a stored status is past its end.
+// Whether an authorization of a stored status is past its end.
 fn is_past_authorization(row: &AuthorizationRow, status: AuthzStatus, moment: u64) -> bool
     ensures { result ≡ ((authz_code row.now.status == authz_code status) && nat_lt row.now.expires moment) }
 {
@@ -61,7 +61,7 @@ fn is_past_authorization(row: &AuthorizationRow, status: AuthzStatus, moment: u6
 
 // ---- numbers
 
-/// Adds the number of an order once for each place where it lists an authorization.
+// Adds the number of an order once for each place where it lists an authorization.
 fn push_listing(
     numbers: &mut Vec<u64>,
     order: &OrderRow,
@@ -78,7 +78,7 @@ fn push_listing(
     Ok(())
 }
 
-/// Adds the authorizations of these places.
+// Adds the authorizations of these places.
 fn push_authorizations(numbers: &mut Vec<u64>, places: &[Listed]) -> Result<(), AllocError>
     ensures { OnOk result (numbers.new.items ≡ numbers.old.items ++ map (λ l. l.authorization) places.now) }
 {
@@ -88,7 +88,7 @@ fn push_authorizations(numbers: &mut Vec<u64>, places: &[Listed]) -> Result<(), 
     Ok(())
 }
 
-/// Adds the authorizations that an order lists, where it has this number.
+// Adds the authorizations that an order lists, where it has this number.
 fn push_listed(numbers: &mut Vec<u64>, order: &OrderRow, number: u64) -> Result<(), AllocError>
     ensures { OnOk result (numbers.new.items ≡ numbers.old.items
         ++ (if order.now.number == number then map (λ l. l.authorization) order.now.listed else [])) }
@@ -99,7 +99,7 @@ fn push_listed(numbers: &mut Vec<u64>, order: &OrderRow, number: u64) -> Result<
     Ok(())
 }
 
-/// Adds the number of an authorization once for each of its challenges with this number.
+// Adds the number of an authorization once for each of its challenges with this number.
 fn push_owner(
     numbers: &mut Vec<u64>,
     authorization: &AuthorizationRow,
@@ -116,7 +116,7 @@ fn push_owner(
     Ok(())
 }
 
-/// The orders that list an authorization.
+// The orders that list an authorization.
 #[tactic(auto, using(crate::proofs::Pairs::orders_listing_rows))]
 fn orders_listing(alloc: Global, book: &Book, authorization: u64) -> Result<Vec<u64>, AllocError>
     ensures { IfOk result (λ numbers. numbers.items ≡ listing_in book.now authorization) }
@@ -128,7 +128,7 @@ fn orders_listing(alloc: Global, book: &Book, authorization: u64) -> Result<Vec<
     Ok(numbers)
 }
 
-/// The authorizations that an order lists.
+// The authorizations that an order lists.
 #[tactic(auto, using(crate::proofs::Pairs::listed_by_rows))]
 fn listed_by(alloc: Global, book: &Book, number: u64) -> Result<Vec<u64>, AllocError>
     ensures { IfOk result (λ numbers. numbers.items ≡ listed_in book.now number) }
@@ -140,7 +140,7 @@ fn listed_by(alloc: Global, book: &Book, number: u64) -> Result<Vec<u64>, AllocE
     Ok(numbers)
 }
 
-/// The authorization of a challenge.
+// The authorization of a challenge.
 #[tactic(auto, using(crate::proofs::Pairs::owners_of_rows))]
 fn owners_of(alloc: Global, book: &Book, challenge: u64) -> Result<Vec<u64>, AllocError>
     ensures { IfOk result (λ numbers. numbers.items ≡ owners_in book.now challenge) }

@@ -8,7 +8,7 @@ use desk_model::{Ask, Target};
 use keys::read_nonce;
 use std::alloc::{AllocError, Global};
 
-/// A list of one number.
+// A list of one number.
 fn one(alloc: Global, number: u64) -> Result<Vec<u64>, AllocError>
     ensures { IfOk result (λ v. v.items ≡ number ∷ []) }
 {
@@ -17,7 +17,7 @@ fn one(alloc: Global, number: u64) -> Result<Vec<u64>, AllocError>
     Ok(numbers)
 }
 
-/// The serial in the text of a nonce.
+// The serial in the text of a nonce.
 fn serials_in(alloc: Global, text: &str) -> Result<Vec<u64>, AllocError>
     ensures { IfOk result (λ v. v.items ≡ of_text (nonce_in text.now)) }
 {
@@ -40,7 +40,7 @@ pub(crate) fn serials(alloc: Global, ask: &Ask) -> Result<Vec<u64>, AllocError>
     }
 }
 
-/// The account that a target names.
+// The account that a target names.
 fn accounts_at(alloc: Global, target: &Target) -> Result<Vec<u64>, AllocError>
     ensures { IfOk result (λ v. v.items ≡ target_accounts target.now) }
 {
@@ -63,7 +63,7 @@ pub(crate) fn account_numbers(alloc: Global, ask: &Ask) -> Result<Vec<u64>, Allo
     }
 }
 
-/// The order that a target names.
+// The order that a target names.
 fn orders_at(alloc: Global, target: &Target) -> Result<Vec<u64>, AllocError>
     ensures { IfOk result (λ v. v.items ≡ target_order_numbers target.now) }
 {
@@ -87,7 +87,7 @@ pub(crate) fn order_numbers(alloc: Global, ask: &Ask) -> Result<Vec<u64>, AllocE
     }
 }
 
-/// The authorization that a target names.
+// The authorization that a target names.
 fn authorizations_at(alloc: Global, target: &Target) -> Result<Vec<u64>, AllocError>
     ensures { IfOk result (λ v. v.items ≡ target_authorization_numbers target.now) }
 {
@@ -108,7 +108,7 @@ pub(crate) fn authorization_numbers(alloc: Global, ask: &Ask) -> Result<Vec<u64>
     }
 }
 
-/// The challenge that a target names.
+// The challenge that a target names.
 fn challenges_at(alloc: Global, target: &Target) -> Result<Vec<u64>, AllocError>
     ensures { IfOk result (λ v. v.items ≡ target_challenge_numbers target.now) }
 {

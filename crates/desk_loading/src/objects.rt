@@ -31,7 +31,7 @@ pub(crate) struct Objects {
 
 // ---- accounts
 
-/// Puts the account with the request's key into a table.
+// Puts the account with the request's key into a table.
 fn put_keyed<S: LookUps>(
     alloc: Global,
     source: &mut S,
@@ -51,7 +51,7 @@ fn put_keyed<S: LookUps>(
     Ok(())
 }
 
-/// The accounts that are named.
+// The accounts that are named.
 fn accounts_named<S: LookUps>(
     alloc: Global,
     source: &mut S,
@@ -67,7 +67,7 @@ fn accounts_named<S: LookUps>(
     Ok(accounts)
 }
 
-/// Puts the accounts of these orders and authorizations into a table.
+// Puts the accounts of these orders and authorizations into a table.
 fn put_holders<S: LookUps>(
     alloc: Global,
     source: &mut S,
@@ -86,7 +86,7 @@ fn put_holders<S: LookUps>(
 
 // ---- authorizations and orders
 
-/// Puts the authorizations of the named accounts into a table, where an account may end.
+// Puts the authorizations of the named accounts into a table, where an account may end.
 fn put_asked_authorizations<S: LookUps>(
     alloc: Global,
     source: &mut S,
@@ -104,7 +104,7 @@ fn put_asked_authorizations<S: LookUps>(
     Ok(())
 }
 
-/// Puts the orders of the named accounts into a table, where they are asked for.
+// Puts the orders of the named accounts into a table, where they are asked for.
 fn put_asked_orders<S: LookUps>(
     alloc: Global,
     source: &mut S,
@@ -122,7 +122,7 @@ fn put_asked_orders<S: LookUps>(
     Ok(())
 }
 
-/// The authorizations from which orders are looked for.
+// The authorizations from which orders are looked for.
 fn authorizations_first<S: LookUps>(
     alloc: Global,
     source: &mut S,
@@ -144,7 +144,7 @@ fn authorizations_first<S: LookUps>(
     Ok(authorizations)
 }
 
-/// The orders that are named, or of a named account, or past their moment.
+// The orders that are named, or of a named account, or past their moment.
 fn orders_first<S: LookUps>(
     alloc: Global,
     source: &mut S,
@@ -164,7 +164,7 @@ fn orders_first<S: LookUps>(
     Ok(orders)
 }
 
-/// The authorizations and orders that are touched, found from the accounts that are named.
+// The authorizations and orders that are touched, found from the accounts that are named.
 fn authorizations_and_orders<S: LookUps>(
     alloc: Global,
     source: &mut S,
@@ -213,7 +213,7 @@ pub(crate) fn objects_touched<S: LookUps>(
 
 // ---- all rows
 
-/// All authorizations and orders.
+// All authorizations and orders.
 fn all_authorizations_and_orders<S: LookUps>(
     alloc: Global,
     source: &mut S,

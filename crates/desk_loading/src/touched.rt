@@ -18,7 +18,7 @@ use std::alloc::Global;
 
 // ---- nonces
 
-/// The nonces that are touched: the one that is carried, and those past their life.
+// The nonces that are touched: the one that is carried, and those past their life.
 #[tactic(auto, using(desk_parts::proofs::Found::puts_append))]
 fn nonces_touched<S: LookUps>(
     alloc: Global,
@@ -41,7 +41,7 @@ fn nonces_touched<S: LookUps>(
 
 // ---- books
 
-/// The book of these rows.
+// The book of these rows.
 fn book_of(meta: Meta, nonces: Table<Nonce>, objects: Objects) -> Book
     ensures { result ≡ record { meta = meta; nonces = nonces; accounts = objects.accounts; authorizations = objects.authorizations; orders = objects.orders } }
 {
@@ -54,7 +54,7 @@ fn book_of(meta: Meta, nonces: Table<Nonce>, objects: Objects) -> Book
     )
 }
 
-/// The book of the rows that an ask touches at a moment, the directory and the work lists apart.
+// The book of the rows that an ask touches at a moment, the directory and the work lists apart.
 fn rows_touched<S: LookUps>(
     alloc: Global,
     source: &mut S,
@@ -71,7 +71,7 @@ fn rows_touched<S: LookUps>(
     Ok(book_of(meta, nonces, objects))
 }
 
-/// The book of all rows.
+// The book of all rows.
 fn all_rows<S: LookUps>(alloc: Global, source: &mut S, meta: Meta) -> Result<Book, StorageFault>
     ensures reads { Reads S.sight source.old source.new result }
     ensures found { ForTables S.sight source.old source.new (λ T. meta ≡ T.meta → IsOrdered T → IfOk result (λ book. book ≡ T)) }
@@ -82,7 +82,7 @@ fn all_rows<S: LookUps>(alloc: Global, source: &mut S, meta: Meta) -> Result<Boo
     Ok(book_of(meta, nonces, objects))
 }
 
-/// The book of the desk's own row alone.
+// The book of the desk's own row alone.
 fn meta_alone(alloc: Global, meta: Meta) -> Book
     ensures { (T : Tables) → meta ≡ T.meta → result ≡ only_meta T }
 {
@@ -95,7 +95,7 @@ fn meta_alone(alloc: Global, meta: Meta) -> Book
     )
 }
 
-/// The book of the rows that an ask touches at a moment.
+// The book of the rows that an ask touches at a moment.
 fn rows_at<S: LookUps>(
     alloc: Global,
     source: &mut S,

@@ -21,11 +21,7 @@ use desk_model::{AuthorizationRow, AuthzStatus, ChallengeRow, Sequence};
 use sqlite::{Alter, Connection};
 use std::alloc::Global;
 
-/// The challenges of the authorization of a number.
-///
-/// # Errors
-///
-/// The engine's, and `NotARow` where a row is not one of a desk; nothing is changed.
+// The challenges of the authorization of a number. It fails as `find_rows` does.
 fn challenges_under<S: Alter>(
     alloc: Global,
     conn: &mut Connection<S>,
@@ -45,7 +41,7 @@ fn challenges_under<S: Alter>(
     Ok(without_owners(alloc, rows)?)
 }
 
-/// The authorizations, each with its challenges.
+// The authorizations, each with its challenges.
 fn nest_challenges<S: Alter>(
     alloc: Global,
     conn: &mut Connection<S>,

@@ -22,7 +22,7 @@ pub(crate) trait Columns: Drop {
     // The values of a row are of the kinds of these columns.
     ghost Fits: { SqlRow → Type 0 };
 
-    // The columns of a row.
+    /// The columns of a row.
     fn read(row: &Row) -> Result<Self, Error>
         ensures read { IfOk result (λ c. c ≡ spelled row.now) }
         ensures fails { Fits row.now → IfErr result IsOutOfMemory };

@@ -21,11 +21,7 @@ use desk_model::{Listed, OrderRow, OrderStatus, Sequence};
 use sqlite::{Alter, Connection};
 use std::alloc::Global;
 
-/// What the order of a number lists.
-///
-/// # Errors
-///
-/// The engine's, and `NotARow` where a row is not one of a desk; nothing is changed.
+// What the order of a number lists. It fails as `find_rows` does.
 fn listed_under<S: Alter>(
     alloc: Global,
     conn: &mut Connection<S>,
@@ -45,7 +41,7 @@ fn listed_under<S: Alter>(
     Ok(without_owners(alloc, rows)?)
 }
 
-/// The orders, each with what it lists.
+// The orders, each with what it lists.
 fn nest_listed<S: Alter>(
     alloc: Global,
     conn: &mut Connection<S>,

@@ -37,7 +37,7 @@ pub(crate) trait Stored: Columns {
     // The row is in the limits of its columns.
     ghost IsStored: { Self.Row → Type 0 };
 
-    // The row of these columns, or `None` where none in its limits has them.
+    /// The row of these columns, or `None` where none in its limits has them.
     fn row(self, alloc: Global) -> Result<Option<Self::Row>, AllocError>
         ensures { IfOk result (λ row. IsRead write IsStored self row) };
 }

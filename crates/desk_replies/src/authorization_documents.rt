@@ -15,7 +15,7 @@ use desk_model::{AuthorizationRow, ChallengeRow, Document, Outcome, Policy, Repo
 use serde_json::{Map, Value, put};
 use std::alloc::{AllocError, Global};
 
-/// Adds an error of the validator.
+// Adds an error of the validator.
 fn put_fault(
     members: &mut Map<String, Value>,
     alloc: Global,
@@ -33,7 +33,7 @@ fn put_fault(
     put(members, alloc, "error", error)
 }
 
-/// Adds when a good report was made.
+// Adds when a good report was made.
 fn put_date(
     members: &mut Map<String, Value>,
     alloc: Global,
@@ -48,7 +48,7 @@ fn put_date(
     put(members, alloc, "validated", date)
 }
 
-/// Adds what the report on a challenge showed, if there is one.
+// Adds what the report on a challenge showed, if there is one.
 fn put_report(
     members: &mut Map<String, Value>,
     alloc: Global,
@@ -64,7 +64,7 @@ fn put_report(
     put_date(members, alloc, report)
 }
 
-/// The members that the document of every challenge has.
+// The members that the document of every challenge has.
 fn challenge_members(
     alloc: Global,
     policy: &Policy,
@@ -109,7 +109,7 @@ pub(crate) fn challenge_document(
     Ok(Document::new(value))
 }
 
-/// The values of all challenges.
+// The values of all challenges.
 fn all_challenges(
     alloc: Global,
     policy: &Policy,
@@ -124,7 +124,7 @@ fn all_challenges(
     Ok(values)
 }
 
-/// The values of the challenges that were reported.
+// The values of the challenges that were reported.
 fn reported_challenges(
     alloc: Global,
     policy: &Policy,
@@ -142,7 +142,7 @@ fn reported_challenges(
     Ok(values)
 }
 
-/// The values of the challenges that an authorization shows: the one that was reported, if one was, else all.
+// The values of the challenges that an authorization shows: the one that was reported, if one was, else all.
 fn shown_challenges(
     alloc: Global,
     policy: &Policy,
@@ -157,7 +157,7 @@ fn shown_challenges(
     Ok(reported)
 }
 
-/// The members that the document of every authorization has.
+// The members that the document of every authorization has.
 fn authorization_members(
     alloc: Global,
     policy: &Policy,
@@ -182,7 +182,7 @@ fn authorization_members(
     Ok(members)
 }
 
-/// Adds that the authorization is for a wildcard name, where it is.
+// Adds that the authorization is for a wildcard name, where it is.
 fn put_wildcard(
     members: &mut Map<String, Value>,
     alloc: Global,

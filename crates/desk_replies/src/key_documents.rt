@@ -9,14 +9,14 @@ use desk_model::{Document, Jwk};
 use serde_json::{Map, Value, put};
 use std::alloc::{AllocError, Global};
 
-/// The parts of a text between its quotation marks.
+// The parts of a text between its quotation marks.
 fn parts_of(alloc: Global, text: &str) -> Result<Vec<&str>, AllocError>
     ensures { IfOk result (λ v. map (λ p. p.now) v.items ≡ slice_split (λ c. c == 34) text.now) }
 {
     text.split('"').collect(alloc)
 }
 
-/// Adds the members of a canonical key text, whose names and values are every second of its parts.
+// Adds the members of a canonical key text, whose names and values are every second of its parts.
 fn put_members(
     members: &mut Map<String, Value>,
     alloc: Global,

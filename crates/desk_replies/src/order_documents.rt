@@ -23,7 +23,7 @@ use serde_json::{Map, Value, json, put};
 use std::alloc::{AllocError, Global};
 use swept_rows::order_status;
 
-/// The URLs of the authorizations that are listed.
+// The URLs of the authorizations that are listed.
 fn authorization_urls(
     alloc: Global,
     policy: &Policy,
@@ -39,7 +39,7 @@ fn authorization_urls(
     Ok(urls)
 }
 
-/// The identifiers of names.
+// The identifiers of names.
 fn identifiers(alloc: Global, names: &[DnsName]) -> Result<Vec<Value>, AllocError>
     ensures { IfOk result (λ v. map (λ d. view d) v.items ≡ map (λ n. identifier (shown_name n)) names.now) }
 {
@@ -51,7 +51,7 @@ fn identifiers(alloc: Global, names: &[DnsName]) -> Result<Vec<Value>, AllocErro
     Ok(identifiers)
 }
 
-/// The members that the document of every order has.
+// The members that the document of every order has.
 fn order_members(
     alloc: Global,
     policy: &Policy,
@@ -80,7 +80,7 @@ fn order_members(
     Ok(members)
 }
 
-/// Adds the URL of the certificate, where there is one.
+// Adds the URL of the certificate, where there is one.
 fn put_certificate(
     members: &mut Map<String, Value>,
     alloc: Global,
@@ -97,14 +97,14 @@ fn put_certificate(
     put(members, alloc, "certificate", url)
 }
 
-/// The status of an error that the signing office handed in.
+// The status of an error that the signing office handed in.
 fn problem_status(kind: &str) -> u16
     ensures { result ≡ problem_status kind.now }
 {
     if kind == "serverInternal" { 500 } else { 400 }
 }
 
-/// Adds why the order failed, where the signing office failed it.
+// Adds why the order failed, where the signing office failed it.
 fn put_error(
     members: &mut Map<String, Value>,
     alloc: Global,
@@ -150,7 +150,7 @@ pub(crate) fn order_document(
     Ok(Document::new(value))
 }
 
-/// The names of the authorizations that these places list.
+// The names of the authorizations that these places list.
 fn listed_names(
     alloc: Global,
     rows: &Table<AuthorizationRow>,
@@ -180,21 +180,21 @@ pub fn order_names(alloc: Global, book: &Book, row: &OrderRow) -> Result<Vec<Dns
     Ok(names)
 }
 
-/// Whether an order with this status is an account's and not invalid.
+// Whether an order with this status is an account's and not invalid.
 fn is_listed(account: u64, row: &OrderRow, status: OrderStatus) -> bool
     ensures { result ≡ is_listed account (record row.now { status = status }) }
 {
     row.account == account && !matches!(status, OrderStatus::Invalid)
 }
 
-/// Whether an order of a book is an account's and not invalid at a moment.
+// Whether an order of a book is an account's and not invalid at a moment.
 fn is_listed_at(book: &Book, moment: u64, account: u64, row: &OrderRow) -> bool
     ensures { result ≡ is_listed account (swept_order moment book.now.authorizations row.now) }
 {
     is_listed(account, row, order_status(book, moment, row))
 }
 
-/// The URLs of the orders of an account that are not invalid at a moment.
+// The URLs of the orders of an account that are not invalid at a moment.
 fn order_urls(
     alloc: Global,
     book: &Book,

@@ -26,7 +26,7 @@ use serde_json::{Value, json};
 use std::alloc::{AllocError, Global};
 use swept_rows::{authorization_status, order_status};
 
-/// The key under which the challenges of an authorization are answered, empty where its account is not there.
+// The key under which the challenges of an authorization are answered, empty where its account is not there.
 fn answer_key<'b>(book: &'b Book, row: &AuthorizationRow) -> &'b str
     ensures { (c : ChallengeRow) → result.now ≡ answer_key book.now row.now c }
 {
@@ -36,7 +36,7 @@ fn answer_key<'b>(book: &'b Book, row: &AuthorizationRow) -> &'b str
     }
 }
 
-/// What the validator has to find for a challenge (RFC 8555, 8.3, 8.4).
+// What the validator has to find for a challenge (RFC 8555, 8.3, 8.4).
 fn expected(
     alloc: Global,
     book: &Book,
@@ -49,7 +49,7 @@ fn expected(
     expected_text(alloc, challenge.kind, challenge.token, key)
 }
 
-/// A challenge that waits for the validator.
+// A challenge that waits for the validator.
 fn work_value(
     alloc: Global,
     book: &Book,
@@ -73,7 +73,7 @@ fn is_processing_challenge(status: ChallengeStatus) -> bool
     matches!(status, ChallengeStatus::Processing)
 }
 
-/// Adds the challenges of an authorization that were answered and not yet reported.
+// Adds the challenges of an authorization that were answered and not yet reported.
 fn push_answered(
     work: &mut Vec<Value>,
     alloc: Global,
@@ -92,7 +92,7 @@ fn push_answered(
     Ok(())
 }
 
-/// Adds what waits for the validator of an authorization, where it is pending at a moment.
+// Adds what waits for the validator of an authorization, where it is pending at a moment.
 fn push_pending(
     work: &mut Vec<Value>,
     alloc: Global,
@@ -143,7 +143,7 @@ pub(crate) fn challenge_work(
     Ok(Document::new(value))
 }
 
-/// The texts of names.
+// The texts of names.
 fn name_values(alloc: Global, names: &[DnsName]) -> Result<Vec<Value>, AllocError>
     ensures { IfOk result (λ v. map (λ d. view d) v.items ≡ map (λ n. string (shown_name n)) names.now) }
 {
@@ -154,7 +154,7 @@ fn name_values(alloc: Global, names: &[DnsName]) -> Result<Vec<Value>, AllocErro
     Ok(values)
 }
 
-/// The bytes of the CSR in base64url, none where there is none.
+// The bytes of the CSR in base64url, none where there is none.
 #[tactic(auto, unfolding(desk_model::specs::Tokens::base64url))]
 fn csr_text(alloc: Global, finalized: &Option<DatedBytes>) -> Result<String, AllocError>
     ensures { IfOk result (λ t. string_bytes t ≡ base64url (bytes_of finalized.now)) }

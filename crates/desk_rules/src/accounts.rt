@@ -40,7 +40,7 @@ pub(crate) fn new_account_verdict(
     }
 }
 
-/// A newAccount request whose key has an account: of its payload only the form is looked at.
+// A newAccount request whose key has an account: of its payload only the form is looked at.
 #[tactic(auto, unfolding(desk_model::specs::Verdict::check, desk_model::specs::Verdict::given))]
 fn known_account_verdict(
     alloc: Global,
@@ -61,7 +61,7 @@ fn known_account_verdict(
     })
 }
 
-/// A newAccount request whose key has none.
+// A newAccount request whose key has none.
 #[tactic(auto, unfolding(desk_model::specs::Verdict::check, desk_model::specs::Verdict::unless_fault))]
 fn open_account(
     alloc: Global,
@@ -108,7 +108,7 @@ pub(crate) fn account_verdict(alloc: Global, number: u64, change: AccountChange)
     }
 }
 
-/// The contacts of an account are replaced, unless one of the new ones is at fault.
+// The contacts of an account are replaced, unless one of the new ones is at fault.
 #[tactic(auto, unfolding(desk_model::specs::Verdict::unless_fault))]
 fn contacts_verdict(alloc: Global, number: u64, contacts: Sequence<Text>) -> Verdict
     ensures { result ≡ account_verdict number (Update (Some contacts)) }

@@ -17,7 +17,7 @@ use keys::{dns_matches, expected_text, http_matches};
 use std::alloc::{AllocError, Global};
 use swept_rows::challenge_of;
 
-/// Whether a challenge of the authorization waits for its client's answer.
+// Whether a challenge of the authorization waits for its client's answer.
 fn has_pending(row: &AuthorizationRow, number: u64) -> bool
     ensures { result ≡ holds (λ c. is_pending_challenge c.status) (challenge_of number row.now) }
 {
@@ -27,7 +27,7 @@ fn has_pending(row: &AuthorizationRow, number: u64) -> bool
     }
 }
 
-/// Whether a challenge of the authorization waits for a report.
+// Whether a challenge of the authorization waits for a report.
 fn has_processing(row: &AuthorizationRow, number: u64) -> bool
     ensures { result ≡ holds (λ c. is_processing_challenge c.status) (challenge_of number row.now) }
 {
@@ -107,7 +107,7 @@ fn is_same_outcome(outcome: Outcome, other: Outcome) -> bool
     outcome == other
 }
 
-/// Whether a report with this outcome stands on a challenge.
+// Whether a report with this outcome stands on a challenge.
 fn has_outcome(challenge: &ChallengeRow, outcome: Outcome) -> bool
     ensures { result ≡ holds (λ r. same_outcome r.outcome outcome) challenge.now.reported }
 {

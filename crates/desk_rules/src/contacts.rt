@@ -57,14 +57,14 @@ fn parts_fault(scheme: &[u8], address: &[u8]) -> Option<Refusal>
     None
 }
 
-/// Whether a scheme is mailto, in any case.
+// Whether a scheme is mailto, in any case.
 fn is_mailto(scheme: &[u8]) -> bool
     ensures { result ≡ bytes_eq (map lowered scheme.now) (codes "mailto") }
 {
     scheme.eq_ignore_ascii_case(b"mailto")
 }
 
-/// Whether an address holds a header field or a second address, which RFC 8555 does not allow.
+// Whether an address holds a header field or a second address, which RFC 8555 does not allow.
 fn has_many_or_fields(address: &[u8]) -> bool
     ensures { result ≡ list_any (λ b. (b == 63) || (b == 44)) address.now }
 {

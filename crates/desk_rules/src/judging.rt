@@ -20,7 +20,7 @@ use desk_book::Book;
 use desk_model::{Jwk, Refusal, Shows, Signed, Target, Verdict};
 use std::alloc::Global;
 
-/// A request for a new order (RFC 8555, 7.4).
+// A request for a new order (RFC 8555, 7.4).
 #[tactic(auto, unfolding(desk_model::specs::Verdict::given))]
 fn new_order_target(
     alloc: Global,
@@ -40,7 +40,7 @@ fn new_order_target(
     }
 }
 
-/// A request of the holder of a valid account, by its target.
+// A request of the holder of a valid account, by its target.
 fn target_verdict(
     alloc: Global,
     book: &Book,
@@ -74,7 +74,7 @@ fn target_verdict(
     }
 }
 
-/// A request whose key has to have a valid account (RFC 8555, 6.2).
+// A request whose key has to have a valid account (RFC 8555, 6.2).
 #[tactic(auto, unfolding(desk_model::specs::Verdict::check, desk_model::specs::Verdict::given))]
 fn holder_verdict(
     alloc: Global,

@@ -12,7 +12,7 @@ use desk_model::{Nonce, Text};
 use keys::read_nonce;
 use swept_rows::lasts;
 
-/// A nonce, unless it is past its life.
+// A nonce, unless it is past its life.
 fn if_lasting<'a>(book: &Book, moment: u64, nonce: Option<&'a Nonce>) -> Option<&'a Nonce>
     ensures { option_copied result ≡ only (lasts book.now.meta.policy moment) (option_copied nonce.entry) }
 {
@@ -27,14 +27,14 @@ fn if_lasting<'a>(book: &Book, moment: u64, nonce: Option<&'a Nonce>) -> Option<
     }
 }
 
-/// The nonce of a serial that is not past its life.
+// The nonce of a serial that is not past its life.
 fn lasting_nonce(book: &Book, moment: u64, serial: u64) -> Option<&Nonce>
     ensures { IsOrdered book.now → option_copied result ≡ nonce_on (swept moment book.now) serial }
 {
     if_lasting(book, moment, book.nonce(serial))
 }
 
-/// The serial of a nonce's text that is spelled and open.
+// The serial of a nonce's text that is spelled and open.
 fn open_serial(book: &Book, moment: u64, text: &str) -> Option<u64>
     ensures { IsOrdered book.now → result ≡ open_nonce_in (swept moment book.now) (nonce_in text.now) }
 {

@@ -20,7 +20,7 @@ use desk_model::{
 use std::alloc::{AllocError, Global};
 use swept_rows::{authorization_at, challenge_of, order_at, owner_at};
 
-/// What the validator found for a challenge (RFC 8555, 8).
+// What the validator found for a challenge (RFC 8555, 8).
 #[tactic(auto, unfolding(desk_model::specs::Verdict::given))]
 fn report_verdict(
     alloc: Global,
@@ -50,14 +50,14 @@ fn is_processing(status: OrderStatus) -> bool
     matches!(status, OrderStatus::Processing)
 }
 
-/// Whether two lists of bytes are the same.
+// Whether two lists of bytes are the same.
 fn is_same(bytes: &[u8], other: &[u8]) -> bool
     ensures { result ≡ bytes_eq bytes.now other.now }
 {
     bytes == other
 }
 
-/// Whether an order has this certificate.
+// Whether an order has this certificate.
 fn has_certificate(row: &OrderRow, bytes: &[u8]) -> bool
     ensures { result ≡ holds (λ k. bytes_eq k.bytes bytes.now) row.now.certified }
 {
@@ -67,8 +67,8 @@ fn has_certificate(row: &OrderRow, bytes: &[u8]) -> bool
     }
 }
 
-/// The certificate of an order: the same again records nothing, another is refused where the order does not wait for
-/// one.
+// The certificate of an order: the same again records nothing, another is refused where the order does not wait for
+// one.
 #[tactic(auto, unfolding(desk_model::specs::Verdict::check, desk_model::specs::Verdict::choose))]
 fn certify_verdict(
     alloc: Global,
@@ -102,7 +102,7 @@ fn is_text(text: &str, other: &str) -> bool
     text == other
 }
 
-/// Whether a problem has an error type that the signing office may hand in, and a detail of 1 to 256 bytes.
+// Whether a problem has an error type that the signing office may hand in, and a detail of 1 to 256 bytes.
 fn is_problem(problem: &OrderProblem) -> bool
     ensures { result ≡ is_problem problem.now }
 {
@@ -129,7 +129,7 @@ fn is_same_problem(problem: &OrderProblem, other: &OrderProblem) -> bool
         && is_text(problem.detail.as_str(), other.detail.as_str())
 }
 
-/// Whether an order failed for this problem.
+// Whether an order failed for this problem.
 fn has_failed_for(row: &OrderRow, problem: &OrderProblem) -> bool
     ensures { result ≡ holds (λ f. same_problem f.problem problem.now) row.now.failed }
 {
@@ -139,7 +139,7 @@ fn has_failed_for(row: &OrderRow, problem: &OrderProblem) -> bool
     }
 }
 
-/// Why an order fails: the same again records nothing, another is refused where the order waits for no certificate.
+// Why an order fails: the same again records nothing, another is refused where the order waits for no certificate.
 #[tactic(auto, unfolding(desk_model::specs::Verdict::check, desk_model::specs::Verdict::choose))]
 fn fail_verdict(
     alloc: Global,
@@ -163,7 +163,7 @@ fn fail_verdict(
     Ok(records(entry, Shows::Order(number)))
 }
 
-/// The operator takes back an authorization; one that is revoked already stays as it is.
+// The operator takes back an authorization; one that is revoked already stays as it is.
 #[tactic(auto, unfolding(desk_model::specs::Verdict::check, desk_model::specs::Verdict::choose))]
 fn revoke_authorization(
     alloc: Global,
@@ -189,7 +189,7 @@ fn is_revoked_status(status: AuthzStatus) -> bool
     matches!(status, AuthzStatus::Revoked)
 }
 
-/// Whether an account was revoked.
+// Whether an account was revoked.
 fn is_revoked(row: &AccountRow) -> bool
     ensures { result ≡ holds (λ e. is_revoked e.ending) row.now.ended }
 {
@@ -199,7 +199,7 @@ fn is_revoked(row: &AccountRow) -> bool
     }
 }
 
-/// The operator ends an account; one that is revoked already stays as it is (RFC 8555, 7.1.6).
+// The operator ends an account; one that is revoked already stays as it is (RFC 8555, 7.1.6).
 #[tactic(auto, unfolding(desk_model::specs::Verdict::check, desk_model::specs::Verdict::choose))]
 fn revoke_account(alloc: Global, number: u64, row: &AccountRow) -> Verdict
     ensures { result ≡ revoke_account number row.now }
@@ -216,7 +216,7 @@ fn revoke_account(alloc: Global, number: u64, row: &AccountRow) -> Verdict
     )
 }
 
-/// A certificate for the order of a number.
+// A certificate for the order of a number.
 #[tactic(auto, unfolding(desk_model::specs::Verdict::given))]
 fn certify(
     alloc: Global,
@@ -233,7 +233,7 @@ fn certify(
     }
 }
 
-/// A problem of the order of a number.
+// A problem of the order of a number.
 #[tactic(auto, unfolding(desk_model::specs::Verdict::given))]
 fn fail_order(
     alloc: Global,
@@ -250,7 +250,7 @@ fn fail_order(
     }
 }
 
-/// The operator takes back the authorization of a number.
+// The operator takes back the authorization of a number.
 #[tactic(auto, unfolding(desk_model::specs::Verdict::given))]
 fn revoke_authorization_of(alloc: Global, book: &Book, moment: u64, number: u64) -> Verdict
     ensures { result ≡ given (authorization_on (swept moment book.now) number) Refusal.NotFound (revoke_authorization number) }
@@ -261,7 +261,7 @@ fn revoke_authorization_of(alloc: Global, book: &Book, moment: u64, number: u64)
     }
 }
 
-/// The operator ends the account of a number.
+// The operator ends the account of a number.
 #[tactic(auto, unfolding(desk_model::specs::Verdict::given))]
 fn revoke_account_of(alloc: Global, book: &Book, number: u64) -> Verdict
     ensures { result ≡ given (account_on book.now number) Refusal.NotFound (revoke_account number) }
@@ -272,7 +272,7 @@ fn revoke_account_of(alloc: Global, book: &Book, number: u64) -> Verdict
     }
 }
 
-/// The key of the account of a number is asked for.
+// The key of the account of a number is asked for.
 #[tactic(auto, unfolding(desk_model::specs::Verdict::given))]
 fn key_verdict(alloc: Global, book: &Book, number: u64) -> Verdict
     ensures { result ≡ office_verdict book.now (KeyOf number) }

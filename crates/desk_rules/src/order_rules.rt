@@ -13,7 +13,7 @@ use base64::engine::general_purpose::URL_SAFE_NO_PAD;
 use desk_model::{Entry, OrderRow, OrderStatus, Refusal, Sequence, Shows, Verdict};
 use std::alloc::{AllocError, Global};
 
-/// The bytes that a text spells in the URL-safe alphabet without padding, read strictly.
+// The bytes that a text spells in the URL-safe alphabet without padding, read strictly.
 #[tactic(auto, unfolding(desk_model::specs::Tokens::from_base64url))]
 fn from_base64url(alloc: Global, text: &str) -> Result<Option<Vec<u8>>, AllocError>
     ensures { IfOk result (λ o. option_map (λ v. v.items) o ≡ from_base64url text.now) }
@@ -25,7 +25,7 @@ fn from_base64url(alloc: Global, text: &str) -> Result<Option<Vec<u8>>, AllocErr
     }
 }
 
-/// A CSR of 1 to 8192 bytes.
+// A CSR of 1 to 8192 bytes.
 fn if_fits(csr: Vec<u8>) -> Option<Sequence<u8>>
     ensures { result ≡ if_fits csr.items }
 {
@@ -35,7 +35,7 @@ fn if_fits(csr: Vec<u8>) -> Option<Sequence<u8>>
     Some(Sequence::new(csr))
 }
 
-/// The CSR that a text spells, `None` where it spells none of 1 to 8192 bytes.
+// The CSR that a text spells, `None` where it spells none of 1 to 8192 bytes.
 fn csr_in(alloc: Global, text: &str) -> Result<Option<Sequence<u8>>, AllocError>
     ensures { IfOk result (λ o. o ≡ csr_in text.now) }
 {

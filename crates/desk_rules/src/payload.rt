@@ -12,7 +12,7 @@ use json_values::{texts_in, value_of};
 use serde_json::Value;
 use std::alloc::{AllocError, Global};
 
-/// The object that a text holds, `None` where it holds no JSON, or something else.
+// The object that a text holds, `None` where it holds no JSON, or something else.
 #[tactic(auto, unfolding(desk_model::specs::Payload::object_in))]
 fn object_in(alloc: Global, text: &str) -> Result<Option<Value>, AllocError>
     ensures { IfOk result (λ o. option_map (λ v. view v) o ≡ object_in text.now) }
@@ -26,7 +26,7 @@ fn object_in(alloc: Global, text: &str) -> Result<Option<Value>, AllocError>
     Ok(None)
 }
 
-/// The texts of a member that may be left out, `None` where it is there in another form.
+// The texts of a member that may be left out, `None` where it is there in another form.
 fn optional_texts(
     alloc: Global,
     member: Option<&Value>,
@@ -42,7 +42,7 @@ fn optional_texts(
     }
 }
 
-/// The truth value of a member that may be left out, `None` where it is there in another form.
+// The truth value of a member that may be left out, `None` where it is there in another form.
 fn optional_bool(member: Option<&Value>) -> Option<Option<bool>>
     ensures { result ≡ optional as_bool (option_map (λ v. view v.now) member.entry) }
 {
@@ -166,7 +166,7 @@ pub(crate) fn challenge_change(
     }
 }
 
-/// The text of a member of an object.
+// The text of a member of an object.
 fn text_of<'v>(value: &'v Value, name: &str) -> Option<&'v str>
     ensures { option_map (λ s. s.now) result ≡ option_and_then as_str (get name.now (view value.now)) }
 {
@@ -188,7 +188,7 @@ fn identifier_in(alloc: Global, value: &Value) -> Result<Option<Identifier>, All
     }))
 }
 
-/// The identifiers of a list, `None` where one of its items is none.
+// The identifiers of a list, `None` where one of its items is none.
 fn identifiers(alloc: Global, items: &[Value]) -> Result<Option<Vec<Identifier>>, AllocError>
     ensures { IfOk result (λ o. option_map (λ v. v.items) o ≡ each_in identifier_in (items_view items.now)) }
 {

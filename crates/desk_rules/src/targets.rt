@@ -21,14 +21,14 @@ use desk_model::{
 use std::alloc::{AllocError, Global};
 use swept_rows::{authorization_at, order_at, owner_at};
 
-/// Whether a payload is that of a route that only reads (RFC 8555, 6.3).
+// Whether a payload is that of a route that only reads (RFC 8555, 6.3).
 fn is_nothing(payload: &str) -> bool
     ensures { result ≡ nothing payload.now }
 {
     payload.is_empty()
 }
 
-/// The order of a number with its status at a moment, where it is the sender's own.
+// The order of a number with its status at a moment, where it is the sender's own.
 fn own_order(book: &Book, moment: u64, sender: u64, number: u64) -> Option<(&OrderRow, OrderStatus)>
     ensures { option_map (λ p. record p.0.now { status = p.1 }) result ≡ own (λ o. o.account) sender (order_on (swept moment book.now) number) }
 {
@@ -43,7 +43,7 @@ fn own_order(book: &Book, moment: u64, sender: u64, number: u64) -> Option<(&Ord
     }
 }
 
-/// An authorization with its status, where it is the sender's own.
+// An authorization with its status, where it is the sender's own.
 fn own_authorization<'b>(
     sender: u64,
     found: Option<(&'b AuthorizationRow, AuthzStatus)>,

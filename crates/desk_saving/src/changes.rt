@@ -71,7 +71,7 @@ fn put_change<S: Alter>(
     }
 }
 
-// Makes the changes.
+/// Makes the changes.
 pub(crate) fn put_changes<S: Alter>(
     alloc: Global,
     tx: &mut Transaction<'_, S>,

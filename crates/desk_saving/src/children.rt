@@ -16,7 +16,7 @@ use desk_model::{ChallengeRow, Listed};
 use sqlite::{Alter, Transaction};
 use std::alloc::Global;
 
-// Puts the challenges of an authorization.
+/// Puts the challenges of an authorization.
 pub(crate) fn put_challenges<S: Alter>(
     alloc: Global,
     tx: &mut Transaction<'_, S>,
@@ -35,7 +35,7 @@ pub(crate) fn put_challenges<S: Alter>(
     Ok(())
 }
 
-// Puts what an order lists.
+/// Puts what an order lists.
 pub(crate) fn put_all_listed<S: Alter>(
     tx: &mut Transaction<'_, S>,
     order: u64,

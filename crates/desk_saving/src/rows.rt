@@ -21,7 +21,7 @@ use written_rows::{
     nonce_columns, number_column, order_columns,
 };
 
-// Puts the row of `meta`.
+/// Puts the row of `meta`.
 pub(crate) fn put_meta<S: Alter>(
     alloc: Global,
     tx: &mut Transaction<'_, S>,
@@ -38,7 +38,7 @@ pub(crate) fn put_meta<S: Alter>(
     Ok(())
 }
 
-// Puts a nonce.
+/// Puts a nonce.
 pub(crate) fn put_nonce<S: Alter>(
     alloc: Global,
     tx: &mut Transaction<'_, S>,
@@ -55,7 +55,7 @@ pub(crate) fn put_nonce<S: Alter>(
     Ok(())
 }
 
-// Puts an account.
+/// Puts an account.
 pub(crate) fn put_account<S: Alter>(
     alloc: Global,
     tx: &mut Transaction<'_, S>,
@@ -72,7 +72,7 @@ pub(crate) fn put_account<S: Alter>(
     Ok(())
 }
 
-// Puts an order, without what it lists.
+/// Puts an order, without what it lists.
 pub(crate) fn put_order<S: Alter>(
     alloc: Global,
     tx: &mut Transaction<'_, S>,
@@ -89,7 +89,7 @@ pub(crate) fn put_order<S: Alter>(
     Ok(())
 }
 
-// Puts an authorization, without its challenges.
+/// Puts an authorization, without its challenges.
 pub(crate) fn put_authorization<S: Alter>(
     alloc: Global,
     tx: &mut Transaction<'_, S>,
@@ -106,7 +106,7 @@ pub(crate) fn put_authorization<S: Alter>(
     Ok(())
 }
 
-// Puts what an order lists at a place.
+/// Puts what an order lists at a place.
 pub(crate) fn put_listed<S: Alter>(
     tx: &mut Transaction<'_, S>,
     order: u64,
@@ -123,7 +123,7 @@ pub(crate) fn put_listed<S: Alter>(
     Ok(())
 }
 
-// Puts a challenge of an authorization.
+/// Puts a challenge of an authorization.
 pub(crate) fn put_challenge<S: Alter>(
     alloc: Global,
     tx: &mut Transaction<'_, S>,
@@ -141,7 +141,7 @@ pub(crate) fn put_challenge<S: Alter>(
     Ok(())
 }
 
-// Removes the nonce of this serial, if there is one.
+/// Removes the nonce of this serial, if there is one.
 pub(crate) fn remove_nonce<S: Alter>(
     tx: &mut Transaction<'_, S>,
     serial: u64,

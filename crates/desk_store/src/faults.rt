@@ -41,7 +41,7 @@ pub(crate) fn cause_of(error: Error) -> Cause
     }
 }
 
-/// Whether the connection still answers, since it compiles a statement.
+// Whether the connection still answers, since it compiles a statement.
 fn is_answering<S: Alter>(conn: &mut Connection<S>) -> bool
     ensures unchanged { HasCleanDisk (state S.Store conn.new) → IsTrue result → IsUnchanged (state S.Store conn.old) (state S.Store conn.new) }
     ensures asks { Asks (state S.Store conn.old) (state S.Store conn.new) }

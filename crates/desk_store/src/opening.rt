@@ -24,7 +24,7 @@ use sqlite::{Alter, Connection, Error};
 use std::alloc::Global;
 use stored_rows::{RowsFault, from_rows};
 
-/// The fault of a reading that failed in opening.
+// The fault of a reading that failed in opening.
 fn opening_fault<S: Alter>(conn: &mut Connection<S>, error: Error) -> OpenFault
     ensures fault { IsOfOpening (cause_of error) result }
     ensures unchanged { HasCleanDisk (state S.Store conn.new) → result ≡ of_storage memory → IsUnchanged (state S.Store conn.old) (state S.Store conn.new) }
@@ -37,7 +37,7 @@ fn opening_fault<S: Alter>(conn: &mut Connection<S>, error: Error) -> OpenFault
     }
 }
 
-/// That the tables are not of a later format.
+// That the tables are not of a later format.
 fn check_format<S: Alter>(conn: &mut Connection<S>) -> Result<(), OpenFault>
     ensures known { HasCleanDisk (state S.Store conn.new) → OnOk result (ShowsFormats (state S.Store conn.old) (state S.Store conn.new) (λ rows. ¬ IsNewer rows)) }
     ensures newer { HasCleanDisk (state S.Store conn.new) → result ≡ Err newer_format → ShowsFormats (state S.Store conn.old) (state S.Store conn.new) IsNewer }
@@ -53,7 +53,7 @@ fn check_format<S: Alter>(conn: &mut Connection<S>) -> Result<(), OpenFault>
     }
 }
 
-/// The book of the rows that were read.
+// The book of the rows that were read.
 fn book_of(alloc: Global, stored: StoredRows) -> Result<Book, OpenFault>
     ensures book { IfOk result (λ book. IsBookOfStored stored book) }
     ensures fault { IfErr result (λ why. (why ≡ of_storage memory) ⊎ ((why ≡ not_a_desk) × ((T : Tables) → IsBookOfStored stored T → ⊥))) }
@@ -88,7 +88,7 @@ pub(crate) fn read_book<S: Alter>(
     }
 }
 
-/// That the indexes are there, and that the rows are a book's.
+// That the indexes are there, and that the rows are a book's.
 fn check_rows<S: Alter>(alloc: Global, conn: &mut Connection<S>) -> Result<(), OpenFault>
     ensures whole { HasCleanDisk (state S.Store conn.new) → OnOk result (IsWhole S.Store conn.old) }
     ensures no_newer { result ≢ Err newer_format }

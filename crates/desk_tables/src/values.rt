@@ -63,7 +63,7 @@ pub fn blob_or_null<'a>(bytes: &'a Option<Sequence<u8>>) -> ValueRef<'a>
     }
 }
 
-// The parameters for a row of `meta`.
+/// The parameters for a row of `meta`.
 pub(crate) fn meta_values<'a>(columns: &'a MetaColumns) -> [ValueRef<'a>; 12]
     ensures { bound result ≡ meta_params columns.now }
 {
@@ -83,7 +83,7 @@ pub(crate) fn meta_values<'a>(columns: &'a MetaColumns) -> [ValueRef<'a>; 12]
     ]
 }
 
-// The parameters for a row of `nonce`.
+/// The parameters for a row of `nonce`.
 pub(crate) fn nonce_values<'a>(columns: &'a NonceColumns) -> [ValueRef<'a>; 3]
     ensures { bound result ≡ nonce_params columns.now }
 {
@@ -94,7 +94,7 @@ pub(crate) fn nonce_values<'a>(columns: &'a NonceColumns) -> [ValueRef<'a>; 3]
     ]
 }
 
-// The parameters for a row of `account`.
+/// The parameters for a row of `account`.
 pub(crate) fn account_values<'a>(columns: &'a AccountColumns) -> [ValueRef<'a>; 7]
     ensures { bound result ≡ account_params columns.now }
 {
@@ -109,7 +109,7 @@ pub(crate) fn account_values<'a>(columns: &'a AccountColumns) -> [ValueRef<'a>; 
     ]
 }
 
-// The parameters for a row of `ord`.
+/// The parameters for a row of `ord`.
 pub(crate) fn order_values<'a>(columns: &'a OrderColumns) -> [ValueRef<'a>; 11]
     ensures { bound result ≡ order_params columns.now }
 {
@@ -128,7 +128,7 @@ pub(crate) fn order_values<'a>(columns: &'a OrderColumns) -> [ValueRef<'a>; 11]
     ]
 }
 
-// The parameters for a row of `authz`.
+/// The parameters for a row of `authz`.
 pub(crate) fn authorization_values<'a>(columns: &'a AuthzColumns) -> [ValueRef<'a>; 9]
     ensures { bound result ≡ authorization_params columns.now }
 {
@@ -145,14 +145,14 @@ pub(crate) fn authorization_values<'a>(columns: &'a AuthzColumns) -> [ValueRef<'
     ]
 }
 
-// The parameters for a row of `ord_authz`.
+/// The parameters for a row of `ord_authz`.
 pub(crate) fn listed_values<'a>(columns: &'a OrderAuthzColumns) -> [ValueRef<'a>; 3]
     ensures { bound result ≡ listed_params columns.now }
 {
     [int(&columns.ord), int(&columns.place), int(&columns.authz)]
 }
 
-// The parameters for a row of `chall`.
+/// The parameters for a row of `chall`.
 pub(crate) fn challenge_values<'a>(columns: &'a ChallColumns) -> [ValueRef<'a>; 8]
     ensures { bound result ≡ challenge_params columns.now }
 {
@@ -168,7 +168,7 @@ pub(crate) fn challenge_values<'a>(columns: &'a ChallColumns) -> [ValueRef<'a>; 
     ]
 }
 
-// The parameters for the serial of a nonce.
+/// The parameters for the serial of a nonce.
 pub(crate) fn serial_values<'a>(serial: &i64) -> [ValueRef<'a>; 1]
     ensures { bound result ≡ Int serial.now ∷ [] }
 {

@@ -19,7 +19,7 @@ pub enum Framing {
     Takes(usize),
 }
 
-/// The values of the fields of one name: none, the one that there is, or more.
+// The values of the fields of one name: none, the one that there is, or more.
 #[derive(Clone, Copy, Debug, PartialEq, Eq)]
 enum Found<'b> {
     Nothing,

@@ -107,7 +107,7 @@ fn is_blank_byte(b: u8) -> bool
     matches!(b, b' ' | b'\t' | b'\r' | b'\n')
 }
 
-// The text of bytes in base64, in the URL-safe alphabet without padding.
+/// The text of bytes in base64, in the URL-safe alphabet without padding.
 pub(crate) fn url_safe(alloc: Global, bytes: &[u8]) -> Result<String, AllocError>
     ensures { IfOk result (λ t. string_bytes t ≡ base64url bytes.now) }
 {

@@ -7,7 +7,7 @@ ghost use Rattle.stored_rows.specs.RowFaults.{listed_fault};
 use desk_book::{derived_account, derived_authorization, derived_challenge, derived_order};
 use desk_model::{AccountRow, AuthorizationRow, AuthzStatus, ChallengeRow, OrderRow, StatusFault};
 
-/// The fault, unless the row is fine.
+// The fault, unless the row is fine.
 fn fault_unless(is_fine: bool, fault: StatusFault) -> Option<StatusFault>
     ensures { listed_fault result ≡ unless is_fine fault }
 {

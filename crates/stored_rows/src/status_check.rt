@@ -30,7 +30,7 @@ pub fn check(alloc: Global, book: &Book) -> Result<Vec<StatusFault>, AllocError>
     Ok(faults)
 }
 
-/// The faults of accounts, orders, authorizations and challenges, one kind after the other.
+// The faults of accounts, orders, authorizations and challenges, one kind after the other.
 fn faults_by_kind(alloc: Global, book: &Book) -> Result<Vec<StatusFault>, AllocError>
     ensures { IfOk result (λ v. v.items ≡ status_faults book.now) }
 {
@@ -47,7 +47,7 @@ fn faults_by_kind(alloc: Global, book: &Book) -> Result<Vec<StatusFault>, AllocE
     Ok(faults)
 }
 
-/// Puts a fault, if there is one.
+// Puts a fault, if there is one.
 fn push_fault(faults: &mut Vec<StatusFault>, found: Option<StatusFault>) -> Result<(), AllocError>
     ensures { OnOk result (faults.new.items ≡ faults.old.items ++ listed_fault found) }
 {
@@ -79,14 +79,14 @@ fn push_accounts(
 
 // ---- orders
 
-/// The stored status of the authorization of a number.
+// The stored status of the authorization of a number.
 fn stored_status(book: &Book, number: u64) -> Option<AuthzStatus>
     ensures { result ≡ option_map (λ a. a.status) (authorization_numbered number book.now.authorizations) }
 {
     book.authorization(number).map(|row| row.status)
 }
 
-/// The stored statuses of the authorizations that an order lists.
+// The stored statuses of the authorizations that an order lists.
 fn listed_statuses(
     alloc: Global,
     book: &Book,
@@ -168,7 +168,7 @@ fn push_challenges(faults: &mut Vec<StatusFault>, rows: &[ChallengeRow]) -> Resu
     Ok(())
 }
 
-/// Puts the faults of all challenges, by authorization.
+// Puts the faults of all challenges, by authorization.
 fn push_all_challenges(
     faults: &mut Vec<StatusFault>,
     authorizations: &Table<AuthorizationRow>,
@@ -193,7 +193,7 @@ fn fault_number(fault: &StatusFault) -> u64
     }
 }
 
-/// Sorts faults of challenges by number, those of one number in the order in which they stand.
+// Sorts faults of challenges by number, those of one number in the order in which they stand.
 fn sort_faults(faults: &mut Vec<StatusFault>) -> Result<(), AllocError>
     ensures { OnOk result ((rows : List Row) → faults.old.items ≡ flat_map challenge_faults rows
         → faults.new.items ≡ flat_map challenge_faults (sorted_challenges rows)) }
@@ -201,7 +201,7 @@ fn sort_faults(faults: &mut Vec<StatusFault>) -> Result<(), AllocError>
     faults.sort_by_key(|fault| fault_number(fault))
 }
 
-/// The faults of challenges by number, those of one number in the order of their authorizations.
+// The faults of challenges by number, those of one number in the order of their authorizations.
 fn challenges_by_number(
     alloc: Global,
     authorizations: &Table<AuthorizationRow>,

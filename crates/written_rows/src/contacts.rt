@@ -9,7 +9,7 @@ use desk_model::Text;
 use serde_json::Value;
 use std::alloc::{AllocError, Global};
 
-// The contacts of an account as a column.
+/// The contacts of an account as a column.
 pub(crate) fn contacts_column(alloc: Global, contacts: &[Text]) -> Result<Text, AllocError>
     ensures { IfOk result (λ text. text ≡ contacts_text contacts.now) }
 {

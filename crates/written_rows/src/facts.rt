@@ -13,7 +13,7 @@ use crate::values::{bytes_column, text_column};
 use desk_model::{AccountEnd, AuthorizationEnd, DatedBytes, DatedProblem, Report, Sequence, Text};
 use std::alloc::Global;
 
-// When and how an account ended.
+/// When and how an account ended.
 pub(crate) fn account_end_columns(
     alloc: Global,
     end: Option<AccountEnd>,
@@ -31,7 +31,7 @@ pub(crate) fn account_end_columns(
     }
 }
 
-// When and how an authorization ended.
+/// When and how an authorization ended.
 pub(crate) fn authorization_end_columns(
     alloc: Global,
     end: Option<AuthorizationEnd>,
@@ -49,7 +49,7 @@ pub(crate) fn authorization_end_columns(
     }
 }
 
-// When a challenge was reported, and what the report showed.
+/// When a challenge was reported, and what the report showed.
 pub(crate) fn report_columns(
     alloc: Global,
     report: Option<Report>,
@@ -67,7 +67,7 @@ pub(crate) fn report_columns(
     }
 }
 
-// When bytes were handed in, and the bytes.
+/// When bytes were handed in, and the bytes.
 pub(crate) fn dated_bytes_columns(
     alloc: Global,
     kept: &Option<DatedBytes>,
@@ -85,7 +85,7 @@ pub(crate) fn dated_bytes_columns(
     }
 }
 
-// When an order failed, and why.
+/// When an order failed, and why.
 pub(crate) fn dated_problem_columns(
     alloc: Global,
     failure: &Option<DatedProblem>,
@@ -103,7 +103,7 @@ pub(crate) fn dated_problem_columns(
     }
 }
 
-// A moment that may be NULL.
+/// A moment that may be NULL.
 pub(crate) fn answered_column(answered: Option<u64>) -> Result<Option<i64>, WriteFault>
     ensures column { IfOk result (λ c. c ≡ option_map (λ n. pos n) answered) }
     ensures fits { IfRecorded Fits answered → IfErr result (λ why. why ≡ Memory) }

@@ -20,7 +20,7 @@ pub fn number_column(number: u64) -> Result<i64, WriteFault>
     }
 }
 
-// The mark of a wildcard as a column.
+/// The mark of a wildcard as a column.
 pub(crate) fn wildcard_column(wildcard: bool) -> i64
     ensures { result ≡ wildcard_column wildcard }
 {

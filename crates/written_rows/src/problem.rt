@@ -7,7 +7,7 @@ use desk_model::{OrderProblem, Text};
 use serde_json::{Value, json};
 use std::alloc::{AllocError, Global};
 
-// The problem of an order as a column.
+/// The problem of an order as a column.
 pub(crate) fn problem_column(alloc: Global, problem: &OrderProblem) -> Result<Text, AllocError>
     ensures { IfOk result (λ text. text ≡ problem_text problem.now) }
 {

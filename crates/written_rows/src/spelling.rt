@@ -4,7 +4,7 @@ ghost use Rattle.desk_columns.specs.Spelling.{ending_text, end_kind_text, outcom
 
 use desk_model::{EndKind, Ending, Outcome};
 
-// How an account ended.
+/// How an account ended.
 pub(crate) fn ending_text(ending: Ending) -> &'static str
     ensures { result.now ≡ ending_text ending }
 {
@@ -14,7 +14,7 @@ pub(crate) fn ending_text(ending: Ending) -> &'static str
     }
 }
 
-// How an authorization ended.
+/// How an authorization ended.
 pub(crate) fn end_kind_text(kind: EndKind) -> &'static str
     ensures { result.now ≡ end_kind_text kind }
 {
@@ -25,7 +25,7 @@ pub(crate) fn end_kind_text(kind: EndKind) -> &'static str
     }
 }
 
-// What a validation showed.
+/// What a validation showed.
 pub(crate) fn outcome_text(outcome: Outcome) -> &'static str
     ensures { result.now ≡ outcome_text outcome }
 {

@@ -4,14 +4,14 @@ ghost use Rattle.std.specs.Prelude.{◌≡◌, IfOk};
 use desk_model::{Sequence, Text};
 use std::alloc::{AllocError, Global};
 
-// A text as a column.
+/// A text as a column.
 pub(crate) fn text_column(alloc: Global, text: &str) -> Result<Text, AllocError>
     ensures { IfOk result (λ copy. copy ≡ text.now) }
 {
     Ok(Text::new(String::from_str(alloc, text)?))
 }
 
-// Bytes as a column.
+/// Bytes as a column.
 pub(crate) fn bytes_column(alloc: Global, bytes: &[u8]) -> Result<Sequence<u8>, AllocError>
     ensures { IfOk result (λ copy. copy ≡ bytes.now) }
 {
