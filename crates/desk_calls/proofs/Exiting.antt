@@ -97,7 +97,7 @@ module _ {S C : Type 0} (v : Sight S C) where
   loaded : (call : Call) (old new : S) (book : Tables) → Loads v call old new (Ok book) → Stands v old new
   loaded call old new book l = record { honest = l.reads.honest; left = l.reads.left; tables = l.reads.tables }
 
-  -- changes that were not saved, for want of memory
+  -- changes that were not saved, out of memory
   unwritten : (R : Type 0) (old new : S) (changes : List Change) (cause : StorageFault) → Saves v changes old new (failed R cause) →
       closes (storage_fault cause) ≡ false → Stands v old new
   unwritten R old new changes storagefault.Memory s going = s.without_memory refl

@@ -20,7 +20,8 @@ module _ {S C : Type 0} (v : Sight S C) where
     pub stays_legal : Legal (after F call)
     pub keeps : Keeps v new (picture (after F call))
 
-  -- the call is not made: the store has the tables before, which a stop leaves alone, and the fault is the call's own or want of memory
+  -- the call is not made: the store has the tables before, which a stop leaves alone, and the fault is the call's own or out
+  -- of memory
   pub record IsDeclined (F : History) (call : Call) (why : DeskFault) (new : S) : Type 0 where
     pub cause : IsFault why (fault F call)
     pub keeps : Keeps v new (picture F)

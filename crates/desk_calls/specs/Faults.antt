@@ -43,7 +43,7 @@ IsMet may_meet deskfault.Device = may_meet storagefault.Device
 IsMet may_meet deskfault.Reopen = may_meet storagefault.Reopen
 IsMet may_meet _ = Unit {0}
 
--- what the model knows a fault by which a call is declined; want of memory is none of the model's
+-- what the model knows of a fault by which a call is declined; out of memory is none of the model's
 abbrev pub IsFault : DeskFault → Option ℕ → Type 0
 IsFault deskfault.Memory found = Unit {0}
 IsFault deskfault.Moment found = found ≡ Some 24

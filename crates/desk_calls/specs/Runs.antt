@@ -43,8 +43,8 @@ module _ {S C : Type 0} (v : Sight S C) where
   ExitsRun G [] (Some why) new = ⊥
   ExitsRun G (call ∷ rest) (Some why) new = ExitsBy v G call why new
 
-  -- the replies are the model's to the calls that were answered, the history after these is legal, and the run ends from there; it is
-  -- the model's run of all calls, unless memory was refused or the store failed
+  -- the replies are the model's to the calls that were answered, the history after these is legal, and the run ends from
+  -- there; it is the model's run of all calls, unless memory was refused or the store failed
   pub record IsRun (F : History) (calls : List Call) (replies : List Reply) (why : Option DeskFault) (new : S) : Type 0 where
     pub answered : replies ≡ (run F (take (length replies) calls)).replies
     pub legal : Legal (run F (take (length replies) calls)).history

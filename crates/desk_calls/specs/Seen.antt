@@ -166,8 +166,8 @@ module _ {S C : Type 0} (v : Sight S C) where
 
   -- ---- the headline, of what is seen
 
-  -- what is there in the end is the picture of the making of the desk with the entries of some calls, each call's whole: of those that
-  -- were answered and of some that a stop cut off, and of no other; the policy is the one that it was made with
+  -- what is there in the end is the picture of the making of the desk with the entries of some calls, each call's whole: of
+  -- those that were answered and of some that a stop cut off, and of no other; the policy is the one that it was made with
   pub record IsOfCalls (start : History) (first : Place S C) (seen : List (Seen S C)) : Type 0 where
     pub calls : List Call
     pub kept : AreKeptOf seen calls
@@ -180,8 +180,8 @@ module _ {S C : Type 0} (v : Sight S C) where
   SeenIsOfCalls =
       (start : History) (first : Place S C) (seen : List (Seen S C)) → IsStart start → IsAt start first → IsSeen first seen → IsOfCalls start first seen
 
-  -- a reply that was given is the one decided on what the calls before it made; the store then had these and its call, and what is there
-  -- in the end is made of these and its call first, and of calls that came later
+  -- a reply that was given is the one decided on what the calls before it made; the store then had these and its call, and
+  -- what is there in the end is made of these and its call first, and of calls that came later
   pub record IsKeptToTheEnd (start : History) (first : Place S C) (later earlier : List (Seen S C)) (call : Call) (reply : Reply) (new : S) : Type 0 where
     pub before : List Call
     pub since : List Call

@@ -137,8 +137,8 @@ impl<K: Storage + Drop> Desk<K> {
         }
     }
 
-    /// The replies to calls made in turn, up to the first fault, and that fault. Want of memory is found before a call is
-    /// made.
+    /// The replies to calls made in turn, up to the first fault, and that fault. Where there is no memory for a reply's
+    /// place, the call is not made.
     pub fn run(&mut self, alloc: Global, calls: &[Call]) -> (Vec<Reply>, Option<DeskFault>)
         ensures closed { IsTrue self.old.is_closed → (result.0.items ≡ []) × (result.1 ≡ Some fault.Reopen) × (self.new ≡ self.old) }
         ensures exit { self.old.is_closed ≡ false → Runs K.Storage.sight calls.now self.old.store self.new.store result.0.items result.1 }

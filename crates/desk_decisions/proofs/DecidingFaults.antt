@@ -135,7 +135,7 @@ signed_faults F call s e legal at asks h = by (open_nonce (swept (moment_of call
     by (Some serial) found h =
         passed_faults F call s serial e legal at (ap (λ (d : Decision). d.entries) (passed_is F call s serial (is (Some serial) found))) h
 
--- want of memory is the code's own
+-- out of memory is the code's own
 memory_faults : (F : History) (call : Call) (e : CoreFault) → e ≡ core.Memory → IsFaultOf F call e
 memory_faults F call core.Memory h = tt
 memory_faults F call core.Moment h = cc

@@ -19,7 +19,7 @@ need_fault B random v fault.Full left h = inl h
 need_fault B random v fault.ShortRandom left h = (left, h.0, h.1)
 need_fault B random v fault.Moment left h = absurd h
 
--- so is want of bytes for the fresh nonce
+-- so are too few bytes for the fresh nonce
 pub short_fault : (B : Tables) (random : List ℕ) (v : Verdict) (e : CoreFault) → B.meta.nonces < 2 ^ 62 → NumbersLeft B.meta v → IsShort random e → IsPassedFault B random v e
 short_fault B random v fault.Memory left numbers h = tt
 short_fault B random v fault.Full left numbers h = absurd h
@@ -27,7 +27,7 @@ short_fault B random v fault.ShortRandom left numbers h =
     (left, numbers, (let short : length random < 16 = h in let k : ℕ = count_pieces (entries_of v) in omega arith))
 short_fault B random v fault.Moment left numbers h = absurd h
 
--- and want of numbers for it
+-- and no number left for it
 pub full_fault : (B : Tables) (random : List ℕ) (v : Verdict) (e : CoreFault) → e ≡ fault.Full → 2 ^ 62 ≤ B.meta.nonces → IsPassedFault B random v e
 full_fault B random v fault.Memory is h = tt
 full_fault B random v fault.Full is h = inr h

@@ -15,8 +15,9 @@ use Rattle.desk_laws.specs.News.{AreKept, AreNewChildren, AreNews}
 use Rattle.desk_rules.specs.declared.fault.CoreFault.{CoreFault}
 use Rattle.desk_rules.specs.declared.fault.CoreFault.TheVariants as core
 
--- the call has no fault, and the reply is the model's; the changes are those of the recorded entries, none where nothing is recorded: they put
--- news alone, keep children, bring new ones that stand nowhere yet, and make the picture of the longer history, which is legal
+-- the call has no fault, and the reply is the model's; the changes are those of the recorded entries, none where nothing is
+-- recorded: they put news alone, keep children, bring new ones that stand nowhere yet, and make the picture of the longer
+-- history, which is legal
 pub record IsDecision (F : History) (call : Call) (changes : List Change) (reply : Reply) : Type 0 where
   pub faultless : fault F call ≡ None
   pub replies : reply ≡ (decide F call).reply
@@ -28,7 +29,7 @@ pub record IsDecision (F : History) (call : Call) (changes : List Change) (reply
   pub makes : applied changes (picture F) ≡ picture (after F call)
   pub stays_legal : Legal (after F call)
 
--- the fault is the model's; want of memory is the code's own
+-- the fault is the model's; out of memory is the code's own
 abbrev pub IsFaultOf : History → Call → CoreFault → Type 0
 IsFaultOf F call core.Memory = Unit {0}
 IsFaultOf F call core.Moment = fault F call ≡ Some 24

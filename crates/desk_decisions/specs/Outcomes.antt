@@ -59,7 +59,7 @@ abbrev pub IsLater : CoreFault → Type 0
 IsLater fault.Moment = ⊥
 IsLater _ = Unit {0}
 
--- want of memory, or of random bytes for the fresh nonce
+-- out of memory, or too few random bytes for the fresh nonce
 abbrev pub IsShort : List ℕ → CoreFault → Type 0
 IsShort random fault.Memory = Unit {0}
 IsShort random fault.ShortRandom = length random < 16

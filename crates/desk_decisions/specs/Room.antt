@@ -4,7 +4,7 @@ use Rattle.desk_model.specs.Tables.{Tables}
 use Rattle.desk_rules.specs.declared.fault.CoreFault.{CoreFault}
 use Rattle.desk_rules.specs.declared.fault.CoreFault.TheVariants as fault
 
--- why no nonce is issued: want of memory, of numbers, or of random bytes where there are numbers
+-- why no nonce is issued: out of memory, no number left, or a number and too few random bytes
 abbrev pub IsIssueFault : Tables → List ℕ → CoreFault → Type 0
 IsIssueFault T random fault.Memory = Unit {0}
 IsIssueFault T random fault.Full = 2 ^ 62 ≤ T.meta.nonces

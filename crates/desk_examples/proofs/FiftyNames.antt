@@ -1,4 +1,4 @@
--- Fifty names, ten at a time: a name is dear to compute.
+-- Fifty names, ten at a time: a name is expensive to compute.
 use Rattle.std.specs.Prelude.{◌≡◌, refl, ℕ, ◌+◌, List, [], ◌∷◌, ◌++◌, map, Option, Some}
 use Rattle.std.proofs.Common.{ap, ◌∙◌}
 use Rattle.desk_model.specs.declared.refusal.Refusal.TheVariants as refusal

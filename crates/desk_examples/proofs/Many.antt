@@ -4,7 +4,7 @@ use Rattle.desk_examples.proofs.Computing.{computing}
 use Rattle.desk_examples.proofs.Naming.{naming}
 use Rattle.desk_examples.specs.Many.{FiftyOneNames, OneNameTooOften, TwoFaultyIdentifiers, FaultyName}
 
--- one name more is not well formed
+-- one name more is malformed
 pub fifty_one_names : FiftyOneNames
 unfolding computing naming
 fifty_one_names = refl

@@ -48,7 +48,7 @@ TenContacts = contacts_fault (replicate 10 (codes "mailto:a@b")) ≡ None
 abbrev pub ElevenContacts : Type 0
 ElevenContacts = contacts_fault (replicate 11 (codes "tel:+1")) ≡ Some refusal.InvalidContact
 
--- the first fault answers
+-- the first that is refused answers
 abbrev pub FirstFault : Type 0
 FirstFault = contacts_fault (codes "mailto:a@b" ∷ codes "tel:+1" ∷ codes "abc" ∷ []) ≡ Some refusal.UnsupportedContact
 

@@ -1,4 +1,4 @@
--- How many identifiers an order may have, and the refusals of those that are faulty (RFC 8555, 6.7.1, 7.4).
+-- How many identifiers an order may have, and how some are refused (RFC 8555, 6.7.1, 7.4).
 use Rattle.std.specs.Prelude.{ℕ, [], ◌∷◌, map, codes}
 use Rattle.desk_model.specs.declared.call.Call.{Call}
 use Rattle.desk_model.specs.declared.call.Target.TheVariants as to
@@ -12,7 +12,7 @@ use Rattle.desk_examples.specs.Texts.{malformed}
 abbrev pub ordering : ℕ → Call
 ordering count = request to.NewOrder (order_text (names count))
 
--- one name more is not well formed
+-- one name more is malformed
 abbrev pub FiftyOneNames : Type 0
 FiftyOneNames = Gives account_desk (ordering 51) (refuses 400 malformed nonce_two) (spent 1 ∷ issued (zeros 16) ∷ [])
 
@@ -23,7 +23,7 @@ OneNameTooOften =
 
 -- ---- identifiers that are refused
 
--- the first faulty identifier gives the refusal, and each is listed
+-- the first identifier that is refused gives the refusal, and each is listed
 abbrev pub TwoFaultyIdentifiers : Type 0
 TwoFaultyIdentifiers =
     Gives account_desk (request to.NewOrder (codes "{\"identifiers\":[{\"type\":\"ip\",\"value\":\"a.example\"},{\"type\":\"dns\",\"value\":\"a..b\"},{\"type\":\"dns\",\"value\":\"c.example\"}]}"))

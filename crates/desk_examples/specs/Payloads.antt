@@ -7,12 +7,12 @@ use Rattle.desk_examples.specs.Entries.{issued, spent}
 use Rattle.desk_examples.specs.Calls.{on, zeros, new_desk, order_desk, default_terms, request, nonce_two}
 use Rattle.desk_examples.specs.Texts.{malformed}
 
--- a request to the desk of one order is not well formed
+-- a request to the desk of one order is malformed
 abbrev pub IsMalformed : Target → List ℕ → Type 0
 IsMalformed target payload =
     Gives (order_desk default_terms) (request target payload) (refuses 400 malformed nonce_two) (spent 1 ∷ issued (zeros 16) ∷ [])
 
--- newAccount by a key without an account is not well formed
+-- newAccount by a key without an account is malformed
 abbrev pub IsMalformedAccount : List ℕ → Type 0
 IsMalformedAccount payload =
     Gives (on 0 (issued (zeros 16)) ∷ new_desk) (request to.NewAccount payload) (refuses 400 malformed nonce_two) (spent 1 ∷ issued (zeros 16) ∷ [])

@@ -19,7 +19,7 @@ pub fn first_order_holds()
     ensures first_calls { FirstCalls }
 {}
 
-/// How many identifiers an order may have, and the refusals of those that are faulty (RFC 8555, 6.7.1, 7.4).
+/// How many identifiers an order may have, and how some are refused (RFC 8555, 6.7.1, 7.4).
 pub fn identifiers_are_counted()
     ensures fifty_one_names { FiftyOneNames }
     ensures one_name_too_often { OneNameTooOften }

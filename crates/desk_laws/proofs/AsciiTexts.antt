@@ -34,7 +34,7 @@ pub record IsParted (front rest : List ℕ) : Type 0 where
   pub before : IsUtf8 front
   pub after : IsUtf8 rest
 
--- a text is parted by an ASCII byte
+-- a text is separated by an ASCII byte
 pub parted : (front : List ℕ) (b : ℕ) (rest : List ℕ) → IsUtf8 (front ++ b ∷ rest) → b < 128 → IsParted front rest
 parted front b rest whole ascii =
     let text : List ℕ = front ++ b ∷ rest in

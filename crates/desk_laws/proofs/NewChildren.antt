@@ -1,4 +1,5 @@
--- The children of a row that is new stand nowhere yet: later changes keep all children, and after the last one no two are the same.
+-- The children of a row that is new stand nowhere yet: later changes keep all children, and after the last one no two are the
+-- same.
 use Rattle.std.proofs.Common.{◌≡◌, ◌≢◌, ◌≤◌, ◌⊎◌, inl, inr, ℕ, List, [], ◌∷◌, ◌++◌, map, Option, Some, None, refl, sym, ap, subst, ◌∙◌, true, false, Bool, cond}
 use Rattle.std.specs.Prelude.{IfSome, find, nat_lt, ◌==◌, ◌||◌}
 use Rattle.std.specs.List.{flat_map, list_any}

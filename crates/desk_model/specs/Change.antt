@@ -1,4 +1,5 @@
--- What is recorded, as data: the rows that are put, where they differ from those that stood there, and the nonces that are removed.
+-- What is recorded, as data: the rows that are put, where they differ from those that stood there, and the nonces that are
+-- removed.
 use Rattle.std.specs.Prelude.{ℕ, ◌+◌, List, [], ◌∷◌, ◌++◌, map, Bool, not, cond, ◌&&◌, ◌||◌, ◌==◌, nat_lt, Option, is_none, is_some, bytes_eq}
 use Rattle.std.specs.Cmp.Lexicographic.{pointwise}
 use Rattle.std.specs.List.{filter, list_any, zip}

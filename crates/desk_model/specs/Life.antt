@@ -134,7 +134,8 @@ HistoriesAreLegal = (start : History) (life : List Event) → IsLife start life 
 abbrev pub HistoriesAreOfCalls : Type 0
 HistoriesAreOfCalls = (start : History) (life : List Event) → IsLife start life → history start life ≡ made_by start (kept_calls life)
 
--- what was acknowledged stays: the history after an acknowledged call, which ends with that call, is a beginning of each later one
+-- what was acknowledged stays: the history after an acknowledged call, which ends with that call, is a beginning of each
+-- later one
 abbrev pub AcknowledgedStays : Type 0
 AcknowledgedStays =
     (start : History) (later earlier : List Event) (call : Call) (reply : Reply)

@@ -94,7 +94,7 @@ identifier_by _ _ = None
 abbrev pub identifier_in : Data → Option Identifier
 identifier_in d = identifier_by (option_and_then as_str (get (codes "type") d)) (option_and_then as_str (get (codes "value") d))
 
--- an order with dates of its own is not well formed, since the desk can't keep them
+-- an order with dates of its own is malformed, since the desk can't keep them
 abbrev pub new_order_in : Data → Option (List Identifier)
 new_order_in d =
     if is_some (get (codes "notBefore") d) || is_some (get (codes "notAfter") d) then None

@@ -34,7 +34,7 @@ use Rattle.desk_model.specs.declared.call.FetchError.TheVariants as fetch
 
 -- ---- accounts (RFC 8555, 7.3)
 
--- an account is opened, or refused: only an existing one was asked for, or a contact is at fault
+-- an account is opened, or refused: only an existing one was asked for, or a contact is refused
 abbrev pub open_account : Tables → List ℕ → NewAccount → Verdict
 open_account T key p =
     check (not p.only_existing) refusal.AccountDoesNotExist
@@ -71,7 +71,7 @@ abbrev pub and_subproblem : Option Refusal → Identifier → List Subproblem �
 and_subproblem None i rest = rest
 and_subproblem (Some why) i rest = (record { refusal = why; kind = i.kind; value = i.value }) ∷ rest
 
--- each faulty identifier, in order
+-- each identifier that is refused, in order
 abbrev pub subproblems : List Identifier → List Subproblem
 subproblems [] = []
 subproblems (i ∷ is) = and_subproblem (fault_of i) i (subproblems is)
@@ -99,7 +99,7 @@ abbrev pub wanted : List Name → List ℕ → List Wanted
 wanted [] random = []
 wanted (n ∷ ns) random = new n (pieces (length (kinds_of n)) random) ∷ wanted ns (drop (16 * length (kinds_of n)) random)
 
--- refused by the first faulty identifier, with all of them listed; else an authorization is made for each name
+-- refused by the first identifier that is, with all of them listed; else an authorization is made for each name
 abbrev pub order_of : Tables → List ℕ → ℕ → List Identifier → List Subproblem → Verdict
 order_of T random n ids (s ∷ ss) = refused s.refusal (s ∷ ss)
 order_of T random n ids [] = records (ordered n (wanted (kept (names_in ids)) random)) (show.MadeOrder (T.meta.orders + 1))

@@ -5,7 +5,7 @@ ghost use Rattle.desk_model.specs.Refusals.{refusal_of};
 /// Why a request is refused.
 #[derive(Clone, Copy, Debug, PartialEq, Eq)]
 pub enum Refusal {
-    /// The request is not well formed.
+    /// The request is malformed.
     Malformed,
     /// There is nothing at the path.
     NotFound,

@@ -108,7 +108,7 @@ pub(crate) fn account_verdict(alloc: Global, number: u64, change: AccountChange)
     }
 }
 
-// The contacts of an account are replaced, unless one of the new ones is at fault.
+// The contacts of an account are replaced, unless one of the new ones is refused.
 #[tactic(auto, unfolding(desk_model::specs::Verdict::unless_fault))]
 fn contacts_verdict(alloc: Global, number: u64, contacts: Sequence<Text>) -> Verdict
     ensures { result ≡ account_verdict number (Update (Some contacts)) }

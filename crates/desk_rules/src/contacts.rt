@@ -5,7 +5,7 @@ ghost use Rattle.desk_model.specs.Contact.{lowered, parts_fault, contact_fault, 
 
 use desk_model::{Refusal, Text};
 
-/// The refusal of a list of contacts, where it has one: too many, or the first that is at fault.
+/// The refusal of a list of contacts, where it has one: too many, or the first that is refused.
 pub(crate) fn contacts_fault(contacts: &[Text]) -> Option<Refusal>
     ensures { result ≡ contacts_fault contacts.now }
 {

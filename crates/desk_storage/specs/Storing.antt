@@ -12,8 +12,8 @@ use Rattle.desk_storage.specs.Sight.{Sight, Keeps, Reads, Stands}
 use Rattle.desk_storage.specs.declared.fault.StorageFault.{StorageFault}
 use Rattle.desk_storage.specs.declared.fault.StorageFault.TheVariants as fault
 
--- the changes lead from the picture of a legal history to that of another: they keep the children of each row that they replace, and
--- the children of a new row stand nowhere yet
+-- the changes lead from the picture of a legal history to that of another: they keep the children of each row that they
+-- replace, and the children of a new row stand nowhere yet
 pub record Leads (F G : History) (changes : List Change) : Type 0 where
   pub before : Legal F
   pub after : Legal G

@@ -24,7 +24,7 @@ cause_of (SqliteFailure code.DiskFull) = cause.Device
 cause_of (SqliteFailure code.TooBig) = cause.Device
 cause_of _ = cause.Other
 
--- after a want of memory the store goes on if its connection still answers
+-- out of memory, the store goes on if its connection still answers
 abbrev pub IsOfMemory : StorageFault → Type 0
 IsOfMemory f = (f ≡ fault.Memory) ⊎ (f ≡ fault.Reopen)
 

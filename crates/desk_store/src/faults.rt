@@ -52,7 +52,7 @@ fn is_answering<S: Alter>(conn: &mut Connection<S>) -> bool
     }
 }
 
-/// The fault of a want of memory: the store goes on where its connection still answers.
+/// The fault where memory ran out: the store goes on where its connection still answers.
 pub(crate) fn memory_fault<S: Alter>(conn: &mut Connection<S>) -> StorageFault
     ensures fault { IsOfMemory result }
     ensures unchanged { HasCleanDisk (state S.Store conn.new) → result ≡ memory → IsUnchanged (state S.Store conn.old) (state S.Store conn.new) }

@@ -11,7 +11,7 @@ use requests::{OfficeResource, Resource, methods_of};
 /// What the fields of a head say of the body behind it.
 #[derive(Clone, Copy, Debug, PartialEq, Eq)]
 pub enum Framing {
-    /// The fields are not well formed.
+    /// The fields are malformed.
     Malformed,
     /// More bytes follow than the resource takes.
     TooLarge,
