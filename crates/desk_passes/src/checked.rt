@@ -22,7 +22,7 @@ pub(crate) struct Checked {
     pub(crate) fault: Option<StatusFault>,
 }
 
-/// Checks the account of the least number above this one.
+// Checks the account of the least number above this one.
 fn check_account<S: RowsAbove>(
     alloc: Global,
     source: &mut S,
@@ -43,7 +43,7 @@ fn check_account<S: RowsAbove>(
     }))
 }
 
-/// Checks the order of the least number above this one, by the authorizations that it lists.
+// Checks the order of the least number above this one, by the authorizations that it lists.
 fn check_order<S: RowsAbove>(
     alloc: Global,
     source: &mut S,
@@ -65,7 +65,7 @@ fn check_order<S: RowsAbove>(
     }))
 }
 
-/// Checks the authorization of the least number above this one.
+// Checks the authorization of the least number above this one.
 fn check_authorization<S: RowsAbove>(
     alloc: Global,
     source: &mut S,
@@ -87,7 +87,7 @@ fn check_authorization<S: RowsAbove>(
     }))
 }
 
-/// Checks the challenge of the least number above this one.
+// Checks the challenge of the least number above this one.
 fn check_challenge<S: RowsAbove>(
     alloc: Global,
     source: &mut S,

@@ -10,7 +10,7 @@ use desk_model::{AuthorizationRow, AuthzStatus, Listed};
 use desk_storage::StorageFault;
 use std::alloc::{AllocError, Global};
 
-/// Puts the status of the first row, if there is one.
+// Puts the status of the first row, if there is one.
 fn push_first(statuses: &mut Vec<AuthzStatus>, rows: &[AuthorizationRow]) -> Result<(), AllocError>
     ensures { OnOk result ((all : List Row) (number : ℕ) (later : List ℕ) → rows.now ≡ filter (λ a. a.number == number) all →
         statuses.new.items ++ stored_statuses all later ≡ statuses.old.items ++ stored_statuses all (number ∷ later)) }
@@ -21,7 +21,7 @@ fn push_first(statuses: &mut Vec<AuthzStatus>, rows: &[AuthorizationRow]) -> Res
     Ok(())
 }
 
-/// Puts the stored status of the authorization of a number, if there is one.
+// Puts the stored status of the authorization of a number, if there is one.
 fn push_stored<S: LookUps>(
     alloc: Global,
     source: &mut S,
@@ -37,7 +37,7 @@ fn push_stored<S: LookUps>(
     Ok(())
 }
 
-/// Puts the stored statuses of the authorizations in these places, one after the other.
+// Puts the stored statuses of the authorizations in these places, one after the other.
 fn put_statuses<S: LookUps>(
     alloc: Global,
     source: &mut S,

@@ -75,7 +75,7 @@ impl<'a, S: RowsAbove> Orders<'a, S> {
         }
     }
 
-    /// Reads the next order.
+    // Reads the next order.
     fn advance(&mut self, alloc: Global) -> Result<Option<OrderRow>, StorageFault>
         ensures same_source { self.new.source.ghost_name ≡ self.old.source.ghost_name }
         ensures reads { Reads S.sight self.old.source.now self.new.source.now result }

@@ -80,7 +80,7 @@ impl<'a, S: RowsAbove> StatusFaults<'a, S> {
         }
     }
 
-    /// Goes on to the next object with a fault.
+    // Goes on to the next object with a fault.
     fn advance(&mut self, alloc: Global) -> Result<Option<StatusFault>, StorageFault>
         ensures same_source { self.new.source.ghost_name ≡ self.old.source.ghost_name }
         ensures reads { Reads S.sight self.old.source.now self.new.source.now result }
@@ -98,7 +98,7 @@ impl<'a, S: RowsAbove> StatusFaults<'a, S> {
         Ok(None)
     }
 
-    /// Checks one object.
+    // Checks one object.
     fn step(&mut self, alloc: Global) -> Result<Option<Checked>, StorageFault>
         ensures same_source { self.new.source.ghost_name ≡ self.old.source.ghost_name }
         ensures same_kind { self.new.kind ≡ self.old.kind }

@@ -20,7 +20,7 @@ fn is_dns(identifier: &Identifier) -> bool
     identifier.kind.as_str() == "dns"
 }
 
-/// The name that an identifier stands for, or why it is refused.
+// The name that an identifier stands for, or why it is refused.
 fn name_in(alloc: Global, identifier: &Identifier) -> Result<Result<DnsName, Refusal>, AllocError>
     ensures named { IfOk result (λ read. IfOk read (λ name. name_of identifier.now.value ≡ Some name)) }
     ensures faulty { IfOk result (λ read. MatchResult read (λ _. fault_of identifier.now ≡ None) (λ why. fault_of identifier.now ≡ Some why)) }
@@ -35,7 +35,7 @@ fn name_in(alloc: Global, identifier: &Identifier) -> Result<Result<DnsName, Ref
     }
 }
 
-/// A faulty identifier, with its type and value as received.
+// A faulty identifier, with its type and value as received.
 fn subproblem(identifier: &Identifier, refusal: Refusal) -> Result<Subproblem, AllocError>
     ensures { IfOk result (λ s. s ≡ record { refusal = refusal; kind = identifier.now.kind; value = identifier.now.value }) }
 {

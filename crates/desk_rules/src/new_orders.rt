@@ -30,21 +30,21 @@ fn is_same_base(name: &DnsName, other: &DnsName) -> bool
     name.base() == other.base()
 }
 
-/// Whether two names are the same.
+// Whether two names are the same.
 fn is_same_name(name: &DnsName, other: &DnsName) -> bool
     ensures { result ≡ same_name name.now other.now }
 {
     is_same_base(name, other) && is_same_mark(name.is_wildcard(), other.is_wildcard())
 }
 
-/// Whether a name is among those that were kept.
+// Whether a name is among those that were kept.
 fn has_name(names: &[DnsName], name: &DnsName) -> bool
     ensures { result ≡ list_any (λ other. same_name other name.now) names.now }
 {
     names.iter().any(|other| is_same_name(other, name))
 }
 
-/// The names, those that are equal in their first place.
+// The names, those that are equal in their first place.
 fn kept(alloc: Global, names: Vec<DnsName>) -> Result<Vec<DnsName>, AllocError>
     ensures { IfOk result (λ v. v.items ≡ kept names.items) }
 {
@@ -57,21 +57,21 @@ fn kept(alloc: Global, names: Vec<DnsName>) -> Result<Vec<DnsName>, AllocError>
     Ok(found)
 }
 
-/// How many challenges, and so tokens, a name gets.
+// How many challenges, and so tokens, a name gets.
 fn count_kinds(name: &DnsName) -> usize
     ensures { result ≡ length (kinds_of name.now) }
 {
     if name.is_wildcard() { 1 } else { 2 }
 }
 
-/// How many tokens some names get: a wildcard one gets one, another two.
+// How many tokens some names get: a wildcard one gets one, another two.
 fn count_tokens(names: &[DnsName]) -> usize
     ensures { result ≡ length names.now + count_by (λ n. not n.wildcard) names.now }
 {
     names.len() + names.iter().filter(|name| !name.is_wildcard()).count()
 }
 
-/// The tokens of a name, taken from the front of the random bytes.
+// The tokens of a name, taken from the front of the random bytes.
 fn tokens_of(alloc: Global, name: &DnsName, random: &[u8]) -> Result<Vec<[u8; 16]>, AllocError>
     requires { 16 * length (kinds_of name.now) ≤ length random.now }
     ensures { IfOk result (λ v. v.items ≡ pieces (length (kinds_of name.now)) random.now) }
@@ -84,7 +84,7 @@ fn tokens_of(alloc: Global, name: &DnsName, random: &[u8]) -> Result<Vec<[u8; 16
     Ok(tokens)
 }
 
-/// Each name with its tokens, taken in turn.
+// Each name with its tokens, taken in turn.
 fn wanted(alloc: Global, names: Vec<DnsName>, random: &[u8]) -> Result<Vec<Wanted>, AllocError>
     requires { 16 * count_tokens (wanted names.items random.now) ≤ length random.now }
     ensures { IfOk result (λ v. v.items ≡ wanted names.items random.now) }
@@ -100,7 +100,7 @@ fn wanted(alloc: Global, names: Vec<DnsName>, random: &[u8]) -> Result<Vec<Wante
     Ok(found)
 }
 
-/// Whether an order may be made with this many authorizations and challenges.
+// Whether an order may be made with this many authorizations and challenges.
 fn has_numbers(meta: &Meta, authorizations: usize, challenges: usize) -> Result<(), CoreFault>
     ensures { MatchResult result
         (λ _. (meta.now.orders < 2 ^ 62) × (meta.now.authorizations + authorizations ≤ 2 ^ 62) × (meta.now.challenges + challenges ≤ 2 ^ 62))
@@ -111,7 +111,7 @@ fn has_numbers(meta: &Meta, authorizations: usize, challenges: usize) -> Result<
     has_room_for(meta.challenges, challenges)
 }
 
-/// An order for these names, with a new authorization for each.
+// An order for these names, with a new authorization for each.
 fn order_for(
     alloc: Global,
     book: &Book,
