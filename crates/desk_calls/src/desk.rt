@@ -5,6 +5,7 @@ ghost use Rattle.desk_calls.specs.declared.fault.DeskFault.TheVariants as fault;
 ghost use Rattle.desk_calls.specs.Answers.{Answers, is_closed_after};
 ghost use Rattle.desk_calls.specs.Faults.{IsMet};
 ghost use Rattle.desk_calls.specs.Runs.{Runs, RunsAs};
+ghost use Rattle.desk_model.specs.Limits.{last_moment};
 
 use crate::fault::DeskFault;
 use crate::forms::keep_form;
@@ -41,7 +42,7 @@ impl<K: Storage + Drop> Model for Desk<K> {
 
 // The reply to a call, over an open store.
 fn attempt<K: Storage + Drop>(alloc: Global, store: &mut K, call: &Call) -> Result<Reply, DeskFault>
-    ensures late { result ≡ Err fault.Moment → 250000000000 < call.now.at }
+    ensures late { result ≡ Err fault.Moment → last_moment < call.now.at }
     ensures met { IfErr result (IsMet K.Storage.may_meet) }
     ensures exit { Answers K.Storage.sight call.now store.old store.new result }
 {
@@ -114,8 +115,8 @@ impl<K: Storage + Drop> Desk<K> {
     /// The fault of the call, or `Memory`: the desk is then as it was. `Device` or `Reopen`: the desk is closed.
     pub fn answer(&mut self, alloc: Global, call: &Call) -> Result<Reply, DeskFault>
         ensures closed { IsTrue self.old.is_closed → (result ≡ Err fault.Reopen) × (self.new ≡ self.old) }
-        ensures late { self.old.is_closed ≡ false → (result ≡ Err fault.Moment) ↔ (250000000000 < call.now.at) }
-        ensures unmade { 250000000000 < call.now.at → self.new ≡ self.old }
+        ensures late { self.old.is_closed ≡ false → (result ≡ Err fault.Moment) ↔ (last_moment < call.now.at) }
+        ensures unmade { last_moment < call.now.at → self.new ≡ self.old }
         ensures met { self.old.is_closed ≡ false → IfErr result (IsMet K.Storage.may_meet) }
         ensures exit { self.old.is_closed ≡ false → Answers K.Storage.sight call.now self.old.store self.new.store result }
         ensures flag { self.old.is_closed ≡ false → self.new.is_closed ≡ is_closed_after result }

@@ -1,6 +1,7 @@
 //! The rows that a new order brings: an authorization for each name, with its challenges (RFC 8555, 7.1.3 to 7.1.5).
 ghost use Rattle.std.specs.Prelude.{◌≡◌, ◌≤◌, ◌<◌, ◌+◌, ◌^◌, ◌++◌, map, length, None, IfOk, OnOk};
 ghost use Rattle.desk_model.specs.Authorization.{challenges_from, count_challenges, kinds_of, made_for};
+ghost use Rattle.desk_model.specs.Limits.{last_number};
 ghost use Rattle.desk_model.specs.Run.{count_tokens};
 ghost use Rattle.desk_model.specs.Effect.{fresh_challenge};
 ghost use Rattle.desk_changes.specs.Made.{made_row, made_rows, places_from};
@@ -40,7 +41,7 @@ fn new_challenges(
     tokens: &[[u8; 16]],
     number: u64,
 ) -> Result<Sequence<ChallengeRow>, AllocError>
-    requires { number ≤ 2 ^ 62 + 1 }
+    requires { number ≤ last_number + 1 }
     ensures { IfOk result (λ rows. rows ≡ map fresh_challenge (challenges_from number (kinds_of name.now) tokens.now)) }
 {
     let mut rows = Vec::new(alloc);
@@ -68,7 +69,7 @@ fn new_authorization(
     number: u64,
     challenge: u64,
 ) -> Result<AuthorizationRow, AllocError>
-    requires { challenge ≤ 2 ^ 62 + 1 }
+    requires { challenge ≤ last_number + 1 }
     ensures { IfOk result (λ r. r ≡ made_row making.date (record {
       number = number;
       account = making.account;
@@ -102,8 +103,8 @@ pub(crate) fn push_authorizations(
     number: u64,
     challenge: u64,
 ) -> Result<u64, AllocError>
-    requires numbers { number + length wanted.now ≤ 2 ^ 62 + 1 }
-    requires challenges { challenge + count_tokens wanted.now ≤ 2 ^ 62 + 1 }
+    requires numbers { number + length wanted.now ≤ last_number + 1 }
+    requires challenges { challenge + count_tokens wanted.now ≤ last_number + 1 }
     ensures rows { OnOk result (rows.new.items ≡ rows.old.items ++ made_rows making.date (made_for making.account making.date making.expires wanted.now number challenge)) }
     ensures next { IfOk result (λ n. n ≡ challenge + count_challenges (made_for making.account making.date making.expires wanted.now number challenge)) }
 {

@@ -1,6 +1,7 @@
 //! What a call records, change by change.
 ghost use Rattle.desk_laws.specs.Ordered.{Ascends, IsOrdered};
 ghost use Rattle.desk_model.specs.Derived.{restated_order};
+ghost use Rattle.desk_model.specs.Limits.{last_moment, last_number};
 ghost use Rattle.desk_model.specs.Run.{count_tokens};
 ghost use Rattle.desk_changes.specs.Made.{bare_order, next_account, next_order, next_rows, ordered_meta};
 ghost use Rattle.std.specs.Prelude.{◌≡◌, ◌<◌, ◌≤◌, length, map, ◌+◌, ◌^◌, ◌++◌, ◌∷◌, [], None, IfOk, OnOk};
@@ -38,7 +39,7 @@ impl Recording {
     ///
     /// Where there is no memory for the changes of the sweep.
     pub fn begin(alloc: Global, book: &Book, moment: u64) -> Result<Recording, AllocError>
-        requires { moment ≤ 250000000000 }
+        requires { moment ≤ last_moment }
         ensures recorded { IfOk result (λ r. IsRecorded moment book.now [] r.changes.items r.meta) }
         ensures meta { IfOk result (λ r. r.meta ≡ record book.now.meta { clock = moment }) }
     {
@@ -88,7 +89,7 @@ impl Recording {
     ///
     /// Where there is no memory for its changes; what was recorded is then of no use.
     pub fn issue(&mut self, random: [u8; 16]) -> Result<(), AllocError>
-        requires { self.old.meta.nonces < 2 ^ 62 }
+        requires { self.old.meta.nonces < last_number }
         ensures changes { OnOk result (self.new.changes.items ≡ self.old.changes.items
             ++ PutMeta (record self.old.meta { nonces = self.old.meta.nonces + 1 })
             ∷ PutNonce (record { serial = self.old.meta.nonces + 1; random = random; issued = self.old.meta.clock }) ∷ []) }
@@ -101,7 +102,7 @@ impl Recording {
     }
 
     fn push_nonce(&mut self, random: [u8; 16]) -> Result<(), AllocError>
-        requires { self.old.meta.nonces < 2 ^ 62 }
+        requires { self.old.meta.nonces < last_number }
         ensures changes { OnOk result (self.new.changes.items ≡ self.old.changes.items
             ++ PutMeta (record self.old.meta { nonces = self.old.meta.nonces + 1 })
             ∷ PutNonce (record { serial = self.old.meta.nonces + 1; random = random; issued = self.old.meta.clock }) ∷ []) }
@@ -122,7 +123,7 @@ impl Recording {
     ///
     /// Where there is no memory for its changes; what was recorded is then of no use.
     pub fn open(&mut self, key: Jwk, contacts: Sequence<Text>) -> Result<AccountRow, AllocError>
-        requires { self.old.meta.accounts < 2 ^ 62 }
+        requires { self.old.meta.accounts < last_number }
         ensures account { IfOk result (λ r. r ≡ next_account self.old.meta key contacts) }
         ensures recorded { OnOk result ((m : ℕ) (B : Tables) (es : List EntryOf)
             → IsRecorded m B es self.old.changes.items self.old.meta
@@ -132,7 +133,7 @@ impl Recording {
     }
 
     fn push_account(&mut self, key: Jwk, contacts: Sequence<Text>) -> Result<AccountRow, AllocError>
-        requires { self.old.meta.accounts < 2 ^ 62 }
+        requires { self.old.meta.accounts < last_number }
         ensures changes { OnOk result (self.new.changes.items ≡ self.old.changes.items
             ++ PutMeta (record self.old.meta { accounts = self.old.meta.accounts + 1 })
             ∷ PutAccount (next_account self.old.meta key contacts) ∷ []) }
@@ -190,9 +191,9 @@ impl Recording {
         account: u64,
         wanted: &[Wanted],
     ) -> Result<OrderRow, AllocError>
-        requires orders { self.old.meta.orders < 2 ^ 62 }
-        requires authorizations { self.old.meta.authorizations + length wanted.now ≤ 2 ^ 62 }
-        requires challenges { self.old.meta.challenges + count_tokens wanted.now ≤ 2 ^ 62 }
+        requires orders { self.old.meta.orders < last_number }
+        requires authorizations { self.old.meta.authorizations + length wanted.now ≤ last_number }
+        requires challenges { self.old.meta.challenges + count_tokens wanted.now ≤ last_number }
         ensures changes { OnOk result (self.new.changes.items ≡ self.old.changes.items
             ++ PutMeta (ordered_meta self.old.meta account wanted.now)
             ∷ (map PutAuthorization (next_rows self.old.meta account wanted.now) ++ PutOrder (next_order self.old.meta account wanted.now) ∷ [])) }
@@ -211,9 +212,9 @@ impl Recording {
         account: u64,
         wanted: &[Wanted],
     ) -> Result<OrderRow, AllocError>
-        requires orders { self.old.meta.orders < 2 ^ 62 }
-        requires authorizations { self.old.meta.authorizations + length wanted.now ≤ 2 ^ 62 }
-        requires challenges { self.old.meta.challenges + count_tokens wanted.now ≤ 2 ^ 62 }
+        requires orders { self.old.meta.orders < last_number }
+        requires authorizations { self.old.meta.authorizations + length wanted.now ≤ last_number }
+        requires challenges { self.old.meta.challenges + count_tokens wanted.now ≤ last_number }
         ensures changes { OnOk result (self.new.changes.items ≡ self.old.changes.items
             ++ PutMeta (ordered_meta self.old.meta account wanted.now)
             ∷ (map PutAuthorization (next_rows self.old.meta account wanted.now) ++ PutOrder (next_order self.old.meta account wanted.now) ∷ [])) }
@@ -234,8 +235,8 @@ impl Recording {
         account: u64,
         wanted: &[Wanted],
     ) -> Result<Vec<AuthorizationRow>, AllocError>
-        requires authorizations { self.old.meta.authorizations + length wanted.now ≤ 2 ^ 62 }
-        requires challenges { self.old.meta.challenges + count_tokens wanted.now ≤ 2 ^ 62 }
+        requires authorizations { self.old.meta.authorizations + length wanted.now ≤ last_number }
+        requires challenges { self.old.meta.challenges + count_tokens wanted.now ≤ last_number }
         ensures rows { IfOk result (λ v. v.items ≡ next_rows self.old.meta account wanted.now) }
         ensures meta { OnOk result (self.new.meta ≡ record (ordered_meta self.old.meta account wanted.now) { orders = self.old.meta.orders }) }
         ensures changes { OnOk result (self.new.changes.items ≡ self.old.changes.items) }
@@ -280,7 +281,7 @@ impl Recording {
         account: u64,
         rows: &[AuthorizationRow],
     ) -> Result<OrderRow, AllocError>
-        requires orders { self.now.meta.orders < 2 ^ 62 }
+        requires orders { self.now.meta.orders < last_number }
         ensures { IfOk result (λ o. (n : ℕ) → Ascends (λ r. r.number) n rows.now → o ≡ restated_order self.now.meta.clock rows.now (bare_order self.now.meta account rows.now)) }
     {
         let moment = self.meta.clock.moment();

@@ -1,5 +1,6 @@
 -- What a stored row keeps: its numbers are in their limits, and its texts have their forms.
 use Rattle.std.specs.Prelude.{◌≡◌, ◌≤◌, ◌^◌, ℕ, List, [], length, Option, None, Some, ⊤, Bool, ◌||◌, bytes_eq, codes, IsTrue}
+use Rattle.desk_model.specs.Limits.{last_end, last_moment, last_number}
 use Rattle.desk_model.specs.Terms.{are_terms}
 use Rattle.desk_model.specs.Keys.{IsKeyText}
 use Rattle.desk_model.specs.Kept.{EachOf}
@@ -22,19 +23,19 @@ use Rattle.desk_columns.specs.declared.flat_rows.Owned.{Owned}
 
 -- the number of an object
 abbrev pub IsNumber : ℕ → Type 0
-IsNumber n = (1 ≤ n) × (n ≤ 2 ^ 62)
+IsNumber n = (1 ≤ n) × (n ≤ last_number)
 
 -- the last number given
 abbrev pub IsCounter : ℕ → Type 0
-IsCounter n = n ≤ 2 ^ 62
+IsCounter n = n ≤ last_number
 
 -- a moment, in seconds since 1970
 abbrev pub IsMoment : ℕ → Type 0
-IsMoment n = n ≤ 250000000000
+IsMoment n = n ≤ last_moment
 
 -- a moment and a life
 abbrev pub IsExpiry : ℕ → Type 0
-IsExpiry n = n ≤ 250315360000
+IsExpiry n = n ≤ last_end
 
 -- the random bytes of a nonce, or a token
 abbrev pub IsSixteen : List ℕ → Type 0

@@ -6,6 +6,7 @@ use Rattle.desk_model.specs.declared.refusal.Refusal.TheVariants as refusal
 use Rattle.desk_model.specs.Account.{is_valid as is_valid_account}
 use Rattle.desk_model.specs.Contact.{contacts_fault}
 use Rattle.desk_model.specs.Legal.{has_length, is_pending_challenge, is_problem, is_processing_challenge}
+use Rattle.desk_model.specs.Limits.{longest_certificate, most_names}
 use Rattle.desk_model.specs.Order.{is_processing, is_ready}
 use Rattle.desk_model.specs.Questions.{account_with_key}
 use Rattle.desk_model.specs.Tables.{Tables}
@@ -84,7 +85,7 @@ order_actable T r n ids [] = refl
 
 -- newOrder
 new_order_actable : (T : Tables) (r : List ℕ) (n : ℕ) (ids : List Identifier) → IsActable T.meta (new_order_verdict T r n ids)
-new_order_actable T r n ids = check_actable T.meta (has_length 1 50 ids) refusal.Malformed _ (order_actable T r n ids (subproblems ids))
+new_order_actable T r n ids = check_actable T.meta (has_length 1 most_names ids) refusal.Malformed _ (order_actable T r n ids (subproblems ids))
 
 -- an order that is finalized
 finalize_actable : (M : Meta) (n : ℕ) (o : OrderRow) (text : List ℕ) → IsActable M (finalize_verdict n o text)
@@ -149,7 +150,7 @@ report_actable T n finding =
 certify_actable : (M : Meta) (n : ℕ) (bytes : List ℕ) (o : OrderRow) → IsActable M (certify_verdict n bytes o)
 certify_actable M n bytes o =
     check_actable M (nat_le 1 (length bytes)) refusal.Malformed _
-    (check_actable M (nat_le (length bytes) 65536) refusal.TooLarge _ (choose_actable M _ _ _ tt (check_actable M (is_processing o.status) refusal.Conflict _ tt)))
+    (check_actable M (nat_le (length bytes) longest_certificate) refusal.TooLarge _ (choose_actable M _ _ _ tt (check_actable M (is_processing o.status) refusal.Conflict _ tt)))
 
 -- a failure
 fail_actable : (M : Meta) (n : ℕ) (problem : OrderProblem) (o : OrderRow) → IsActable M (fail_verdict n problem o)

@@ -23,7 +23,7 @@ use Rattle.desk_model.specs.declared.verdict.Shows.TheVariants as show
 use Rattle.desk_model.specs.declared.verdict.Verdict.{Verdict}
 use Rattle.desk_model.specs.declared.verdict.Verdict.TheVariants.{Refused as refused, Accepted as accepted}
 use Rattle.desk_laws.specs.Ordered.{Ascends, Below, IsOrdered}
-use Rattle.desk_laws.specs.LegalLaws.{last_end}
+use Rattle.desk_model.specs.Limits.{last_end}
 use Rattle.desk_laws.proofs.Chain.{account_number, order_number}
 use Rattle.desk_laws.proofs.Local.{swept_order_number}
 use Rattle.desk_laws.proofs.RowLists.{ascends_above, ascends_found, none_below}

@@ -3,7 +3,8 @@ use Rattle.std.proofs.Common.{◌≡◌, ℕ, ◌+◌, ◌*◌, ◌<◌, ◌≤�
 use Rattle.std.specs.Prelude.{nat_lt, IsTrue}
 use Rattle.desk_model.specs.Entry.{History}
 use Rattle.desk_model.specs.History.{clock, moment_of, record_all}
-use Rattle.desk_model.specs.Legal.{Legal, EachFollows, numbers_fit, last_moment}
+use Rattle.desk_model.specs.Legal.{Legal, EachFollows, numbers_fit}
+use Rattle.desk_model.specs.Limits.{last_end, last_moment, last_number}
 use Rattle.desk_model.specs.Nonce.{nonces}
 use Rattle.desk_model.specs.Account.{accounts}
 use Rattle.desk_model.specs.Order.{orders}
@@ -30,7 +31,7 @@ use Rattle.desk_laws.proofs.NewsInOrder.{records_put_news}
 use Rattle.desk_laws.proofs.Recorded.{recorded}
 use Rattle.desk_laws.proofs.Step.{steps, sweep}
 use Rattle.desk_laws.proofs.Keeps.{counters_fit, numbers_fit_counters}
-use Rattle.desk_laws.specs.LegalLaws.{CountersFit, last_end}
+use Rattle.desk_laws.specs.LegalLaws.{CountersFit}
 use Rattle.desk_lives.proofs.SoundCalls.{moment_later, call_follows, legal_by_numbers}
 use Rattle.desk_changes.specs.Acting.{IsActable}
 use Rattle.desk_decisions.specs.HasTexts.{HasTexts}
@@ -64,31 +65,31 @@ pub fitting : (F : History) → CountersFit (picture F).meta → IsTrue (numbers
 fitting F h = numbers_fit_counters F (clock F) h
 
 -- the numbers after some entries
-pub fits_issued : (F : History) (m : ℕ) (r : List ℕ) → CountersFit (picture F).meta → length (nonces F) < 2 ^ 62 → CountersFit (picture (record { date = m; entry = issued r } ∷ F)).meta
+pub fits_issued : (F : History) (m : ℕ) (r : List ℕ) → CountersFit (picture F).meta → length (nonces F) < last_number → CountersFit (picture (record { date = m; entry = issued r } ∷ F)).meta
 fits_issued F m r h lt =
     record {
       nonces = omega (arith, length-append (nonces F) (record { serial = length (nonces F) + 1; random = r; issued = m } ∷ []));
-      accounts = let le : length (accounts F) ≤ 2 ^ 62 = h.accounts in omega (arith, length-append (accounts F) []);
-      orders = let le : length (orders F) ≤ 2 ^ 62 = h.orders in omega (arith, length-append (orders F) []);
-      authorizations = let le : length (authorizations F) ≤ 2 ^ 62 = h.authorizations in omega (arith, length-append (authorizations F) []);
-      challenges = subst (λ l. count_challenges l ≤ 2 ^ 62) (sym (append-nil (authorizations F))) h.challenges;
+      accounts = let le : length (accounts F) ≤ last_number = h.accounts in omega (arith, length-append (accounts F) []);
+      orders = let le : length (orders F) ≤ last_number = h.orders in omega (arith, length-append (orders F) []);
+      authorizations = let le : length (authorizations F) ≤ last_number = h.authorizations in omega (arith, length-append (authorizations F) []);
+      challenges = subst (λ l. count_challenges l ≤ last_number) (sym (append-nil (authorizations F))) h.challenges;
     }
 
 fits_spent : (F : History) (m n : ℕ) → CountersFit (picture F).meta → CountersFit (picture (record { date = m; entry = spent n } ∷ F)).meta
 fits_spent F m n h =
     record {
-      nonces = let le : length (nonces F) ≤ 2 ^ 62 = h.nonces in omega (arith, length-append (nonces F) []);
-      accounts = let le : length (accounts F) ≤ 2 ^ 62 = h.accounts in omega (arith, length-append (accounts F) []);
-      orders = let le : length (orders F) ≤ 2 ^ 62 = h.orders in omega (arith, length-append (orders F) []);
-      authorizations = let le : length (authorizations F) ≤ 2 ^ 62 = h.authorizations in omega (arith, length-append (authorizations F) []);
-      challenges = subst (λ l. count_challenges l ≤ 2 ^ 62) (sym (append-nil (authorizations F))) h.challenges;
+      nonces = let le : length (nonces F) ≤ last_number = h.nonces in omega (arith, length-append (nonces F) []);
+      accounts = let le : length (accounts F) ≤ last_number = h.accounts in omega (arith, length-append (accounts F) []);
+      orders = let le : length (orders F) ≤ last_number = h.orders in omega (arith, length-append (orders F) []);
+      authorizations = let le : length (authorizations F) ≤ last_number = h.authorizations in omega (arith, length-append (authorizations F) []);
+      challenges = subst (λ l. count_challenges l ≤ last_number) (sym (append-nil (authorizations F))) h.challenges;
     }
 
 nonces_stay : (F : History) (m n : ℕ) → length (nonces (record { date = m; entry = spent n } ∷ F)) ≡ length (nonces F)
 nonces_stay F m n = omega (arith, length-append (nonces F) [])
 
 -- the numbers after a nonce was spent and one issued
-pub fits_nonces : (F : History) (m n : ℕ) (r : List ℕ) → CountersFit (picture F).meta → length (nonces F) < 2 ^ 62 →
+pub fits_nonces : (F : History) (m n : ℕ) (r : List ℕ) → CountersFit (picture F).meta → length (nonces F) < last_number →
     CountersFit (picture (record_all m (spent n ∷ issued r ∷ []) F)).meta
 fits_nonces F m n r h lt = fits_issued (record { date = m; entry = spent n } ∷ F) m r (fits_spent F m n h) (omega (arith, nonces_stay F m n))
 

@@ -4,7 +4,8 @@ use Rattle.std.specs.Prelude.{nat_lt, nat_le, ◌&&◌, IsTrue}
 use Rattle.std.proofs.lemmas.Bool.Decides.{nat_tests}
 use Rattle.desk_model.specs.Entry.{History}
 use Rattle.desk_model.specs.History.{clock, moment_of, record_all}
-use Rattle.desk_model.specs.Legal.{Legal, numbers_fit, last_moment}
+use Rattle.desk_model.specs.Legal.{Legal, numbers_fit}
+use Rattle.desk_model.specs.Limits.{last_moment, last_number}
 use Rattle.desk_model.specs.Nonce.{nonces, issued_by}
 use Rattle.desk_model.specs.Account.{accounts}
 use Rattle.desk_model.specs.Order.{orders}
@@ -45,10 +46,10 @@ not_le : (a b : ℕ) → b < a → nat_le a b ≡ false
 not_le a b h = grind (arith, nat_tests)
 
 -- too many nonces
-nonces_over : (G : History) → 2 ^ 62 < length (nonces G) → numbers_fit G ≡ false
+nonces_over : (G : History) → last_number < length (nonces G) → numbers_fit G ≡ false
 nonces_over G h =
-    ap (λ b. b && (nat_le (length (accounts G)) (2 ^ 62) && (nat_le (length (orders G)) (2 ^ 62) && (nat_le (length (authorizations G)) (2 ^ 62) && nat_le (count_challenges (authorizations G)) (2 ^ 62)))))
-    (not_le (length (nonces G)) (2 ^ 62) h)
+    ap (λ b. b && (nat_le (length (accounts G)) last_number && (nat_le (length (orders G)) last_number && (nat_le (length (authorizations G)) last_number && nat_le (count_challenges (authorizations G)) last_number))))
+    (not_le (length (nonces G)) last_number h)
 
 -- fault 26, and fault 25
 is_full : (F : History) (call : Call) (es : List Entry) → call.at ≤ last_moment → (decide F call).entries ≡ es → numbers_fit (record_all (moment_of call.at F) es F) ≡ false →
@@ -78,7 +79,7 @@ issue_faults F call core.Memory legal at is h = tt
 issue_faults F call core.Moment legal at is h = absurd h
 issue_faults F call core.Full legal at is h =
     is_full F call (issued (take 16 call.random) ∷ []) at is
-    (nonces_over (record { date = moment_of call.at F; entry = issued (take 16 call.random) } ∷ F) (let le : 2 ^ 62 ≤ length (nonces F) = h in omega (arith, length-append (nonces F) (record { serial = length (nonces F) + 1; random = take 16 call.random; issued = moment_of call.at F } ∷ []))))
+    (nonces_over (record { date = moment_of call.at F; entry = issued (take 16 call.random) } ∷ F) (let le : last_number ≤ length (nonces F) = h in omega (arith, length-append (nonces F) (record { serial = length (nonces F) + 1; random = take 16 call.random; issued = moment_of call.at F } ∷ []))))
 issue_faults F call core.ShortRandom legal at is h =
     is_short F call (issued (take 16 call.random) ∷ []) at is
     (fitting (record { date = moment_of call.at F; entry = issued (take 16 call.random) } ∷ F) (fits_issued F (moment_of call.at F) (take 16 call.random) (counters F legal) h.0))
@@ -98,7 +99,7 @@ passed_faults F call s serial core.Memory legal at is h = tt
 passed_faults F call s serial core.Moment legal at is h = absurd h
 passed_faults F call s serial core.Full legal at is h = is_full F call _ at is (over h)
   where
-    over : NumbersSpent (picture F).meta (judged F call s) ⊎ (2 ^ 62 ≤ length (nonces F)) →
+    over : NumbersSpent (picture F).meta (judged F call s) ⊎ (last_number ≤ length (nonces F)) →
         numbers_fit (record_all (moment_of call.at F) (nonce_entries serial call.random ++ entries_of (judged F call s)) F) ≡ false
     over (inl full) =
         numbers_spent (record_all (moment_of call.at F) (nonce_entries serial call.random) F) (moment_of call.at F) (judged F call s) (signed_spaced (swept (moment_of call.at F) (picture F)) (drop 16 call.random) s)

@@ -8,6 +8,7 @@ use Rattle.desk_model.specs.Decide.{entries_of}
 use Rattle.desk_model.specs.Entry.{History}
 use Rattle.desk_model.specs.History.{clock, record_all, terms}
 use Rattle.desk_model.specs.Legal.{numbers_fit}
+use Rattle.desk_model.specs.Limits.{last_number}
 use Rattle.desk_model.specs.Nonce.{nonces}
 use Rattle.desk_model.specs.Order.{orders}
 use Rattle.desk_model.specs.Run.{count_tokens}
@@ -87,28 +88,28 @@ accounts_after G m key contacts =
     length-append (accounts G) (record { number = length (accounts G) + 1; key = key; contacts = contacts; opened = m } ∷ [])
 
 -- an account whose number can be given
-fits_account : (G : History) (m : ℕ) (key : List ℕ) (contacts : List (List ℕ)) → CountersFit (picture G).meta → length (accounts G) < 2 ^ 62 →
+fits_account : (G : History) (m : ℕ) (key : List ℕ) (contacts : List (List ℕ)) → CountersFit (picture G).meta → length (accounts G) < last_number →
     CountersFit (picture (record { date = m; entry = opened key contacts } ∷ G)).meta
 fits_account G m key contacts h first =
     record {
-      nonces = let le : length (nonces G) ≤ 2 ^ 62 = h.nonces in omega (arith, length-append (nonces G) []);
+      nonces = let le : length (nonces G) ≤ last_number = h.nonces in omega (arith, length-append (nonces G) []);
       accounts = omega (arith, accounts_after G m key contacts);
-      orders = let le : length (orders G) ≤ 2 ^ 62 = h.orders in omega (arith, length-append (orders G) []);
-      authorizations = let le : length (authorizations G) ≤ 2 ^ 62 = h.authorizations in omega (arith, length-append (authorizations G) []);
-      challenges = subst (λ l. count_challenges l ≤ 2 ^ 62) (sym (append-nil (authorizations G))) h.challenges;
+      orders = let le : length (orders G) ≤ last_number = h.orders in omega (arith, length-append (orders G) []);
+      authorizations = let le : length (authorizations G) ≤ last_number = h.authorizations in omega (arith, length-append (authorizations G) []);
+      challenges = subst (λ l. count_challenges l ≤ last_number) (sym (append-nil (authorizations G))) h.challenges;
     }
 
 -- an order whose numbers can be given
 fits_ordered : (G : History) (m k : ℕ) (ws : List Wanted) → CountersFit (picture G).meta → EachOf HasTokens ws →
-    length (orders G) < 2 ^ 62 → length (authorizations G) + length ws ≤ 2 ^ 62 → count_challenges (authorizations G) + count_tokens ws ≤ 2 ^ 62 →
+    length (orders G) < last_number → length (authorizations G) + length ws ≤ last_number → count_challenges (authorizations G) + count_tokens ws ≤ last_number →
     CountersFit (picture (record { date = m; entry = ordered k ws } ∷ G)).meta
 fits_ordered G m k ws h spaced first second third =
     record {
-      nonces = let le : length (nonces G) ≤ 2 ^ 62 = h.nonces in omega (arith, length-append (nonces G) []);
-      accounts = let le : length (accounts G) ≤ 2 ^ 62 = h.accounts in omega (arith, length-append (accounts G) []);
+      nonces = let le : length (nonces G) ≤ last_number = h.nonces in omega (arith, length-append (nonces G) []);
+      accounts = let le : length (accounts G) ≤ last_number = h.accounts in omega (arith, length-append (accounts G) []);
       orders = omega (arith, orders_after G m k ws);
-      authorizations = subst (λ n. n ≤ 2 ^ 62) (sym (authorizations_after G m k ws)) second;
-      challenges = subst (λ n. n ≤ 2 ^ 62) (sym (challenges_after G m k ws spaced)) third;
+      authorizations = subst (λ n. n ≤ last_number) (sym (authorizations_after G m k ws)) second;
+      challenges = subst (λ n. n ≤ last_number) (sym (challenges_after G m k ws spaced)) third;
     }
 
 -- an entry that gives no number
@@ -116,11 +117,11 @@ fits_same : (F G : History) → nonces F ≡ nonces G ++ [] → accounts F ≡ a
     authorizations F ≡ authorizations G ++ [] → CountersFit (picture G).meta → CountersFit (picture F).meta
 fits_same F G n a o z h =
     record {
-      nonces = subst (λ l. length l ≤ 2 ^ 62) (sym (n ∙ append-nil (nonces G))) h.nonces;
-      accounts = subst (λ l. length l ≤ 2 ^ 62) (sym (a ∙ append-nil (accounts G))) h.accounts;
-      orders = subst (λ l. length l ≤ 2 ^ 62) (sym (o ∙ append-nil (orders G))) h.orders;
-      authorizations = subst (λ l. length l ≤ 2 ^ 62) (sym (z ∙ append-nil (authorizations G))) h.authorizations;
-      challenges = subst (λ l. count_challenges l ≤ 2 ^ 62) (sym (z ∙ append-nil (authorizations G))) h.challenges;
+      nonces = subst (λ l. length l ≤ last_number) (sym (n ∙ append-nil (nonces G))) h.nonces;
+      accounts = subst (λ l. length l ≤ last_number) (sym (a ∙ append-nil (accounts G))) h.accounts;
+      orders = subst (λ l. length l ≤ last_number) (sym (o ∙ append-nil (orders G))) h.orders;
+      authorizations = subst (λ l. length l ≤ last_number) (sym (z ∙ append-nil (authorizations G))) h.authorizations;
+      challenges = subst (λ l. count_challenges l ≤ last_number) (sym (z ∙ append-nil (authorizations G))) h.challenges;
     }
 
 -- where there are numbers for a verdict's entry, the numbers fit after it
@@ -166,32 +167,32 @@ last_false true true true false e h = refl
 last_false true true true true e h = h
 
 -- too many accounts
-accounts_over : (G : History) → 2 ^ 62 < length (accounts G) → numbers_fit G ≡ false
+accounts_over : (G : History) → last_number < length (accounts G) → numbers_fit G ≡ false
 accounts_over G h =
-    second_false (nat_le (length (nonces G)) (2 ^ 62)) (nat_le (length (accounts G)) (2 ^ 62))
-    (nat_le (length (orders G)) (2 ^ 62) && (nat_le (length (authorizations G)) (2 ^ 62) && nat_le (count_challenges (authorizations G)) (2 ^ 62)))
-    (over (length (accounts G)) (2 ^ 62) h)
+    second_false (nat_le (length (nonces G)) last_number) (nat_le (length (accounts G)) last_number)
+    (nat_le (length (orders G)) last_number && (nat_le (length (authorizations G)) last_number && nat_le (count_challenges (authorizations G)) last_number))
+    (over (length (accounts G)) last_number h)
 
 -- too many orders
-orders_over : (G : History) → 2 ^ 62 < length (orders G) → numbers_fit G ≡ false
+orders_over : (G : History) → last_number < length (orders G) → numbers_fit G ≡ false
 orders_over G h =
-    third_false (nat_le (length (nonces G)) (2 ^ 62)) (nat_le (length (accounts G)) (2 ^ 62)) (nat_le (length (orders G)) (2 ^ 62))
-    (nat_le (length (authorizations G)) (2 ^ 62) && nat_le (count_challenges (authorizations G)) (2 ^ 62))
-    (over (length (orders G)) (2 ^ 62) h)
+    third_false (nat_le (length (nonces G)) last_number) (nat_le (length (accounts G)) last_number) (nat_le (length (orders G)) last_number)
+    (nat_le (length (authorizations G)) last_number && nat_le (count_challenges (authorizations G)) last_number)
+    (over (length (orders G)) last_number h)
 
 -- too many authorizations
-authorizations_over : (G : History) → 2 ^ 62 < length (authorizations G) → numbers_fit G ≡ false
+authorizations_over : (G : History) → last_number < length (authorizations G) → numbers_fit G ≡ false
 authorizations_over G h =
-    fourth_false (nat_le (length (nonces G)) (2 ^ 62)) (nat_le (length (accounts G)) (2 ^ 62)) (nat_le (length (orders G)) (2 ^ 62))
-    (nat_le (length (authorizations G)) (2 ^ 62)) (nat_le (count_challenges (authorizations G)) (2 ^ 62))
-    (over (length (authorizations G)) (2 ^ 62) h)
+    fourth_false (nat_le (length (nonces G)) last_number) (nat_le (length (accounts G)) last_number) (nat_le (length (orders G)) last_number)
+    (nat_le (length (authorizations G)) last_number) (nat_le (count_challenges (authorizations G)) last_number)
+    (over (length (authorizations G)) last_number h)
 
 -- too many challenges
-challenges_over : (G : History) → 2 ^ 62 < count_challenges (authorizations G) → numbers_fit G ≡ false
+challenges_over : (G : History) → last_number < count_challenges (authorizations G) → numbers_fit G ≡ false
 challenges_over G h =
-    last_false (nat_le (length (nonces G)) (2 ^ 62)) (nat_le (length (accounts G)) (2 ^ 62)) (nat_le (length (orders G)) (2 ^ 62))
-    (nat_le (length (authorizations G)) (2 ^ 62)) (nat_le (count_challenges (authorizations G)) (2 ^ 62))
-    (over (count_challenges (authorizations G)) (2 ^ 62) h)
+    last_false (nat_le (length (nonces G)) last_number) (nat_le (length (accounts G)) last_number) (nat_le (length (orders G)) last_number)
+    (nat_le (length (authorizations G)) last_number) (nat_le (count_challenges (authorizations G)) last_number)
+    (over (count_challenges (authorizations G)) last_number h)
 
 -- where a number is wanting for a verdict's entry, the numbers don't fit after it
 pub numbers_spent : (G : History) (m : ℕ) (v : Verdict) → IsSpaced v → NumbersSpent (picture G).meta v →
@@ -200,15 +201,15 @@ numbers_spent G m (refused number ss) spaced spent = absurd spent
 numbers_spent G m (accepted None what) spaced spent = absurd spent
 numbers_spent G m (accepted (Some (opened key contacts)) what) spaced spent =
     accounts_over (record { date = m; entry = opened key contacts } ∷ G)
-    (let many : 2 ^ 62 ≤ length (accounts G) = spent in
+    (let many : last_number ≤ length (accounts G) = spent in
     omega (arith, accounts_after G m key contacts))
 numbers_spent G m (accepted (Some (ordered k ws)) what) spaced spent = by spent
   where
-    by : (2 ^ 62 ≤ length (orders G)) ⊎ ((2 ^ 62 < length (authorizations G) + length ws) ⊎ (2 ^ 62 < count_challenges (authorizations G) + count_tokens ws)) →
+    by : (last_number ≤ length (orders G)) ⊎ ((last_number < length (authorizations G) + length ws) ⊎ (last_number < count_challenges (authorizations G) + count_tokens ws)) →
         numbers_fit (record { date = m; entry = ordered k ws } ∷ G) ≡ false
     by (inl many) = orders_over (record { date = m; entry = ordered k ws } ∷ G) (omega (arith, orders_after G m k ws))
     by (inr (inl many)) =
-        authorizations_over (record { date = m; entry = ordered k ws } ∷ G) (subst (λ n. 2 ^ 62 < n) (sym (authorizations_after G m k ws)) many)
+        authorizations_over (record { date = m; entry = ordered k ws } ∷ G) (subst (λ n. last_number < n) (sym (authorizations_after G m k ws)) many)
     by (inr (inr many)) =
-        challenges_over (record { date = m; entry = ordered k ws } ∷ G) (subst (λ n. 2 ^ 62 < n) (sym (challenges_after G m k ws spaced)) many)
+        challenges_over (record { date = m; entry = ordered k ws } ∷ G) (subst (λ n. last_number < n) (sym (challenges_after G m k ws spaced)) many)
 numbers_spent G m (accepted (Some _) what) spaced spent = absurd spent

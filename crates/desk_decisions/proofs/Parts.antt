@@ -17,7 +17,7 @@ use Rattle.desk_model.specs.declared.verdict.Verdict.{Verdict}
 use Rattle.desk_decisions.specs.HasTexts.{HasTexts}
 use Rattle.desk_changes.specs.Recorded.{recorded_changes}
 use Rattle.desk_replies.specs.Shown.{HasMoments}
-use Rattle.desk_laws.specs.LegalLaws.{last_end}
+use Rattle.desk_model.specs.Limits.{last_end}
 use Rattle.desk_decisions.specs.Outcomes.{IsAskFault, IsPassedFault, IsSignedFault, Issues, MeetsAsk, MeetsSigned, Passes, Settles}
 use Rattle.desk_decisions.specs.Room.{IsIssueFault}
 use Rattle.desk_laws.specs.Ordered.{IsOrdered}

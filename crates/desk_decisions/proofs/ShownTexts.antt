@@ -2,7 +2,7 @@
 use Rattle.std.proofs.Common.{◌≡◌, ℕ, ◌≤◌, Option, Some, ◌∙◌, sym}
 use Rattle.std.specs.Prelude.{◌==◌}
 use Rattle.desk_laws.proofs.Finds.{each_found}
-use Rattle.desk_laws.specs.LegalLaws.{last_end}
+use Rattle.desk_model.specs.Limits.{last_end}
 use Rattle.desk_model.specs.Effect.{has_row}
 use Rattle.desk_model.specs.Questions.{authorization_on, order_on, owner_on}
 use Rattle.desk_model.specs.Tables.{Tables}

@@ -8,6 +8,7 @@ use Rattle.desk_model.specs.Authorization.{kinds_of}
 use Rattle.desk_model.specs.Contact.{contacts_fault}
 use Rattle.desk_model.specs.Decide.{entries_of}
 use Rattle.desk_model.specs.Legal.{has_length, is_pending_challenge, is_problem, is_processing_challenge}
+use Rattle.desk_model.specs.Limits.{longest_certificate, most_names}
 use Rattle.desk_model.specs.Name.{Name}
 use Rattle.desk_model.specs.Order.{is_processing, is_ready}
 use Rattle.desk_model.specs.Questions.{account_with_key}
@@ -95,7 +96,7 @@ order_spaced T r n ids [] = wanted_spaced (kept (names_in ids)) r
 
 -- newOrder
 new_order_spaced : (T : Tables) (r : List ℕ) (n : ℕ) (ids : List Identifier) → IsSpaced (new_order_verdict T r n ids)
-new_order_spaced T r n ids = check_keeps IsSpaced (has_length 1 50 ids) refusal.Malformed _ tt (order_spaced T r n ids (subproblems ids))
+new_order_spaced T r n ids = check_keeps IsSpaced (has_length 1 most_names ids) refusal.Malformed _ tt (order_spaced T r n ids (subproblems ids))
 
 -- an order that is finalized
 finalize_spaced : (n : ℕ) (o : OrderRow) (text : List ℕ) → IsSpaced (finalize_verdict n o text)
@@ -161,7 +162,7 @@ report_quiet T n finding =
 certify_quiet : (n : ℕ) (bytes : List ℕ) (o : OrderRow) → IsQuiet (certify_verdict n bytes o)
 certify_quiet n bytes o =
     check_keeps IsQuiet (nat_le 1 (length bytes)) refusal.Malformed _ tt
-    (check_keeps IsQuiet (nat_le (length bytes) 65536) refusal.TooLarge _ tt (choose_keeps IsQuiet _ _ _ tt (check_keeps IsQuiet (is_processing o.status) refusal.Conflict _ tt tt)))
+    (check_keeps IsQuiet (nat_le (length bytes) longest_certificate) refusal.TooLarge _ tt (choose_keeps IsQuiet _ _ _ tt (check_keeps IsQuiet (is_processing o.status) refusal.Conflict _ tt tt)))
 
 -- a failure
 fail_quiet : (n : ℕ) (problem : OrderProblem) (o : OrderRow) → IsQuiet (fail_verdict n problem o)

@@ -5,6 +5,7 @@ use Rattle.desk_model.specs.Authorization.{authorizations, report, reporting}
 use Rattle.desk_model.specs.Entry.{History}
 use Rattle.desk_model.specs.History.{earlier}
 use Rattle.desk_model.specs.Legal.{EachFollows}
+use Rattle.desk_model.specs.Limits.{last_moment}
 use Rattle.desk_model.specs.Tables.{authorization_row, challenge_row, tables_at}
 use Rattle.desk_model.specs.declared.entry.Entry.{Entry}
 use Rattle.desk_model.specs.declared.entry.Entry.TheVariants.{Reported as reported}
@@ -30,7 +31,7 @@ reports_dated (e ∷ F) h n = earlier_dated (report n F) _ (reports_dated F h.1 
     one (reported k o) = by (k == n)
       where
         by : (b : Bool) → HasDatedReport (cond {A = Option Report} b (Some (record { date = e.date; outcome = o })) None)
-        by true = let date : e.date ≤ 250000000000 = h.0.in_time in omega arith
+        by true = let date : e.date ≤ last_moment = h.0.in_time in omega arith
         by false = tt
     one _ = tt
 

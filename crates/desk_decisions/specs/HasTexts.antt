@@ -1,6 +1,6 @@
 -- Where the moments that are shown have a text.
 use Rattle.std.specs.Prelude.{◌≤◌}
-use Rattle.desk_laws.specs.LegalLaws.{last_end}
+use Rattle.desk_model.specs.Limits.{last_end}
 use Rattle.desk_model.specs.Kept.{EachOf}
 use Rattle.desk_model.specs.Tables.{Tables}
 use Rattle.desk_replies.specs.Shown.{HasMoments}

@@ -1,6 +1,6 @@
 //! What a verdict records and shows.
 ghost use Rattle.std.specs.Prelude.{◌≡◌, ◌++◌, ◌∷◌, [], ◌<◌, ◌≤◌, ◌+◌, ◌^◌, ℕ, List, length, map, IfOk, OnOk};
-ghost use Rattle.desk_laws.specs.LegalLaws.{last_end};
+ghost use Rattle.desk_model.specs.Limits.{last_end, last_number};
 ghost use Rattle.desk_laws.specs.Ordered.{IsOrdered};
 ghost use Rattle.desk_model.specs.Decide.{entries_of, listed_entry, verdict_reply};
 ghost use Rattle.desk_model.specs.Document.{listed_rows};
@@ -88,7 +88,7 @@ fn act_on_account(
     key: Jwk,
     contacts: Sequence<Text>,
 ) -> Result<Reply, AllocError>
-    requires { recording.old.meta.accounts < 2 ^ 62 }
+    requires { recording.old.meta.accounts < last_number }
     ensures recorded { OnOk result ((m : ℕ) (es : List EntryOf)
         → IsRecorded m book.now es recording.old.changes.items recording.old.meta
         → IsRecorded m book.now (es ++ opened key contacts ∷ []) recording.new.changes.items recording.new.meta) }
@@ -135,9 +135,9 @@ fn act_on_order(
     account: u64,
     wanted: &[Wanted],
 ) -> Result<Reply, AllocError>
-    requires orders { recording.old.meta.orders < 2 ^ 62 }
-    requires authorizations { recording.old.meta.authorizations + length wanted.now ≤ 2 ^ 62 }
-    requires challenges { recording.old.meta.challenges + count_tokens wanted.now ≤ 2 ^ 62 }
+    requires orders { recording.old.meta.orders < last_number }
+    requires authorizations { recording.old.meta.authorizations + length wanted.now ≤ last_number }
+    requires challenges { recording.old.meta.challenges + count_tokens wanted.now ≤ last_number }
     ensures recorded { OnOk result ((m : ℕ) (es : List EntryOf) → IsOrdered book.now → IsUntouched m book.now es
         → IsRecorded m book.now es recording.old.changes.items recording.old.meta
         → IsRecorded m book.now (es ++ ordered account wanted.now ∷ []) recording.new.changes.items recording.new.meta) }

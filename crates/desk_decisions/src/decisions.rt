@@ -2,6 +2,7 @@
 ghost use Rattle.std.specs.Prelude.{◌≡◌, ◌↔◌, ◌<◌, ◌≤◌, ◌+◌, ◌^◌, ◌++◌, ◌∷◌, [], ℕ, List, true, false, length, take, drop, IfOk, IfErr, MatchResult, OnOk};
 ghost use Rattle.desk_model.specs.Decide.{entries_of, nonce_entries, verdict_reply};
 ghost use Rattle.desk_model.specs.Effect.{effects, swept};
+ghost use Rattle.desk_model.specs.Limits.{last_moment, last_number};
 ghost use Rattle.desk_model.specs.Rules.{office_verdict, open_nonce, signed_verdict as verdict_of};
 ghost use Rattle.desk_laws.specs.Ordered.{IsOrdered};
 ghost use Rattle.desk_model.specs.Change.{all_changes, sweep_changes};
@@ -47,7 +48,7 @@ pub struct Outcome {
 // The random bytes of the nonce that a call issues.
 fn fresh_random(book: &Book, random: &[u8]) -> Result<[u8; 16], CoreFault>
     ensures { MatchResult result
-        (λ r. (r ≡ take 16 random.now) × (book.now.meta.nonces < 2 ^ 62) × (16 ≤ length random.now))
+        (λ r. (r ≡ take 16 random.now) × (book.now.meta.nonces < last_number) × (16 ≤ length random.now))
         (λ e. IsIssueFault book.now random.now e) }
 {
     has_room(book.meta().nonces)?;
@@ -61,8 +62,8 @@ fn issue(
     moment: u64,
     random: [u8; 16],
 ) -> Result<Vec<Change>, AllocError>
-    requires moment { moment ≤ 250000000000 }
-    requires nonces { book.now.meta.nonces < 2 ^ 62 }
+    requires moment { moment ≤ last_moment }
+    requires nonces { book.now.meta.nonces < last_number }
     ensures { IfOk result (λ v. v.items ≡ recorded_changes moment book.now (issued_entry random ∷ [])) }
 {
     let mut recording = Recording::begin(alloc, book, moment)?;
@@ -78,10 +79,10 @@ fn issued(
     random: &[u8],
     reply: Reply,
 ) -> Result<Outcome, CoreFault>
-    requires { moment ≤ 250000000000 }
+    requires { moment ≤ last_moment }
     ensures changes { IfOk result (λ o. o.changes.items ≡ recorded_changes moment book.now (issued_entry (take 16 random.now) ∷ [])) }
     ensures reply { IfOk result (λ o. o.reply ≡ with_nonce (fresh_nonce book.now random.now) reply) }
-    ensures room { IfOk result (λ _. (book.now.meta.nonces < 2 ^ 62) × (16 ≤ length random.now)) }
+    ensures room { IfOk result (λ _. (book.now.meta.nonces < last_number) × (16 ≤ length random.now)) }
     ensures fault { IfErr result (λ e. IsIssueFault book.now random.now e) }
 {
     let bytes = fresh_random(book, random)?;
@@ -99,8 +100,8 @@ fn begin_signed(
     serial: u64,
     random: [u8; 16],
 ) -> Result<Recording, AllocError>
-    requires moment { moment ≤ 250000000000 }
-    requires nonces { book.now.meta.nonces < 2 ^ 62 }
+    requires moment { moment ≤ last_moment }
+    requires nonces { book.now.meta.nonces < last_number }
     ensures recorded { IfOk result (λ r. IsRecorded moment book.now (spent_entry serial ∷ issued_entry random ∷ []) r.changes.items r.meta) }
     ensures meta { IfOk result (λ r. r.meta ≡ record book.now.meta { clock = moment; nonces = book.now.meta.nonces + 1 }) }
 {
@@ -118,7 +119,7 @@ fn act_with_nonce(
     verdict: Verdict,
     random: [u8; 16],
 ) -> Result<Reply, AllocError>
-    requires nonces { book.now.meta.nonces < 2 ^ 62 }
+    requires nonces { book.now.meta.nonces < last_number }
     requires numbers { NumbersLeft recording.old.meta verdict }
     ensures recorded { OnOk result (IsActable recording.old.meta verdict → (m : ℕ) (es : List EntryOf) → IsOrdered book.now → IsUntouched m book.now es
         → IsRecorded m book.now es recording.old.changes.items recording.old.meta
@@ -141,8 +142,8 @@ fn passed(
     serial: u64,
     verdict: Verdict,
 ) -> Result<Outcome, CoreFault>
-    requires moment { moment ≤ 250000000000 }
-    requires nonces { book.now.meta.nonces < 2 ^ 62 }
+    requires moment { moment ≤ last_moment }
+    requires nonces { book.now.meta.nonces < last_number }
     requires numbers { NumbersLeft book.now.meta verdict }
     ensures changes { IfOk result (λ o. IsOrdered book.now → IsActable book.now.meta verdict
         → o.changes.items ≡ recorded_changes moment book.now (nonce_entries serial random.now ++ entries_of verdict)) }
@@ -169,7 +170,7 @@ fn spent(
     serial: u64,
     signed: &Signed,
 ) -> Result<Outcome, CoreFault>
-    requires { moment ≤ 250000000000 }
+    requires { moment ≤ last_moment }
     ensures { let v = verdict_of (swept moment book.now) (drop 16 random.now) signed.now in
         MatchResult result
         (λ o. Passes moment book.now random.now serial v o.changes.items o.reply)
@@ -189,7 +190,7 @@ fn signed(
     random: &[u8],
     signed: &Signed,
 ) -> Result<Outcome, CoreFault>
-    requires { moment ≤ 250000000000 }
+    requires { moment ≤ last_moment }
     ensures later { IfErr result (λ e. IsLater e) }
     ensures meets { IsOrdered book.now → (let found = open_nonce (swept moment book.now) signed.now.nonce in
         MatchResult result
@@ -222,7 +223,7 @@ fn recorded(
     moment: u64,
     verdict: Verdict,
 ) -> Result<Outcome, AllocError>
-    requires moment { moment ≤ 250000000000 }
+    requires moment { moment ≤ last_moment }
     requires numbers { NumbersLeft book.now.meta verdict }
     ensures changes { IfOk result (λ o. IsOrdered book.now → IsActable book.now.meta verdict
         → o.changes.items ≡ sweep_changes moment book.now ++ all_changes moment (swept moment book.now) (entries_of verdict)) }
@@ -260,7 +261,7 @@ fn unrecorded(
 
 // A request without a nonce, by the verdict on it.
 fn settled(alloc: Global, book: &Book, moment: u64, verdict: Verdict) -> Result<Outcome, AllocError>
-    requires moment { moment ≤ 250000000000 }
+    requires moment { moment ≤ last_moment }
     requires numbers { NumbersLeft book.now.meta verdict }
     ensures { IfOk result (λ o. Settles moment book.now verdict o.changes.items o.reply) }
 {
@@ -277,7 +278,7 @@ fn settled(alloc: Global, book: &Book, moment: u64, verdict: Verdict) -> Result<
 
 // A request of the validator, the signing office or the operator, or for the directory.
 fn office(alloc: Global, book: &Book, moment: u64, ask: &Ask) -> Result<Outcome, CoreFault>
-    requires { moment ≤ 250000000000 }
+    requires { moment ≤ last_moment }
     ensures { MatchResult result
         (λ o. Settles moment book.now (office_verdict (swept moment book.now) ask.now) o.changes.items o.reply)
         (λ e. e ≡ Memory) }
@@ -295,7 +296,7 @@ fn decide_at(
     random: &[u8],
     ask: &Ask,
 ) -> Result<Outcome, CoreFault>
-    requires { moment ≤ 250000000000 }
+    requires { moment ≤ last_moment }
     ensures later { IfErr result (λ e. IsLater e) }
     ensures meets { IsOrdered book.now → MatchResult result
         (λ o. MeetsAsk moment book.now random.now ask.now o.changes.items o.reply)
@@ -345,7 +346,7 @@ fn keep_form(call: &Call)
 /// `Moment`, `Full` and `ShortRandom` are the faults 24, 26 and 25 of the call, tested in this order; `Memory` comes
 /// where a growth was refused. The book stays as it was.
 pub fn decide(alloc: Global, book: &Book, call: &Call) -> Result<Outcome, CoreFault>
-    ensures late { (result ≡ Err CoreFault.Moment) ↔ (250000000000 < call.now.at) }
+    ensures late { (result ≡ Err CoreFault.Moment) ↔ (last_moment < call.now.at) }
     ensures decided { IfOk result (λ o. (F : History) → Legal F → IsPartFor call.now (picture F) book.now
         → IsDecision F call.now o.changes.items o.reply) }
     ensures faulty { IfErr result (λ e. (F : History) → Legal F → IsPartFor call.now (picture F) book.now

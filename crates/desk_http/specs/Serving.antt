@@ -25,6 +25,7 @@ use Rattle.desk_http.specs.declared.serving.Cause.TheVariants as cause
 use Rattle.desk_http.specs.declared.serving.IoFault.{IoFault}
 use Rattle.desk_http.specs.declared.serving.IoFault.TheVariants as iofault
 use Rattle.desk_http.specs.declared.serving.Served.{Served}
+use Rattle.desk_model.specs.Limits.{last_moment}
 
 -- the call of a request that asks this
 abbrev pub call_of : ℕ → List ℕ → Ask → Call
@@ -53,8 +54,8 @@ module _ {S C : Type 0} (v : Sight S C) (may_meet : StorageFault → Type 0) whe
   -- what a desk promises of a call (`desk_calls::Desk::answer`)
   pub record IsAnswer (call : Call) (old new : DeskState S) (result : Result Reply DeskFault) : Type 0 where
     pub closed : IsTrue old.is_closed → (result ≡ Err deskfault.Reopen) × (new ≡ old)
-    pub late : old.is_closed ≡ false → (result ≡ Err deskfault.Moment) ↔ (250000000000 < call.at)
-    pub unmade : 250000000000 < call.at → new ≡ old
+    pub late : old.is_closed ≡ false → (result ≡ Err deskfault.Moment) ↔ (last_moment < call.at)
+    pub unmade : last_moment < call.at → new ≡ old
     pub met : old.is_closed ≡ false → IfErr result (IsMet may_meet)
     pub exit : old.is_closed ≡ false → Answers v call old.store new.store result
     pub flag : old.is_closed ≡ false → new.is_closed ≡ is_closed_after result

@@ -12,7 +12,8 @@ use Rattle.desk_model.specs.Account.{accounts, is_valid as is_valid_account}
 use Rattle.desk_model.specs.Authorization.{authorizations, authorization_of, has_challenge, authorization_status, challenge_status, is_pending, is_valid}
 use Rattle.desk_model.specs.Order.{orders, is_ready, is_processing}
 use Rattle.desk_model.specs.History.{clock}
-use Rattle.desk_model.specs.Legal.{EachFollows, IsFormed, last_moment, may_follow, is_pending_challenge, is_processing_challenge, has_length, all_different, is_wanted, wanted_name, is_problem}
+use Rattle.desk_model.specs.Legal.{EachFollows, IsFormed, may_follow, is_pending_challenge, is_processing_challenge, has_length, all_different, is_wanted, wanted_name, is_problem}
+use Rattle.desk_model.specs.Limits.{last_moment, longest_certificate, longest_csr, most_names}
 use Rattle.desk_model.specs.Tables.{account_row, challenge_row, authorization_row, order_row, tables_at}
 use Rattle.desk_model.specs.Effect.{has_row}
 use Rattle.desk_model.specs.Allowed.{may_on, challenge_passes}
@@ -137,16 +138,16 @@ allowed F (contacts_changed n cs) m h =
     ap (λ b. b && contacts_pass cs) (sym (row_holds (λ a. is_valid_account a.status) (λ a. a.number == n) (account_row F) (accounts F)))
 allowed F (account_ended n s) m h = sym (row_holds (λ a. is_valid_account a.status) (λ a. a.number == n) (account_row F) (accounts F))
 allowed F (ordered n ws) m h =
-    ap (λ b. b && (has_length 1 50 ws && (all_different (map wanted_name ws) && list_all is_wanted ws)))
+    ap (λ b. b && (has_length 1 most_names ws && (all_different (map wanted_name ws) && list_all is_wanted ws)))
     (sym (row_holds (λ a. is_valid_account a.status) (λ a. a.number == n) (account_row F) (accounts F)))
 allowed F (answered n) m h = challenge_allowed F m is_pending_challenge n
 allowed F (reported n o) m h = challenge_allowed F m is_processing_challenge n
 allowed F (authorization_ended n s) m h =
     sym (row_holds (λ a. is_pending a.status || is_valid a.status) (λ a. a.number == n) (authorization_row F m) (authorizations F))
 allowed F (finalized n csr) m h =
-    ap (λ b. b && has_length 1 8192 csr) (sym (row_holds (λ o. is_ready o.status) (λ o. o.number == n) (order_row F m) (orders F)))
+    ap (λ b. b && has_length 1 longest_csr csr) (sym (row_holds (λ o. is_ready o.status) (λ o. o.number == n) (order_row F m) (orders F)))
 allowed F (certified n c) m h =
-    ap (λ b. b && has_length 1 65536 c) (sym (row_holds (λ o. is_processing o.status) (λ o. o.number == n) (order_row F m) (orders F)))
+    ap (λ b. b && has_length 1 longest_certificate c) (sym (row_holds (λ o. is_processing o.status) (λ o. o.number == n) (order_row F m) (orders F)))
 allowed F (failed n f) m h =
     ap (λ b. b && is_problem f) (sym (row_holds (λ o. is_processing o.status) (λ o. o.number == n) (order_row F m) (orders F)))
 

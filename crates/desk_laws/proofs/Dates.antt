@@ -6,7 +6,8 @@ use Rattle.desk_model.specs.Authorization.{answering, authorizations, count_chal
 use Rattle.desk_model.specs.Entry.{History}
 use Rattle.desk_model.specs.History.{clock, earlier, first, terms}
 use Rattle.desk_model.specs.Kept.{EachOf}
-use Rattle.desk_model.specs.Legal.{EachFollows, last_moment}
+use Rattle.desk_model.specs.Legal.{EachFollows}
+use Rattle.desk_model.specs.Limits.{last_moment}
 use Rattle.desk_model.specs.Nonce.{is_open, issued_by, nonces}
 use Rattle.desk_model.specs.Order.{certifying, failing, finalizing, ordered_by, orders}
 use Rattle.desk_model.specs.Tables.{account_row, authorization_row, challenge_row, order_row, tables_at}
@@ -210,6 +211,6 @@ no_date_later F t =
 pub clock_in_time : (F : History) → EachFollows F → clock F ≤ last_moment
 clock_in_time [] h = omega arith
 clock_in_time (e ∷ F) h =
-    let before : clock F ≤ 250000000000 = clock_in_time F h.1 in
-    let date : e.date ≤ 250000000000 = h.0.in_time in
+    let before : clock F ≤ last_moment = clock_in_time F h.1 in
+    let date : e.date ≤ last_moment = h.0.in_time in
     omega arith

@@ -9,6 +9,7 @@ use Rattle.desk_model.specs.Entry.{History}
 use Rattle.desk_model.specs.History.{terms}
 use Rattle.desk_model.specs.Kept.{EachOf}
 use Rattle.desk_model.specs.Legal.{EachFollows, Follows, all_different, has_length, is_problem, is_wanted, may_follow, wanted_name}
+use Rattle.desk_model.specs.Limits.{most_names}
 use Rattle.desk_model.specs.Nonce.{issued_by, nonces}
 use Rattle.desk_model.specs.Order.{failing, failure}
 use Rattle.desk_model.specs.declared.entry.Dated.{Dated}
@@ -68,8 +69,8 @@ tokens_drawn (e ∷ F) h = each-append _ (authorizations F) (made_now e F) (toke
     more (ordered k ws) may =
         made_for_drawn k e.date _ ws _ _
         (and_parts (all_different (map wanted_name ws)) _
-        (and_parts (has_length 1 50 ws) _
-        (and_parts _ (has_length 1 50 ws && (all_different (map wanted_name ws) && list_all is_wanted ws)) may).1).1).1
+        (and_parts (has_length 1 most_names ws) _
+        (and_parts _ (has_length 1 most_names ws && (all_different (map wanted_name ws) && list_all is_wanted ws)) may).1).1).1
     more _ may = tt
 
 -- ---- problems

@@ -11,7 +11,8 @@ use Rattle.desk_model.specs.Contact.{contacts_pass}
 use Rattle.desk_model.specs.Entry.{History}
 use Rattle.desk_model.specs.History.{terms}
 use Rattle.desk_model.specs.Keys.{IsKeyText}
-use Rattle.desk_model.specs.Legal.{EachFollows, Follows, IsFormed, BeginsMade, IsMade, Legal, all_different, has_length, is_empty, is_processing_challenge, is_wanted, last_moment, may_follow, numbers_fit, wanted_name}
+use Rattle.desk_model.specs.Legal.{EachFollows, Follows, IsFormed, BeginsMade, IsMade, Legal, all_different, has_length, is_empty, is_processing_challenge, is_wanted, may_follow, numbers_fit, wanted_name}
+use Rattle.desk_model.specs.Limits.{last_end, last_moment, last_number, longest_life, most_names}
 use Rattle.desk_model.specs.Nonce.{is_open, issued_by, nonces}
 use Rattle.desk_model.specs.Order.{ordered_by, orders}
 use Rattle.desk_model.specs.Tables.{account_row, authorization_row, order_row, tables_at}
@@ -26,7 +27,7 @@ use Rattle.desk_model.specs.declared.objects.Account.{Account}
 use Rattle.desk_model.specs.declared.objects.Authorization.{Authorization}
 use Rattle.desk_model.specs.declared.objects.Report.{Report}
 use Rattle.desk_laws.specs.Distinct.{Distinct}
-use Rattle.desk_laws.specs.LegalLaws.{CountersFit, EndsInTime, last_end, reports_on}
+use Rattle.desk_laws.specs.LegalLaws.{CountersFit, EndsInTime, reports_on}
 use Rattle.desk_laws.proofs.Basics.{each, each-append, each-map}
 use Rattle.desk_laws.proofs.Distinctness.{distinct-append, distinct-map}
 use Rattle.desk_laws.proofs.Numbers.{first_no, made_now, ordered_now}
@@ -105,7 +106,7 @@ row_keys_differ F h t = distinct-map (λ a. a.key) (account_row F) (accounts F) 
 -- where the numbers fit, so do the counters
 pub counters_fit : (F : History) → IsTrue (numbers_fit F) → (t : ℕ) → CountersFit (tables_at F t).meta
 counters_fit F h t =
-    let limit : ℕ = 2 ^ 62 in
+    let limit : ℕ = last_number in
     let p = and_parts (nat_le (length (nonces F)) limit) _ h in
     let q = and_parts (nat_le (length (accounts F)) limit) _ p.1 in
     let r = and_parts (nat_le (length (orders F)) limit) _ q.1 in
@@ -121,7 +122,7 @@ counters_fit F h t =
 -- where the counters fit, so do the numbers
 pub numbers_fit_counters : (F : History) (t : ℕ) → CountersFit (tables_at F t).meta → IsTrue (numbers_fit F)
 numbers_fit_counters F t h =
-    let limit : ℕ = 2 ^ 62 in
+    let limit : ℕ = last_number in
     and_from _ _ (le-leb (length (nonces F)) limit h.nonces)
     (and_from _ _ (le-leb (length (accounts F)) limit h.accounts)
     (and_from _ _ (le-leb (length (orders F)) limit h.orders)
@@ -150,9 +151,9 @@ terms_in_limits F h = begun_terms F h.begins h.each
 
 -- no life is longer than ten years
 pub record LivesFit (t : Terms) : Type 0 where
-  pub nonces : t.nonce_life ≤ 315360000
-  pub orders : t.order_life ≤ 315360000
-  pub authorizations : t.authz_life ≤ 315360000
+  pub nonces : t.nonce_life ≤ longest_life
+  pub orders : t.order_life ≤ longest_life
+  pub authorizations : t.authz_life ≤ longest_life
 
 -- terms within their limits have lives within theirs
 lives_of : (t : Terms) → are_terms t ≡ true → LivesFit t
@@ -162,8 +163,8 @@ lives_of t h =
     let r = and_parts (is_life t.order_life) _ q.1 in
     record { nonces = life t.nonce_life q.0; orders = life t.order_life r.0; authorizations = life t.authz_life r.1 }
   where
-    life : (n : ℕ) → is_life n ≡ true → n ≤ 315360000
-    life n k = leb-true n 315360000 (and_parts (nat_le 1 n) _ k).1
+    life : (n : ℕ) → is_life n ≡ true → n ≤ longest_life
+    life n k = leb-true n longest_life (and_parts (nat_le 1 n) _ k).1
 
 -- the lives of a desk
 pub lives_fit : (F : History) → EachFollows F → LivesFit (terms F)
@@ -201,8 +202,8 @@ authorizations_end (e ∷ F) h = each-append _ (authorizations F) (made_now e F)
         EachOf (λ a. a.expires ≤ last_end)
         (made_by entry e.date (terms F).authz_life (length (authorizations F) + 1) (count_challenges (authorizations F) + 1))
     more (ordered k ws) =
-        let life : (terms F).authz_life ≤ 315360000 = (lives_fit F h.1).authorizations in
-        let date : e.date ≤ 250000000000 = h.0.in_time in
+        let life : (terms F).authz_life ≤ longest_life = (lives_fit F h.1).authorizations in
+        let date : e.date ≤ last_moment = h.0.in_time in
         made_for_end k e.date (e.date + (terms F).authz_life) ws _ _ (omega arith)
     more _ = tt
 
@@ -214,8 +215,8 @@ orders_end (e ∷ F) h = each-append _ (orders F) (ordered_now e F) (orders_end 
     more : (entry : Entry) (xs : List Authorization) →
         EachOf (λ o. o.expires ≤ last_end) (ordered_by entry e.date (terms F) xs (length (orders F) + 1))
     more (ordered k ws) xs =
-        let life : (terms F).order_life ≤ 315360000 = (lives_fit F h.1).orders in
-        let date : e.date ≤ 250000000000 = h.0.in_time in
+        let life : (terms F).order_life ≤ longest_life = (lives_fit F h.1).orders in
+        let date : e.date ≤ last_moment = h.0.in_time in
         (omega arith, tt)
     more _ xs = tt
 
@@ -233,8 +234,8 @@ pub all_end : (F : History) → EachFollows F → (t : ℕ) → EndsInTime (tabl
 all_end F h t =
     record {
       nonces = each-filter _ (is_open F t) (nonces F)
-          (each _ _ (nonces F) (λ n k. let life : (terms F).nonce_life ≤ 315360000 = (lives_fit F h).nonces in
-          let date : n.issued ≤ 250000000000 = k in omega arith) (nonces_dated F h));
+          (each _ _ (nonces F) (λ n k. let life : (terms F).nonce_life ≤ longest_life = (lives_fit F h).nonces in
+          let date : n.issued ≤ last_moment = k in omega arith) (nonces_dated F h));
       authorizations = each-map _ (authorization_row F t) (authorizations F) (authorizations_end F h);
       orders = each-map _ (order_row F t) (orders F) (orders_end F h);
     }
@@ -275,8 +276,8 @@ names_formed (e ∷ F) h = each-append _ (authorizations F) (made_now e F) (name
     more (ordered k ws) may =
         made_for_named k e.date _ ws _ _
         (and_parts (all_different (map wanted_name ws)) _
-        (and_parts (has_length 1 50 ws) _
-        (and_parts _ (has_length 1 50 ws && (all_different (map wanted_name ws) && list_all is_wanted ws)) may).1).1).1
+        (and_parts (has_length 1 most_names ws) _
+        (and_parts _ (has_length 1 most_names ws && (all_different (map wanted_name ws) && list_all is_wanted ws)) may).1).1).1
     more _ may = tt
 
 -- and so in the rows

@@ -2,6 +2,7 @@
 use Rattle.std.proofs.Common.{◌≡◌, map, refl, ap}
 use Rattle.std.specs.Prelude.{◌==◌, ◌&&◌, ◌||◌, is_some, is_none, find, bytes_eq}
 use Rattle.std.specs.List.{list_all}
+use Rattle.desk_model.specs.Limits.{longest_certificate, longest_csr, most_names}
 use Rattle.desk_model.specs.Lookup.{holds}
 use Rattle.desk_model.specs.Contact.{contacts_pass}
 use Rattle.desk_model.specs.Account.{is_valid as is_valid_account}
@@ -27,7 +28,7 @@ may_local k T (contacts_changed n cs) h =
 may_local k T (account_ended n s) h =
     ap (holds (λ a. is_valid_account a.status)) (find_part (λ a. a.number == n) (λ a. k.accounts a.number) T.accounts h)
 may_local k T (ordered n ws) h =
-    ap (λ o. holds (λ a. is_valid_account a.status) o && (has_length 1 50 ws && (all_different (map wanted_name ws) && list_all is_wanted ws)))
+    ap (λ o. holds (λ a. is_valid_account a.status) o && (has_length 1 most_names ws && (all_different (map wanted_name ws) && list_all is_wanted ws)))
     (find_part (λ a. a.number == n) (λ a. k.accounts a.number) T.accounts h)
 may_local k T (answered n) h =
     ap (holds (λ a. is_pending a.status && holds (λ c. is_pending_challenge c.status) (find (λ c. n == c.number) a.challenges)))
@@ -38,9 +39,9 @@ may_local k T (reported n o) h =
 may_local k T (authorization_ended n s) h =
     ap (holds (λ a. is_pending a.status || is_valid a.status)) (find_part (λ a. a.number == n) (λ a. k.authorizations a.number) T.authorizations h)
 may_local k T (finalized n csr) h =
-    ap (λ o. holds (λ x. is_ready x.status) o && has_length 1 8192 csr) (find_part (λ o. o.number == n) (λ o. k.orders o.number) T.orders h)
+    ap (λ o. holds (λ x. is_ready x.status) o && has_length 1 longest_csr csr) (find_part (λ o. o.number == n) (λ o. k.orders o.number) T.orders h)
 may_local k T (certified n c) h =
-    ap (λ o. holds (λ x. is_processing x.status) o && has_length 1 65536 c) (find_part (λ o. o.number == n) (λ o. k.orders o.number) T.orders h)
+    ap (λ o. holds (λ x. is_processing x.status) o && has_length 1 longest_certificate c) (find_part (λ o. o.number == n) (λ o. k.orders o.number) T.orders h)
 may_local k T (failed n f) h =
     ap (λ o. holds (λ x. is_processing x.status) o && is_problem f) (find_part (λ o. o.number == n) (λ o. k.orders o.number) T.orders h)
 may_local k T _ h = refl

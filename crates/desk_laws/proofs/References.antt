@@ -9,6 +9,7 @@ use Rattle.desk_model.specs.Entry.{History}
 use Rattle.desk_model.specs.History.{terms}
 use Rattle.desk_model.specs.Kept.{EachOf}
 use Rattle.desk_model.specs.Legal.{EachFollows, all_different, has_length, is_wanted, may_follow, wanted_name}
+use Rattle.desk_model.specs.Limits.{most_names}
 use Rattle.desk_model.specs.Lookup.{holds}
 use Rattle.desk_model.specs.Order.{ordered_by, orders}
 use Rattle.desk_model.specs.declared.entry.Dated.{Dated}
@@ -47,7 +48,7 @@ there test (Some x) h = refl
 orders_for : (F : History) (k m : ℕ) (ws : List Wanted) → may_follow F (ordered k ws) m ≡ true → HasAccount F k
 orders_for F k m ws may =
     there (λ a. is_valid (account_status a F)) (account_by_number k F)
-    (and_parts _ (has_length 1 50 ws && (all_different (map wanted_name ws) && list_all is_wanted ws)) may).0
+    (and_parts _ (has_length 1 most_names ws && (all_different (map wanted_name ws) && list_all is_wanted ws)) may).0
 
 -- the authorizations of an account that is there
 made_for_account : (F : History) (account date expires : ℕ) (ws : List Wanted) (n c : ℕ) → HasAccount F account →

@@ -7,6 +7,7 @@ use Rattle.desk_model.specs.Entry.{History}
 use Rattle.desk_model.specs.History.{terms}
 use Rattle.desk_model.specs.Keys.{IsKeyText}
 use Rattle.desk_model.specs.Legal.{EachFollows, Legal, numbers_fit}
+use Rattle.desk_model.specs.Limits.{last_end, last_number}
 use Rattle.desk_model.specs.Lookup.{holds}
 use Rattle.desk_model.specs.Tables.{Tables, tables_at}
 use Rattle.desk_model.specs.Terms.{are_terms}
@@ -42,11 +43,11 @@ KeysDiffer = (F : History) → EachFollows F → (t : ℕ) → Distinct (λ a. a
 
 -- no counter is above the greatest number that may be given
 pub record CountersFit (M : Meta) : Type 0 where
-  pub nonces : M.nonces ≤ 2 ^ 62
-  pub accounts : M.accounts ≤ 2 ^ 62
-  pub orders : M.orders ≤ 2 ^ 62
-  pub authorizations : M.authorizations ≤ 2 ^ 62
-  pub challenges : M.challenges ≤ 2 ^ 62
+  pub nonces : M.nonces ≤ last_number
+  pub accounts : M.accounts ≤ last_number
+  pub orders : M.orders ≤ last_number
+  pub authorizations : M.authorizations ≤ last_number
+  pub challenges : M.challenges ≤ last_number
 
 -- where the numbers fit, so do the counters
 abbrev pub NumbersFitCounters : Type 0
@@ -59,10 +60,6 @@ CountersFitNumbers = (F : History) (t : ℕ) → CountersFit (tables_at F t).met
 -- a desk is made with terms within their limits
 abbrev pub TermsAreInLimits : Type 0
 TermsAreInLimits = (F : History) → Legal F → IsTrue (are_terms (terms F))
-
--- the last recorded moment of all and the longest life after it
-abbrev pub last_end : ℕ
-last_end = 250315360000
 
 -- nothing lives longer
 pub record EndsInTime (T : Tables) : Type 0 where

@@ -5,7 +5,8 @@ use Rattle.desk_model.specs.Derived.{status_faults}
 use Rattle.desk_model.specs.Effect.{effect, effects, swept}
 use Rattle.desk_model.specs.Entry.{History}
 use Rattle.desk_model.specs.History.{clock, record_all}
-use Rattle.desk_model.specs.Legal.{EachFollows, IsFormed, last_moment, may_follow}
+use Rattle.desk_model.specs.Legal.{EachFollows, IsFormed, may_follow}
+use Rattle.desk_model.specs.Limits.{last_moment}
 use Rattle.desk_model.specs.Tables.{tables_at, picture}
 use Rattle.desk_model.specs.declared.entry.Entry.{Entry}
 use Rattle.desk_laws.specs.Later.{IsLater}

@@ -6,6 +6,7 @@ use Rattle.std.proofs.lemmas.Bool.{eq-eqb, and_from, and_parts, leb-true, le-leb
 use Rattle.desk_model.specs.declared.refusal.Refusal.{Refusal}
 use Rattle.desk_model.specs.declared.refusal.Refusal.TheVariants as refusal
 use Rattle.desk_model.specs.BaseName.{is_base_name}
+use Rattle.desk_model.specs.Limits.{most_names}
 use Rattle.desk_model.specs.Name.{Name, same_name}
 use Rattle.desk_model.specs.Names.{ascii_form, name_of, name_with}
 use Rattle.desk_model.specs.Authorization.{kinds_of}
@@ -206,9 +207,9 @@ fits-length : {X : Type 0} (low high : ℕ) (xs : List X) → has_length low hig
 fits-length low high xs h = let p = and_parts _ _ h in (leb-true low (length xs) p.0, leb-true (length xs) high p.1)
 
 -- what a new order asks for has the form of an order
-pub wanted_fits : (ids : List Identifier) (r : List ℕ) → has_length 1 50 ids ≡ true → subproblems ids ≡ [] →
+pub wanted_fits : (ids : List Identifier) (r : List ℕ) → has_length 1 most_names ids ≡ true → subproblems ids ≡ [] →
     16 * count_tokens (wanted (kept (names_in ids)) r) ≤ length r →
-    (has_length 1 50 (wanted (kept (names_in ids)) r)
+    (has_length 1 most_names (wanted (kept (names_in ids)) r)
     && (all_different (map wanted_name (wanted (kept (names_in ids)) r)) && list_all is_wanted (wanted (kept (names_in ids)) r))) ≡ true
 wanted_fits ids r fits none enough =
     let ns : List Name = names_in ids in

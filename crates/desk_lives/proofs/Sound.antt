@@ -10,6 +10,7 @@ use Rattle.desk_model.specs.declared.entry.Outcome.{Outcome}
 use Rattle.desk_model.specs.declared.call.OrderProblem.{OrderProblem}
 use Rattle.desk_model.specs.declared.objects.Nonce.{Nonce}
 use Rattle.desk_model.specs.Account.{is_valid as is_valid_account}
+use Rattle.desk_model.specs.Limits.{longest_certificate, longest_csr, most_names}
 use Rattle.desk_model.specs.Order.{is_ready, is_processing}
 use Rattle.desk_model.specs.Contact.{contacts_fault}
 use Rattle.desk_model.specs.Tokens.{NonceText, from_base64url, nonce_in}
@@ -131,7 +132,7 @@ account_sound r T n a (change.Update (Some contacts)) texts found valid =
 
 -- an order of names without a fault
 order_sound : (r : List ℕ) (T : Tables) (n : ℕ) (a : AccountRow) (ids : List Identifier) (ss : List Subproblem) → account_on T n ≡ Some a →
-    is_valid_account a.status ≡ true → has_length 1 50 ids ≡ true → subproblems ids ≡ ss →
+    is_valid_account a.status ≡ true → has_length 1 most_names ids ≡ true → subproblems ids ≡ ss →
     IsSound r T (order_of T r n ids ss)
 order_sound r T n a ids (s ∷ ss) found valid fits is = refused_sound _ (s ∷ ss)
 order_sound r T n a ids [] found valid fits is =
@@ -150,11 +151,11 @@ new_order_sound r T n a ids found valid =
     check_sound r T _ refusal.Malformed _ (λ fits. order_sound r T n a ids (subproblems ids) found valid fits refl)
 
 -- a CSR has its length
-csr_length : (o : Option (List ℕ)) (csr : List ℕ) → option_and_then if_fits o ≡ Some csr → has_length 1 8192 csr ≡ true
+csr_length : (o : Option (List ℕ)) (csr : List ℕ) → option_and_then if_fits o ≡ Some csr → has_length 1 longest_csr csr ≡ true
 csr_length None csr h = cc
-csr_length (Some x) csr h = by (has_length 1 8192 x) refl h
+csr_length (Some x) csr h = by (has_length 1 longest_csr x) refl h
   where
-    by : (b : Bool) → has_length 1 8192 x ≡ b → cond {A = Option (List ℕ)} b (Some x) None ≡ Some csr → has_length 1 8192 csr ≡ true
+    by : (b : Bool) → has_length 1 longest_csr x ≡ b → cond {A = Option (List ℕ)} b (Some x) None ≡ Some csr → has_length 1 longest_csr csr ≡ true
     by true e k = let same : x ≡ csr = cc in rw (← same) e
     by false e k = cc
 
@@ -254,7 +255,7 @@ report_sound r T n finding =
 -- a certificate
 certify_sound : (r : List ℕ) (T : Tables) (n : ℕ) (bytes : List ℕ) (o : OrderRow) → order_on T n ≡ Some o → IsSound r T (certify_verdict n bytes o)
 certify_sound r T n bytes o found =
-    check_sound r T (nat_le 1 (length bytes)) refusal.Malformed _ (λ low. check_sound r T (nat_le (length bytes) 65536) refusal.TooLarge _
+    check_sound r T (nat_le 1 (length bytes)) refusal.Malformed _ (λ low. check_sound r T (nat_le (length bytes) longest_certificate) refusal.TooLarge _
     (λ high. choose_sound r T _ _ _ (λ _. none_sound _)
     (check_sound r T (is_processing o.status) refusal.Conflict _ (λ waits. one_sound _ _ tt tt (rw found (and_from _ _ waits (and_from _ _ low high)))))))
 

@@ -8,7 +8,8 @@ use Rattle.desk_model.specs.declared.entry.Dated.{Dated}
 use Rattle.desk_model.specs.declared.entry.Entry.TheVariants.{Issued as issued, Spent as spent}
 use Rattle.desk_model.specs.History.{clock, moment_of, record_all}
 use Rattle.desk_model.specs.Tables.{tables_at}
-use Rattle.desk_model.specs.Legal.{numbers_fit, last_moment, EachFollows, BeginsMade, Legal}
+use Rattle.desk_model.specs.Legal.{numbers_fit, EachFollows, BeginsMade, Legal}
+use Rattle.desk_model.specs.Limits.{last_moment}
 use Rattle.desk_model.specs.declared.verdict.Verdict.{Verdict}
 use Rattle.desk_model.specs.declared.verdict.Verdict.TheVariants.{Refused as refused, Accepted as accepted}
 use Rattle.desk_model.specs.Rules.{office_verdict, open_nonce}

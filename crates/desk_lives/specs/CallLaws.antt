@@ -3,7 +3,8 @@ use Rattle.std.specs.Prelude.{◌*◌, ◌≤◌, ◌≡◌, None, IsTrue, lengt
 use Rattle.desk_model.specs.Decide.{decide, after}
 use Rattle.desk_model.specs.Entry.{History}
 use Rattle.desk_model.specs.History.{clock, moment_of}
-use Rattle.desk_model.specs.Legal.{EachFollows, Legal, last_moment, numbers_fit}
+use Rattle.desk_model.specs.Legal.{EachFollows, Legal, numbers_fit}
+use Rattle.desk_model.specs.Limits.{last_moment}
 use Rattle.desk_model.specs.Run.{count_pieces, fault, IsFormedCall}
 use Rattle.desk_model.specs.declared.call.Call.{Call}
 

@@ -1,4 +1,4 @@
 pub mod KeyShapes
 pub mod Labels
-pub mod Limits
+pub mod Lives
 pub mod Numbers

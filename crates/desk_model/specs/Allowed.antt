@@ -8,6 +8,7 @@ use Rattle.desk_model.specs.Account.{is_valid as is_valid_account}
 use Rattle.desk_model.specs.Authorization.{is_pending, is_valid}
 use Rattle.desk_model.specs.Order.{is_ready, is_processing}
 use Rattle.desk_model.specs.Legal.{is_pending_challenge, is_processing_challenge, has_length, all_different, is_wanted, wanted_name, is_problem}
+use Rattle.desk_model.specs.Limits.{longest_certificate, longest_csr, most_names}
 use Rattle.desk_model.specs.Tables.{Tables}
 use Rattle.desk_model.specs.Questions.{account_on, order_on, authorization_on, owner_on, challenge_of}
 use Rattle.desk_model.specs.declared.status.ChallengeStatus.{ChallengeStatus}
@@ -23,10 +24,10 @@ may_on T (spent serial) = is_some (find (λ n. n.serial == serial) T.nonces)
 may_on T (opened key contacts) = is_none (find (λ a. bytes_eq a.key key) T.accounts) && contacts_pass contacts
 may_on T (contacts_changed n contacts) = holds (λ a. is_valid_account a.status) (account_on T n) && contacts_pass contacts
 may_on T (account_ended n ending) = holds (λ a. is_valid_account a.status) (account_on T n)
-may_on T (ordered n wanted) = holds (λ a. is_valid_account a.status) (account_on T n) && (has_length 1 50 wanted && (all_different (map wanted_name wanted) && list_all is_wanted wanted))
+may_on T (ordered n wanted) = holds (λ a. is_valid_account a.status) (account_on T n) && (has_length 1 most_names wanted && (all_different (map wanted_name wanted) && list_all is_wanted wanted))
 may_on T (answered n) = challenge_passes is_pending_challenge T n
 may_on T (reported n outcome) = challenge_passes is_processing_challenge T n
 may_on T (authorization_ended n ending) = holds (λ a. is_pending a.status || is_valid a.status) (authorization_on T n)
-may_on T (finalized n csr) = holds (λ o. is_ready o.status) (order_on T n) && has_length 1 8192 csr
-may_on T (certified n certificate) = holds (λ o. is_processing o.status) (order_on T n) && has_length 1 65536 certificate
+may_on T (finalized n csr) = holds (λ o. is_ready o.status) (order_on T n) && has_length 1 longest_csr csr
+may_on T (certified n certificate) = holds (λ o. is_processing o.status) (order_on T n) && has_length 1 longest_certificate certificate
 may_on T (failed n problem) = holds (λ o. is_processing o.status) (order_on T n) && is_problem problem

@@ -1,9 +1,10 @@
 -- Which entry may follow a history, and which histories are legal.
-use Rattle.std.specs.Prelude.{ℕ, ◌^◌, ◌≤◌, List, [], ◌∷◌, length, Bool, false, true, not, ◌&&◌, ◌||◌, ◌==◌, nat_le, is_none, IsTrue, map, bytes_eq, codes}
+use Rattle.std.specs.Prelude.{ℕ, ◌≤◌, List, [], ◌∷◌, length, Bool, false, true, not, ◌&&◌, ◌||◌, ◌==◌, nat_le, is_none, IsTrue, map, bytes_eq, codes}
 use Rattle.std.specs.List.{list_any, list_all}
 use Rattle.desk_model.specs.Name.{Name, same_name}
 use Rattle.desk_model.specs.Entry.{Entry, made, issued, spent, opened, contacts_changed, account_ended, ordered, answered, reported, authorization_ended, finalized, certified, failed, Wanted, new, OrderProblem, Dated, History}
 use Rattle.desk_model.specs.History.{clock}
+use Rattle.desk_model.specs.Limits.{last_moment, last_number, longest_certificate, longest_csr, longest_detail, most_names}
 use Rattle.desk_model.specs.Lookup.{holds}
 use Rattle.desk_model.specs.Nonce.{nonce, nonces, is_open}
 use Rattle.desk_model.specs.Account.{accounts, account_by_number, account_by_key, account_status, is_valid as is_valid_account}
@@ -39,9 +40,13 @@ abbrev pub all_different : List Name → Bool
 all_different [] = true
 all_different (n ∷ ns) = not (list_any (same_name n) ns) && all_different ns
 
--- an error type that the signing office may hand in, and a detail of 1 to 256 bytes
+-- an error type that the signing office may hand in
+abbrev pub is_problem_kind : List ℕ → Bool
+is_problem_kind kind = bytes_eq kind (codes "badCSR") || bytes_eq kind (codes "serverInternal")
+
+-- such an error type, and a detail that is not empty and not too long
 abbrev pub is_problem : OrderProblem → Bool
-is_problem p = (bytes_eq p.kind (codes "badCSR") || bytes_eq p.kind (codes "serverInternal")) && has_length 1 256 p.detail
+is_problem p = is_problem_kind p.kind && has_length 1 longest_detail p.detail
 
 abbrev pub is_empty : History → Bool
 is_empty [] = true
@@ -58,7 +63,7 @@ may_follow F (contacts_changed account contacts) m =
 may_follow F (account_ended account ending) m = holds (λ a. is_valid_account (account_status a F)) (account_by_number account F)
 may_follow F (ordered account wanted) m =
     holds (λ a. is_valid_account (account_status a F)) (account_by_number account F)
-    && (has_length 1 50 wanted && (all_different (map wanted_name wanted) && list_all is_wanted wanted))
+    && (has_length 1 most_names wanted && (all_different (map wanted_name wanted) && list_all is_wanted wanted))
 may_follow F (answered challenge) m =
     holds (λ a. is_pending (authorization_status a F m)) (authorization_of challenge F)
     && is_pending_challenge (challenge_status challenge F)
@@ -67,22 +72,19 @@ may_follow F (reported challenge outcome) m =
     && is_processing_challenge (challenge_status challenge F)
 may_follow F (authorization_ended number ending) m =
     holds (λ a. is_pending (authorization_status a F m) || is_valid (authorization_status a F m)) (authorization number F)
-may_follow F (finalized order csr) m = holds (λ o. is_ready (order_status o F m)) (order_by_number order F) && has_length 1 8192 csr
+may_follow F (finalized order csr) m = holds (λ o. is_ready (order_status o F m)) (order_by_number order F) && has_length 1 longest_csr csr
 may_follow F (certified order certificate) m =
-    holds (λ o. is_processing (order_status o F m)) (order_by_number order F) && has_length 1 65536 certificate
+    holds (λ o. is_processing (order_status o F m)) (order_by_number order F) && has_length 1 longest_certificate certificate
 may_follow F (failed order problem) m = holds (λ o. is_processing (order_status o F m)) (order_by_number order F) && is_problem problem
 
 -- no number above the greatest was given
 abbrev pub numbers_fit : History → Bool
 numbers_fit F =
-    nat_le (length (nonces F)) (2 ^ 62)
-    && (nat_le (length (accounts F)) (2 ^ 62)
-    && (nat_le (length (orders F)) (2 ^ 62)
-    && (nat_le (length (authorizations F)) (2 ^ 62)
-    && nat_le (count_challenges (authorizations F)) (2 ^ 62))))
-
-abbrev pub last_moment : ℕ
-last_moment = 250000000000
+    nat_le (length (nonces F)) last_number
+    && (nat_le (length (accounts F)) last_number
+    && (nat_le (length (orders F)) last_number
+    && (nat_le (length (authorizations F)) last_number
+    && nat_le (count_challenges (authorizations F)) last_number)))
 
 -- the key of a new account is one that the desk accepts, and what is recorded as text is UTF-8
 abbrev pub IsFormed : Entry → Type 0

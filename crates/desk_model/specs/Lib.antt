@@ -11,6 +11,7 @@ pub mod Derived
 pub mod Document
 pub mod Effect
 pub mod Entry
+pub mod Facts
 pub mod History
 pub mod Json
 pub mod KeyTexts
@@ -18,6 +19,7 @@ pub mod Kept
 pub mod Keys
 pub mod Legal
 pub mod Life
+pub mod Limits
 pub mod Lookup
 pub mod Moment
 pub mod Name

@@ -11,6 +11,7 @@ use Rattle.desk_model.specs.Authorization.{Kind, http_01, dns_01, is_pending, is
 use Rattle.desk_model.specs.Order.{is_ready, is_processing}
 use Rattle.desk_model.specs.Contact.{contacts_fault}
 use Rattle.desk_model.specs.Legal.{is_problem, has_length, is_pending_challenge, is_processing_challenge}
+use Rattle.desk_model.specs.Limits.{longest_certificate, longest_csr, most_names}
 use Rattle.desk_model.specs.Tables.{Tables, AccountRow, ChallengeRow, AuthorizationRow, OrderRow}
 use Rattle.desk_model.specs.Questions.{nonce_on, account_on, account_with_key, order_on, authorization_on, owner_on, challenge_of}
 use Rattle.desk_model.specs.Payload.{NewAccount, new_account, AccountChange, account_change, AuthorizationChange, authorization_change, ChallengeChange, challenge_change, Identifier, new_order, finalize}
@@ -105,12 +106,12 @@ order_of T random n ids (s ∷ ss) = refused s.refusal (s ∷ ss)
 order_of T random n ids [] = records (ordered n (wanted (kept (names_in ids)) random)) (show.MadeOrder (T.meta.orders + 1))
 
 abbrev pub new_order_verdict : Tables → List ℕ → ℕ → List Identifier → Verdict
-new_order_verdict T random n ids = check (has_length 1 50 ids) refusal.Malformed (order_of T random n ids (subproblems ids))
+new_order_verdict T random n ids = check (has_length 1 most_names ids) refusal.Malformed (order_of T random n ids (subproblems ids))
 
 abbrev pub if_fits : List ℕ → Option (List ℕ)
-if_fits csr = if has_length 1 8192 csr then Some csr else None
+if_fits csr = if has_length 1 longest_csr csr then Some csr else None
 
--- the CSR that a text spells, of 1 to 8192 bytes
+-- the CSR that a text spells, neither empty nor too long
 abbrev pub csr_in : List ℕ → Option (List ℕ)
 csr_in text = option_and_then if_fits (from_base64url text)
 
@@ -233,7 +234,7 @@ report_verdict T n finding = given (owner_on T n) refusal.NotFound (λ a. given 
 abbrev pub certify_verdict : ℕ → List ℕ → OrderRow → Verdict
 certify_verdict n bytes o =
     check (nat_le 1 (length bytes)) refusal.Malformed
-    (check (nat_le (length bytes) 65536) refusal.TooLarge
+    (check (nat_le (length bytes) longest_certificate) refusal.TooLarge
     (choose (holds (λ k. bytes_eq k.bytes bytes) o.certified)
     (answers (show.Order n))
     (check (is_processing o.status) refusal.Conflict (records (certified n bytes) (show.Order n)))))

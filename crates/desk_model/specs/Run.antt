@@ -2,7 +2,8 @@
 use Rattle.std.specs.Prelude.{ℕ, ◌+◌, ◌*◌, List, [], ◌∷◌, length, not, nat_lt, Option, Some, None, Result, Ok, Err, IsUtf8, if◌then◌else◌}
 use Rattle.desk_model.specs.Entry.{Entry, issued, ordered, Wanted, new, History}
 use Rattle.desk_model.specs.Keys.{IsKeyText}
-use Rattle.desk_model.specs.Legal.{numbers_fit, last_moment}
+use Rattle.desk_model.specs.Legal.{numbers_fit}
+use Rattle.desk_model.specs.Limits.{last_moment}
 use Rattle.desk_model.specs.Texts.{IsTextProblem}
 use Rattle.desk_model.specs.Decide.{decide, after}
 use Rattle.desk_model.specs.declared.call.BadKey.{BadKey}

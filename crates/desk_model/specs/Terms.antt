@@ -2,6 +2,7 @@
 use Rattle.std.specs.Prelude.{ℕ, Bool, not, ◌&&◌, ◌||◌, ◌==◌, nat_eq, ◌-◌, List, length, codes, slice_index}
 use Rattle.std.specs.Int.{is_in_range}
 use Rattle.std.specs.List.{list_all, starts_with}
+use Rattle.desk_model.specs.Limits.{longest_life}
 
 pub record Terms : Type 0 where
   pub base : List ℕ
@@ -25,7 +26,7 @@ is_base b =
 
 -- a number of seconds that something may live
 abbrev pub is_life : ℕ → Bool
-is_life n = is_in_range 1 315360000 n
+is_life n = is_in_range 1 longest_life n
 
 -- a desk may be made with these terms
 abbrev pub are_terms : Terms → Bool

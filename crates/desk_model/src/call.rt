@@ -1,4 +1,9 @@
 //! What is asked of the desk.
+ghost use Rattle.std.specs.Prelude.{◌≡◌};
+ghost use Rattle.desk_model.specs.Legal.{is_problem_kind};
+ghost use Rattle.desk_model.specs.Run.{IsFormedCall, IsFormedSigned};
+ghost use Rattle.desk_model.specs.Texts.{IsTextProblem};
+
 use crate::jwk::Jwk;
 use crate::sequence::Sequence;
 use crate::text::Text;
@@ -108,4 +113,40 @@ pub struct OrderProblem {
     pub kind: Text,
     /// The text that the order then shows its client; 1 to 256 bytes are recorded.
     pub detail: Text,
+}
+
+/// Whether the signing office may hand in a problem of this error type.
+pub fn is_problem_kind(kind: &str) -> bool
+    ensures { result ≡ is_problem_kind kind.now }
+{
+    kind == "badCSR" || kind == "serverInternal"
+}
+
+/// What the types of a call keep, as a fact: an accepted key has its canonical text, and texts are UTF-8.
+pub fn keep_form(call: &Call)
+    ensures { IsFormedCall call.now }
+{
+    match &call.ask {
+        Ask::Signed(request) => keep_request(request),
+        Ask::FailOrder { problem, .. } => keep_problem(problem),
+        _ => (),
+    }
+}
+
+// What the types of a request keep.
+fn keep_request(request: &Signed)
+    ensures { IsFormedSigned request.now }
+{
+    let _payload = request.payload.as_str();
+    if let Ok(key) = &request.key {
+        let _text = key.canonical();
+    }
+}
+
+// What the type of a problem keeps.
+fn keep_problem(problem: &OrderProblem)
+    ensures { IsTextProblem problem.now }
+{
+    let _kind = problem.kind.as_str();
+    let _detail = problem.detail.as_str();
 }

@@ -1,10 +1,9 @@
 //! The latest moment at which something was recorded.
 ghost use Rattle.std.specs.Prelude.{◌≡◌, ◌<◌, ◌≤◌, MatchOption};
+ghost use Rattle.desk_model.specs.Limits.{last_moment};
 
+use crate::limits::LAST_MOMENT;
 use std::marker::Model;
-
-/// The last moment at which a call may be made, in seconds since 1970.
-pub const LAST_MOMENT: u64 = 250_000_000_000;
 
 /// A moment in seconds since 1970, not past the last one; contracts see the number.
 #[derive(Clone, Copy, Debug, PartialEq, Eq)]
@@ -14,12 +13,13 @@ pub struct Clock {
 
 impl Model for Clock {
     ghost use Rattle.std.specs.Prelude.{ℕ, ◌≤◌};
+    ghost use Rattle.desk_model.specs.Limits.{last_moment};
 
     ghost Value = { ℕ };
 
     ghost view = { λ c. c.moment };
 
-    ghost invariant = { λ c. c.moment ≤ 250000000000 };
+    ghost invariant = { λ c. c.moment ≤ last_moment };
 
     ghost inverse = { λ moment. record { moment = moment } };
 }
@@ -27,7 +27,7 @@ impl Model for Clock {
 impl Clock {
     /// The clock at a moment, or `None` where that is past the last one.
     pub fn new(moment: u64) -> Option<Clock>
-        ensures { MatchOption result (250000000000 < moment) (λ clock. (clock ≡ moment) × (moment ≤ 250000000000)) }
+        ensures { MatchOption result (last_moment < moment) (λ clock. (clock ≡ moment) × (moment ≤ last_moment)) }
     {
         if moment > LAST_MOMENT {
             return None;
@@ -37,7 +37,7 @@ impl Clock {
 
     /// The clock at a moment that is not past the last one.
     pub fn at(moment: u64) -> Clock
-        requires { moment ≤ 250000000000 }
+        requires { moment ≤ last_moment }
         ensures { result ≡ moment }
     {
         Clock { moment }
@@ -46,7 +46,7 @@ impl Clock {
     /// The moment, in seconds since 1970.
     pub fn moment(self) -> u64
         ensures same { result ≡ self }
-        ensures in_time { result ≤ 250000000000 }
+        ensures in_time { result ≤ last_moment }
     {
         self.moment
     }

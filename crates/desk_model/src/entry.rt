@@ -1,7 +1,12 @@
 //! The dated facts of a desk.
+ghost use Rattle.std.specs.Prelude.{◌≡◌};
+ghost use Rattle.desk_model.specs.Authorization.{is_good, kind_of};
+ghost use Rattle.desk_model.specs.Facts.{ending_text, outcome_text};
+
 use crate::call::OrderProblem;
 use crate::dns_name::DnsName;
 use crate::jwk::Jwk;
+use crate::objects::EndKind;
 use crate::policy::Policy;
 use crate::sequence::Sequence;
 use crate::text::Text;
@@ -15,6 +20,28 @@ pub enum Ending {
     Revoked,
 }
 
+impl Ending {
+    /// The end of an account as the columns of a file keep it.
+    pub fn as_str(self) -> &'static str
+        ensures { result.now ≡ ending_text self }
+    {
+        match self {
+            Ending::Deactivated => "deactivated",
+            Ending::Revoked => "revoked",
+        }
+    }
+
+    /// How it ends an authorization, its own or each of an account that ends.
+    pub fn kind(self) -> EndKind
+        ensures { result ≡ kind_of self }
+    {
+        match self {
+            Ending::Deactivated => EndKind::Deactivated,
+            Ending::Revoked => EndKind::Revoked,
+        }
+    }
+}
+
 /// What a validation showed.
 #[derive(Clone, Copy, Debug, PartialEq, Eq)]
 pub enum Outcome {
@@ -26,6 +53,27 @@ pub enum Outcome {
     Connection,
     /// The name was not looked up (RFC 8555, 6.7, `dns`).
     Dns,
+}
+
+impl Outcome {
+    /// The outcome of a report as the columns of a file keep it.
+    pub fn as_str(self) -> &'static str
+        ensures { result.now ≡ outcome_text self }
+    {
+        match self {
+            Outcome::Good => "good",
+            Outcome::IncorrectResponse => "incorrectResponse",
+            Outcome::Connection => "connection",
+            Outcome::Dns => "dns",
+        }
+    }
+
+    /// Whether it makes the challenge valid (RFC 8555, 7.1.6).
+    pub fn is_good(self) -> bool
+        ensures { result ≡ is_good self }
+    {
+        matches!(self, Outcome::Good)
+    }
 }
 
 /// A name of an order: a new authorization, with a token for each challenge that it gets.

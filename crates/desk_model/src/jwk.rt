@@ -5,7 +5,7 @@ ghost use Rattle.std.specs.List.{list_all};
 ghost use Rattle.desk_model.specs.Keys.{IsKeyText, is_number_text, is_base64url_byte};
 ghost use Rattle.desk_model.specs.KeyTexts.{IsNumberThen, IsLastNumber, AreTwoNumbers, HasEcShape, HasKeyShape, HasTwoNumbers, HasOneNumber};
 
-use crate::text::Text;
+use crate::text::{Text, is_same_text};
 use std::alloc::AllocError;
 use std::marker::Model;
 
@@ -138,7 +138,7 @@ fn is_last_number(text: &str) -> bool
     ensures { IsTrue result ↔ IsLastNumber text.now }
 {
     match after_number(text) {
-        Some(rest) => is_same(rest, "}"),
+        Some(rest) => is_same_text(rest, "}"),
         None => false,
     }
 }
@@ -153,13 +153,6 @@ fn after_number(text: &str) -> Option<&str>
         return None;
     };
     if is_number(number) { Some(rest) } else { None }
-}
-
-// Whether two texts are the same.
-fn is_same(text: &str, other: &str) -> bool
-    ensures { IsTrue result ↔ (text.now ≡ other.now) }
-{
-    text == other
 }
 
 /// Whether a text is a number in base64url, of 1 to 4096 characters.

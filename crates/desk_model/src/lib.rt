@@ -7,6 +7,7 @@ mod dns_name;
 mod document;
 mod entry;
 mod jwk;
+mod limits;
 mod objects;
 mod payload;
 mod policy;
@@ -18,12 +19,19 @@ mod status;
 mod text;
 mod verdict;
 
-pub use call::{Ask, BadKey, Call, FetchError, Finding, OrderProblem, Signed, Target};
-pub use clock::{Clock, LAST_MOMENT};
+pub use call::{
+    Ask, BadKey, Call, FetchError, Finding, OrderProblem, Signed, Target, is_problem_kind,
+    keep_form,
+};
+pub use clock::Clock;
 pub use dns_name::{DnsName, is_well_formed};
 pub use document::Document;
 pub use entry::{Dated, Ending, Entry, Outcome, Wanted};
 pub use jwk::{Jwk, is_number};
+pub use limits::{
+    LAST_END, LAST_MOMENT, LAST_NUMBER, LONGEST_BODY, LONGEST_CERTIFICATE, LONGEST_CONTACT,
+    LONGEST_CSR, LONGEST_DETAIL, LONGEST_HEAD, LONGEST_LIFE, MOST_CONTACTS, MOST_NAMES,
+};
 pub use objects::{
     Account, AccountEnd, Authorization, AuthorizationEnd, Challenge, EndKind, Kind, Nonce, Order,
     Report,
@@ -38,5 +46,5 @@ pub use rows::{
 };
 pub use sequence::Sequence;
 pub use status::{AccountStatus, AuthzStatus, ChallengeStatus, OrderStatus};
-pub use text::Text;
+pub use text::{Text, is_same_bytes, is_same_text};
 pub use verdict::{Shows, Verdict};

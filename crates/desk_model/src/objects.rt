@@ -1,11 +1,14 @@
 //! What a history makes, as it was made.
 ghost use Rattle.std.specs.Prelude.{◌≡◌};
+ghost use Rattle.desk_model.specs.Authorization.{status_of};
 ghost use Rattle.desk_model.specs.Document.{kind_text};
+ghost use Rattle.desk_model.specs.Facts.{end_kind_text};
 
 use crate::dns_name::DnsName;
 use crate::entry::{Ending, Outcome};
 use crate::jwk::Jwk;
 use crate::sequence::Sequence;
+use crate::status::AuthzStatus;
 use crate::text::Text;
 
 /// A nonce: its serial, its random bytes and when it was issued (RFC 8555, 6.5).
@@ -123,6 +126,30 @@ pub enum EndKind {
     Deactivated,
     /// By the operator, or with its account, which the operator revoked.
     Revoked,
+}
+
+impl EndKind {
+    /// The end of an authorization as the columns of a file keep it.
+    pub fn as_str(self) -> &'static str
+        ensures { result.now ≡ end_kind_text self }
+    {
+        match self {
+            EndKind::Invalid => "invalid",
+            EndKind::Deactivated => "deactivated",
+            EndKind::Revoked => "revoked",
+        }
+    }
+
+    /// The status that it gives the authorization (RFC 8555, 7.1.6).
+    pub fn status(self) -> AuthzStatus
+        ensures { result ≡ status_of self }
+    {
+        match self {
+            EndKind::Invalid => AuthzStatus::Invalid,
+            EndKind::Deactivated => AuthzStatus::Deactivated,
+            EndKind::Revoked => AuthzStatus::Revoked,
+        }
+    }
 }
 
 /// When and how an authorization ended.

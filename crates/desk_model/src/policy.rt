@@ -2,8 +2,10 @@
 ghost use Rattle.std.specs.Prelude.{◌≡◌, ◌≤◌, ◌==◌, ◌-◌, length, slice_index, true, false, IfOk, IsTrue, MatchOption};
 ghost use Rattle.std.specs.Int.{is_in_range};
 ghost use Rattle.std.specs.List.{list_all};
+ghost use Rattle.desk_model.specs.Limits.{longest_life};
 ghost use Rattle.desk_model.specs.Terms.{Terms, are_terms, is_base, is_life, has_scheme, is_base_byte};
 
+use crate::limits::LONGEST_LIFE;
 use crate::text::Text;
 use std::alloc::{AllocError, Global};
 use std::marker::Model;
@@ -72,7 +74,7 @@ impl Policy {
     /// How long a nonce lives, in seconds.
     pub fn nonce_life(&self) -> u64
         ensures life { result ≡ self.now.nonce_life }
-        ensures limit { result ≤ 315360000 }
+        ensures limit { result ≤ longest_life }
     {
         self.nonce_life
     }
@@ -80,7 +82,7 @@ impl Policy {
     /// How long an order lives, in seconds.
     pub fn order_life(&self) -> u64
         ensures life { result ≡ self.now.order_life }
-        ensures limit { result ≤ 315360000 }
+        ensures limit { result ≤ longest_life }
     {
         self.order_life
     }
@@ -88,7 +90,7 @@ impl Policy {
     /// How long an authorization lives, in seconds.
     pub fn authz_life(&self) -> u64
         ensures life { result ≡ self.now.authz_life }
-        ensures limit { result ≤ 315360000 }
+        ensures limit { result ≤ longest_life }
     {
         self.authz_life
     }
@@ -157,5 +159,5 @@ fn ends_with_slash(base: &str) -> bool
 fn is_allowed_life(seconds: u64) -> bool
     ensures { result ≡ is_life seconds }
 {
-    (1..=315360000).contains(&seconds)
+    (1..=LONGEST_LIFE).contains(&seconds)
 }

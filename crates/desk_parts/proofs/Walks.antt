@@ -14,6 +14,7 @@ use Rattle.desk_model.specs.declared.entry.Ending.{Ending}
 use Rattle.desk_model.specs.declared.entry.Ending.TheVariants.{Deactivated as deactivated, Revoked as revoked}
 use Rattle.desk_model.specs.declared.entry.Outcome.{Outcome}
 use Rattle.desk_model.specs.Legal.{has_length, is_pending_challenge, is_problem, is_processing_challenge}
+use Rattle.desk_model.specs.Limits.{longest_certificate, most_names}
 use Rattle.desk_model.specs.Lookup.{holds}
 use Rattle.desk_model.specs.Order.{is_processing, is_ready}
 use Rattle.desk_model.specs.Payload.{account_change, authorization_change, challenge_change, finalize, new_account, new_order}
@@ -161,7 +162,7 @@ certify_answered k T m n bytes ready o =
     let S : Tables = swept m T in
     let kept : k.orders n ≡ true = ready.named.order n (same_number n) in
     check_keeps (IsAnswered k m S) (nat_le 1 (length bytes)) refusal.Malformed _ tt (λ some.
-    check_keeps (IsAnswered k m S) (nat_le (length bytes) 65536) refusal.TooLarge _ tt (λ few.
+    check_keeps (IsAnswered k m S) (nat_le (length bytes) longest_certificate) refusal.TooLarge _ tt (λ few.
     either_keeps (IsAnswered k m S) (holds (λ x. bytes_eq x.bytes bytes) o.certified) _ _ (order_shown k S n kept (swept_closed k T m ready.closed).listed)
     (check_keeps (IsAnswered k m S) (is_processing o.status) refusal.Conflict _ tt (λ ready_for. (
       covered k T m (ask.Certify n bytes) (certified n bytes) ready (certified_named T m (ask.Certify n bytes) n bytes (same_number n)),
@@ -316,7 +317,7 @@ target_answered : (k : Kept) (T : Tables) (m : ℕ) (s : Signed) (r : List ℕ) 
 target_answered k T m s r x p to.NewAccount ready kept named member owned = known_shown k (swept m T) x.number kept
 target_answered k T m s r x p to.NewOrder ready kept named member owned =
     given_keeps (IsAnswered k m (swept m T)) (new_order p) refusal.Malformed _ tt (λ ids is.
-    check_keeps (IsAnswered k m (swept m T)) (has_length 1 50 ids) refusal.Malformed _ tt (λ few. new_order_answered k T m (sent s to.NewOrder) r x.number ids ready (subproblems ids)))
+    check_keeps (IsAnswered k m (swept m T)) (has_length 1 most_names ids) refusal.Malformed _ tt (λ few. new_order_answered k T m (sent s to.NewOrder) r x.number ids ready (subproblems ids)))
 target_answered k T m s r x p (to.Account j) ready kept named member owned =
     check_keeps (IsAnswered k m (swept m T)) (j == x.number) refusal.NotFound _ tt (λ here.
     given_keeps (IsAnswered k m (swept m T)) (account_change p) refusal.Malformed _ tt (λ q is. account_answered k T m s j x q ready kept named member here))

@@ -14,6 +14,7 @@ use Rattle.sqlite_sql.specs.Ops.{binary, is_true, from_truth}
 use Rattle.desk_tables.proofs.Found.{equal_is}
 use Rattle.desk_tables.proofs.Keyed.{ranked, three}
 use Rattle.desk_reading.specs.Bounded.{bounded}
+use Rattle.desk_model.specs.Limits.{last_number}
 
 -- a truth that is known is told
 told : (b : Bool) → is_true (from_truth (Some b)) ≡ b
@@ -129,7 +130,7 @@ beyond : (n : ℕ) → nat_le n 9223372036854775807 ≡ false → 92233720368547
 beyond n h = grind (arith, nat_tests)
 
 -- no number of a row is the greatest of SQL, or above it
-pub same_bounded : (a n : ℕ) → a ≤ 2 ^ 62 → (a == bounded n) ≡ (a == n)
+pub same_bounded : (a n : ℕ) → a ≤ last_number → (a == bounded n) ≡ (a == n)
 same_bounded a n low = go (nat_le n 9223372036854775807) refl
   where
     go : (b : Bool) → nat_le n 9223372036854775807 ≡ b → (a == bounded n) ≡ (a == n)
@@ -140,7 +141,7 @@ same_bounded a n low = go (nat_le n 9223372036854775807) refl
         (apart_below a n (omega (arith, low, high)))
 
 -- each moment of a row is below the greatest of SQL
-pub below_bounded : (a n : ℕ) → a ≤ 2 ^ 62 → nat_lt a (bounded n) ≡ nat_lt a n
+pub below_bounded : (a n : ℕ) → a ≤ last_number → nat_lt a (bounded n) ≡ nat_lt a n
 below_bounded a n low = go (nat_le n 9223372036854775807) refl
   where
     go : (b : Bool) → nat_le n 9223372036854775807 ≡ b → nat_lt a (bounded n) ≡ nat_lt a n
@@ -151,7 +152,7 @@ below_bounded a n low = go (nat_le n 9223372036854775807) refl
         (before_is a n (omega (arith, low, high)))
 
 -- no number of a row is above the greatest of SQL
-pub above_bounded : (a n : ℕ) → a ≤ 2 ^ 62 → nat_lt (bounded n) a ≡ nat_lt n a
+pub above_bounded : (a n : ℕ) → a ≤ last_number → nat_lt (bounded n) a ≡ nat_lt n a
 above_bounded a n low = go (nat_le n 9223372036854775807) refl
   where
     go : (b : Bool) → nat_le n 9223372036854775807 ≡ b → nat_lt (bounded n) a ≡ nat_lt n a

@@ -2,7 +2,7 @@
 use Rattle.std.proofs.Common.{◌≡◌, ℕ, ◌≤◌, List, [], ◌∷◌, ◌++◌, map, Option, Some, None, refl, sym, ap, ◌∙◌, arith}
 use Rattle.std.specs.Prelude.{is_some, codes}
 use Rattle.serde_json.specs.Data.{Data, string}
-use Rattle.desk_laws.specs.LegalLaws.{last_end}
+use Rattle.desk_model.specs.Limits.{last_end}
 use Rattle.desk_model.specs.Json.{members, list, document, when}
 use Rattle.desk_model.specs.Terms.{Terms}
 use Rattle.desk_model.specs.Name.{Name}

@@ -1,6 +1,6 @@
 //! Replies with one object, by its row (RFC 8555, 7).
 ghost use Rattle.std.specs.Prelude.{◌≡◌, ◌≤◌, map, IfOk, option_copied};
-ghost use Rattle.desk_laws.specs.LegalLaws.{last_end};
+ghost use Rattle.desk_model.specs.Limits.{last_end};
 ghost use Rattle.desk_model.specs.Document.{key_document, listed_rows};
 ghost use Rattle.desk_model.specs.Questions.{challenge_of};
 ghost use Rattle.desk_model.specs.Shown.{account_reply, certificate_reply, challenge_reply, challenge_in, client_challenge_in, authorization_reply, located_order, ok, order_reply};

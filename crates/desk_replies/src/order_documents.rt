@@ -3,7 +3,7 @@ ghost use Rattle.std.specs.Prelude.{ℕ, ◌≡◌, ◌≤◌, ◌∷◌, [], ma
 ghost use Rattle.std.specs.List.{filter};
 ghost use Rattle.serde_json.specs.Data.{string};
 ghost use Rattle.serde_json.specs.View.{view, members_view};
-ghost use Rattle.desk_laws.specs.LegalLaws.{last_end};
+ghost use Rattle.desk_model.specs.Limits.{last_end};
 ghost use Rattle.desk_model.specs.Json.{members, list, when};
 ghost use Rattle.desk_model.specs.Derived.{numbers_of};
 ghost use Rattle.desk_model.specs.Names.{shown_name};

@@ -1,6 +1,7 @@
 -- What a new order needs, by its names.
 use Rattle.std.proofs.Common.{◌≡◌, ℕ, ◌+◌, ◌*◌, ◌<◌, ◌≤◌, ◌^◌, List, length, drop, not, sym, ap, subst, ◌∙◌, arith, length-drop}
 use Rattle.std.specs.Prelude.{◌⊎◌, count_by}
+use Rattle.desk_model.specs.Limits.{last_number}
 use Rattle.desk_model.specs.Name.{Name}
 use Rattle.desk_model.specs.Rules.{wanted}
 use Rattle.desk_model.specs.Run.{count_tokens}
@@ -23,24 +24,24 @@ order_for account ns random what = records (ordered account (wanted ns (drop 16 
 -- there is no number for one of its objects
 pub order_full : (M : Meta) (random : List ℕ) (account : ℕ) (ns : List Name) (what : Shows) (count tokens : ℕ) (e : CoreFault) →
     count ≡ length ns → tokens ≡ length ns + count_by (λ n. not n.wildcard) ns → e ≡ fault.Full →
-    (2 ^ 62 ≤ M.orders) ⊎ ((2 ^ 62 < M.authorizations + count) ⊎ (2 ^ 62 < M.challenges + tokens)) →
+    (last_number ≤ M.orders) ⊎ ((last_number < M.authorizations + count) ⊎ (last_number < M.challenges + tokens)) →
     IsNeedFault M random (order_for account ns random what) e
 order_full M random account ns what count tokens e many as_many is h =
     subst (λ d. IsNeedFault M random (order_for account ns random what) d) (sym is)
-    (subst (λ t. (2 ^ 62 ≤ M.orders) ⊎ ((2 ^ 62 < M.authorizations + length (wanted ns (drop 16 random))) ⊎ (2 ^ 62 < M.challenges + t)))
+    (subst (λ t. (last_number ≤ M.orders) ⊎ ((last_number < M.authorizations + length (wanted ns (drop 16 random))) ⊎ (last_number < M.challenges + t)))
     (as_many ∙ sym (count_tokens-wanted ns (drop 16 random)))
-    (subst (λ n. (2 ^ 62 ≤ M.orders) ⊎ ((2 ^ 62 < M.authorizations + n) ⊎ (2 ^ 62 < M.challenges + tokens)))
+    (subst (λ n. (last_number ≤ M.orders) ⊎ ((last_number < M.authorizations + n) ⊎ (last_number < M.challenges + tokens)))
     (many ∙ sym (length-wanted ns (drop 16 random))) h))
 
 -- its numbers can be given
 pub order_numbered : (M : Meta) (random : List ℕ) (account : ℕ) (ns : List Name) (what : Shows) (count tokens : ℕ) →
     count ≡ length ns → tokens ≡ length ns + count_by (λ n. not n.wildcard) ns →
-    (M.orders < 2 ^ 62) × (M.authorizations + count ≤ 2 ^ 62) × (M.challenges + tokens ≤ 2 ^ 62) →
+    (M.orders < last_number) × (M.authorizations + count ≤ last_number) × (M.challenges + tokens ≤ last_number) →
     NumbersLeft M (order_for account ns random what)
 order_numbered M random account ns what count tokens many as_many h =
-    let orders : M.orders < 2 ^ 62 = h.0 in
-    let authorizations : M.authorizations + count ≤ 2 ^ 62 = h.1 in
-    let challenges : M.challenges + tokens ≤ 2 ^ 62 = h.2 in
+    let orders : M.orders < last_number = h.0 in
+    let authorizations : M.authorizations + count ≤ last_number = h.1 in
+    let challenges : M.challenges + tokens ≤ last_number = h.2 in
     (orders, omega (arith, length-wanted ns (drop 16 random)), omega (arith, count_tokens-wanted ns (drop 16 random)))
 
 -- there are random bytes for its tokens
@@ -67,7 +68,7 @@ order_fits random rest ns tokens as_many h is =
 pub order_made : (M N : Meta) (random rest : List ℕ) (account : ℕ) (ns : List Name) (asked : List Wanted) (count tokens : ℕ) (v : Verdict) →
     v ≡ records (ordered account asked) (MadeOrder (N.orders + 1)) → asked ≡ wanted ns rest → rest ≡ drop 16 random → N ≡ M →
     count ≡ length ns → tokens ≡ length ns + count_by (λ n. not n.wildcard) ns →
-    (N.orders < 2 ^ 62) × (N.authorizations + count ≤ 2 ^ 62) × (N.challenges + tokens ≤ 2 ^ 62) → 16 * (1 + tokens) ≤ length random →
+    (N.orders < last_number) × (N.authorizations + count ≤ last_number) × (N.challenges + tokens ≤ last_number) → 16 * (1 + tokens) ≤ length random →
     (v ≡ order_for account ns random (MadeOrder (M.orders + 1))) × NumbersLeft M v × BytesLeft random v
 order_made M N random rest account ns asked count tokens v is by behind same many as_many numbers bytes =
     let made : v ≡ order_for account ns random (MadeOrder (M.orders + 1)) =

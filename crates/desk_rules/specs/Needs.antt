@@ -1,6 +1,7 @@
 -- What the entry of a verdict needs: numbers that can be given, and random bytes for tokens.
 use Rattle.std.specs.Prelude.{ℕ, ◌+◌, ◌*◌, ◌≡◌, ◌<◌, ◌≤◌, ◌^◌, ◌⊎◌, List, length, Option, Some}
 use Rattle.desk_model.specs.Authorization.{kinds_of}
+use Rattle.desk_model.specs.Limits.{last_number}
 use Rattle.desk_model.specs.Run.{count_tokens, count_pieces}
 use Rattle.desk_model.specs.Kept.{EachOf}
 use Rattle.desk_model.specs.Decide.{entries_of}
@@ -16,9 +17,9 @@ use Rattle.desk_rules.specs.declared.fault.CoreFault.TheVariants as fault
 
 -- the numbers of what the entry makes can be given
 abbrev pub NumbersLeftFor : Meta → Option Entry → Type 0
-NumbersLeftFor M (Some (opened key contacts)) = M.accounts < 2 ^ 62
+NumbersLeftFor M (Some (opened key contacts)) = M.accounts < last_number
 NumbersLeftFor M (Some (ordered n wanted)) =
-    (M.orders < 2 ^ 62) × (M.authorizations + length wanted ≤ 2 ^ 62) × (M.challenges + count_tokens wanted ≤ 2 ^ 62)
+    (M.orders < last_number) × (M.authorizations + length wanted ≤ last_number) × (M.challenges + count_tokens wanted ≤ last_number)
 NumbersLeftFor M _ = Unit {0}
 
 abbrev pub NumbersLeft : Meta → Verdict → Type 0
@@ -27,9 +28,9 @@ NumbersLeft M _ = Unit {0}
 
 -- one of them can't
 abbrev pub NumbersSpentFor : Meta → Option Entry → Type 0
-NumbersSpentFor M (Some (opened key contacts)) = 2 ^ 62 ≤ M.accounts
+NumbersSpentFor M (Some (opened key contacts)) = last_number ≤ M.accounts
 NumbersSpentFor M (Some (ordered n wanted)) =
-    (2 ^ 62 ≤ M.orders) ⊎ ((2 ^ 62 < M.authorizations + length wanted) ⊎ (2 ^ 62 < M.challenges + count_tokens wanted))
+    (last_number ≤ M.orders) ⊎ ((last_number < M.authorizations + length wanted) ⊎ (last_number < M.challenges + count_tokens wanted))
 NumbersSpentFor M _ = ⊥
 
 abbrev pub NumbersSpent : Meta → Verdict → Type 0

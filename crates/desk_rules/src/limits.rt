@@ -1,5 +1,6 @@
 //! The limits of moments, numbers and random bytes.
 ghost use Rattle.std.specs.Prelude.{◌≡◌, ◌+◌, ◌*◌, ◌<◌, ◌≤◌, ◌^◌, length, drop, take, MatchResult};
+ghost use Rattle.desk_model.specs.Limits.{last_number};
 
 use crate::fault::CoreFault;
 
@@ -12,7 +13,7 @@ pub(crate) const LAST_NUMBER: u64 = 1 << 62;
 ///
 /// `Full` where the number would be above 2^62.
 pub fn has_room(last: u64) -> Result<(), CoreFault>
-    ensures { MatchResult result (λ _. last < 2 ^ 62) (λ e. (e ≡ CoreFault.Full) × (2 ^ 62 ≤ last)) }
+    ensures { MatchResult result (λ _. last < last_number) (λ e. (e ≡ CoreFault.Full) × (last_number ≤ last)) }
 {
     if last < LAST_NUMBER {
         Ok(())
@@ -23,7 +24,7 @@ pub fn has_room(last: u64) -> Result<(), CoreFault>
 
 /// Whether this many numbers may be given after the last one.
 pub(crate) fn has_room_for(last: u64, count: usize) -> Result<(), CoreFault>
-    ensures { MatchResult result (λ _. last + count ≤ 2 ^ 62) (λ e. (e ≡ CoreFault.Full) × (2 ^ 62 < last + count)) }
+    ensures { MatchResult result (λ _. last + count ≤ last_number) (λ e. (e ≡ CoreFault.Full) × (last_number < last + count)) }
 {
     let count = count as u64;
     if last <= LAST_NUMBER && count <= LAST_NUMBER - last {

@@ -3,6 +3,7 @@ ghost use Rattle.std.specs.Prelude.{◌≡◌, ◌+◌, ◌*◌, ◌<◌, ◌≤
 ghost use Rattle.std.specs.List.{list_any};
 ghost use Rattle.desk_rules.specs.Needs.{NumbersLeft, BytesLeft, IsNeedFault};
 ghost use Rattle.desk_model.specs.Authorization.{kinds_of};
+ghost use Rattle.desk_model.specs.Limits.{last_number};
 ghost use Rattle.desk_model.specs.Name.{same_bool, same_name};
 ghost use Rattle.desk_model.specs.Rules.{kept, new_order_verdict, pieces, wanted};
 ghost use Rattle.desk_model.specs.Run.{count_tokens};
@@ -103,8 +104,8 @@ fn wanted(alloc: Global, names: Vec<DnsName>, random: &[u8]) -> Result<Vec<Wante
 // Whether an order may be made with this many authorizations and challenges.
 fn has_numbers(meta: &Meta, authorizations: usize, challenges: usize) -> Result<(), CoreFault>
     ensures { MatchResult result
-        (λ _. (meta.now.orders < 2 ^ 62) × (meta.now.authorizations + authorizations ≤ 2 ^ 62) × (meta.now.challenges + challenges ≤ 2 ^ 62))
-        (λ e. (e ≡ CoreFault.Full) × ((2 ^ 62 ≤ meta.now.orders) ⊎ ((2 ^ 62 < meta.now.authorizations + authorizations) ⊎ (2 ^ 62 < meta.now.challenges + challenges)))) }
+        (λ _. (meta.now.orders < last_number) × (meta.now.authorizations + authorizations ≤ last_number) × (meta.now.challenges + challenges ≤ last_number))
+        (λ e. (e ≡ CoreFault.Full) × ((last_number ≤ meta.now.orders) ⊎ ((last_number < meta.now.authorizations + authorizations) ⊎ (last_number < meta.now.challenges + challenges)))) }
 {
     has_room(meta.orders)?;
     has_room_for(meta.authorizations, authorizations)?;

@@ -2,6 +2,7 @@
 ghost use Rattle.std.specs.Prelude.{◌≡◌, ◌&&◌, ◌||◌, IfOk, bytes_eq, codes};
 ghost use Rattle.desk_model.specs.Effect.{swept};
 ghost use Rattle.desk_model.specs.Legal.{is_problem, has_length};
+ghost use Rattle.desk_model.specs.Limits.{longest_detail};
 ghost use Rattle.desk_model.specs.Lookup.{holds};
 ghost use Rattle.desk_model.specs.Order.{is_processing};
 ghost use Rattle.desk_model.specs.Questions.{account_on, authorization_on, order_on};
@@ -116,7 +117,7 @@ fn has_known_kind(problem: &OrderProblem) -> bool
 }
 
 fn has_detail(problem: &OrderProblem) -> bool
-    ensures { result ≡ has_length 1 256 problem.now.detail }
+    ensures { result ≡ has_length 1 longest_detail problem.now.detail }
 {
     let count = problem.detail.as_str().len();
     1 <= count && count <= 256

@@ -22,18 +22,19 @@ use Rattle.http_requests.specs.Spelled as spelled
 use Rattle.http_requests.specs.declared.call.Heard.{Heard}
 use Rattle.http_requests.specs.declared.call.Manner.{Manner}
 use Rattle.http_requests.specs.declared.head.HeadRead.TheVariants as read
+use Rattle.desk_model.specs.Limits.{longest_head}
 
 -- ---- the front of the input
 
 -- the front of a longer input
-front_of : (bytes ys : List ℕ) → length bytes ≤ 16384 → front (bytes ++ ys) ≡ bytes ++ take (16384 - length bytes) ys
+front_of : (bytes ys : List ℕ) → length bytes ≤ longest_head → front (bytes ++ ys) ≡ bytes ++ take (longest_head - length bytes) ys
 front_of bytes ys le =
-    let e : 16384 ≡ length bytes + (16384 - length bytes) = omega arith in
-    ap (λ n. take n (bytes ++ ys)) e ∙ take-append-add bytes ys (16384 - length bytes)
+    let e : longest_head ≡ length bytes + (longest_head - length bytes) = omega arith in
+    ap (λ n. take n (bytes ++ ys)) e ∙ take-append-add bytes ys (longest_head - length bytes)
 
 -- bytes that fill the front are the front
-full_front : (bytes ys : List ℕ) → length bytes ≡ 16384 → front (bytes ++ ys) ≡ bytes
-full_front bytes ys e = take-append-le 16384 bytes ys (omega arith) ∙ take_all 16384 bytes (omega arith)
+full_front : (bytes ys : List ℕ) → length bytes ≡ longest_head → front (bytes ++ ys) ≡ bytes
+full_front bytes ys e = take-append-le longest_head bytes ys (omega arith) ∙ take_all longest_head bytes (omega arith)
 
 -- too many fields stay too many, whatever follows
 overflows_more : (bytes zs : List ℕ) → RequestOverflows 64 bytes → RequestOverflows 64 (bytes ++ zs)
@@ -66,12 +67,12 @@ IsRefusedBy why h =
     (h.manner ≡ record { head_only = false; index = true }) × (h.request ≡ Ok (request.Refused (refused_request why allow.No true)))
 
 -- of an input that begins with these bytes
-malformed_input : (bytes ys : List ℕ) (h : Heard) → length bytes ≤ 16384
-    → (RequestOverflows 64 bytes ⊎ ((length bytes < 16384) × HasNoRequest bytes × (ys ≡ []))) → IsRefusedBy refusal.Malformed h → Hears (bytes ++ ys) h
+malformed_input : (bytes ys : List ℕ) (h : Heard) → length bytes ≤ longest_head
+    → (RequestOverflows 64 bytes ⊎ ((length bytes < longest_head) × HasNoRequest bytes × (ys ≡ []))) → IsRefusedBy refusal.Malformed h → Hears (bytes ++ ys) h
 malformed_input bytes ys h le (inl over) r =
-    let f : front (bytes ++ ys) ≡ bytes ++ take (16384 - length bytes) ys = front_of bytes ys le in
+    let f : front (bytes ++ ys) ≡ bytes ++ take (longest_head - length bytes) ys = front_of bytes ys le in
     let O : List ℕ → Type 0 = λ l. RequestOverflows 64 l in
-    let more : RequestOverflows 64 (front (bytes ++ ys)) = subst O (sym f) (overflows_more bytes (take (16384 - length bytes) ys) over) in
+    let more : RequestOverflows 64 (front (bytes ++ ys)) = subst O (sym f) (overflows_more bytes (take (longest_head - length bytes) ys) over) in
     heard_none (bytes ++ ys) h refusal.Malformed (overflow_has_no_head bytes ys over) r.0 r.1 (spelled.malformed (inl more))
 malformed_input bytes ys h le (inr short) r =
     let H : List ℕ → Type 0 = λ l. Hears l h in
@@ -79,7 +80,7 @@ malformed_input bytes ys h le (inr short) r =
     subst H (sym whole) (heard_none bytes h refusal.Malformed (λ head rest b. short.1 head rest b.reads) r.0 r.1 (spelled.malformed (inr (short.0, short.1))))
 
 -- what is malformed by the bytes read so far is heard as malformed
-pub malformed_heard : (known left : Option (List ℕ)) (bytes : List ℕ) (headers : List HeaderSpan) (h : Heard) → length bytes ≤ 16384
+pub malformed_heard : (known left : Option (List ℕ)) (bytes : List ℕ) (headers : List HeaderSpan) (h : Heard) → length bytes ≤ longest_head
     → HeadSays bytes headers left read.Malformed → Consumes known left bytes → IsRefusedBy refusal.Malformed h → IfSome known (λ input. Hears input h)
 malformed_heard None left bytes headers h le says k r = tt
 malformed_heard (Some xs) None bytes headers h le says k r = absurd k
@@ -92,7 +93,7 @@ too_large_input : (bytes ys : List ℕ) (h : Heard) → HeadSays bytes [] None r
 too_large_input bytes ys h says r =
     let f : front (bytes ++ ys) ≡ bytes = full_front bytes ys says.0 in
     let none : HasNoHead (bytes ++ ys) = λ head rest b.
-    let size : length (print_request head) ≤ 16384 = b.size in
+    let size : length (print_request head) ≤ longest_head = b.size in
     says.1 head (drop (length (print_request head)) bytes) (b.reads.0, begins_still bytes ys (print_request head) rest b.reads.1 (omega (arith, says.0))) in
     let large : IsTooLarge (bytes ++ ys) = record { full = ap length f ∙ says.0; none = rw f says.1; unfinished = rw f says.2 } in
     heard_none (bytes ++ ys) h refusal.TooLarge none r.0 r.1 (spelled.long_head large)
@@ -118,7 +119,7 @@ fields_few buffer headers count fields n e =
     omega (arith, length-take count headers)
 
 -- a head that lies in the bytes begins the input
-begins : (bytes ys : List ℕ) (headers : List HeaderSpan) (spans : RequestSpans) (h : RequestHead) → length bytes ≤ 16384 → length headers ≡ 64
+begins : (bytes ys : List ℕ) (headers : List HeaderSpan) (spans : RequestSpans) (h : RequestHead) → length bytes ≤ longest_head → length headers ≡ 64
     → IsRequestWithin bytes headers spans → IsRequestAt bytes headers spans h → BeginsWith (bytes ++ ys) h (drop spans.len bytes ++ ys)
 begins bytes ys headers spans h le n within at =
     let fits : spans.len ≤ length bytes = within.section.len_fits in
@@ -156,7 +157,7 @@ inner {E} (Ok q) ys P h = h
 
 -- what lies behind a whole head is heard as it is
 pub complete_heard : (known left : Option (List ℕ)) (bytes : List ℕ) (headers : List HeaderSpan) (spans : RequestSpans) (h : Heard)
-    → length bytes ≤ 16384 → length headers ≡ 64
+    → length bytes ≤ longest_head → length headers ≡ 64
     → HeadSays bytes headers left (read.Complete spans) → Consumes known left bytes
     → h.manner ≡ manner_by (span_bytes bytes spans.method) (span_bytes bytes spans.path)
     → IfOk h.request (λ q. IfSome left (λ ys. heard.IsRequestAt bytes headers spans ys q))
@@ -174,7 +175,7 @@ complete_heard (Some xs) (Some ys) bytes headers spans h le n says k m r =
 
 -- the same, unless the reader failed
 pub complete_read : {E : Type 0} (known left : Option (List ℕ)) (bytes : List ℕ) (headers : List HeaderSpan) (spans : RequestSpans) (res : Result Heard E)
-    → length bytes ≤ 16384 → length headers ≡ 64
+    → length bytes ≤ longest_head → length headers ≡ 64
     → HeadSays bytes headers left (read.Complete spans) → Consumes known left bytes
     → IfOk res (λ h. h.manner ≡ manner_by (span_bytes bytes spans.method) (span_bytes bytes spans.path))
     → IfOk res (λ h. IfOk h.request (λ q. IfSome left (λ ys. heard.IsRequestAt bytes headers spans ys q)))

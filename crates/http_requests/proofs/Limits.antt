@@ -10,6 +10,7 @@ use Rattle.requests.specs.declared.routes.Resource.TheVariants as resource
 use Rattle.http_requests.specs.Framing.{framing, framing_by, framing_for, is_posted, length_in, limit_of, values_of}
 use Rattle.http_requests.specs.declared.framing.Framing.{Framing}
 use Rattle.http_requests.specs.declared.framing.Framing.TheVariants as frame
+use Rattle.desk_model.specs.Limits.{longest_body}
 
 -- the bytes that are taken
 abbrev bytes_of : Framing → ℕ
@@ -34,7 +35,7 @@ framing_within [] (text ∷ more ∷ rest) limit = omega arith
 framing_within (encoding ∷ rest) lengths limit = omega arith
 
 -- no limit is greater
-office_limit : (o : OfficeResource) → limit_of (resource.Office o) ≤ 131072
+office_limit : (o : OfficeResource) → limit_of (resource.Office o) ≤ longest_body
 office_limit (office.Key n) = omega arith
 office_limit office.ChallengeWork = omega arith
 office_limit office.OrderWork = omega arith
@@ -42,19 +43,19 @@ office_limit (office.Report n) = omega arith
 office_limit (office.Certify n) = omega arith
 office_limit (office.FailOrder n) = omega arith
 
-limit_within : (r : Resource) → limit_of r ≤ 131072
+limit_within : (r : Resource) → limit_of r ≤ longest_body
 limit_within resource.Directory = omega arith
 limit_within resource.NewNonce = omega arith
 limit_within (resource.Signed t) = omega arith
 limit_within (resource.Office o) = office_limit o
 
 posted_within : (r : Resource) (encodings lengths : List (List ℕ)) (b : Bool)
-    → bytes_of (if b then framing encodings lengths (limit_of r) else frame.Takes 0) ≤ 131072
+    → bytes_of (if b then framing encodings lengths (limit_of r) else frame.Takes 0) ≤ longest_body
 posted_within r encodings lengths true = omega (arith, framing_within encodings lengths (limit_of r), limit_within r)
 posted_within r encodings lengths false = omega arith
 
 -- of a request to a resource
-pub body_within : (r : Resource) (fields : List (List ℕ × List ℕ)) (n : ℕ) → framing_for r fields ≡ frame.Takes n → n ≤ 131072
+pub body_within : (r : Resource) (fields : List (List ℕ × List ℕ)) (n : ℕ) → framing_for r fields ≡ frame.Takes n → n ≤ longest_body
 body_within r fields n e =
     let same : n ≡ bytes_of (framing_for r fields) = sym (ap (λ f. bytes_of f) e) in
     omega (

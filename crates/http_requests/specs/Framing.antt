@@ -13,6 +13,7 @@ use Rattle.http_requests.specs.declared.framing.Found.{Found}
 use Rattle.http_requests.specs.declared.framing.Found.TheVariants as found
 use Rattle.http_requests.specs.declared.framing.Framing.{Framing}
 use Rattle.http_requests.specs.declared.framing.Framing.TheVariants as frame
+use Rattle.desk_model.specs.Limits.{longest_body, longest_certificate}
 
 -- names of fields are the same in any case (RFC 9110, 5.1)
 abbrev pub same_name : List ℕ → List ℕ → Bool
@@ -44,8 +45,8 @@ framing (encoding ∷ rest) lengths limit = frame.Malformed
 
 -- the most bytes of a body
 abbrev pub limit_of : Resource → ℕ
-limit_of (resource.Office (office.Certify order)) = 65536
-limit_of _ = 131072
+limit_of (resource.Office (office.Certify order)) = longest_certificate
+limit_of _ = longest_body
 
 -- whether a resource with these methods takes a body
 abbrev pub is_posted : Allow → Bool

@@ -6,13 +6,14 @@ use Rattle.httparse.specs.Spans.{IsRequestOf, IsRequestWithin, RequestOverflows}
 use Rattle.httparse.specs.declared.spans.HeaderSpan.{HeaderSpan}
 use Rattle.http_requests.specs.declared.head.HeadRead.{HeadRead}
 use Rattle.http_requests.specs.declared.head.HeadRead.TheVariants as read
+use Rattle.desk_model.specs.Limits.{longest_head}
 
 -- ---- what the input begins with
 
 -- a head of 16384 bytes and 64 fields at most, and then the rest
 pub record BeginsWith (input : List ℕ) (h : RequestHead) (rest : List ℕ) : Type 0 where
   pub reads : ReadsRequest input h rest
-  pub size : length (print_request h) ≤ 16384
+  pub size : length (print_request h) ≤ longest_head
   pub fields : length h.fields ≤ 64
 
 -- there is no such head
@@ -21,15 +22,15 @@ HasNoHead input = (h : RequestHead) (rest : List ℕ) → BeginsWith input h res
 
 -- the first 16384 bytes, or all where there are fewer
 abbrev pub front : List ℕ → List ℕ
-front input = take 16384 input
+front input = take longest_head input
 
 -- whatever follows, there are too many fields or no head; or the input ends before one does
 abbrev pub IsMalformed : List ℕ → Type 0
-IsMalformed input = RequestOverflows 64 (front input) ⊎ ((length input < 16384) × HasNoRequest input)
+IsMalformed input = RequestOverflows 64 (front input) ⊎ ((length input < longest_head) × HasNoRequest input)
 
 -- 16384 bytes end before a head does, though more may make one
 pub record IsTooLarge (input : List ℕ) : Type 0 where
-  pub full : length (front input) ≡ 16384
+  pub full : length (front input) ≡ longest_head
   pub none : HasNoRequest (front input)
   pub unfinished : MayBecomeRequest (front input)
 
@@ -46,5 +47,5 @@ TakesAtMost known left most = (bytes : List ℕ) × Consumes known left bytes ×
 -- what the bytes that were read say of the head, and how the reader stands then
 abbrev pub HeadSays : List ℕ → List HeaderSpan → Option (List ℕ) → HeadRead → Type 0
 HeadSays bytes headers left (read.Complete spans) = IsRequestWithin bytes headers spans × IsRequestOf bytes headers spans
-HeadSays bytes headers left read.Malformed = RequestOverflows 64 bytes ⊎ ((length bytes < 16384) × HasNoRequest bytes × IsAtEnd left)
-HeadSays bytes headers left read.TooLarge = (length bytes ≡ 16384) × HasNoRequest bytes × MayBecomeRequest bytes
+HeadSays bytes headers left read.Malformed = RequestOverflows 64 bytes ⊎ ((length bytes < longest_head) × HasNoRequest bytes × IsAtEnd left)
+HeadSays bytes headers left read.TooLarge = (length bytes ≡ longest_head) × HasNoRequest bytes × MayBecomeRequest bytes

@@ -6,6 +6,7 @@ ghost use Rattle.requests.specs.Request.{refused_request};
 ghost use Rattle.http_requests.specs.Spelled.{IsRequestWith, manner_by};
 ghost use Rattle.http_requests.specs.Head.{TakesAtMost};
 ghost use Rattle.http_requests.specs.Heard.{Hears, IsRequestAt};
+ghost use Rattle.desk_model.specs.Limits.{longest_body};
 
 use crate::body::{answer_to, read_body};
 use crate::head::{HeadRead, ReadFailed, read_head};
@@ -69,7 +70,7 @@ fn read_headed<R: Read>(
     requires path { IsUtf8 (span_bytes bytes.now spans.path) }
     ensures manner { IfOk result (λ heard. heard.manner ≡ manner_by (span_bytes bytes.now spans.method) (span_bytes bytes.now spans.path)) }
     ensures request { IfOk result (λ heard. IfOk heard.request (λ q. IfSome (R.remaining reader.old) (λ left. IsRequestAt bytes.now headers.now spans left q))) }
-    ensures taken { TakesAtMost (R.remaining reader.old) (R.remaining reader.new) 131072 }
+    ensures taken { TakesAtMost (R.remaining reader.old) (R.remaining reader.new) longest_body }
 {
     let request = read_behind(alloc, reader, bytes, headers, spans)?;
     let path = path_of(spans.path.of(bytes));
@@ -115,7 +116,7 @@ fn read_behind<R: Read>(
     requires method { IsToken (span_bytes bytes.now spans.method) }
     requires path { IsUtf8 (span_bytes bytes.now spans.path) }
     ensures request { IfOk result (λ r. IfOk r (λ q. IfSome (R.remaining reader.old) (λ left. IsRequestAt bytes.now headers.now spans left q))) }
-    ensures taken { TakesAtMost (R.remaining reader.old) (R.remaining reader.new) 131072 }
+    ensures taken { TakesAtMost (R.remaining reader.old) (R.remaining reader.new) longest_body }
 {
     let path = path_of(spans.path.of(bytes));
     let method = match method_of(alloc, spans.method.of(bytes)) {
@@ -161,7 +162,7 @@ fn read_with<R: Read>(
 ) -> Result<Result<Request, AllocError>, ReadFailed>
     requires { All (IsHeaderWithin (length buffer.now)) headers.now }
     ensures request { IfOk result (λ r. IfOk r (λ q. IfSome (R.remaining reader.old) (λ left. IsRequestWith method.now path.now (map (header_bytes buffer.now) headers.now) (begun.now ++ left) q))) }
-    ensures taken { TakesAtMost (R.remaining reader.old) (R.remaining reader.new) 131072 }
+    ensures taken { TakesAtMost (R.remaining reader.old) (R.remaining reader.new) longest_body }
 {
     let plan = match plan_for(alloc, method, path, buffer, headers) {
         Ok(plan) => plan,

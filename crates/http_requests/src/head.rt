@@ -2,6 +2,7 @@
 ghost use Rattle.std.specs.Prelude.{◌≡◌, ◌+◌, ◌-◌, ◌<◌, ◌≤◌, ℕ, List, IfOk, OnErr, length, take, drop};
 ghost use Rattle.std.specs.Io.KnownBytes.{Consumes, IsAtEnd, Keeps};
 ghost use Rattle.http_requests.specs.Head.{Adds, HeadSays, TakesAtMost};
+ghost use Rattle.desk_model.specs.Limits.{longest_head};
 
 use httparse::Status;
 use httparse::spans::{HeaderSpan, RequestSpans, parse_request};
@@ -97,12 +98,12 @@ pub(crate) fn read_head<R: Read>(
     buffer: &mut [u8],
     headers: &mut [HeaderSpan],
 ) -> Result<(HeadRead, usize), ReadFailed>
-    requires room { length buffer.old ≡ 16384 }
+    requires room { length buffer.old ≡ longest_head }
     requires fields { length headers.old ≡ 64 }
     ensures within { IfOk result (λ r. r.1 ≤ length buffer.new) }
     ensures says { IfOk result (λ r. HeadSays (take r.1 buffer.new) headers.new (R.remaining reader.new) r.0) }
     ensures bytes { IfOk result (λ r. Consumes (R.remaining reader.old) (R.remaining reader.new) (take r.1 buffer.new)) }
-    ensures failed { OnErr result (TakesAtMost (R.remaining reader.old) (R.remaining reader.new) 16384) }
+    ensures failed { OnErr result (TakesAtMost (R.remaining reader.old) (R.remaining reader.new) longest_head) }
 {
     let mut filled = 0;
     'more: while filled < buffer.len() {

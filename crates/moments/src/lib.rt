@@ -3,6 +3,7 @@
 
 ghost use Rattle.std.specs.Prelude.{◌≡◌, ◌≢◌, ◌+◌, ◌≤◌, ◌<◌, ◌++◌, ◌∷◌, ◌*ℤ◌, ◌≤ℤ◌, pos, ℕ, List, IfOk, string_bytes};
 ghost use Rattle.jiff.specs.Words.{civil_nanos};
+ghost use Rattle.desk_model.specs.Limits.{last_end};
 ghost use Rattle.desk_model.specs.Moment.{IsCivil, IsMomentText, civil_text, moment_text as text_of_moment, two_digits};
 ghost use Rattle.moments.specs.MomentLaws.{GivesTheText, TellsMomentsApart};
 
@@ -31,7 +32,7 @@ struct Fields {
 ///
 /// Where there is no memory for it.
 pub fn moment_text(alloc: Global, moment: u64) -> Result<String, AllocError>
-    requires { moment ≤ 250315360000 }
+    requires { moment ≤ last_end }
     ensures civil { IfOk result (λ text. IsMomentText moment (string_bytes text)) }
     ensures value { IfOk result (λ text. string_bytes text ≡ text_of_moment moment) }
 {
@@ -47,7 +48,7 @@ pub fn moments_have_texts()
 
 // The civil fields of a moment.
 fn fields_of(moment: u64) -> Fields
-    requires { moment ≤ 250315360000 }
+    requires { moment ≤ last_end }
     ensures { IsCivil moment result.year result.month result.day result.hour result.minute result.second }
 {
     civil_fields(datetime_of(moment), moment)
@@ -55,7 +56,7 @@ fn fields_of(moment: u64) -> Fields
 
 // The civil date and time of a moment.
 fn datetime_of(moment: u64) -> DateTime
-    requires { moment ≤ 250315360000 }
+    requires { moment ≤ last_end }
     ensures { civil_nanos result ≡ pos moment *ℤ pos 1_000_000_000 }
 {
     let timestamp = Timestamp::from_second(moment as i64).unwrap();

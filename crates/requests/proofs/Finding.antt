@@ -12,6 +12,7 @@ use Rattle.requests.specs.Routes.{HasNumber, IsPathText, is_numbered, prefix, su
 use Rattle.requests.specs.declared.routes.Route.{Route}
 use Rattle.requests.specs.declared.routes.Route.TheVariants as route
 use Rattle.requests.proofs.Seeking.{steps, seek_by, number_alone, number_at_end, number_before}
+use Rattle.desk_model.specs.Limits.{last_number}
 
 -- what the router keeps of a route with a number
 abbrev kept : Route → RouteOf Route
@@ -117,7 +118,7 @@ by_digits : {K : Type 0} (path before after : List ℕ) (n : ℕ) (rows : RowsOf
     → ((d : ℕ) (ds : List ℕ) → AllDigits 10 (d ∷ ds) → seek 0 (steps before rows) (d ∷ ds ++ after) ≡ Some k)
     → first rows path ≡ Some k
 by_digits {K} path before after n rows k h found =
-    let last : n ≤ 2 ^ 62 = h.number.last in
+    let last : n ≤ last_number = h.number.last in
     let numeral = decimal_is_IsNumeral n (omega arith) in
     rw (h.place, h.number.digits) (seek_by before rows (decimal n ++ after) k (of_text (decimal n) numeral.0.1 numeral.0.0))
   where

@@ -4,6 +4,7 @@ use Rattle.desk_model.specs.declared.call.Target.TheVariants as target
 use Rattle.requests.specs.Routes.{HasNumber, IsResourceAt}
 use Rattle.requests.specs.declared.routes.Resource.TheVariants as resource
 use Rattle.requests.specs.declared.routes.Route.TheVariants as route
+use Rattle.desk_model.specs.Limits.{last_number}
 
 -- `/directory`
 pub to_directory : IsResourceAt (codes "/directory") resource.Directory
@@ -21,7 +22,7 @@ to_new_account = record { route = route.NewAccount; number = 0; text = (refl, re
 pub to_new_order : IsResourceAt (codes "/new-order") (resource.Signed target.NewOrder)
 to_new_order = record { route = route.NewOrder; number = 0; text = (refl, refl); leads = refl }
 
-module _ (n : ℕ) (first : 1 ≤ n) (last : n ≤ 2 ^ 62) where
+module _ (n : ℕ) (first : 1 ≤ n) (last : n ≤ last_number) where
   -- a path with the number between these texts
   between : (before after : List ℕ) → HasNumber (before ++ (decimal n ++ after)) before n after
   between before after = record { text = decimal n; place = refl; number = record { digits = refl; first = first; last = last } }

@@ -9,10 +9,11 @@ use Rattle.requests.specs.Router.{desk_routes, value_of}
 use Rattle.requests.specs.Routes.{IsNumberText, IsPathText, IsResourceAt, is_numbered, prefix, resource_of, suffix}
 use Rattle.requests.specs.declared.routes.Resource.{Resource}
 use Rattle.requests.specs.declared.routes.Route.{Route}
+use Rattle.desk_model.specs.Limits.{last_number}
 
 -- a number of an object has 64 bits
 fits : (text : List ℕ) (n : ℕ) → IsNumberText text n → n < 2 ^ 64
-fits text n h = let last : n ≤ 2 ^ 62 = h.last in omega arith
+fits text n h = let last : n ≤ last_number = h.last in omega arith
 
 -- a path of a route has one number
 one_number : (b : Bool) (path : List ℕ) (r : Route) (n m : ℕ) → IsPathText b path r n → IsPathText b path r m → n ≡ m

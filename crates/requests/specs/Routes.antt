@@ -10,6 +10,7 @@ use Rattle.requests.specs.declared.routes.Resource.{Resource}
 use Rattle.requests.specs.declared.routes.Resource.TheVariants as resource
 use Rattle.requests.specs.declared.routes.Route.{Route}
 use Rattle.requests.specs.declared.routes.Route.TheVariants as route
+use Rattle.desk_model.specs.Limits.{last_number}
 
 -- ---- paths
 
@@ -17,7 +18,7 @@ use Rattle.requests.specs.declared.routes.Route.TheVariants as route
 pub record IsNumberText (text : List ℕ) (n : ℕ) : Type 0 where
   pub digits : text ≡ decimal n
   pub first : 1 ≤ n
-  pub last : n ≤ 2 ^ 62
+  pub last : n ≤ last_number
 
 -- the path has such a text between these two
 pub record HasNumber (path before : List ℕ) (n : ℕ) (after : List ℕ) : Type 0 where

@@ -1,5 +1,6 @@
 -- The laws of the URLs that the desk shows.
 use Rattle.std.specs.Prelude.{ℕ, ◌≤◌, ◌^◌}
+use Rattle.desk_model.specs.Limits.{last_number}
 use Rattle.desk_model.specs.Tables.{Tables}
 use Rattle.desk_model.specs.Terms.{Terms}
 use Rattle.served_urls.specs.Served.{AreServed}
@@ -7,7 +8,7 @@ use Rattle.served_urls.specs.Shown.{HaveUrls, NameUrls}
 
 -- each URL is served as what it is meant for, under any terms and for every number that an object may have
 abbrev pub ShownUrlsAreServed : Type 0
-ShownUrlsAreServed = (t : Terms) (n : ℕ) → 1 ≤ n → n ≤ 2 ^ 62 → AreServed t n
+ShownUrlsAreServed = (t : Terms) (n : ℕ) → 1 ≤ n → n ≤ last_number → AreServed t n
 
 -- members of documents are these URLs
 abbrev pub DocumentsHaveUrls : Type 0

@@ -16,7 +16,8 @@ use Rattle.desk_model.specs.Effect.{authorizations_after, effect, falls, is_over
 use Rattle.desk_model.specs.Entry.{History}
 use Rattle.desk_model.specs.History.{clock, record_all}
 use Rattle.desk_model.specs.Kept.{EachOf}
-use Rattle.desk_model.specs.Legal.{last_moment, Legal}
+use Rattle.desk_model.specs.Legal.{Legal}
+use Rattle.desk_model.specs.Limits.{last_moment}
 use Rattle.desk_model.specs.Tables.{picture, Tables, tables_at}
 use Rattle.desk_model.specs.declared.entry.Entry.{Entry}
 use Rattle.desk_model.specs.declared.rows.AuthorizationRow.{AuthorizationRow}

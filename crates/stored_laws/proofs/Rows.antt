@@ -13,7 +13,6 @@ use Rattle.desk_laws.proofs.Recorded.{numbered_below}
 use Rattle.desk_laws.proofs.References.{there}
 use Rattle.desk_laws.proofs.RowLists.{ascends_above, numbered_ascends}
 use Rattle.desk_laws.specs.DateLaws.{IsAuthorizationDatedBy, IsChallengeDatedBy, IsOrderDatedBy}
-use Rattle.desk_laws.specs.LegalLaws.{last_end}
 use Rattle.desk_laws.specs.Ordered.{Ascends, Below}
 use Rattle.desk_model.specs.Authorization.{authorizations}
 use Rattle.desk_model.specs.BaseName.{is_base_name}
@@ -21,7 +20,8 @@ use Rattle.desk_model.specs.Change.{spent_by}
 use Rattle.desk_model.specs.Entry.{History}
 use Rattle.desk_model.specs.History.{clock}
 use Rattle.desk_model.specs.Kept.{EachOf, Kept, restricted}
-use Rattle.desk_model.specs.Legal.{has_length, is_problem, last_moment, Legal, may_follow}
+use Rattle.desk_model.specs.Legal.{has_length, is_problem, Legal, may_follow}
+use Rattle.desk_model.specs.Limits.{last_end, last_moment, last_number, longest_detail}
 use Rattle.desk_model.specs.Nonce.{is_open, nonce, nonces}
 use Rattle.desk_model.specs.Order.{orders}
 use Rattle.desk_model.specs.Questions.{authorization_on}
@@ -41,7 +41,7 @@ use Rattle.stored_rows.specs.IsBook.{ListsFound}
 -- ---- numbers
 
 -- numbers that ascend from 1 and are not above a counter that fits
-numbers_in_limits : {X : Type 0} (number : X → ℕ) (last : ℕ) (xs : List X) → Ascends number 1 xs → Below number (last + 1) xs → last ≤ 2 ^ 62 →
+numbers_in_limits : {X : Type 0} (number : X → ℕ) (last : ℕ) (xs : List X) → Ascends number 1 xs → Below number (last + 1) xs → last ≤ last_number →
     EachOf (λ x. IsNumber (number x)) xs
 numbers_in_limits number last xs up below fits =
     each _ _ xs (λ x p. let low : 0 < number x = p.0 in let high : number x < last + 1 = p.1 in (omega arith, omega arith))
@@ -72,7 +72,7 @@ if_both P Q (Some x) h k = (h, k)
 
 -- a date that is not after the latest recorded moment
 moment_of : (F : History) → Legal F → (n : ℕ) → n ≤ clock F → IsMoment n
-moment_of F h n le = let last : clock F ≤ 250000000000 = clock_in_time F h.each in omega arith
+moment_of F h n le = let last : clock F ≤ last_moment = clock_in_time F h.each in omega arith
 
 -- and so one that is recorded
 dated : {X : Type 0} (F : History) → Legal F → (date : X → ℕ) (o : Option X) → IfSome o (λ x. date x ≤ clock F) →
@@ -149,7 +149,7 @@ authorization_numbers F h t =
     (counters_fit F h.numbered t).authorizations
 
 -- challenges of an authorization whose number is in its limits
-challenges_stored : (F : History) → Legal F → (owner last : ℕ) → IsNumber owner → last ≤ 2 ^ 62 → (cs : List ChallengeRow) →
+challenges_stored : (F : History) → Legal F → (owner last : ℕ) → IsNumber owner → last ≤ last_number → (cs : List ChallengeRow) →
     Ascends (λ c. c.number) 1 cs → Below (λ c. c.number) (last + 1) cs → EachOf (λ c. length c.token ≡ 16) cs →
     EachOf (IsChallengeDatedBy (clock F)) cs → EachOf IsStoredChallenge (owned_by owner cs)
 challenges_stored F h owner last is fits cs up below tokens dates =
@@ -180,7 +180,7 @@ record AreAuthorizationFacts (F : History) (last : ℕ) (row : AuthorizationRow)
   tokens : EachOf (λ c. length c.token ≡ 16) row.challenges
 
 -- these are enough for an authorization and its challenges
-authorization_stored : (F : History) → Legal F → (last : ℕ) → last ≤ 2 ^ 62 → (row : AuthorizationRow) → AreAuthorizationFacts F last row →
+authorization_stored : (F : History) → Legal F → (last : ℕ) → last ≤ last_number → (row : AuthorizationRow) → AreAuthorizationFacts F last row →
     IsAuthorizationInLimits row
 authorization_stored F h last fits row k =
     record {
@@ -239,7 +239,7 @@ failure_stored : (F : History) → Legal F → (o : Option DatedProblem) → IfS
     IfSome o (λ f. is_problem f.problem ≡ true) → IfRecorded IsDatedProblem o
 failure_stored F h o dates formed =
     if_recorded (λ f. (f.date ≤ clock F) × (is_problem f.problem ≡ true)) IsDatedProblem
-    (λ f p. (moment_of F h f.date p.0, (and_parts (is_problem_kind f.problem.kind) (has_length 1 256 f.problem.detail) p.1).0)) o
+    (λ f p. (moment_of F h f.date p.0, (and_parts (is_problem_kind f.problem.kind) (has_length 1 longest_detail f.problem.detail) p.1).0)) o
     (if_both _ _ o dates formed)
 
 -- what is known of an order

@@ -9,7 +9,8 @@ use Rattle.desk_model.specs.Effect.{swept}
 use Rattle.desk_model.specs.Entry.{History}
 use Rattle.desk_model.specs.History.{clock, record_all}
 use Rattle.desk_model.specs.Kept.{EachOf, Kept, restricted}
-use Rattle.desk_model.specs.Legal.{EachFollows, Legal, last_moment}
+use Rattle.desk_model.specs.Legal.{EachFollows, Legal}
+use Rattle.desk_model.specs.Limits.{last_moment}
 use Rattle.desk_model.specs.Tables.{Tables, picture, tables_at}
 use Rattle.desk_model.specs.declared.entry.Entry.{Entry}
 use Rattle.stored_laws.specs.InLimits.{AreInLimits, IsPutInLimits}

@@ -1,6 +1,7 @@
 //! The passing of time: what is past its end at a moment (RFC 8555, 7.1.6).
 ghost use Rattle.std.specs.Prelude.{◌≡◌, ◌≤◌, ◌++◌, ℕ, map, IfOk, OnOk};
 ghost use Rattle.std.specs.List.{list_any};
+ghost use Rattle.desk_model.specs.Limits.{last_moment};
 ghost use Rattle.desk_model.specs.Lookup.{holds};
 ghost use Rattle.desk_model.specs.Derived.{authorization_numbered, numbers_of};
 ghost use Rattle.desk_model.specs.Change.{sweep_changes, nonces_gone, authorizations_expired, orders_fallen};
@@ -73,7 +74,7 @@ pub(crate) fn falls(moment: u64, rows: &Table<AuthorizationRow>, row: &OrderRow)
 ///
 /// Where there is no memory for them.
 pub fn sweep_changes(alloc: Global, book: &Book, moment: u64) -> Result<Vec<Change>, AllocError>
-    requires { moment ≤ 250000000000 }
+    requires { moment ≤ last_moment }
     ensures { IfOk result (λ v. v.items ≡ sweep_changes moment book.now) }
 {
     let mut changes = Vec::new(alloc);

@@ -1,5 +1,5 @@
 use Rattle.std.proofs.Common.{◌≤◌, ◌∙◌, ap, subst, sym, map, Some}
-use Rattle.desk_laws.specs.LegalLaws.{last_end}
+use Rattle.desk_model.specs.Limits.{last_end}
 use Rattle.desk_model.specs.Document.{listed_rows}
 use Rattle.desk_model.specs.Effect.{effect, swept}
 use Rattle.desk_model.specs.Shown.{located_order, shown}

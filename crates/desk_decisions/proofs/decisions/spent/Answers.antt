@@ -2,6 +2,7 @@ use Rattle.std.proofs.Common.{◌<◌, ◌^◌, subst}
 use Rattle.desk_model.specs.declared.rows.Meta.{Meta}
 use Rattle.desk_decisions.specs.Outcomes.{Passes}
 use Rattle.desk_decisions.proofs.decisions.spent.Goals as goal
+use Rattle.desk_model.specs.Limits.{last_number}
 
 pub returns : goal.returns
 returns c =
@@ -9,7 +10,7 @@ returns c =
     (record {
       recorded = c.in_ok-outcome.ensures.changes;
       replies = c.in_ok-outcome.ensures.reply;
-      nonces = subst (λ (x : Meta). x.nonces < 2 ^ 62) c.meta.ensures c.in_ok-has_room.ensures;
+      nonces = subst (λ (x : Meta). x.nonces < last_number) c.meta.ensures c.in_ok-has_room.ensures;
       numbers = c.in_ok-verdict.ensures.1;
       tokens = c.in_ok-verdict.ensures.2;
       bytes = c.in_ok-outcome.ensures.bytes;

@@ -3,10 +3,11 @@ use Rattle.std.proofs.lemmas.List.{length-take}
 use Rattle.http_requests.proofs.Hearing.{malformed_heard, too_large_heard, complete_read}
 use Rattle.http_requests.proofs.Bytes.{takes_then}
 use Rattle.http_requests.proofs.call.read_call.Goals as goal
+use Rattle.desk_model.specs.Limits.{longest_body, longest_head}
 
 pub returns-in-Malformed-clause-heard : goal.returns-in-Malformed-clause-heard
 returns-in-Malformed-clause-heard g c =
-    let le : length (take c.in_ok-head.filled c.read_head.new.buffer) ≤ 16384 = omega (arith, length-take c.in_ok-head.filled c.read_head.new.buffer) in
+    let le : length (take c.in_ok-head.filled c.read_head.new.buffer) ≤ longest_head = omega (arith, length-take c.in_ok-head.filled c.read_head.new.buffer) in
     malformed_heard (g.R.Read.remaining c.args.reader.now) (g.R.Read.remaining c.read_head.new.reader) (take c.in_ok-head.filled c.read_head.new.buffer) c.read_head.new.headers c.unread.result
     le (rw c.in-Malformed.is at c.in_ok-head.ensures.says) c.in_ok-head.ensures.bytes (c.unread.ensures.manner, c.unread.ensures.request)
 
@@ -17,7 +18,7 @@ returns-in-TooLarge-clause-heard g c =
 
 pub returns-in-Complete-clause-heard : goal.returns-in-Complete-clause-heard
 returns-in-Complete-clause-heard g c =
-    let le : length (take c.in_ok-head.filled c.read_head.new.buffer) ≤ 16384 = omega (arith, length-take c.in_ok-head.filled c.read_head.new.buffer) in
+    let le : length (take c.in_ok-head.filled c.read_head.new.buffer) ≤ longest_head = omega (arith, length-take c.in_ok-head.filled c.read_head.new.buffer) in
     complete_read (g.R.Read.remaining c.args.reader.now) (g.R.Read.remaining c.read_head.new.reader) (take c.in_ok-head.filled c.read_head.new.buffer) c.read_head.new.headers c.in-Complete.spans
     c.read_headed.result le (omega arith) (rw c.in-Complete.is at c.in_ok-head.ensures.says) c.in_ok-head.ensures.bytes c.read_headed.ensures.manner c.read_headed.ensures.request
 
@@ -26,6 +27,6 @@ returns-in-Complete-clause-taken g c =
     let known = g.R.Read.remaining c.args.reader.now in
     let behind_head = g.R.Read.remaining c.read_head.new.reader in
     let bytes = take c.in_ok-head.filled c.read_head.new.buffer in
-    let le : length bytes ≤ 16384 = omega (arith, length-take c.in_ok-head.filled c.read_head.new.buffer) in
-    takes_then known behind_head (g.R.Read.remaining c.read_headed.new.reader) 16384 131072 (bytes, c.in_ok-head.ensures.bytes, le)
+    let le : length bytes ≤ longest_head = omega (arith, length-take c.in_ok-head.filled c.read_head.new.buffer) in
+    takes_then known behind_head (g.R.Read.remaining c.read_headed.new.reader) longest_head longest_body (bytes, c.in_ok-head.ensures.bytes, le)
     c.read_headed.ensures.taken

@@ -6,6 +6,7 @@ use Rattle.http_requests.proofs.Asked.{request_behind}
 use Rattle.http_requests.proofs.Bytes.{takes_within}
 use Rattle.http_requests.proofs.Limits.{body_within}
 use Rattle.http_requests.proofs.call.read_with.Goals as goal
+use Rattle.desk_model.specs.Limits.{longest_body}
 
 pub returns-in-Ok-2-clause-request : goal.returns-in-Ok-2-clause-request
 returns-in-Ok-2-clause-request g c =
@@ -18,5 +19,5 @@ pub returns-in-Ok-2-clause-taken : goal.returns-in-Ok-2-clause-taken
 returns-in-Ok-2-clause-taken g c =
     let fields = map (header_bytes c.args.buffer.now) c.args.headers.now in
     let p : IsPlan c.args.method.now c.args.path.now fields (plan.Takes c.in-Takes.resource c.in-Takes.count) = rw c.in-Takes.is at c.in-Ok.ensures in
-    takes_within (g.R.Read.remaining c.args.reader.now) (g.R.Read.remaining c.read_body.new.reader) c.in-Takes.count 131072
+    takes_within (g.R.Read.remaining c.args.reader.now) (g.R.Read.remaining c.read_body.new.reader) c.in-Takes.count longest_body
     (body_within c.in-Takes.resource fields c.in-Takes.count p.1) c.read_body.ensures.taken

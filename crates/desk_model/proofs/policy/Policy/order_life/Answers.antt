@@ -1,5 +1,5 @@
 use Rattle.desk_model.specs.Terms.{Terms}
-use Rattle.desk_model.proofs.Limits.{lives_limited}
+use Rattle.desk_model.proofs.Lives.{lives_limited}
 use Rattle.desk_model.proofs.policy.Policy.order_life.Goals as goal
 
 pub returns-clause-limit : goal.returns-clause-limit
