@@ -2,10 +2,10 @@
 ghost use Rattle.std.specs.Prelude.{◌≡◌, ◌≤◌, ◌-◌, ◌&&◌, nat_lt, length, slice_index, ◌↔◌, ◌++◌, ◌∷◌, ◌==◌, ℕ, List, IsTrue, IfOk, Any, All, bytes_eq, string_bytes};
 ghost use Rattle.std.specs.List.{list_any};
 ghost use Rattle.sha2.specs.Sha256.{sha256};
-ghost use Rattle.desk_model.specs.Tokens.{base64url, authorization_of, body_matches, dns_value_of, is_blank, records_match, IsBodyMatch};
+ghost use Rattle.desk_model.specs.Tokens.{authorization_of, body_matches, dns_value_of, is_blank, records_match, IsBodyMatch};
 
-use base64::engine::general_purpose::URL_SAFE_NO_PAD;
-use desk_model::{Jwk, Text};
+use crate::base64url::url_safe;
+use desk_model::{Jwk, Text, is_same_bytes, is_same_text};
 use sha2::{Digest, Sha256};
 use std::alloc::{AllocError, Global};
 
@@ -49,7 +49,7 @@ pub fn http_matches(body: &[u8], expected: &str) -> bool
     ensures matching { IsTrue result ↔ IsBodyMatch body.now expected.now }
     ensures value { result ≡ body_matches body.now expected.now }
 {
-    is_same(without_blanks(body), expected.as_bytes())
+    is_same_bytes(without_blanks(body), expected.as_bytes())
 }
 
 /// Whether one of the TXT records is the expected text (RFC 8555, 8.4).
@@ -64,21 +64,9 @@ pub fn dns_matches(records: &[Text], expected: &str) -> bool
 fn has_text(records: &[Text], expected: &str) -> bool
     ensures { result ≡ list_any (λ r. bytes_eq r expected.now) records.now }
 {
-    records.iter().any(|text| is_text(text, expected))
-}
-
-// Whether two lists of bytes are the same.
-fn is_same(bytes: &[u8], other: &[u8]) -> bool
-    ensures { result ≡ bytes_eq bytes.now other.now }
-{
-    bytes == other
-}
-
-// Whether a record is the text.
-fn is_text(text: &Text, expected: &str) -> bool
-    ensures { result ≡ bytes_eq text.now expected.now }
-{
-    text.as_str() == expected
+    records
+        .iter()
+        .any(|text| is_same_text(text.as_str(), expected))
 }
 
 // The bytes without the blanks at their end.
@@ -105,11 +93,4 @@ fn is_blank_byte(b: u8) -> bool
     ensures { result ≡ is_blank b }
 {
     matches!(b, b' ' | b'\t' | b'\r' | b'\n')
-}
-
-/// The text of bytes in base64, in the URL-safe alphabet without padding.
-pub(crate) fn url_safe(alloc: Global, bytes: &[u8]) -> Result<String, AllocError>
-    ensures { IfOk result (λ t. string_bytes t ≡ base64url bytes.now) }
-{
-    URL_SAFE_NO_PAD.encode(alloc, bytes)
 }

@@ -3,9 +3,10 @@ ghost use Rattle.std.specs.Prelude.{◌≡◌, ◌≢◌, ◌↔◌, Option, Som
 ghost use Rattle.std.specs.Int.{is_in_range};
 ghost use Rattle.std.specs.List.{list_all};
 ghost use Rattle.serde_json.specs.View.{view};
-ghost use Rattle.desk_model.specs.Keys.{Key, IsKeyOf, IsEc, IsRsa, IsOkp, IsCurve, text_member, number_member, canonical_text, ec, rsa, okp};
+ghost use Rattle.desk_model.specs.Keys.{Key, IsKeyOf, IsEc, IsRsa, IsOkp, IsCurve, number_member, canonical_text, ec, rsa, okp};
 
-use desk_model::{Jwk, is_number};
+use desk_model::{Jwk, is_number, is_same_text};
+use json_values::text_of;
 use serde_json::Value;
 use std::alloc::{AllocError, Global};
 
@@ -41,11 +42,11 @@ pub fn read_jwk(alloc: Global, value: &Value) -> Result<Jwk, KeyFault>
     let Some(kty) = text_of(value, "kty") else {
         return Err(KeyFault::Bad);
     };
-    if is_text(kty, "EC") {
+    if is_same_text(kty, "EC") {
         read_ec(alloc, value)
-    } else if is_text(kty, "RSA") {
+    } else if is_same_text(kty, "RSA") {
         read_rsa(alloc, value)
-    } else if is_text(kty, "OKP") {
+    } else if is_same_text(kty, "OKP") {
         read_okp(alloc, value)
     } else {
         Err(KeyFault::Bad)
@@ -121,13 +122,6 @@ fn okp_text(alloc: Global, x: &str) -> Result<String, AllocError>
     format!(in alloc; "{{\"crv\":\"Ed25519\",\"kty\":\"OKP\",\"x\":\"{x}\"}}")
 }
 
-// The string of this member.
-fn text_of<'v>(value: &'v Value, name: &str) -> Option<&'v str>
-    ensures { option_map (λ s. s.now) result ≡ text_member name.now (view value.now) }
-{
-    value.get(name)?.as_str()
-}
-
 // The number of this member.
 fn number_of<'v>(value: &'v Value, name: &str) -> Option<&'v str>
     ensures { option_map (λ s. s.now) result ≡ number_member name.now (view value.now) }
@@ -141,11 +135,4 @@ fn is_curve(crv: &str) -> bool
     ensures { IsTrue result ↔ IsCurve crv.now }
 {
     crv == "P-256" || crv == "P-384" || crv == "P-521"
-}
-
-// Whether two texts are the same.
-fn is_text(text: &str, other: &str) -> bool
-    ensures { IsTrue result ↔ (text.now ≡ other.now) }
-{
-    text == other
 }

@@ -4,7 +4,7 @@ ghost use Rattle.std.specs.Int.{w64, to_be_bytes};
 ghost use Rattle.base64.specs.GeneralPurpose.{IsBytes};
 ghost use Rattle.desk_model.specs.Tokens.{nonce_in, nonce_text as text_of_nonce, number_from, token_text as text_of_token};
 
-use crate::answers::url_safe;
+use crate::base64url::url_safe;
 use base64::engine::general_purpose::URL_SAFE_NO_PAD;
 use std::alloc::{AllocError, Global};
 

@@ -1,1 +1,2 @@
 pub mod Problems
+pub mod Replies

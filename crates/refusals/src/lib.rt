@@ -1,6 +1,8 @@
-//! The documents of refusals (RFC 7807; RFC 8555, 6.7).
+//! Refusals: their replies and their documents (RFC 7807; RFC 8555, 6.7).
 #![tactic(auto)]
 
 mod problems;
+mod replies;
 
 pub use problems::problem_document;
+pub use replies::refusal_reply;

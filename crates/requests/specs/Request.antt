@@ -1,7 +1,6 @@
 -- What a request asks, by its method, its path and its body.
 use Rattle.std.specs.Prelude.{◌≡◌, ℕ, Bool, true, false, List, [], codes, bytes_eq, Option, Some, None, option_map, IsUtf8, ◌⊎◌}
 use Rattle.desk_model.specs.declared.refusal.Refusal.{Refusal}
-use Rattle.desk_model.specs.Refusals.{refusal_of}
 use Rattle.desk_model.specs.declared.refusal.Refusal.TheVariants as refusal
 use Rattle.desk_model.specs.declared.call.Ask.{Ask}
 use Rattle.desk_model.specs.declared.call.Ask.TheVariants as ask
@@ -9,8 +8,8 @@ use Rattle.desk_model.specs.declared.call.Signed.{Signed}
 use Rattle.desk_model.specs.declared.call.Target.{Target}
 use Rattle.desk_model.specs.declared.reply.Allow.{Allow}
 use Rattle.desk_model.specs.declared.reply.Allow.TheVariants as allow
-use Rattle.desk_model.specs.declared.reply.Body.TheVariants as body
 use Rattle.desk_model.specs.declared.reply.Reply.{Reply}
+use Rattle.refusals.specs.Replies.{refusal_reply}
 use Rattle.requests.specs.Envelopes.{Envelope, IsEnvelopeText, IsSigned}
 use Rattle.requests.specs.Offices.{finding, order_problem}
 use Rattle.requests.specs.Routes.{IsResourceAt, methods_of, serves}
@@ -84,11 +83,4 @@ IsPlace method path (place.NotServed methods) =
 
 -- the reply to a request that is no call: nothing is recorded, and there is no nonce
 abbrev pub refused_request : Refusal → Allow → Bool → Reply
-refused_request why methods index =
-    record {
-      status = (refusal_of why).status;
-      location = None;
-      up = None;
-      nonce = None;
-      body = body.Problem (record { refusal = why; subproblems = []; allow = methods; index = index });
-    }
+refused_request why methods index = refusal_reply why [] methods index

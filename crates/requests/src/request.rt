@@ -5,7 +5,7 @@ ghost use Rattle.requests.specs.Request.{IsAskIn, IsAskOf, IsPlace, IsSignedAsk,
 use crate::envelopes::signed_in;
 use crate::offices::{finding, order_problem};
 use crate::routes::{OfficeResource, Resource, methods_of, resource_at, serves};
-use desk_model::{Allow, Ask, Body, Problem, Refusal, Reply, Sequence, Target};
+use desk_model::{Allow, Ask, Refusal, Reply, Sequence, Target};
 use std::alloc::{AllocError, Global};
 
 /// What a request asks, or the refusal of one that is no call.
@@ -182,16 +182,6 @@ pub fn refused(alloc: Global, refusal: Refusal, allow: Allow, index: bool) -> Re
 pub fn refusal_reply(alloc: Global, refusal: Refusal, allow: Allow, index: bool) -> Reply
     ensures { result ≡ refused_request refusal allow index }
 {
-    Reply {
-        status: refusal.status(),
-        location: None,
-        up: None,
-        nonce: None,
-        body: Body::Problem(Problem {
-            refusal,
-            subproblems: Sequence::new(Vec::new(alloc)),
-            allow,
-            index,
-        }),
-    }
+    let none = Sequence::new(Vec::new(alloc));
+    refusals::refusal_reply(refusal, none, allow, index)
 }

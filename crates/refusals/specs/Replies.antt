@@ -1,0 +1,14 @@
+-- The replies that refuse.
+use Rattle.std.specs.Prelude.{Bool, List}
+use Rattle.desk_model.specs.Refusals.{refusal_of}
+use Rattle.desk_model.specs.Shown.{plain}
+use Rattle.desk_model.specs.declared.refusal.Refusal.{Refusal}
+use Rattle.desk_model.specs.declared.reply.Allow.{Allow}
+use Rattle.desk_model.specs.declared.reply.Body.TheVariants as body
+use Rattle.desk_model.specs.declared.reply.Reply.{Reply}
+use Rattle.desk_model.specs.declared.reply.Subproblem.{Subproblem}
+
+-- a refusal with the identifiers that were refused, the methods that are served, and whether it links to the directory
+abbrev pub refusal_reply : Refusal → List Subproblem → Allow → Bool → Reply
+refusal_reply why subproblems methods index =
+    plain (refusal_of why).status (body.Problem (record { refusal = why; subproblems = subproblems; allow = methods; index = index }))
