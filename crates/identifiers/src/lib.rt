@@ -12,13 +12,16 @@ use desk_model::Text;
 use idna::uts46::{DnsLength, Hyphens, Uts46};
 use idna::{AsciiDenyList, Errors};
 use std::alloc::Global;
+use thiserror::Error;
 
 /// Why a name was not read.
-#[derive(Debug, Drop, Clone, Copy, PartialEq, Eq)]
+#[derive(Debug, Drop, Clone, Copy, PartialEq, Eq, Error)]
 pub enum NameFault {
     /// The text stands for no name whose base has the form that is asked of it.
+    #[error("not a name that is served")]
     Refused,
     /// A growth was refused; whether it is a name is not known.
+    #[error("out of memory")]
     Memory,
 }
 

@@ -9,13 +9,16 @@ use desk_model::{Jwk, is_number, is_same_text};
 use json_values::text_of;
 use serde_json::Value;
 use std::alloc::{AllocError, Global};
+use thiserror::Error;
 
 /// Why a key was not read.
-#[derive(Debug, Drop, Clone, Copy, PartialEq, Eq)]
+#[derive(Debug, Drop, Clone, Copy, PartialEq, Eq, Error)]
 pub enum KeyFault {
     /// The value is no object with the members of a key that is served (RFC 7518, 6; RFC 8037, 2).
+    #[error("not a key that is served")]
     Bad,
     /// A growth was refused; whether it is a key is not known.
+    #[error("out of memory")]
     Memory,
 }
 
