@@ -4,11 +4,8 @@ ghost use Rattle.std.specs.Int.{IsInRange};
 ghost use Rattle.requests.specs.Routes.{HasNumber, IsNumberText, IsPathText, IsResourceAt, has_index, is_inside, is_numbered, is_visible, is_visible_byte, methods_of, prefix, resource_of, serves, suffix};
 
 use crate::router::route_at;
-use desk_model::{Allow, Target};
+use desk_model::{Allow, LAST_NUMBER, Target};
 use std::alloc::{AllocError, Global};
-
-// The greatest number of an object.
-const LAST_NUMBER: u64 = 1 << 62;
 
 /// A resource of the desk.
 #[derive(Clone, Copy, Debug, PartialEq, Eq)]
