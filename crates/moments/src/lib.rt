@@ -7,13 +7,11 @@ ghost use Rattle.desk_model.specs.Limits.{last_end};
 ghost use Rattle.desk_model.specs.Moment.{IsCivil, IsMomentText, civil_text, moment_text as text_of_moment, two_digits};
 ghost use Rattle.moments.specs.MomentLaws.{GivesTheText, TellsMomentsApart};
 
+pub use desk_model::LAST_END;
 use jiff::Timestamp;
 use jiff::civil::DateTime;
 use jiff::tz::Offset;
 use std::alloc::{AllocError, Global};
-
-/// The last moment that has a text, in seconds since 1970: the last recorded one of all and the longest life after it.
-pub const LAST_END: u64 = 250315360000;
 
 // The civil fields of a moment.
 #[derive(Drop)]
