@@ -1,23 +1,26 @@
 //! Why words ask for nothing.
-use clap::Error;
 use clap::error::ErrorKind;
 use std::alloc::{AllocError, Global};
 use std::fmt::Write;
+use thiserror::Error;
 
 /// Why words ask for nothing, with the text that says it.
-#[derive(Debug, Drop, PartialEq, Eq)]
+#[derive(Debug, Drop, PartialEq, Eq, Error)]
 pub enum WordsFault {
     /// They ask for help or the version: its text goes to standard output.
+    #[error("{0}")]
     Help(String),
     /// They are wrong: the text goes to standard error.
+    #[error("{0}")]
     Wrong(String),
     /// A growth was refused.
+    #[error("out of memory")]
     Memory,
 }
 
 impl WordsFault {
     /// What an error of the parser says.
-    pub(crate) fn of(alloc: Global, error: &Error) -> WordsFault {
+    pub(crate) fn of(alloc: Global, error: &clap::Error) -> WordsFault {
         if error.kind() == ErrorKind::OutOfMemory {
             return WordsFault::Memory;
         }

@@ -2,10 +2,8 @@
 use crate::help;
 use clap::builder::ValueParser;
 use clap::{Arg, ArgAction, Command};
+use desk_model::LAST_NUMBER;
 use std::alloc::{AllocError, Global};
-
-// The last number that a desk gives, 2^62.
-const LAST_NUMBER: u64 = 4611686018427387904;
 
 // The statuses of an order (RFC 8555, 7.1.6).
 const ORDER_STATUSES: &[&str] = &["pending", "ready", "processing", "valid", "invalid"];
