@@ -11,7 +11,7 @@ ghost use Rattle.desk_model.specs.Limits.{longest_body};
 use crate::body::{answer_to, read_body};
 use crate::head::{HeadRead, ReadFailed, read_head};
 use crate::plan::{Plan, method_of, path_of, plan_for};
-use desk_model::{Allow, Refusal};
+use desk_model::{Allow, LONGEST_HEAD, Refusal};
 use httparse::spans::{EMPTY_HEADER_SPAN, HeaderSpan, RequestSpans};
 use requests::{Request, has_index, refused};
 use std::alloc::{AllocError, Global};
@@ -46,7 +46,7 @@ pub fn read_call<R: Read>(alloc: Global, reader: &mut R) -> Result<Heard, ReadFa
     ensures heard { IfOk result (λ heard. IfSome (R.remaining reader.old) (λ input. Hears input heard)) }
     ensures taken { TakesAtMost (R.remaining reader.old) (R.remaining reader.new) 147456 }
 {
-    let mut buffer = [0u8; 16384];
+    let mut buffer = [0u8; LONGEST_HEAD];
     let mut headers = [EMPTY_HEADER_SPAN; 64];
     let (head, filled) = read_head(reader, &mut buffer, &mut headers)?;
     let bytes = &buffer[..filled];

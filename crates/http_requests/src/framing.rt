@@ -4,7 +4,7 @@ ghost use Rattle.std.specs.Char.{digit_value};
 ghost use Rattle.httparse.specs.Spans.{IsHeaderWithin, header_bytes};
 ghost use Rattle.http_requests.specs.Framing.{FoundIs, framing, framing_by, framing_for, is_posted, length_in, limit_of, same_name, values_of};
 
-use desk_model::Allow;
+use desk_model::{Allow, LONGEST_BODY, LONGEST_CERTIFICATE};
 use httparse::spans::HeaderSpan;
 use requests::{OfficeResource, Resource, methods_of};
 
@@ -59,8 +59,8 @@ fn limit_of(resource: Resource) -> usize
     ensures capped { result < 200000 }
 {
     match resource {
-        Resource::Office(OfficeResource::Certify(_)) => 65536,
-        _ => 131072,
+        Resource::Office(OfficeResource::Certify(_)) => LONGEST_CERTIFICATE,
+        _ => LONGEST_BODY,
     }
 }
 
