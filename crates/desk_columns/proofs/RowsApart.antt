@@ -16,7 +16,8 @@ use Rattle.desk_model.specs.declared.rows.DatedProblem.{DatedProblem}
 use Rattle.desk_columns.specs.Columns.{account_columns, account_end_columns, authorization_columns, authorization_end_columns, challenge_columns, dated_bytes_columns, dated_problem_columns, listed_columns, meta_columns, nonce_columns, order_columns, report_columns, rows_columns}
 use Rattle.desk_columns.specs.Laws.{AreToldApart, ColumnsTellRowsApart}
 use Rattle.desk_columns.specs.Limits.{AreStored, IsStoredAccount, IsStoredAuthorization, IsStoredChallenge, IsStoredListed, IsStoredMeta, IsStoredNonce, IsStoredOrder}
-use Rattle.desk_columns.specs.Spelling.{contacts_text, ending_text, end_kind_text, outcome_text, problem_document, problem_text}
+use Rattle.desk_model.specs.Facts.{ending_text, end_kind_text, outcome_text}
+use Rattle.desk_columns.specs.Spelling.{contacts_text, problem_document, problem_text}
 use Rattle.desk_columns.proofs.JsonTexts.{read-contacts_text, read-problem_text}
 use Rattle.desk_columns.proofs.SpellingApart.{account_status_text-apart, order_status_text-apart, authorization_status_text-apart, challenge_status_text-apart, kind_text-apart, ending_text-apart, end_kind_text-apart, outcome_text-apart, wildcard_column-apart}
 

@@ -19,7 +19,7 @@ use Rattle.desk_model.specs.declared.status.AuthzStatus.TheVariants as authz
 use Rattle.desk_model.specs.declared.status.ChallengeStatus.TheVariants as chall
 use Rattle.desk_model.specs.declared.status.OrderStatus.TheVariants as order
 use Rattle.desk_columns.specs.Columns.{wildcard_column}
-use Rattle.desk_columns.specs.Spelling.{ending_text, end_kind_text, outcome_text}
+use Rattle.desk_model.specs.Facts.{ending_text, end_kind_text, outcome_text}
 
 -- what has an inverse tells its arguments apart
 told_apart : {X Y : Type 0} (f : X → Y) (back : Y → X) → ((x : X) → back (f x) ≡ x) → (x y : X) → f x ≡ f y → x ≡ y

@@ -38,7 +38,8 @@ use Rattle.desk_model.specs.declared.status.OrderStatus.{OrderStatus}
 use Rattle.desk_model.specs.declared.status.OrderStatus.TheVariants as order
 use Rattle.desk_columns.specs.Columns.{account_columns, authorization_columns, challenge_columns, meta_columns, order_columns, rows_columns}
 use Rattle.desk_columns.specs.Laws.{TextsAreWritten}
-use Rattle.desk_columns.specs.Spelling.{contacts_text, ending_text, end_kind_text, outcome_text, problem_document, problem_text}
+use Rattle.desk_model.specs.Facts.{ending_text, end_kind_text, outcome_text}
+use Rattle.desk_columns.specs.Spelling.{contacts_text, problem_document, problem_text}
 use Rattle.desk_columns.specs.TextColumns.{HasTextAccount, HasTextAuthorization, HasTextChallenge, HasTextMeta, HasTextOrder, ColumnsAreTexts, RowsHoldTexts}
 use Rattle.desk_columns.specs.declared.flat_rows.FlatRows.{FlatRows}
 use Rattle.desk_columns.specs.declared.flat_rows.Owned.{Owned}

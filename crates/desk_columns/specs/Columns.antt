@@ -2,6 +2,7 @@
 -- authorization, and what an order lists.
 use Rattle.std.specs.Prelude.{ℕ, ℤ, pos, List, map, Bool, if◌then◌else◌, Option, option_map}
 use Rattle.desk_model.specs.Document.{account_status_text, authorization_status_text, challenge_status_text, kind_text, order_status_text}
+use Rattle.desk_model.specs.Facts.{ending_text, end_kind_text, outcome_text}
 use Rattle.desk_model.specs.declared.objects.AccountEnd.{AccountEnd}
 use Rattle.desk_model.specs.declared.objects.AuthorizationEnd.{AuthorizationEnd}
 use Rattle.desk_model.specs.declared.objects.Nonce.{Nonce}
@@ -14,7 +15,7 @@ use Rattle.desk_model.specs.declared.rows.DatedProblem.{DatedProblem}
 use Rattle.desk_model.specs.declared.rows.Listed.{Listed}
 use Rattle.desk_model.specs.declared.rows.Meta.{Meta}
 use Rattle.desk_model.specs.declared.rows.OrderRow.{OrderRow}
-use Rattle.desk_columns.specs.Spelling.{ending_text, end_kind_text, outcome_text, contacts_text, problem_text}
+use Rattle.desk_columns.specs.Spelling.{contacts_text, problem_text}
 use Rattle.desk_columns.specs.declared.columns.AccountColumns.{AccountColumns}
 use Rattle.desk_columns.specs.declared.columns.AuthzColumns.{AuthzColumns}
 use Rattle.desk_columns.specs.declared.columns.ChallColumns.{ChallColumns}

@@ -1,5 +1,6 @@
 -- What a stored row keeps: its numbers are in their limits, and its texts have their forms.
-use Rattle.std.specs.Prelude.{◌≡◌, ◌≤◌, ◌^◌, ℕ, List, [], length, Option, None, Some, ⊤, Bool, ◌||◌, bytes_eq, codes, IsTrue}
+use Rattle.std.specs.Prelude.{◌≡◌, ◌≤◌, ℕ, List, [], length, Option, None, Some, ⊤, IsTrue}
+use Rattle.desk_model.specs.Legal.{is_problem_kind}
 use Rattle.desk_model.specs.Limits.{last_end, last_moment, last_number}
 use Rattle.desk_model.specs.Terms.{are_terms}
 use Rattle.desk_model.specs.Keys.{IsKeyText}
@@ -46,10 +47,6 @@ abbrev pub IfRecorded : {X : Type 0} → (X → Type 0) → Option X → Type 0
 IfRecorded P None = ⊤
 IfRecorded P (Some x) = P x
 
--- the type of a problem that the signing office may hand in
-abbrev pub is_problem_kind : List ℕ → Bool
-is_problem_kind kind = bytes_eq kind (codes "badCSR") || bytes_eq kind (codes "serverInternal")
-
 -- how an account ended is dated
 abbrev pub IsAccountEnd : AccountEnd → Type 0
 IsAccountEnd end = IsMoment end.date
@@ -66,7 +63,7 @@ IsReport report = IsMoment report.date
 abbrev pub AreDatedBytes : DatedBytes → Type 0
 AreDatedBytes kept = IsMoment kept.date
 
--- a problem of such a type
+-- a problem of a type that the signing office may hand in
 abbrev pub IsProblem : OrderProblem → Type 0
 IsProblem problem = IsTrue (is_problem_kind problem.kind)
 

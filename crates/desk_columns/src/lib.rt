@@ -33,5 +33,6 @@ pub use listed::read_listed;
 pub use meta::read_meta;
 pub use nonce::read_nonce;
 pub use order::read_order;
+pub use problem::problem_text;
 pub use spelling::read_order_status;
 pub use stored::read_rows;

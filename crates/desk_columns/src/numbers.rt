@@ -3,33 +3,35 @@ ghost use Rattle.std.specs.Prelude.{pos};
 ghost use Rattle.desk_columns.specs.Limits.{IsNumber, IsCounter, IsMoment, IsExpiry};
 ghost use Rattle.desk_columns.specs.Reading.{IsRead, IsAtMost, IsFrom, Unlimited};
 
-/// The number of an object, 1 to 2^62.
+use desk_model::{LAST_END, LAST_MOMENT, LAST_NUMBER};
+
+/// The number of an object, from 1 to the greatest.
 pub(crate) fn read_number(column: i64) -> Option<u64>
     ensures { IsRead (λ n. pos n) IsNumber column result }
 {
-    let number = read_count(column, 4611686018427387904)?;
+    let number = read_count(column, LAST_NUMBER)?;
     if number >= 1 { Some(number) } else { None }
 }
 
-/// The last number given, 0 to 2^62.
+/// The last number given, 0 for none.
 pub(crate) fn read_counter(column: i64) -> Option<u64>
     ensures { IsRead (λ n. pos n) IsCounter column result }
 {
-    read_count(column, 4611686018427387904)
+    read_count(column, LAST_NUMBER)
 }
 
 /// A moment.
 pub(crate) fn read_moment(column: i64) -> Option<u64>
     ensures { IsRead (λ n. pos n) IsMoment column result }
 {
-    read_count(column, 250000000000)
+    read_count(column, LAST_MOMENT)
 }
 
 /// A moment and a life.
 pub(crate) fn read_expiry(column: i64) -> Option<u64>
     ensures { IsRead (λ n. pos n) IsExpiry column result }
 {
-    read_count(column, 250315360000)
+    read_count(column, LAST_END)
 }
 
 /// A place in an order, from 1.

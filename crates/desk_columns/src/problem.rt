@@ -1,14 +1,13 @@
 //! The column `problem`: a compact JSON object of a detail and a type.
-ghost use Rattle.std.specs.Prelude.{◌≡◌, codes, string_bytes, IfOk, option_and_then, option_map};
+ghost use Rattle.std.specs.Prelude.{◌≡◌, string_bytes, IfOk, option_and_then, option_map};
 ghost use Rattle.serde_json.specs.Find.{get, as_str};
 ghost use Rattle.serde_json.specs.View.{view};
-ghost use Rattle.desk_columns.specs.Limits.{IsProblem, is_problem_kind};
+ghost use Rattle.desk_columns.specs.Limits.{IsProblem};
 ghost use Rattle.desk_columns.specs.ProblemParts.{IsProblemIn};
 ghost use Rattle.desk_columns.specs.Reading.{IsRead};
 ghost use Rattle.desk_columns.specs.Spelling.{problem_document, problem_text};
 
-use crate::values::is_text;
-use desk_model::{OrderProblem, Text};
+use desk_model::{OrderProblem, Text, is_problem_kind, is_same_text};
 use json_values::value_of;
 use serde_json::{Value, json};
 use std::alloc::{AllocError, Global};
@@ -24,7 +23,7 @@ pub(crate) fn read_problem(alloc: Global, text: &str) -> Result<Option<OrderProb
         return Ok(None);
     };
     let written = problem_text(alloc, &problem)?;
-    if is_text(text, written.as_str()) {
+    if is_same_text(text, written.as_str()) {
         return Ok(Some(problem));
     }
     Ok(None)
@@ -56,15 +55,12 @@ fn string_in<'v>(value: &'v Value, name: &str) -> Option<&'v str>
     value.get(name)?.as_str()
 }
 
-// Whether the signing office may hand in a problem of this type.
-fn is_problem_kind(kind: &str) -> bool
-    ensures { result ≡ is_problem_kind kind.now }
-{
-    kind == "badCSR" || kind == "serverInternal"
-}
-
-// The text of a problem.
-fn problem_text(alloc: Global, problem: &OrderProblem) -> Result<String, AllocError>
+/// The text of a problem as a column, a JSON object of its detail and its type.
+///
+/// # Errors
+///
+/// Where there is no memory for it.
+pub fn problem_text(alloc: Global, problem: &OrderProblem) -> Result<String, AllocError>
     ensures { IfOk result (λ text. string_bytes text ≡ problem_text problem.now) }
 {
     problem_value(alloc, problem)?.to_string(alloc)

@@ -1,7 +1,7 @@
 //! The statuses and kinds that columns spell.
 ghost use Rattle.desk_model.specs.Document.{account_status_text, authorization_status_text, challenge_status_text, kind_text, order_status_text};
+ghost use Rattle.desk_model.specs.Facts.{ending_text, end_kind_text, outcome_text};
 ghost use Rattle.desk_columns.specs.Columns.{wildcard_column};
-ghost use Rattle.desk_columns.specs.Spelling.{ending_text, end_kind_text, outcome_text};
 ghost use Rattle.desk_columns.specs.Reading.{IsRead, Unlimited};
 
 use desk_model::{

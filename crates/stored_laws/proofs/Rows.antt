@@ -3,7 +3,7 @@ use Rattle.std.proofs.Common.{◌≡◌, ◌≤◌, ◌<◌, ◌^◌, ℕ, ◌+�
 use Rattle.std.specs.Prelude.{◌==◌, IfSome, IsSome, IsTrue, find}
 use Rattle.std.specs.List.{flat_map}
 use Rattle.std.proofs.lemmas.Bool.{and_parts, eqb-true}
-use Rattle.desk_columns.specs.Limits.{AreStored, IfRecorded, is_problem_kind, IsDatedProblem, IsMoment, IsNumber, IsStoredAccount, IsStoredChallenge, IsStoredListed, IsStoredMeta, IsStoredNonce}
+use Rattle.desk_columns.specs.Limits.{AreStored, IfRecorded, IsDatedProblem, IsMoment, IsNumber, IsStoredAccount, IsStoredChallenge, IsStoredListed, IsStoredMeta, IsStoredNonce}
 use Rattle.desk_laws.proofs.Basics.{each, each-append, each-map, each_all, each_both}
 use Rattle.desk_laws.proofs.Dates.{clock_in_time, no_date_later}
 use Rattle.desk_laws.proofs.Forms.{HasTokens, nonces_drawn, problem_formed, tokens_drawn}
@@ -20,7 +20,7 @@ use Rattle.desk_model.specs.Change.{spent_by}
 use Rattle.desk_model.specs.Entry.{History}
 use Rattle.desk_model.specs.History.{clock}
 use Rattle.desk_model.specs.Kept.{EachOf, Kept, restricted}
-use Rattle.desk_model.specs.Legal.{has_length, is_problem, Legal, may_follow}
+use Rattle.desk_model.specs.Legal.{has_length, is_problem, is_problem_kind, Legal, may_follow}
 use Rattle.desk_model.specs.Limits.{last_end, last_moment, last_number, longest_detail}
 use Rattle.desk_model.specs.Nonce.{is_open, nonce, nonces}
 use Rattle.desk_model.specs.Order.{orders}

@@ -8,7 +8,6 @@ ghost use Rattle.written_rows.specs.declared.fault.WriteFault.TheVariants.{Memor
 use crate::fault::WriteFault;
 use crate::numbers::number_column;
 use crate::problem::problem_column;
-use crate::spelling::{end_kind_text, ending_text, outcome_text};
 use crate::values::{bytes_column, text_column};
 use desk_model::{AccountEnd, AuthorizationEnd, DatedBytes, DatedProblem, Report, Sequence, Text};
 use std::alloc::Global;
@@ -24,7 +23,7 @@ pub(crate) fn account_end_columns(
     match end {
         Some(end) => {
             let ended = number_column(end.date)?;
-            let end_kind = text_column(alloc, ending_text(end.ending))?;
+            let end_kind = text_column(alloc, end.ending.as_str())?;
             Ok((Some(ended), Some(end_kind)))
         }
         None => Ok((None, None)),
@@ -42,7 +41,7 @@ pub(crate) fn authorization_end_columns(
     match end {
         Some(end) => {
             let ended = number_column(end.date)?;
-            let end_kind = text_column(alloc, end_kind_text(end.kind))?;
+            let end_kind = text_column(alloc, end.kind.as_str())?;
             Ok((Some(ended), Some(end_kind)))
         }
         None => Ok((None, None)),
@@ -60,7 +59,7 @@ pub(crate) fn report_columns(
     match report {
         Some(report) => {
             let reported = number_column(report.date)?;
-            let outcome = text_column(alloc, outcome_text(report.outcome))?;
+            let outcome = text_column(alloc, report.outcome.as_str())?;
             Ok((Some(reported), Some(outcome)))
         }
         None => Ok((None, None)),

@@ -1,24 +1,16 @@
 //! Why a row is not written.
-use std::alloc::{AllocError, AllocFailed};
-use std::fmt;
+use std::alloc::AllocError;
+use thiserror::Error;
 
 /// Why a row is not written.
-#[derive(Clone, Copy, Debug, PartialEq, Eq)]
+#[derive(Clone, Copy, Debug, PartialEq, Eq, Error)]
 pub enum WriteFault {
     /// A growth was refused.
+    #[error("out of memory")]
     Memory,
     /// A number is above 2^63 - 1, the greatest of an INTEGER column.
+    #[error("a number is too large for its column")]
     TooLarge,
-}
-
-impl fmt::Display for WriteFault {
-    fn fmt<W: fmt::Write>(&self, f: &mut fmt::Formatter<W>) -> fmt::Result {
-        let text = match self {
-            WriteFault::Memory => "out of memory",
-            WriteFault::TooLarge => "a number is too large for its column",
-        };
-        f.write_str(text)
-    }
 }
 
 impl From<AllocError> for WriteFault {

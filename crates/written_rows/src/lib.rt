@@ -7,7 +7,6 @@ mod fault;
 mod numbers;
 mod problem;
 mod rows;
-mod spelling;
 mod values;
 
 pub use fault::WriteFault;

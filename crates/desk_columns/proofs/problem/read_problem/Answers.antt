@@ -18,4 +18,4 @@ returns c =
     let parts = rw c.in-Some-2.is at c.in_ok-problem.ensures in
     λ problem _ same. none_of_loose_text c.args.text.now (view c.in-Some.value) c.in-Some-2.problem
     (sym c.in_ok-value.ensures ∙ ap (option_map (λ v. view v)) c.in-Some.is) parts
-    (λ e. true≢false (sym (c.is_text.ensures.1 (e ∙ sym (c.as_str.ensures.value ∙ c.in_ok-written.ensures))) ∙ c.if-is_text.false)) problem same
+    (λ e. true≢false (sym (c.is_same_text.ensures.same.1 (e ∙ sym (c.as_str.ensures.value ∙ c.in_ok-written.ensures))) ∙ c.if-is_same_text.false)) problem same
