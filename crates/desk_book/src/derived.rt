@@ -1,7 +1,7 @@
 //! The statuses that rows ought to have, by their dated columns (RFC 8555, 7.1.6).
 ghost use Rattle.std.specs.Prelude.{◌≡◌, ◌||◌, ℕ, List, Option, Some, None, is_some, nat_lt};
 ghost use Rattle.std.specs.List.{list_all, list_any};
-ghost use Rattle.desk_model.specs.Authorization.{is_good, is_over, is_valid, status_of, authorization_status_by, challenge_status_by};
+ghost use Rattle.desk_model.specs.Authorization.{is_good, is_over, is_valid, authorization_status_by, challenge_status_by};
 ghost use Rattle.desk_model.specs.Order.{order_status_by};
 ghost use Rattle.desk_model.specs.Derived.{derived_account, derived_authorization, derived_challenge, derived_order, is_proved, numbers_of, stored_statuses};
 ghost use Rattle.desk_model.specs.Lookup.{holds};
@@ -9,7 +9,7 @@ ghost use Rattle.desk_model.specs.declared.rows.AuthorizationRow.{AuthorizationR
 
 use desk_model::{
     AccountRow, AccountStatus, AuthorizationRow, AuthzStatus, ChallengeRow, ChallengeStatus,
-    EndKind, Ending, OrderRow, OrderStatus, Outcome, Report,
+    Ending, OrderRow, OrderStatus, Report,
 };
 
 /// The status of an account: valid until it ends.
@@ -41,17 +41,11 @@ pub fn derived_challenge(row: &ChallengeRow) -> ChallengeStatus
 fn reported_status(report: Report, answered: Option<u64>) -> ChallengeStatus
     ensures { result ≡ challenge_status_by (Some report) answered }
 {
-    if is_good(report.outcome) {
+    if report.outcome.is_good() {
         ChallengeStatus::Valid
     } else {
         ChallengeStatus::Invalid
     }
-}
-
-fn is_good(outcome: Outcome) -> bool
-    ensures { result ≡ is_good outcome }
-{
-    matches!(outcome, Outcome::Good)
 }
 
 // Whether a good report stands on one of the challenges of an authorization.
@@ -68,18 +62,8 @@ fn has_good_report(row: &ChallengeRow) -> bool
     ensures { result ≡ holds (λ r. is_good r.outcome) row.now.reported }
 {
     match row.reported {
-        Some(report) => is_good(report.outcome),
+        Some(report) => report.outcome.is_good(),
         None => false,
-    }
-}
-
-fn ended_status(kind: EndKind) -> AuthzStatus
-    ensures { result ≡ status_of kind }
-{
-    match kind {
-        EndKind::Invalid => AuthzStatus::Invalid,
-        EndKind::Deactivated => AuthzStatus::Deactivated,
-        EndKind::Revoked => AuthzStatus::Revoked,
     }
 }
 
@@ -89,7 +73,7 @@ pub fn derived_authorization(moment: u64, row: &AuthorizationRow) -> AuthzStatus
     ensures { result ≡ derived_authorization moment row.now }
 {
     match row.ended {
-        Some(end) => ended_status(end.kind),
+        Some(end) => end.kind.status(),
         None => lasting_status(moment, row),
     }
 }
@@ -107,28 +91,16 @@ fn lasting_status(moment: u64, row: &AuthorizationRow) -> AuthzStatus
     }
 }
 
-fn is_over(status: AuthzStatus) -> bool
-    ensures { result ≡ is_over status }
-{
-    !matches!(status, AuthzStatus::Pending | AuthzStatus::Valid)
-}
-
 fn any_over(statuses: &[AuthzStatus]) -> bool
     ensures { result ≡ list_any is_over statuses.now }
 {
-    statuses.iter().any(|status| is_over(*status))
-}
-
-fn is_valid(status: AuthzStatus) -> bool
-    ensures { result ≡ is_valid status }
-{
-    matches!(status, AuthzStatus::Valid)
+    statuses.iter().any(|status| status.is_over())
 }
 
 fn all_valid(statuses: &[AuthzStatus]) -> bool
     ensures { result ≡ list_all is_valid statuses.now }
 {
-    statuses.iter().all(|status| is_valid(*status))
+    statuses.iter().all(|status| status.is_valid())
 }
 
 // Whether an order can lead to no certificate any more: it failed, is past its `expires`, or lost an authorization.

@@ -6,7 +6,7 @@ ghost use Rattle.desk_model.specs.Lookup.{holds};
 ghost use Rattle.desk_model.specs.Derived.{authorization_numbered, numbers_of};
 ghost use Rattle.desk_model.specs.Change.{sweep_changes, nonces_gone, authorizations_expired, orders_fallen};
 ghost use Rattle.desk_model.specs.declared.rows.Change.TheVariants.{RemoveNonce, PutAuthorization, PutOrder};
-ghost use Rattle.desk_model.specs.Effect.{is_live, is_live_order, is_overdue, falls, lasts, lists_one};
+ghost use Rattle.desk_model.specs.Effect.{is_overdue, falls, lasts, lists_one};
 
 use desk_book::{Book, Table};
 use desk_model::{
@@ -21,23 +21,11 @@ pub fn lasts(policy: &Policy, moment: u64, nonce: &Nonce) -> bool
     moment <= nonce.issued.saturating_add(policy.nonce_life())
 }
 
-fn is_live(status: AuthzStatus) -> bool
-    ensures { result ≡ is_live status }
-{
-    matches!(status, AuthzStatus::Pending | AuthzStatus::Valid)
-}
-
-fn is_live_order(status: OrderStatus) -> bool
-    ensures { result ≡ is_live_order status }
-{
-    !matches!(status, OrderStatus::Valid | OrderStatus::Invalid)
-}
-
 /// Whether an authorization that can still serve is past its end.
 pub(crate) fn is_overdue(moment: u64, row: &AuthorizationRow) -> bool
     ensures { result ≡ is_overdue moment row.now }
 {
-    is_live(row.status) && row.expires < moment
+    row.status.is_live() && row.expires < moment
 }
 
 fn is_overdue_number(moment: u64, rows: &Table<AuthorizationRow>, number: u64) -> bool
@@ -65,7 +53,7 @@ fn lists_overdue(moment: u64, rows: &Table<AuthorizationRow>, row: &OrderRow) ->
 pub(crate) fn falls(moment: u64, rows: &Table<AuthorizationRow>, row: &OrderRow) -> bool
     ensures { result ≡ falls moment rows.now row.now }
 {
-    is_live_order(row.status) && (row.expires < moment || lists_overdue(moment, rows, row))
+    row.status.is_live() && (row.expires < moment || lists_overdue(moment, rows, row))
 }
 
 /// The changes that the passing of time makes, up to a moment.
