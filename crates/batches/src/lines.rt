@@ -9,39 +9,35 @@ use desk_model::{Ask, Call, Reply};
 use desk_storage::Storage;
 use requests::{Line, LineFault, Request, read_line, reply_line};
 use std::alloc::Global;
-use std::fmt;
 use std::io::{self, BufRead, BufReader, ErrorKind, Read, Write};
+use thiserror::Error;
 
 /// Why a line is not answered.
-#[derive(Clone, Copy, Debug, PartialEq, Eq)]
+#[derive(Clone, Copy, Debug, PartialEq, Eq, Error)]
 pub enum AnswerFault {
     /// The line is no call.
+    #[error("not a call")]
     NotACall,
     /// The desk declined the call.
+    #[error("{0}")]
     Desk(DeskFault),
     /// A growth was refused outside the desk, which is unchanged or as its answer left it.
+    #[error("out of memory")]
     Memory,
 }
 
 // Why a batch ends before its input does.
-#[derive(Clone, Copy, Debug, PartialEq, Eq)]
+#[derive(Clone, Copy, Debug, PartialEq, Eq, Error)]
 enum BatchFault {
+    #[error("input")]
     Input,
+    #[error("output")]
     Output,
     // The line of this number, from 1, is no call.
+    #[error("line {0}: not a call")]
     NotACall(u64),
+    #[error("{0}")]
     Desk(DeskFault),
-}
-
-impl fmt::Display for BatchFault {
-    fn fmt<W: fmt::Write>(&self, f: &mut fmt::Formatter<W>) -> fmt::Result {
-        match self {
-            BatchFault::Input => write!(f, "input"),
-            BatchFault::Output => write!(f, "output"),
-            BatchFault::NotACall(number) => write!(f, "line {number}: not a call"),
-            BatchFault::Desk(fault) => write!(f, "{fault}"),
-        }
-    }
 }
 
 /// The output line for the call that a line spells, or for the refusal of its request.

@@ -1,13 +1,16 @@
 //! Why a report ends early.
 use desk_storage::StorageFault;
 use std::io::{self, ErrorKind};
+use thiserror::Error;
 
 /// Why a report is not written to its end.
-#[derive(Clone, Copy, Debug, PartialEq, Eq)]
+#[derive(Clone, Copy, Debug, PartialEq, Eq, Error)]
 pub enum ReportFault {
     /// A growth was refused, or the rows could not be read.
+    #[error("{0}")]
     Storage(StorageFault),
     /// The writer failed.
+    #[error("output")]
     Output,
 }
 

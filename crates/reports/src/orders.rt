@@ -6,9 +6,9 @@ ghost use Rattle.reports.specs.Reported.{Reports};
 use crate::fault::ReportFault;
 use crate::form::Form;
 use desk_loading::RowsAbove;
-use desk_model::{OrderRow, OrderStatus};
+use desk_model::{LAST_END, OrderRow, OrderStatus};
 use desk_passes::Orders;
-use moments::{LAST_END, moment_text};
+use moments::moment_text;
 use std::alloc::Global;
 use std::io::{self, Write};
 
