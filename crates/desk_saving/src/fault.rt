@@ -1,27 +1,19 @@
 //! Why rows are not saved.
-use sqlite::Error;
-use std::fmt;
+use thiserror::Error;
 use written_rows::WriteFault;
 
 /// Why rows are not saved.
-#[derive(Clone, Copy, Debug, PartialEq, Eq)]
+#[derive(Clone, Copy, Debug, PartialEq, Eq, Error)]
 pub enum SaveFault {
     /// A row is not written as columns.
+    #[error("a row is not written: {0}")]
     Row(WriteFault),
     /// A statement was refused, or failed.
-    Statement(Error),
+    #[error("a statement is not run: {0}")]
+    Statement(sqlite::Error),
     /// The commit failed.
-    Commit(Error),
-}
-
-impl fmt::Display for SaveFault {
-    fn fmt<W: fmt::Write>(&self, f: &mut fmt::Formatter<W>) -> fmt::Result {
-        match self {
-            SaveFault::Row(fault) => write!(f, "a row is not written: {fault}"),
-            SaveFault::Statement(error) => write!(f, "a statement is not run: {error}"),
-            SaveFault::Commit(error) => write!(f, "the changes are not committed: {error}"),
-        }
-    }
+    #[error("the changes are not committed: {0}")]
+    Commit(sqlite::Error),
 }
 
 impl From<WriteFault> for SaveFault {
@@ -35,13 +27,13 @@ impl From<WriteFault> for SaveFault {
     }
 }
 
-impl From<Error> for SaveFault {
+impl From<sqlite::Error> for SaveFault {
     ghost use Rattle.desk_saving.specs.declared.fault.SaveFault.TheVariants.{Statement};
     ghost use Rattle.std.specs.Prelude.{◌≡◌};
 
     ghost from_gives = { λ error why. why ≡ Statement error };
 
-    fn from(error: Error) -> SaveFault {
+    fn from(error: sqlite::Error) -> SaveFault {
         SaveFault::Statement(error)
     }
 }

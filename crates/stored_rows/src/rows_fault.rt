@@ -1,12 +1,15 @@
 //! Why rows do not become a book.
 use std::alloc::{AllocError, AllocFailed};
+use thiserror::Error;
 
 /// Why rows did not become a book.
-#[derive(Clone, Copy, Debug, PartialEq, Eq)]
+#[derive(Clone, Copy, Debug, PartialEq, Eq, Error)]
 pub enum RowsFault {
     /// No book has these rows.
+    #[error("the rows are not those of a desk")]
     NotABook,
     /// There was no memory for the book.
+    #[error("out of memory")]
     Memory,
 }
 
