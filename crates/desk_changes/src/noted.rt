@@ -2,7 +2,7 @@
 ghost use Rattle.std.specs.Prelude.{◌≡◌, map, unwrap_or, IfOk};
 ghost use Rattle.desk_model.specs.History.{earlier};
 ghost use Rattle.desk_model.specs.Account.{changing, ends as account_ends};
-ghost use Rattle.desk_model.specs.Authorization.{in_time, kind_of};
+ghost use Rattle.desk_model.specs.Authorization.{in_time};
 ghost use Rattle.desk_model.specs.Order.{certifying, failing, finalizing};
 ghost use Rattle.desk_model.specs.declared.entry.Entry.TheVariants.{Reported as reported};
 ghost use Rattle.desk_model.specs.Effect.{noted_account, noted_authorization, noted_challenge, noted_order, answered_challenge, reported_challenge, row_ends};
@@ -11,7 +11,7 @@ use crate::touched::has_challenge;
 use desk_book::{derived_account, derived_challenge};
 use desk_model::{
     AccountEnd, AccountRow, AuthorizationEnd, AuthorizationRow, ChallengeRow, DatedBytes,
-    DatedProblem, EndKind, Ending, Entry, OrderRow, Outcome, Report, Sequence, Text,
+    DatedProblem, EndKind, Entry, OrderRow, Outcome, Report, Sequence, Text,
 };
 use std::alloc::{AllocError, Global};
 
@@ -134,15 +134,6 @@ fn noted_challenges(
 
 // ---- authorizations
 
-fn kind_of(ending: Ending) -> EndKind
-    ensures { result ≡ kind_of ending }
-{
-    match ending {
-        Ending::Deactivated => EndKind::Deactivated,
-        Ending::Revoked => EndKind::Revoked,
-    }
-}
-
 // The end of an authorization by a report, which is bad, on one of its challenges.
 fn reported_end(
     challenge: u64,
@@ -176,7 +167,7 @@ fn end_by(entry: &Entry, moment: u64, row: &AuthorizationRow) -> Option<Authoriz
     if ended {
         return Some(AuthorizationEnd {
             date: moment,
-            kind: kind_of(ending),
+            kind: ending.kind(),
         });
     }
     None
