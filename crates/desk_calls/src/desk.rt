@@ -8,9 +8,8 @@ ghost use Rattle.desk_calls.specs.Runs.{Runs, RunsAs};
 ghost use Rattle.desk_model.specs.Limits.{last_moment};
 
 use crate::fault::DeskFault;
-use crate::forms::keep_form;
 use desk_decisions::decide;
-use desk_model::{Call, LAST_MOMENT, Policy, Reply};
+use desk_model::{Call, LAST_MOMENT, Policy, Reply, keep_form};
 use desk_storage::{Storage, StorageFault};
 use std::alloc::Global;
 use std::marker::Model;

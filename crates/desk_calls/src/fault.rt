@@ -18,11 +18,11 @@ pub enum DeskFault {
     Reopen,
     /// The file holds no desk.
     NotADesk,
-    /// The call's moment is above the last one, 250000000000.
+    /// The call's moment is above the last one.
     Moment,
     /// The call needs more random bytes than it has.
     ShortRandom,
-    /// A number above 2^62 would be needed.
+    /// A number above the greatest would be needed.
     Full,
     /// The file is of a later format.
     NewerFormat,

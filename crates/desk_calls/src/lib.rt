@@ -3,7 +3,6 @@
 
 mod desk;
 mod fault;
-mod forms;
 mod laws;
 mod memory;
 

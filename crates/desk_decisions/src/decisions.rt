@@ -13,8 +13,6 @@ ghost use Rattle.desk_model.specs.declared.entry.Entry.{Entry as EntryOf};
 ghost use Rattle.desk_model.specs.Entry.{History};
 ghost use Rattle.desk_model.specs.Legal.{Legal};
 ghost use Rattle.desk_model.specs.Tables.{picture};
-ghost use Rattle.desk_model.specs.Run.{IsFormedCall, IsFormedSigned};
-ghost use Rattle.desk_model.specs.Texts.{IsTextProblem};
 ghost use Rattle.desk_model.specs.Tokens.{nonce_text};
 ghost use Rattle.desk_changes.specs.Acting.{IsActable, IsAt, is_recording};
 ghost use Rattle.desk_decisions.specs.HasTexts.{HasTexts};
@@ -30,7 +28,7 @@ use crate::showing::show;
 use desk_book::Book;
 use desk_changes::Recording;
 use desk_model::{
-    Ask, Call, Change, LAST_MOMENT, OrderProblem, Refusal, Reply, Sequence, Signed, Verdict,
+    Ask, Call, Change, LAST_MOMENT, Refusal, Reply, Sequence, Signed, Verdict, keep_form,
 };
 use desk_replies::{nonce_reply, refusal_reply, with_nonce};
 use desk_rules::{CoreFault, first_random, has_room, judge_office, judge_signed, open_nonce};
@@ -306,35 +304,6 @@ fn decide_at(
         Ask::NewNonce { head } => issued(alloc, book, moment, random, nonce_reply(*head)),
         Ask::Signed(request) => signed(alloc, book, moment, random, request),
         _ => office(alloc, book, moment, ask),
-    }
-}
-
-// What the type of a problem keeps: its texts are UTF-8.
-fn keep_problem(problem: &OrderProblem)
-    ensures { IsTextProblem problem.now }
-{
-    let _kind = problem.kind.as_str();
-    let _detail = problem.detail.as_str();
-}
-
-// What the types of a request keep: an accepted key has its canonical text, and the payload is UTF-8.
-fn keep_request(request: &Signed)
-    ensures { IsFormedSigned request.now }
-{
-    let _payload = request.payload.as_str();
-    if let Ok(key) = &request.key {
-        let _text = key.canonical();
-    }
-}
-
-// What the types of a call keep.
-fn keep_form(call: &Call)
-    ensures { IsFormedCall call.now }
-{
-    match &call.ask {
-        Ask::Signed(request) => keep_request(request),
-        Ask::FailOrder { problem, .. } => keep_problem(problem),
-        _ => (),
     }
 }
 

@@ -16,7 +16,7 @@ use serde_json::{Map, Value, put};
 use std::alloc::{AllocError, Global};
 
 // Adds an error of the validator.
-fn put_fault(
+fn put_error(
     members: &mut Map<String, Value>,
     alloc: Global,
     outcome: Outcome,
@@ -60,7 +60,7 @@ fn put_report(
     let Some(report) = reported else {
         return Ok(());
     };
-    put_fault(members, alloc, report.outcome)?;
+    put_error(members, alloc, report.outcome)?;
     put_date(members, alloc, report)
 }
 

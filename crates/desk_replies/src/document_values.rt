@@ -7,8 +7,7 @@ ghost use Rattle.desk_model.specs.Document.{identifier, error};
 ghost use Rattle.desk_model.specs.Moment.{moment_text as text_of_moment};
 ghost use Rattle.desk_replies.specs.Shown.{capped};
 
-use desk_model::Text;
-use moments::LAST_END;
+use desk_model::{LAST_END, Text};
 use serde_json::{Value, json};
 use std::alloc::{AllocError, Global};
 

@@ -6,27 +6,14 @@ ghost use Rattle.desk_model.specs.declared.reply.Body.TheVariants.{Empty};
 ghost use Rattle.desk_model.specs.Tables.{Tables};
 
 use crate::documents::{account_document, account_url};
-use desk_model::{
-    AccountRow, Allow, Body, Policy, Problem, Refusal, Reply, Sequence, Subproblem, Text,
-};
+use desk_model::{AccountRow, Allow, Body, Policy, Refusal, Reply, Sequence, Subproblem, Text};
 use std::alloc::{AllocError, Global};
 
 /// A refusal; `index` says whether the reply has the link to the directory.
 pub fn refusal_reply(refusal: Refusal, subproblems: Sequence<Subproblem>, index: bool) -> Reply
     ensures { result ≡ refusal_reply index refusal subproblems }
 {
-    Reply {
-        status: refusal.status(),
-        location: None,
-        up: None,
-        nonce: None,
-        body: Body::Problem(Problem {
-            refusal,
-            subproblems,
-            allow: Allow::No,
-            index,
-        }),
-    }
+    refusals::refusal_reply(refusal, subproblems, Allow::No, index)
 }
 
 /// The reply to newNonce (RFC 8555, 7.2).

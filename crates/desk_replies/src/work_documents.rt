@@ -18,8 +18,7 @@ use crate::order_documents::order_names;
 use base64::engine::general_purpose::URL_SAFE_NO_PAD;
 use desk_book::Book;
 use desk_model::{
-    AuthorizationRow, AuthzStatus, ChallengeRow, ChallengeStatus, DatedBytes, DnsName, Document,
-    OrderRow, OrderStatus,
+    AuthorizationRow, AuthzStatus, ChallengeRow, DatedBytes, DnsName, Document, OrderRow,
 };
 use keys::expected_text;
 use serde_json::{Value, json};
@@ -67,12 +66,6 @@ fn work_value(
     })
 }
 
-fn is_processing_challenge(status: ChallengeStatus) -> bool
-    ensures { result ≡ is_processing_challenge status }
-{
-    matches!(status, ChallengeStatus::Processing)
-}
-
 // Adds the challenges of an authorization that were answered and not yet reported.
 fn push_answered(
     work: &mut Vec<Value>,
@@ -85,7 +78,7 @@ fn push_answered(
 {
     let challenges = row.challenges.as_slice();
     for challenge in challenges {
-        if is_processing_challenge(challenge.status) {
+        if challenge.status.is_processing() {
             work.push(work_value(alloc, book, row, challenge)?)?;
         }
     }
@@ -182,19 +175,13 @@ fn order_value(alloc: Global, book: &Book, row: &OrderRow) -> Result<Value, Allo
     })
 }
 
-fn is_processing(status: OrderStatus) -> bool
-    ensures { result ≡ is_processing status }
-{
-    matches!(status, OrderStatus::Processing)
-}
-
 fn waiting_orders(alloc: Global, book: &Book, moment: u64) -> Result<Vec<Value>, AllocError>
     ensures { IfOk result (λ v. map (λ d. view d) v.items
         ≡ map (order_work_document book.now) (filter (λ o. is_processing (swept_order moment book.now.authorizations o).status) book.now.orders)) }
 {
     let mut work = Vec::new(alloc);
     for row in book.orders().iter() {
-        if is_processing(order_status(book, moment, row)) {
+        if order_status(book, moment, row).is_processing() {
             work.push(order_value(alloc, book, row)?)?;
         }
     }

@@ -2,13 +2,12 @@
 ghost use Rattle.std.specs.Prelude.{◌≡◌, ℕ, List, IfOk, MatchResult};
 ghost use Rattle.desk_rules.specs.Needs.{NumbersLeft, BytesLeft, IsNeedFault};
 ghost use Rattle.desk_model.specs.declared.rows.Meta.{Meta as MetaRow};
-ghost use Rattle.desk_model.specs.Account.{is_valid};
 ghost use Rattle.desk_model.specs.Payload.{new_account};
 ghost use Rattle.desk_model.specs.Questions.{account_with_key};
 ghost use Rattle.desk_model.specs.declared.payload.AccountChange.TheVariants.{Update};
 ghost use Rattle.desk_model.specs.Rules.{account_verdict, open_account, known_account_verdict, new_account_verdict};
 
-use crate::contacts::contacts_fault;
+use crate::contacts::contacts_refusal;
 use crate::fault::CoreFault;
 use crate::limits::has_room;
 use crate::payload::new_account;
@@ -76,8 +75,8 @@ fn open_account(
     if asked.only_existing {
         return Ok(refused(alloc, Refusal::AccountDoesNotExist));
     }
-    if let Some(fault) = contacts_fault(asked.contacts.as_slice()) {
-        return Ok(refused(alloc, fault));
+    if let Some(refusal) = contacts_refusal(asked.contacts.as_slice()) {
+        return Ok(refused(alloc, refusal));
     }
     let last = book.meta().accounts;
     has_room(last)?;
@@ -85,13 +84,6 @@ fn open_account(
         entry: Some(Entry::Opened(key.clone()?, asked.contacts)),
         shows: Shows::OpenedAccount(last + 1),
     })
-}
-
-/// Whether an account may act.
-pub(crate) fn is_valid(row: &AccountRow) -> bool
-    ensures { result ≡ is_valid row.now.status }
-{
-    matches!(row.status, AccountStatus::Valid)
 }
 
 /// A request to an account by its own holder (RFC 8555, 7.3.2, 7.3.6).
@@ -113,8 +105,8 @@ pub(crate) fn account_verdict(alloc: Global, number: u64, change: AccountChange)
 fn contacts_verdict(alloc: Global, number: u64, contacts: Sequence<Text>) -> Verdict
     ensures { result ≡ account_verdict number (Update (Some contacts)) }
 {
-    match contacts_fault(contacts.as_slice()) {
-        Some(fault) => refused(alloc, fault),
+    match contacts_refusal(contacts.as_slice()) {
+        Some(refusal) => refused(alloc, refusal),
         None => records(
             Entry::ContactsChanged(number, contacts),
             Shows::Account(number),

@@ -1,25 +1,11 @@
 //! The rules on authorizations (RFC 8555, 7.5).
-ghost use Rattle.std.specs.Prelude.{◌≡◌, ◌||◌};
-ghost use Rattle.desk_model.specs.Authorization.{is_pending, is_valid};
+ghost use Rattle.std.specs.Prelude.{◌≡◌};
 ghost use Rattle.desk_model.specs.Rules.{authorization_verdict};
 
 use crate::verdicts::{answers, records};
 use desk_model::{
     AuthorizationChange, AuthorizationRow, AuthzStatus, Ending, Entry, Shows, Verdict,
 };
-
-pub(crate) fn is_pending(status: AuthzStatus) -> bool
-    ensures { result ≡ is_pending status }
-{
-    matches!(status, AuthzStatus::Pending)
-}
-
-/// Whether an authorization of this status can still be ended by its client or by the operator.
-pub(crate) fn is_endable(status: AuthzStatus) -> bool
-    ensures { result ≡ (is_pending status || is_valid status) }
-{
-    matches!(status, AuthzStatus::Pending | AuthzStatus::Valid)
-}
 
 /// A request to an authorization: one that is over already stays as it is (RFC 8555, 7.5.2).
 #[tactic(auto, unfolding(desk_model::specs::Verdict::choose))]
@@ -33,7 +19,7 @@ pub(crate) fn authorization_verdict(
 {
     let shows = Shows::Authorization(number);
     match change {
-        AuthorizationChange::Deactivate if is_endable(status) => {
+        AuthorizationChange::Deactivate if status.is_live() => {
             records(
                 Entry::AuthorizationEnded(number, Ending::Deactivated),
                 shows,

@@ -6,12 +6,11 @@ ghost use Rattle.desk_model.specs.Lookup.{holds};
 ghost use Rattle.desk_model.specs.Questions.{challenge_of};
 ghost use Rattle.desk_model.specs.Rules.{challenge_verdict, outcome_of, outcome_verdict, same_outcome, stands_open, judged};
 
-use crate::authorization_rules::is_pending;
 use crate::verdicts::{answers, records, refused};
 use desk_book::Book;
 use desk_model::{
-    AuthorizationRow, AuthzStatus, ChallengeChange, ChallengeRow, ChallengeStatus, Entry,
-    FetchError, Finding, Kind, Outcome, Refusal, Shows, Verdict,
+    AuthorizationRow, AuthzStatus, ChallengeChange, ChallengeRow, Entry, FetchError, Finding, Kind,
+    Outcome, Refusal, Shows, Verdict,
 };
 use keys::{dns_matches, expected_text, http_matches};
 use std::alloc::{AllocError, Global};
@@ -22,7 +21,7 @@ fn has_pending(row: &AuthorizationRow, number: u64) -> bool
     ensures { result ≡ holds (λ c. is_pending_challenge c.status) (challenge_of number row.now) }
 {
     match challenge_of(row, number) {
-        Some(challenge) => matches!(challenge.status, ChallengeStatus::Pending),
+        Some(challenge) => challenge.status.is_pending(),
         None => false,
     }
 }
@@ -32,7 +31,7 @@ fn has_processing(row: &AuthorizationRow, number: u64) -> bool
     ensures { result ≡ holds (λ c. is_processing_challenge c.status) (challenge_of number row.now) }
 {
     match challenge_of(row, number) {
-        Some(challenge) => matches!(challenge.status, ChallengeStatus::Processing),
+        Some(challenge) => challenge.status.is_processing(),
         None => false,
     }
 }
@@ -50,7 +49,7 @@ pub(crate) fn challenge_verdict(
     match change {
         ChallengeChange::Read => answers(Shows::ClientChallenge(number)),
         ChallengeChange::Answer => {
-            if is_pending(status) && has_pending(row, number) {
+            if status.is_pending() && has_pending(row, number) {
                 return records(Entry::Answered(number), Shows::ClientChallenge(number));
             }
             answers(Shows::ClientChallenge(number))
@@ -132,7 +131,7 @@ pub(crate) fn outcome_verdict(
     if has_outcome(challenge, outcome) {
         return answers(Shows::Challenge(number));
     }
-    if is_pending(status) && has_processing(row, number) {
+    if status.is_pending() && has_processing(row, number) {
         return records(Entry::Reported(number, outcome), Shows::Challenge(number));
     }
     refused(alloc, Refusal::Conflict)

@@ -3,37 +3,37 @@ ghost use Rattle.std.specs.Prelude.{◌≡◌, ◌==◌, ◌&&◌, ◌||◌, not
 ghost use Rattle.std.specs.List.{list_any};
 ghost use Rattle.desk_model.specs.Contact.{lowered, parts_fault, contact_fault, first_fault, contacts_fault};
 
-use desk_model::{Refusal, Text};
+use desk_model::{LONGEST_CONTACT, MOST_CONTACTS, Refusal, Text};
 
 /// The refusal of a list of contacts, where it has one: too many, or the first that is refused.
-pub(crate) fn contacts_fault(contacts: &[Text]) -> Option<Refusal>
+pub(crate) fn contacts_refusal(contacts: &[Text]) -> Option<Refusal>
     ensures { result ≡ contacts_fault contacts.now }
 {
-    if contacts.len() > 10 {
+    if contacts.len() > MOST_CONTACTS {
         return Some(Refusal::InvalidContact);
     }
-    first_fault(contacts)
+    first_refusal(contacts)
 }
 
-fn first_fault(contacts: &[Text]) -> Option<Refusal>
+fn first_refusal(contacts: &[Text]) -> Option<Refusal>
     ensures { result ≡ first_fault contacts.now }
 {
     for contact in contacts {
-        if let Some(fault) = contact_fault(contact.as_str().as_bytes()) {
-            return Some(fault);
+        if let Some(refusal) = contact_refusal(contact.as_str().as_bytes()) {
+            return Some(refusal);
         }
     }
     None
 }
 
-fn contact_fault(contact: &[u8]) -> Option<Refusal>
+fn contact_refusal(contact: &[u8]) -> Option<Refusal>
     ensures { result ≡ contact_fault contact.now }
 {
-    if contact.len() > 320 {
+    if contact.len() > LONGEST_CONTACT {
         return Some(Refusal::InvalidContact);
     }
     match colon_of(contact) {
-        Some(colon) => parts_fault(&contact[..colon], &contact[colon + 1..]),
+        Some(colon) => parts_refusal(&contact[..colon], &contact[colon + 1..]),
         None => Some(Refusal::InvalidContact),
     }
 }
@@ -45,7 +45,7 @@ fn colon_of(contact: &[u8]) -> Option<usize>
     contact.iter().position(|byte| *byte == b':')
 }
 
-fn parts_fault(scheme: &[u8], address: &[u8]) -> Option<Refusal>
+fn parts_refusal(scheme: &[u8], address: &[u8]) -> Option<Refusal>
     ensures { result ≡ parts_fault scheme.now address.now }
 {
     if !is_mailto(scheme) {

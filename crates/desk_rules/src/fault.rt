@@ -1,16 +1,21 @@
 //! The faults of a call.
 use std::alloc::{AllocError, AllocFailed};
+use thiserror::Error;
 
 /// Why a call is not made; the book stays as it was.
-#[derive(Clone, Copy, Debug, PartialEq, Eq)]
+#[derive(Clone, Copy, Debug, PartialEq, Eq, Error)]
 pub enum CoreFault {
     /// A growth was refused (fault 20).
+    #[error("out of memory")]
     Memory,
-    /// The call's moment is above the last one, 250000000000 (fault 24).
+    /// The call's moment is above the last one (fault 24).
+    #[error("the moment is above the last one")]
     Moment,
     /// The call needs more random bytes than it has (fault 25).
+    #[error("too few random bytes")]
     ShortRandom,
-    /// A number above 2^62 would be needed (fault 26).
+    /// A number above the greatest would be needed (fault 26).
+    #[error("no number is left")]
     Full,
 }
 

@@ -7,7 +7,7 @@ ghost use Rattle.desk_model.specs.Questions.{account_with_key};
 ghost use Rattle.desk_model.specs.Rules.{holder_verdict, new_order_verdict, signed_verdict, target_verdict};
 ghost use Rattle.desk_model.specs.Verdict.{given};
 
-use crate::accounts::{is_valid, new_account_verdict};
+use crate::accounts::new_account_verdict;
 use crate::fault::CoreFault;
 use crate::new_orders::new_order_verdict;
 use crate::payload::new_order;
@@ -91,7 +91,7 @@ fn holder_verdict(
     let Some(row) = book.account_with_key(key.canonical()) else {
         return Ok(refused(alloc, Refusal::AccountDoesNotExist));
     };
-    if !is_valid(row) {
+    if !row.status.is_valid() {
         return Ok(refused(alloc, Refusal::Unauthorized));
     }
     target_verdict(alloc, book, moment, random, row.number, payload, target)

@@ -3,9 +3,7 @@ ghost use Rattle.std.specs.Prelude.{◌≡◌, ◌+◌, ◌*◌, ◌<◌, ◌≤
 ghost use Rattle.desk_model.specs.Limits.{last_number};
 
 use crate::fault::CoreFault;
-
-/// The greatest number that an object may have.
-pub(crate) const LAST_NUMBER: u64 = 1 << 62;
+use desk_model::LAST_NUMBER;
 
 /// Whether a number may be given after the last one.
 ///

@@ -16,7 +16,9 @@ use crate::identified::{Identified, identify};
 use crate::limits::{first_piece, has_room, has_room_for, has_tokens, later_random};
 use crate::verdicts::{records, refused};
 use desk_book::Book;
-use desk_model::{DnsName, Entry, Identifier, Meta, Refusal, Sequence, Shows, Verdict, Wanted};
+use desk_model::{
+    DnsName, Entry, Identifier, MOST_NAMES, Meta, Refusal, Sequence, Shows, Verdict, Wanted,
+};
 use std::alloc::{AllocError, Global};
 
 fn is_same_mark(wildcard: bool, other: bool) -> bool
@@ -146,7 +148,7 @@ pub(crate) fn new_order_verdict(
     ensures { let asked = new_order_verdict book.now (drop 16 random.now) account identifiers.now in
         MatchResult result (λ v. (v ≡ asked) × NumbersLeft book.now.meta v × BytesLeft random.now v) (λ e. IsNeedFault book.now.meta random.now asked e) }
 {
-    if identifiers.is_empty() || identifiers.len() > 50 {
+    if identifiers.is_empty() || identifiers.len() > MOST_NAMES {
         return Ok(refused(alloc, Refusal::Malformed));
     }
     let Identified { names, faulty } = identify(alloc, identifiers)?;

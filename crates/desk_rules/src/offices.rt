@@ -4,19 +4,18 @@ ghost use Rattle.desk_model.specs.Effect.{swept};
 ghost use Rattle.desk_model.specs.Legal.{is_problem, has_length};
 ghost use Rattle.desk_model.specs.Limits.{longest_detail};
 ghost use Rattle.desk_model.specs.Lookup.{holds};
-ghost use Rattle.desk_model.specs.Order.{is_processing};
 ghost use Rattle.desk_model.specs.Questions.{account_on, authorization_on, order_on};
 ghost use Rattle.desk_model.specs.Rules.{certify_verdict, fail_verdict, is_revoked, is_revoked_status, office_verdict, report_verdict, revoke_account, revoke_authorization, same_problem};
 ghost use Rattle.desk_model.specs.Verdict.{given};
 ghost use Rattle.desk_model.specs.declared.call.Ask.TheVariants.{KeyOf};
 
-use crate::authorization_rules::is_endable;
 use crate::challenge_rules::{expected, outcome_of, outcome_verdict};
 use crate::verdicts::{answers, records, refused};
 use desk_book::Book;
 use desk_model::{
     AccountRow, AccountStatus, Ask, AuthorizationRow, AuthzStatus, Ending, Entry, Finding,
-    OrderProblem, OrderRow, OrderStatus, Refusal, Sequence, Shows, Verdict,
+    LONGEST_CERTIFICATE, LONGEST_DETAIL, OrderProblem, OrderRow, OrderStatus, Refusal, Sequence,
+    Shows, Verdict, is_problem_kind, is_same_bytes, is_same_text,
 };
 use std::alloc::{AllocError, Global};
 use swept_rows::{authorization_at, challenge_of, order_at, owner_at};
@@ -45,25 +44,12 @@ fn report_verdict(
     }
 }
 
-fn is_processing(status: OrderStatus) -> bool
-    ensures { result ≡ is_processing status }
-{
-    matches!(status, OrderStatus::Processing)
-}
-
-// Whether two lists of bytes are the same.
-fn is_same(bytes: &[u8], other: &[u8]) -> bool
-    ensures { result ≡ bytes_eq bytes.now other.now }
-{
-    bytes == other
-}
-
 // Whether an order has this certificate.
 fn has_certificate(row: &OrderRow, bytes: &[u8]) -> bool
     ensures { result ≡ holds (λ k. bytes_eq k.bytes bytes.now) row.now.certified }
 {
     match &row.certified {
-        Some(certified) => is_same(certified.bytes.as_slice(), bytes),
+        Some(certified) => is_same_bytes(certified.bytes.as_slice(), bytes),
         None => false,
     }
 }
@@ -84,50 +70,38 @@ fn certify_verdict(
     if certificate.is_empty() {
         return Ok(refused(alloc, Refusal::Malformed));
     }
-    if certificate.len() > 65536 {
+    if certificate.len() > LONGEST_CERTIFICATE {
         return Ok(refused(alloc, Refusal::TooLarge));
     }
     if has_certificate(row, certificate) {
         return Ok(answers(Shows::Order(number)));
     }
-    if !is_processing(status) {
+    if !status.is_processing() {
         return Ok(refused(alloc, Refusal::Conflict));
     }
     let entry = Entry::Certified(number, bytes.clone()?);
     Ok(records(entry, Shows::Order(number)))
 }
 
-fn is_text(text: &str, other: &str) -> bool
-    ensures { result ≡ bytes_eq text.now other.now }
-{
-    text == other
-}
-
-// Whether a problem has an error type that the signing office may hand in, and a detail of 1 to 256 bytes.
+// Whether a problem has an error type that the signing office may hand in, and a detail that is neither empty nor too long.
 fn is_problem(problem: &OrderProblem) -> bool
     ensures { result ≡ is_problem problem.now }
 {
-    has_known_kind(problem) && has_detail(problem)
-}
-
-fn has_known_kind(problem: &OrderProblem) -> bool
-    ensures { result ≡ (bytes_eq problem.now.kind (codes "badCSR") || bytes_eq problem.now.kind (codes "serverInternal")) }
-{
-    is_text(problem.kind.as_str(), "badCSR") || is_text(problem.kind.as_str(), "serverInternal")
+    is_problem_kind(problem.kind.as_str()) && has_detail(problem)
 }
 
 fn has_detail(problem: &OrderProblem) -> bool
     ensures { result ≡ has_length 1 longest_detail problem.now.detail }
 {
     let count = problem.detail.as_str().len();
-    1 <= count && count <= 256
+    1 <= count && count <= LONGEST_DETAIL
 }
 
 fn is_same_problem(problem: &OrderProblem, other: &OrderProblem) -> bool
     ensures { result ≡ same_problem problem.now other.now }
 {
-    is_text(problem.kind.as_str(), other.kind.as_str())
-        && is_text(problem.detail.as_str(), other.detail.as_str())
+    is_same_text(problem.kind.as_str(), other.kind.as_str())
+        && is_same_text(problem.detail.as_str(), other.detail.as_str())
 }
 
 // Whether an order failed for this problem.
@@ -157,7 +131,7 @@ fn fail_verdict(
     if has_failed_for(row, problem) {
         return Ok(answers(Shows::Order(number)));
     }
-    if !is_processing(status) {
+    if !status.is_processing() {
         return Ok(refused(alloc, Refusal::Conflict));
     }
     let entry = Entry::Failed(number, problem.clone()?);
@@ -178,7 +152,7 @@ fn revoke_authorization(
     if is_revoked_status(status) {
         return answers(shows);
     }
-    if !is_endable(status) {
+    if !status.is_live() {
         return refused(alloc, Refusal::Conflict);
     }
     records(Entry::AuthorizationEnded(number, Ending::Revoked), shows)

@@ -7,7 +7,6 @@ ghost use Rattle.desk_model.specs.Limits.{last_end};
 ghost use Rattle.desk_model.specs.Moment.{IsCivil, IsMomentText, civil_text, moment_text as text_of_moment, two_digits};
 ghost use Rattle.moments.specs.MomentLaws.{GivesTheText, TellsMomentsApart};
 
-pub use desk_model::LAST_END;
 use jiff::Timestamp;
 use jiff::civil::DateTime;
 use jiff::tz::Offset;
