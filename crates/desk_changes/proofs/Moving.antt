@@ -9,8 +9,11 @@ use Rattle.desk_model.specs.Authorization.{count_challenges}
 use Rattle.desk_model.specs.Derived.{restated_authorization, restated_order}
 use Rattle.desk_model.specs.Effect.{effect, effects, swept, swept_authorization, fresh_account, fresh_authorization, fresh_order, moved_authorization, new_authorizations, authorizations_after, noted_account, noted_order, touches_account, touches_authorization, touches_order}
 use Rattle.desk_model.specs.Change.{changes, moved_rows, account_differs, authorization_differs, order_differs, spent_by}
+use Rattle.desk_model.specs.Entry.{entry_of}
 use Rattle.desk_model.specs.declared.entry.Entry.{Entry}
-use Rattle.desk_model.specs.declared.entry.Entry.TheVariants.{Made as made, Issued as issued, Spent as spent, Opened as opened, ContactsChanged as contacts_changed, AccountEnded as account_ended, Ordered as ordered, Answered as answered, Reported as reported, AuthorizationEnded as authorization_ended, Finalized as finalized, Certified as certified, Failed as failed}
+use Rattle.desk_model.specs.declared.moves.Move.{Move}
+use Rattle.desk_model.specs.declared.entry.Entry.TheVariants.{Issued as issued, Ordered as ordered, Spent as spent}
+use Rattle.desk_model.specs.declared.moves.Move.TheVariants as move
 use Rattle.desk_model.specs.declared.objects.Account.{Account}
 use Rattle.desk_model.specs.declared.objects.Authorization.{Authorization}
 use Rattle.desk_model.specs.declared.objects.Nonce.{Nonce}
@@ -29,10 +32,10 @@ use Rattle.desk_changes.proofs.MadeRows.{made_beside, places_made}
 use Rattle.desk_changes.proofs.QuietEntries.{issued_meta, quiet_changes, spent_meta}
 use Rattle.swept_rows.proofs.SweptRows.{swept_authorization-status}
 use Rattle.desk_changes.specs.Moved.{standing_rows, stated_authorization}
-use Rattle.desk_changes.specs.Recorded.{IsMoving, IsRecorded, IsUntouched, book_moves}
+use Rattle.desk_changes.specs.Recorded.{IsRecorded, IsUntouched, book_moves}
 use Rattle.desk_changes.proofs.Recordings.{one_more, clock_is, same_clock}
 
--- what an entry that moves rows makes: nothing
+-- what an entry of a move makes: nothing
 pub record MakesNothing (m : ℕ) (T : Tables) (e : Entry) : Type 0 where
   pub policy : terms_after e T.meta.policy ≡ T.meta.policy
   pub unspent : spent_by e ≡ []
@@ -41,40 +44,35 @@ pub record MakesNothing (m : ℕ) (T : Tables) (e : Entry) : Type 0 where
   pub authorizations : new_authorizations T e m ≡ []
   pub orders : (made : List Authorization) → ordered_by e m T.meta.policy made (T.meta.orders + 1) ≡ []
 
-pub makes_nothing : (m : ℕ) (T : Tables) (e : Entry) → IsMoving e → MakesNothing m T e
-makes_nothing m T (contacts_changed n contacts) h = record { policy = refl; unspent = refl; nonces = refl; accounts = refl; authorizations = refl; orders = λ made. refl }
-makes_nothing m T (account_ended n ending) h = record { policy = refl; unspent = refl; nonces = refl; accounts = refl; authorizations = refl; orders = λ made. refl }
-makes_nothing m T (answered n) h = record { policy = refl; unspent = refl; nonces = refl; accounts = refl; authorizations = refl; orders = λ made. refl }
-makes_nothing m T (reported n outcome) h = record { policy = refl; unspent = refl; nonces = refl; accounts = refl; authorizations = refl; orders = λ made. refl }
-makes_nothing m T (authorization_ended n ending) h = record { policy = refl; unspent = refl; nonces = refl; accounts = refl; authorizations = refl; orders = λ made. refl }
-makes_nothing m T (finalized n csr) h = record { policy = refl; unspent = refl; nonces = refl; accounts = refl; authorizations = refl; orders = λ made. refl }
-makes_nothing m T (certified n certificate) h = record { policy = refl; unspent = refl; nonces = refl; accounts = refl; authorizations = refl; orders = λ made. refl }
-makes_nothing m T (failed n problem) h = record { policy = refl; unspent = refl; nonces = refl; accounts = refl; authorizations = refl; orders = λ made. refl }
-makes_nothing m T (made t) h = absurd h
-makes_nothing m T (issued r) h = absurd h
-makes_nothing m T (spent n) h = absurd h
-makes_nothing m T (opened key contacts) h = absurd h
-makes_nothing m T (ordered n wanted) h = absurd h
+pub makes_nothing : (m : ℕ) (T : Tables) (v : Move) → MakesNothing m T (entry_of v)
+makes_nothing m T (move.ContactsChanged n contacts) = record { policy = refl; unspent = refl; nonces = refl; accounts = refl; authorizations = refl; orders = λ made. refl }
+makes_nothing m T (move.AccountEnded n ending) = record { policy = refl; unspent = refl; nonces = refl; accounts = refl; authorizations = refl; orders = λ made. refl }
+makes_nothing m T (move.Answered n) = record { policy = refl; unspent = refl; nonces = refl; accounts = refl; authorizations = refl; orders = λ made. refl }
+makes_nothing m T (move.Reported n outcome) = record { policy = refl; unspent = refl; nonces = refl; accounts = refl; authorizations = refl; orders = λ made. refl }
+makes_nothing m T (move.AuthorizationEnded n ending) = record { policy = refl; unspent = refl; nonces = refl; accounts = refl; authorizations = refl; orders = λ made. refl }
+makes_nothing m T (move.Finalized n csr) = record { policy = refl; unspent = refl; nonces = refl; accounts = refl; authorizations = refl; orders = λ made. refl }
+makes_nothing m T (move.Certified n certificate) = record { policy = refl; unspent = refl; nonces = refl; accounts = refl; authorizations = refl; orders = λ made. refl }
+makes_nothing m T (move.Failed n problem) = record { policy = refl; unspent = refl; nonces = refl; accounts = refl; authorizations = refl; orders = λ made. refl }
 
 -- the meta row stays, but for the clock
-pub moving_meta : (m : ℕ) (T : Tables) (e : Entry) → IsMoving e → (effect m T e).meta ≡ record T.meta { clock = m }
-moving_meta m T e moving =
-    let none : MakesNothing m T e = makes_nothing m T e moving in
+pub moving_meta : (m : ℕ) (T : Tables) (v : Move) → (effect m T (entry_of v)).meta ≡ record T.meta { clock = m }
+moving_meta m T v =
+    let none : MakesNothing m T (entry_of v) = makes_nothing m T v in
     λ i. record T.meta {
       policy = none.policy i;
       clock = m;
       nonces = (ap (λ (l : List Nonce). T.meta.nonces + length l) none.nonces ∙ add-zero T.meta.nonces) i;
       accounts = (ap (λ (l : List Account). T.meta.accounts + length l) none.accounts ∙ add-zero T.meta.accounts) i;
-      orders = (ap (λ (l : List Order). T.meta.orders + length l) (none.orders (new_authorizations T e m)) ∙ add-zero T.meta.orders) i;
+      orders = (ap (λ (l : List Order). T.meta.orders + length l) (none.orders (new_authorizations T (entry_of v) m)) ∙ add-zero T.meta.orders) i;
       authorizations = (ap (λ (l : List Authorization). T.meta.authorizations + length l) none.authorizations ∙ add-zero T.meta.authorizations) i;
       challenges = (ap (λ (l : List Authorization). T.meta.challenges + count_challenges l) none.authorizations ∙ add-zero T.meta.challenges) i;
     }
 
 -- the authorizations after it are those that stood, moved
-pub moving_after : (m : ℕ) (T : Tables) (e : Entry) → IsMoving e → authorizations_after T e m ≡ map (moved_authorization e m) T.authorizations
-moving_after m T e moving =
-    ap (λ l. map (moved_authorization e m) T.authorizations ++ map (λ a. restated_authorization m (fresh_authorization a)) l) (makes_nothing m T e moving).authorizations
-    ∙ append-nil (map (moved_authorization e m) T.authorizations)
+pub moving_after : (m : ℕ) (T : Tables) (v : Move) → authorizations_after T (entry_of v) m ≡ map (moved_authorization (entry_of v) m) T.authorizations
+moving_after m T v =
+    ap (λ l. map (moved_authorization (entry_of v) m) T.authorizations ++ map (λ a. restated_authorization m (fresh_authorization a)) l) (makes_nothing m T v).authorizations
+    ∙ append-nil (map (moved_authorization (entry_of v) m) T.authorizations)
 
 -- the rows that it moves, one table after the other
 abbrev pub moves : ℕ → Tables → Entry → List Change
@@ -84,15 +82,18 @@ moves m T e =
     ++ map PutOrder (moved_rows (touches_order e T.authorizations) order_differs (λ r. restated_order m (map (moved_authorization e m) T.authorizations) (noted_order e m r)) T.orders))
 
 -- and nothing else is recorded of it
-pub moving_changes : (m : ℕ) (T : Tables) (e : Entry) → IsMoving e → changes m T e ≡ PutMeta (record T.meta { clock = m }) ∷ moves m T e
-moving_changes m T e moving =
-    λ i. PutMeta (moving_meta m T e moving i)
+pub moving_changes : (m : ℕ) (T : Tables) (v : Move) → changes m T (entry_of v) ≡ PutMeta (record T.meta { clock = m }) ∷ moves m T (entry_of v)
+moving_changes m T v =
+    λ i. PutMeta (moving_meta m T v i)
     ∷ (map RemoveNonce (none.unspent i)
     ++ (map PutNonce (none.nonces i)
     ++ (map PutAccount (accounts i) ++ (map PutAuthorization (authorizations i) ++ map PutOrder (orders i)))))
   where
+    e : Entry
+    e = entry_of v
+
     none : MakesNothing m T e
-    none = makes_nothing m T e moving
+    none = makes_nothing m T v
 
     accounts : moved_rows (touches_account e) account_differs (noted_account e m) T.accounts ++ map fresh_account (opened_by e m (T.meta.accounts + 1))
         ≡ moved_rows (touches_account e) account_differs (noted_account e m) T.accounts
@@ -109,7 +110,7 @@ moving_changes m T e moving =
         ap (λ l. moved_rows (touches_order e T.authorizations) order_differs (λ r. restated_order m (authorizations_after T e m) (noted_order e m r)) T.orders
         ++ map (λ o. restated_order m (authorizations_after T e m) (fresh_order o)) l) (none.orders (new_authorizations T e m))
         ∙ append-nil _
-        ∙ ap (λ rows. moved_rows (touches_order e T.authorizations) order_differs (λ r. restated_order m rows (noted_order e m r)) T.orders) (moving_after m T e moving)
+        ∙ ap (λ rows. moved_rows (touches_order e T.authorizations) order_differs (λ r. restated_order m rows (noted_order e m r)) T.orders) (moving_after m T v)
 
 same_moves : (m : ℕ) (B : Tables) (es : List Entry) (e : Entry) → IsUntouched m B es → moves m (effects m (swept m B) es) e ≡ book_moves m B e
 same_moves m B es e h =
@@ -118,14 +119,14 @@ same_moves m B es e h =
     ++ map PutOrder (moved_rows (touches_order e (h.authorizations i)) order_differs (λ r. restated_order m (map (moved_authorization e m) (h.authorizations i)) (noted_order e m r)) (h.orders i)))
 
 -- an entry that moves rows is recorded
-pub and_moved : (m : ℕ) (B : Tables) (es : List Entry) (e : Entry) (done : List Change) (meta : Meta) → IsMoving e → IsUntouched m B es → IsRecorded m B es done meta →
-    IsRecorded m B (es ++ e ∷ []) (done ++ PutMeta meta ∷ book_moves m B e) meta
-and_moved m B es e done meta moving untouched h =
+pub and_moved : (m : ℕ) (B : Tables) (es : List Entry) (v : Move) (done : List Change) (meta : Meta) → IsUntouched m B es → IsRecorded m B es done meta →
+    IsRecorded m B (es ++ entry_of v ∷ []) (done ++ PutMeta meta ∷ book_moves m B (entry_of v)) meta
+and_moved m B es v done meta untouched h =
     let T : Tables = effects m (swept m B) es in
     let row : meta ≡ record T.meta { clock = m } = sym (same_clock m meta (clock_is m B es done meta h)) ∙ ap (λ (x : Meta). record x { clock = m }) h.row in
-    one_more m B es e done (PutMeta meta ∷ book_moves m B e) meta meta h
-    ((λ i. PutMeta (row i) ∷ sym (same_moves m B es e untouched) i) ∙ sym (moving_changes m T e moving))
-    (row ∙ sym (moving_meta m T e moving))
+    one_more m B es (entry_of v) done (PutMeta meta ∷ book_moves m B (entry_of v)) meta meta h
+    ((λ i. PutMeta (row i) ∷ sym (same_moves m B es (entry_of v) untouched) i) ∙ sym (moving_changes m T v))
+    (row ∙ sym (moving_meta m T v))
 
 -- ---- a new order
 

@@ -7,7 +7,6 @@ use Rattle.desk_model.specs.declared.rows.Meta.{Meta}
 use Rattle.desk_model.specs.declared.rows.Change.{Change}
 use Rattle.desk_model.specs.declared.rows.Change.TheVariants.{PutAccount, PutAuthorization, PutOrder}
 use Rattle.desk_model.specs.declared.entry.Entry.{Entry}
-use Rattle.desk_model.specs.declared.entry.Entry.TheVariants.{Made as made, Issued as issued, Spent as spent, Opened as opened, Ordered as ordered}
 use Rattle.desk_changes.specs.Moved.{standing_rows, stated_authorization, stated_order}
 
 -- these entries are recorded at m: the changes so far, and the meta row after them
@@ -26,15 +25,6 @@ pub record IsUntouched (m : ℕ) (B : Tables) (es : List Entry) : Type 0 where
   pub accounts : (effects m (swept m B) es).accounts ≡ B.accounts
   pub authorizations : (effects m (swept m B) es).authorizations ≡ standing_rows m B.authorizations
   pub orders : (effects m (swept m B) es).orders ≡ map (swept_order m B.authorizations) B.orders
-
--- the entry moves rows and makes none
-abbrev pub IsMoving : Entry → Type 0
-IsMoving (made terms) = ⊥
-IsMoving (issued random) = ⊥
-IsMoving (spent serial) = ⊥
-IsMoving (opened key contacts) = ⊥
-IsMoving (ordered account wanted) = ⊥
-IsMoving _ = Unit {0}
 
 -- the rows of a book that the entry moves, as they stand at the moment
 abbrev pub book_moves : ℕ → Tables → Entry → List Change

@@ -6,8 +6,8 @@ mod making;
 mod moved;
 mod noted;
 mod recording;
-mod shown;
 mod touched;
+mod view;
 
 pub use recording::Recording;
-pub use shown::{shown_account, shown_authorization, shown_order, shown_owner};
+pub use view::View;

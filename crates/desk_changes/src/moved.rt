@@ -1,6 +1,7 @@
-//! Rows as an entry leaves them, and the changes that this makes.
+//! Rows as a move leaves them, and the changes that this makes.
 ghost use Rattle.std.specs.Prelude.{◌≡◌, ◌++◌, true, map, option_map, IfOk, OnOk};
 ghost use Rattle.desk_model.specs.Derived.{authorization_numbered, numbers_of, restated_order, stored_statuses};
+ghost use Rattle.desk_model.specs.Entry.{entry_of};
 ghost use Rattle.desk_model.specs.Effect.{swept_authorization, swept_order, moved_account, moved_authorization, moved_order, noted_account, touches_account, touches_authorization, touches_order};
 ghost use Rattle.desk_model.specs.Change.{account_differs, authorization_differs, order_differs, moved_rows};
 ghost use Rattle.desk_model.specs.declared.rows.Change.TheVariants.{PutAccount, PutAuthorization, PutOrder};
@@ -10,57 +11,57 @@ use crate::differing::{account_differs, authorization_differs, order_differs};
 use crate::noted::{noted_account, noted_authorization, noted_order};
 use crate::touched::{touches_account, touches_authorization, touches_order};
 use desk_book::{Book, derived_authorization, derived_order};
-use desk_model::{AccountRow, AuthorizationRow, AuthzStatus, Change, Entry, Listed, OrderRow};
+use desk_model::{AccountRow, AuthorizationRow, AuthzStatus, Change, Listed, Move, OrderRow};
 use std::alloc::{AllocError, Global};
 use swept_rows::{authorization_status, order_status};
 
 // ---- accounts
 
-/// An account after an entry.
+/// An account after a move.
 pub(crate) fn account_after(
-    entry: &Entry,
+    moved: &Move,
     moment: u64,
     row: &AccountRow,
 ) -> Result<AccountRow, AllocError>
-    ensures { IfOk result (λ r. r ≡ moved_account entry.now moment row.now) }
+    ensures { IfOk result (λ r. r ≡ moved_account (entry_of moved.now) moment row.now) }
 {
-    if touches_account(entry, row) {
-        return noted_account(entry, moment, row);
+    if touches_account(moved, row) {
+        return noted_account(moved, moment, row);
     }
     row.clone()
 }
 
 fn put_account(
     changes: &mut Vec<Change>,
-    entry: &Entry,
+    moved: &Move,
     moment: u64,
     row: &AccountRow,
 ) -> Result<(), AllocError>
     ensures { OnOk result (changes.new.items ≡ changes.old.items
-        ++ map PutAccount (moved_one (touches_account entry.now) account_differs (noted_account entry.now moment) row.now)) }
+        ++ map PutAccount (moved_one (touches_account (entry_of moved.now)) account_differs (noted_account (entry_of moved.now) moment) row.now)) }
 {
-    if !touches_account(entry, row) {
+    if !touches_account(moved, row) {
         return Ok(());
     }
-    let next = noted_account(entry, moment, row)?;
+    let next = noted_account(moved, moment, row)?;
     if account_differs(row, &next) {
         changes.push(Change::PutAccount(next))?;
     }
     Ok(())
 }
 
-/// Puts the accounts that an entry moves.
+/// Puts the accounts that a move changes.
 pub(crate) fn put_accounts(
     changes: &mut Vec<Change>,
     book: &Book,
-    entry: &Entry,
+    moved: &Move,
     moment: u64,
 ) -> Result<(), AllocError>
     ensures { OnOk result (changes.new.items ≡ changes.old.items
-        ++ map PutAccount (moved_rows (touches_account entry.now) account_differs (noted_account entry.now moment) book.now.accounts)) }
+        ++ map PutAccount (moved_rows (touches_account (entry_of moved.now)) account_differs (noted_account (entry_of moved.now) moment) book.now.accounts)) }
 {
     for row in book.accounts().iter() {
-        put_account(changes, entry, moment, row)?;
+        put_account(changes, moved, moment, row)?;
     }
     Ok(())
 }
@@ -81,29 +82,29 @@ pub(crate) fn standing_authorization(
 
 fn stated_authorization(
     alloc: Global,
-    entry: &Entry,
+    moved: &Move,
     moment: u64,
     standing: &AuthorizationRow,
 ) -> Result<AuthorizationRow, AllocError>
-    ensures { IfOk result (λ r. r ≡ stated_authorization entry.now moment standing.now) }
+    ensures { IfOk result (λ r. r ≡ stated_authorization (entry_of moved.now) moment standing.now) }
 {
-    let mut stated = noted_authorization(alloc, entry, moment, standing)?;
+    let mut stated = noted_authorization(alloc, moved, moment, standing)?;
     stated.status = derived_authorization(moment, &stated);
     Ok(stated)
 }
 
-/// An authorization after an entry.
+/// An authorization after a move.
 pub(crate) fn authorization_after(
     alloc: Global,
-    entry: &Entry,
+    moved: &Move,
     moment: u64,
     row: &AuthorizationRow,
 ) -> Result<AuthorizationRow, AllocError>
-    ensures { IfOk result (λ r. r ≡ moved_authorization entry.now moment (swept_authorization moment row.now)) }
+    ensures { IfOk result (λ r. r ≡ moved_authorization (entry_of moved.now) moment (swept_authorization moment row.now)) }
 {
     let standing = standing_authorization(moment, row)?;
-    if touches_authorization(entry, &standing) {
-        return stated_authorization(alloc, entry, moment, &standing);
+    if touches_authorization(moved, &standing) {
+        return stated_authorization(alloc, moved, moment, &standing);
     }
     Ok(standing)
 }
@@ -111,17 +112,17 @@ pub(crate) fn authorization_after(
 fn put_stated_authorization(
     changes: &mut Vec<Change>,
     alloc: Global,
-    entry: &Entry,
+    moved: &Move,
     moment: u64,
     standing: &AuthorizationRow,
 ) -> Result<(), AllocError>
     ensures { OnOk result (changes.new.items ≡ changes.old.items
-        ++ map PutAuthorization (moved_one (touches_authorization entry.now) authorization_differs (stated_authorization entry.now moment) standing.now)) }
+        ++ map PutAuthorization (moved_one (touches_authorization (entry_of moved.now)) authorization_differs (stated_authorization (entry_of moved.now) moment) standing.now)) }
 {
-    if !touches_authorization(entry, standing) {
+    if !touches_authorization(moved, standing) {
         return Ok(());
     }
-    let next = stated_authorization(alloc, entry, moment, standing)?;
+    let next = stated_authorization(alloc, moved, moment, standing)?;
     if authorization_differs(standing, &next) {
         changes.push(Change::PutAuthorization(next))?;
     }
@@ -131,53 +132,53 @@ fn put_stated_authorization(
 fn put_authorization(
     changes: &mut Vec<Change>,
     alloc: Global,
-    entry: &Entry,
+    moved: &Move,
     moment: u64,
     row: &AuthorizationRow,
 ) -> Result<(), AllocError>
     ensures { OnOk result (changes.new.items ≡ changes.old.items
-        ++ map PutAuthorization (moved_one (touches_authorization entry.now) authorization_differs (stated_authorization entry.now moment) (swept_authorization moment row.now))) }
+        ++ map PutAuthorization (moved_one (touches_authorization (entry_of moved.now)) authorization_differs (stated_authorization (entry_of moved.now) moment) (swept_authorization moment row.now))) }
 {
-    if !touches_authorization(entry, row) {
+    if !touches_authorization(moved, row) {
         return Ok(());
     }
     let standing = standing_authorization(moment, row)?;
-    put_stated_authorization(changes, alloc, entry, moment, &standing)?;
+    put_stated_authorization(changes, alloc, moved, moment, &standing)?;
     Ok(())
 }
 
-/// Puts the authorizations that an entry moves.
+/// Puts the authorizations that a move changes.
 pub(crate) fn put_authorizations(
     changes: &mut Vec<Change>,
     alloc: Global,
     book: &Book,
-    entry: &Entry,
+    moved: &Move,
     moment: u64,
 ) -> Result<(), AllocError>
     ensures { OnOk result (changes.new.items ≡ changes.old.items
-        ++ map PutAuthorization (moved_rows (touches_authorization entry.now) authorization_differs (stated_authorization entry.now moment) (standing_rows moment book.now.authorizations))) }
+        ++ map PutAuthorization (moved_rows (touches_authorization (entry_of moved.now)) authorization_differs (stated_authorization (entry_of moved.now) moment) (standing_rows moment book.now.authorizations))) }
 {
     for row in book.authorizations().iter() {
-        put_authorization(changes, alloc, entry, moment, row)?;
+        put_authorization(changes, alloc, moved, moment, row)?;
     }
     Ok(())
 }
 
 // ---- orders
 
-// The status of the authorization of a number after an entry.
+// The status of the authorization of a number after a move.
 fn status_after(
     alloc: Global,
     book: &Book,
-    entry: &Entry,
+    moved: &Move,
     moment: u64,
     number: u64,
 ) -> Result<Option<AuthzStatus>, AllocError>
-    ensures { IfOk result (λ o. o ≡ option_map (λ r. r.status) (authorization_numbered number (rows_after entry.now moment book.now.authorizations))) }
+    ensures { IfOk result (λ o. o ≡ option_map (λ r. r.status) (authorization_numbered number (rows_after (entry_of moved.now) moment book.now.authorizations))) }
 {
     match book.authorization(number) {
         Some(row) => {
-            let after = authorization_after(alloc, entry, moment, row)?;
+            let after = authorization_after(alloc, moved, moment, row)?;
             Ok(Some(after.status))
         }
         None => Ok(None),
@@ -187,15 +188,15 @@ fn status_after(
 fn statuses_after(
     alloc: Global,
     book: &Book,
-    entry: &Entry,
+    moved: &Move,
     moment: u64,
     listed: &[Listed],
 ) -> Result<Vec<AuthzStatus>, AllocError>
-    ensures { IfOk result (λ v. v.items ≡ stored_statuses (rows_after entry.now moment book.now.authorizations) (numbers_of listed.now)) }
+    ensures { IfOk result (λ v. v.items ≡ stored_statuses (rows_after (entry_of moved.now) moment book.now.authorizations) (numbers_of listed.now)) }
 {
     let mut statuses = Vec::new(alloc);
     for listed in listed {
-        if let Some(status) = status_after(alloc, book, entry, moment, listed.authorization)? {
+        if let Some(status) = status_after(alloc, book, moved, moment, listed.authorization)? {
             statuses.push(status)?;
         }
     }
@@ -218,33 +219,33 @@ pub(crate) fn standing_order(
 fn stated_order(
     alloc: Global,
     book: &Book,
-    entry: &Entry,
+    moved: &Move,
     moment: u64,
     standing: &OrderRow,
 ) -> Result<OrderRow, AllocError>
-    ensures { IfOk result (λ r. r ≡ stated_order entry.now moment book.now.authorizations standing.now) }
+    ensures { IfOk result (λ r. r ≡ stated_order (entry_of moved.now) moment book.now.authorizations standing.now) }
 {
-    let mut stated = noted_order(entry, moment, standing)?;
-    let statuses = statuses_after(alloc, book, entry, moment, standing.listed.as_slice())?;
+    let mut stated = noted_order(moved, moment, standing)?;
+    let statuses = statuses_after(alloc, book, moved, moment, standing.listed.as_slice())?;
     stated.status = derived_order(moment, &stated, &statuses);
     Ok(stated)
 }
 
-/// An order after an entry.
+/// An order after a move.
 pub(crate) fn order_after(
     alloc: Global,
     book: &Book,
-    entry: &Entry,
+    moved: &Move,
     moment: u64,
     row: &OrderRow,
 ) -> Result<OrderRow, AllocError>
-    ensures { IfOk result (λ r. r ≡ moved_order entry.now moment (standing_rows moment book.now.authorizations) (rows_after entry.now moment book.now.authorizations) (swept_order moment book.now.authorizations row.now)) }
+    ensures { IfOk result (λ r. r ≡ moved_order (entry_of moved.now) moment (standing_rows moment book.now.authorizations) (rows_after (entry_of moved.now) moment book.now.authorizations) (swept_order moment book.now.authorizations row.now)) }
 {
-    if !touches_order(entry, book, row) {
+    if !touches_order(moved, book, row) {
         return standing_order(book, moment, row);
     }
     let standing = standing_order(book, moment, row)?;
-    let stated = stated_order(alloc, book, entry, moment, &standing)?;
+    let stated = stated_order(alloc, book, moved, moment, &standing)?;
     Ok(stated)
 }
 
@@ -252,14 +253,14 @@ fn put_stated_order(
     changes: &mut Vec<Change>,
     alloc: Global,
     book: &Book,
-    entry: &Entry,
+    moved: &Move,
     moment: u64,
     standing: &OrderRow,
 ) -> Result<(), AllocError>
     ensures { OnOk result (changes.new.items ≡ changes.old.items
-        ++ map PutOrder (moved_one (λ _. true) order_differs (stated_order entry.now moment book.now.authorizations) standing.now)) }
+        ++ map PutOrder (moved_one (λ _. true) order_differs (stated_order (entry_of moved.now) moment book.now.authorizations) standing.now)) }
 {
-    let next = stated_order(alloc, book, entry, moment, standing)?;
+    let next = stated_order(alloc, book, moved, moment, standing)?;
     if order_differs(standing, &next) {
         changes.push(Change::PutOrder(next))?;
     }
@@ -270,34 +271,34 @@ fn put_order(
     changes: &mut Vec<Change>,
     alloc: Global,
     book: &Book,
-    entry: &Entry,
+    moved: &Move,
     moment: u64,
     row: &OrderRow,
 ) -> Result<(), AllocError>
     ensures { OnOk result (changes.new.items ≡ changes.old.items
-        ++ map PutOrder (moved_one (touches_order entry.now (standing_rows moment book.now.authorizations)) order_differs (stated_order entry.now moment book.now.authorizations) (swept_order moment book.now.authorizations row.now))) }
+        ++ map PutOrder (moved_one (touches_order (entry_of moved.now) (standing_rows moment book.now.authorizations)) order_differs (stated_order (entry_of moved.now) moment book.now.authorizations) (swept_order moment book.now.authorizations row.now))) }
 {
-    if !touches_order(entry, book, row) {
+    if !touches_order(moved, book, row) {
         return Ok(());
     }
     let standing = standing_order(book, moment, row)?;
-    put_stated_order(changes, alloc, book, entry, moment, &standing)?;
+    put_stated_order(changes, alloc, book, moved, moment, &standing)?;
     Ok(())
 }
 
-/// Puts the orders that an entry moves.
+/// Puts the orders that a move changes.
 pub(crate) fn put_orders(
     changes: &mut Vec<Change>,
     alloc: Global,
     book: &Book,
-    entry: &Entry,
+    moved: &Move,
     moment: u64,
 ) -> Result<(), AllocError>
     ensures { OnOk result (changes.new.items ≡ changes.old.items
-        ++ map PutOrder (moved_rows (touches_order entry.now (standing_rows moment book.now.authorizations)) order_differs (stated_order entry.now moment book.now.authorizations) (map (swept_order moment book.now.authorizations) book.now.orders))) }
+        ++ map PutOrder (moved_rows (touches_order (entry_of moved.now) (standing_rows moment book.now.authorizations)) order_differs (stated_order (entry_of moved.now) moment book.now.authorizations) (map (swept_order moment book.now.authorizations) book.now.orders))) }
 {
     for row in book.orders().iter() {
-        put_order(changes, alloc, book, entry, moment, row)?;
+        put_order(changes, alloc, book, moved, moment, row)?;
     }
     Ok(())
 }

@@ -1,5 +1,6 @@
-//! Entries, written into the dated columns of rows.
+//! Moves, written into the dated columns of rows.
 ghost use Rattle.std.specs.Prelude.{◌≡◌, map, unwrap_or, IfOk};
+ghost use Rattle.desk_model.specs.Entry.{entry_of};
 ghost use Rattle.desk_model.specs.History.{earlier};
 ghost use Rattle.desk_model.specs.Account.{changing, ends as account_ends};
 ghost use Rattle.desk_model.specs.Authorization.{in_time};
@@ -11,16 +12,16 @@ use crate::touched::has_challenge;
 use desk_book::{derived_account, derived_challenge};
 use desk_model::{
     AccountEnd, AccountRow, AuthorizationEnd, AuthorizationRow, ChallengeRow, DatedBytes,
-    DatedProblem, EndKind, Entry, OrderRow, Outcome, Report, Sequence, Text,
+    DatedProblem, EndKind, Move, OrderRow, Outcome, Report, Sequence, Text,
 };
 use std::alloc::{AllocError, Global};
 
 // ---- accounts
 
-fn contacts_after(entry: &Entry, row: &AccountRow) -> Result<Sequence<Text>, AllocError>
-    ensures { IfOk result (λ c. c ≡ unwrap_or (changing row.now.number entry.now) row.now.contacts) }
+fn contacts_after(moved: &Move, row: &AccountRow) -> Result<Sequence<Text>, AllocError>
+    ensures { IfOk result (λ c. c ≡ unwrap_or (changing row.now.number (entry_of moved.now)) row.now.contacts) }
 {
-    if let Entry::ContactsChanged(number, contacts) = entry {
+    if let Move::ContactsChanged(number, contacts) = moved {
         if *number == row.number {
             return contacts.clone();
         }
@@ -28,11 +29,11 @@ fn contacts_after(entry: &Entry, row: &AccountRow) -> Result<Sequence<Text>, All
     row.contacts.clone()
 }
 
-fn account_end_by(entry: &Entry, moment: u64, number: u64) -> Option<AccountEnd>
-    ensures { result ≡ account_ends number entry.now moment }
+fn account_end_by(moved: &Move, moment: u64, number: u64) -> Option<AccountEnd>
+    ensures { result ≡ account_ends number (entry_of moved.now) moment }
 {
-    match entry {
-        Entry::AccountEnded(account, ending) => {
+    match moved {
+        Move::AccountEnded(account, ending) => {
             if *account == number {
                 return Some(AccountEnd {
                     date: moment,
@@ -45,17 +46,17 @@ fn account_end_by(entry: &Entry, moment: u64, number: u64) -> Option<AccountEnd>
     }
 }
 
-/// The row of an account after an entry.
+/// The row of an account after a move.
 pub(crate) fn noted_account(
-    entry: &Entry,
+    moved: &Move,
     moment: u64,
     row: &AccountRow,
 ) -> Result<AccountRow, AllocError>
-    ensures { IfOk result (λ r. r ≡ noted_account entry.now moment row.now) }
+    ensures { IfOk result (λ r. r ≡ noted_account (entry_of moved.now) moment row.now) }
 {
     let mut noted = row.clone()?;
-    noted.contacts = contacts_after(entry, row)?;
-    noted.ended = row.ended.or(account_end_by(entry, moment, row.number));
+    noted.contacts = contacts_after(moved, row)?;
+    noted.ended = row.ended.or(account_end_by(moved, moment, row.number));
     noted.status = derived_account(&noted);
     Ok(noted)
 }
@@ -96,18 +97,18 @@ fn copied_challenge(row: &ChallengeRow) -> ChallengeRow
     }
 }
 
-/// The row of a challenge after an entry.
-pub(crate) fn noted_challenge(entry: &Entry, moment: u64, row: &ChallengeRow) -> ChallengeRow
-    ensures { result ≡ noted_challenge entry.now moment row.now }
+/// The row of a challenge after a move.
+pub(crate) fn noted_challenge(moved: &Move, moment: u64, row: &ChallengeRow) -> ChallengeRow
+    ensures { result ≡ noted_challenge (entry_of moved.now) moment row.now }
 {
-    match entry {
-        Entry::Answered(number) => {
+    match moved {
+        Move::Answered(number) => {
             if *number == row.number {
                 return answered_challenge(moment, row);
             }
             copied_challenge(row)
         }
-        Entry::Reported(number, outcome) => {
+        Move::Reported(number, outcome) => {
             if *number == row.number {
                 return reported_challenge(*outcome, moment, row);
             }
@@ -119,15 +120,15 @@ pub(crate) fn noted_challenge(entry: &Entry, moment: u64, row: &ChallengeRow) ->
 
 fn noted_challenges(
     alloc: Global,
-    entry: &Entry,
+    moved: &Move,
     moment: u64,
     rows: &[ChallengeRow],
 ) -> Result<Sequence<ChallengeRow>, AllocError>
-    ensures { IfOk result (λ s. s ≡ map (noted_challenge entry.now moment) rows.now) }
+    ensures { IfOk result (λ s. s ≡ map (noted_challenge (entry_of moved.now) moment) rows.now) }
 {
     let mut noted = Vec::new(alloc);
     for row in rows {
-        noted.push(noted_challenge(entry, moment, row))?;
+        noted.push(noted_challenge(moved, moment, row))?;
     }
     Ok(Sequence::new(noted))
 }
@@ -152,16 +153,16 @@ fn reported_end(
     })
 }
 
-// How an entry ends an authorization, if it does.
-fn end_by(entry: &Entry, moment: u64, row: &AuthorizationRow) -> Option<AuthorizationEnd>
-    ensures { result ≡ row_ends row.now entry.now moment }
+// How a move ends an authorization, if it does.
+fn end_by(moved: &Move, moment: u64, row: &AuthorizationRow) -> Option<AuthorizationEnd>
+    ensures { result ≡ row_ends row.now (entry_of moved.now) moment }
 {
-    let (ended, ending) = match entry {
-        Entry::Reported(challenge, outcome) => {
+    let (ended, ending) = match moved {
+        Move::Reported(challenge, outcome) => {
             return reported_end(*challenge, *outcome, moment, row);
         }
-        Entry::AuthorizationEnded(number, ending) => (*number == row.number, *ending),
-        Entry::AccountEnded(account, ending) => (*account == row.account, *ending),
+        Move::AuthorizationEnded(number, ending) => (*number == row.number, *ending),
+        Move::AccountEnded(account, ending) => (*account == row.account, *ending),
         _ => return None,
     };
     if ended {
@@ -188,39 +189,39 @@ fn in_time(expires: u64, end: Option<AuthorizationEnd>) -> Option<AuthorizationE
     }
 }
 
-/// The end of an authorization after an entry: the first one stays.
+/// The end of an authorization after a move: the first one stays.
 pub(crate) fn end_after(
-    entry: &Entry,
+    moved: &Move,
     moment: u64,
     row: &AuthorizationRow,
 ) -> Option<AuthorizationEnd>
-    ensures { result ≡ earlier row.now.ended (in_time row.now.expires (row_ends row.now entry.now moment)) }
+    ensures { result ≡ earlier row.now.ended (in_time row.now.expires (row_ends row.now (entry_of moved.now) moment)) }
 {
     row.ended
-        .or(in_time(row.expires, end_by(entry, moment, row)))
+        .or(in_time(row.expires, end_by(moved, moment, row)))
 }
 
-/// The row of an authorization after an entry, with the status that it had before.
+/// The row of an authorization after a move, with the status that it had before.
 pub(crate) fn noted_authorization(
     alloc: Global,
-    entry: &Entry,
+    moved: &Move,
     moment: u64,
     row: &AuthorizationRow,
 ) -> Result<AuthorizationRow, AllocError>
-    ensures { IfOk result (λ r. r ≡ noted_authorization entry.now moment row.now) }
+    ensures { IfOk result (λ r. r ≡ noted_authorization (entry_of moved.now) moment row.now) }
 {
     let mut noted = row.clone()?;
-    noted.ended = end_after(entry, moment, row);
-    noted.challenges = noted_challenges(alloc, entry, moment, row.challenges.as_slice())?;
+    noted.ended = end_after(moved, moment, row);
+    noted.challenges = noted_challenges(alloc, moved, moment, row.challenges.as_slice())?;
     Ok(noted)
 }
 
 // ---- orders
 
-fn csr_by(entry: &Entry, moment: u64, number: u64) -> Result<Option<DatedBytes>, AllocError>
-    ensures { IfOk result (λ o. o ≡ finalizing number entry.now moment) }
+fn csr_by(moved: &Move, moment: u64, number: u64) -> Result<Option<DatedBytes>, AllocError>
+    ensures { IfOk result (λ o. o ≡ finalizing number (entry_of moved.now) moment) }
 {
-    if let Entry::Finalized(order, bytes) = entry {
+    if let Move::Finalized(order, bytes) = moved {
         if *order == number {
             return Ok(Some(DatedBytes {
                 date: moment,
@@ -231,10 +232,10 @@ fn csr_by(entry: &Entry, moment: u64, number: u64) -> Result<Option<DatedBytes>,
     Ok(None)
 }
 
-fn certificate_by(entry: &Entry, moment: u64, number: u64) -> Result<Option<DatedBytes>, AllocError>
-    ensures { IfOk result (λ o. o ≡ certifying number entry.now moment) }
+fn certificate_by(moved: &Move, moment: u64, number: u64) -> Result<Option<DatedBytes>, AllocError>
+    ensures { IfOk result (λ o. o ≡ certifying number (entry_of moved.now) moment) }
 {
-    if let Entry::Certified(order, bytes) = entry {
+    if let Move::Certified(order, bytes) = moved {
         if *order == number {
             return Ok(Some(DatedBytes {
                 date: moment,
@@ -245,10 +246,10 @@ fn certificate_by(entry: &Entry, moment: u64, number: u64) -> Result<Option<Date
     Ok(None)
 }
 
-fn failure_by(entry: &Entry, moment: u64, number: u64) -> Result<Option<DatedProblem>, AllocError>
-    ensures { IfOk result (λ o. o ≡ failing number entry.now moment) }
+fn failure_by(moved: &Move, moment: u64, number: u64) -> Result<Option<DatedProblem>, AllocError>
+    ensures { IfOk result (λ o. o ≡ failing number (entry_of moved.now) moment) }
 {
-    if let Entry::Failed(order, problem) = entry {
+    if let Move::Failed(order, problem) = moved {
         if *order == number {
             return Ok(Some(DatedProblem {
                 date: moment,
@@ -259,48 +260,44 @@ fn failure_by(entry: &Entry, moment: u64, number: u64) -> Result<Option<DatedPro
     Ok(None)
 }
 
-fn csr_after(entry: &Entry, moment: u64, row: &OrderRow) -> Result<Option<DatedBytes>, AllocError>
-    ensures { IfOk result (λ o. o ≡ earlier row.now.finalized (finalizing row.now.number entry.now moment)) }
+fn csr_after(moved: &Move, moment: u64, row: &OrderRow) -> Result<Option<DatedBytes>, AllocError>
+    ensures { IfOk result (λ o. o ≡ earlier row.now.finalized (finalizing row.now.number (entry_of moved.now) moment)) }
 {
     match &row.finalized {
         Some(finalized) => Ok(Some(finalized.clone()?)),
-        None => csr_by(entry, moment, row.number),
+        None => csr_by(moved, moment, row.number),
     }
 }
 
 fn certificate_after(
-    entry: &Entry,
+    moved: &Move,
     moment: u64,
     row: &OrderRow,
 ) -> Result<Option<DatedBytes>, AllocError>
-    ensures { IfOk result (λ o. o ≡ earlier row.now.certified (certifying row.now.number entry.now moment)) }
+    ensures { IfOk result (λ o. o ≡ earlier row.now.certified (certifying row.now.number (entry_of moved.now) moment)) }
 {
     match &row.certified {
         Some(certified) => Ok(Some(certified.clone()?)),
-        None => certificate_by(entry, moment, row.number),
+        None => certificate_by(moved, moment, row.number),
     }
 }
 
 fn failure_after(
-    entry: &Entry,
+    moved: &Move,
     moment: u64,
     row: &OrderRow,
 ) -> Result<Option<DatedProblem>, AllocError>
-    ensures { IfOk result (λ o. o ≡ earlier row.now.failed (failing row.now.number entry.now moment)) }
+    ensures { IfOk result (λ o. o ≡ earlier row.now.failed (failing row.now.number (entry_of moved.now) moment)) }
 {
     match &row.failed {
         Some(failed) => Ok(Some(failed.clone()?)),
-        None => failure_by(entry, moment, row.number),
+        None => failure_by(moved, moment, row.number),
     }
 }
 
-/// The row of an order after an entry, with the status that it had before.
-pub(crate) fn noted_order(
-    entry: &Entry,
-    moment: u64,
-    row: &OrderRow,
-) -> Result<OrderRow, AllocError>
-    ensures { IfOk result (λ r. r ≡ noted_order entry.now moment row.now) }
+/// The row of an order after a move, with the status that it had before.
+pub(crate) fn noted_order(moved: &Move, moment: u64, row: &OrderRow) -> Result<OrderRow, AllocError>
+    ensures { IfOk result (λ r. r ≡ noted_order (entry_of moved.now) moment row.now) }
 {
     Ok(OrderRow {
         number: row.number,
@@ -308,9 +305,9 @@ pub(crate) fn noted_order(
         made: row.made,
         expires: row.expires,
         listed: row.listed.clone()?,
-        finalized: csr_after(entry, moment, row)?,
-        certified: certificate_after(entry, moment, row)?,
-        failed: failure_after(entry, moment, row)?,
+        finalized: csr_after(moved, moment, row)?,
+        certified: certificate_after(moved, moment, row)?,
+        failed: failure_after(moved, moment, row)?,
         status: row.status,
     })
 }

@@ -1,12 +1,12 @@
 //! What a call records, change by change.
 ghost use Rattle.desk_laws.specs.Ordered.{Ascends, IsOrdered};
 ghost use Rattle.desk_model.specs.Derived.{restated_order};
+ghost use Rattle.desk_model.specs.Entry.{entry_of};
 ghost use Rattle.desk_model.specs.Limits.{last_moment, last_number};
 ghost use Rattle.desk_model.specs.Run.{count_tokens};
 ghost use Rattle.desk_changes.specs.Made.{bare_order, next_account, next_order, next_rows, ordered_meta};
-ghost use Rattle.std.specs.Prelude.{◌≡◌, ◌<◌, ◌≤◌, length, map, ◌+◌, ◌^◌, ◌++◌, ◌∷◌, [], None, IfOk, OnOk};
-ghost use Rattle.std.specs.Prelude.{ℕ, List};
-ghost use Rattle.desk_changes.specs.Recorded.{IsMoving, IsRecorded, IsUntouched, book_moves};
+ghost use Rattle.std.specs.Prelude.{◌≡◌, ◌<◌, ◌≤◌, length, map, ◌+◌, ◌^◌, ◌++◌, ◌∷◌, [], None, IfOk, OnOk, ℕ, List};
+ghost use Rattle.desk_changes.specs.Recorded.{IsRecorded, IsUntouched, book_moves};
 ghost use Rattle.desk_model.specs.Tables.{Tables};
 ghost use Rattle.desk_model.specs.declared.entry.Entry.{Entry as EntryOf};
 ghost use Rattle.desk_model.specs.declared.entry.Entry.TheVariants.{Issued as issued, Spent as spent, Opened as opened, Ordered as ordered};
@@ -17,7 +17,7 @@ use crate::making::{Making, push_authorizations, push_places, statuses_of};
 use crate::moved::{put_accounts, put_authorizations, put_orders};
 use desk_book::{Book, derived_order};
 use desk_model::{
-    AccountRow, AccountStatus, AuthorizationRow, Change, Clock, Entry, Jwk, Meta, Nonce, OrderRow,
+    AccountRow, AccountStatus, AuthorizationRow, Change, Clock, Jwk, Meta, Move, Nonce, OrderRow,
     OrderStatus, Sequence, Text, Wanted,
 };
 use std::alloc::{AllocError, Global};
@@ -153,31 +153,31 @@ impl Recording {
         Ok(row)
     }
 
-    /// Records an entry that moves rows of a book, as they stand at the moment, and makes none.
+    /// Records a move of rows of a book, as they stand at the moment.
     ///
     /// # Errors
     ///
     /// Where there is no memory for the rows that it moves; what was recorded is then of no use.
-    pub fn shift(&mut self, alloc: Global, book: &Book, entry: &Entry) -> Result<(), AllocError>
-        ensures changes { OnOk result (self.new.changes.items ≡ self.old.changes.items ++ PutMeta self.old.meta ∷ book_moves self.old.meta.clock book.now entry.now) }
+    pub fn shift(&mut self, alloc: Global, book: &Book, moved: &Move) -> Result<(), AllocError>
+        ensures changes { OnOk result (self.new.changes.items ≡ self.old.changes.items ++ PutMeta self.old.meta ∷ book_moves self.old.meta.clock book.now (entry_of moved.now)) }
         ensures meta { OnOk result (self.new.meta ≡ self.old.meta) }
-        ensures recorded { OnOk result (IsMoving entry.now → (m : ℕ) (es : List EntryOf) → IsUntouched m book.now es
+        ensures recorded { OnOk result ((m : ℕ) (es : List EntryOf) → IsUntouched m book.now es
             → IsRecorded m book.now es self.old.changes.items self.old.meta
-            → IsRecorded m book.now (es ++ entry.now ∷ []) self.new.changes.items self.new.meta) }
+            → IsRecorded m book.now (es ++ entry_of moved.now ∷ []) self.new.changes.items self.new.meta) }
     {
-        self.push_moves(alloc, book, entry)
+        self.push_moves(alloc, book, moved)
     }
 
-    // Records the meta row as it is now, and the rows that an entry moves.
-    fn push_moves(&mut self, alloc: Global, book: &Book, entry: &Entry) -> Result<(), AllocError>
-        ensures changes { OnOk result (self.new.changes.items ≡ self.old.changes.items ++ PutMeta self.old.meta ∷ book_moves self.old.meta.clock book.now entry.now) }
+    // Records the meta row as it is now, and the rows that move.
+    fn push_moves(&mut self, alloc: Global, book: &Book, moved: &Move) -> Result<(), AllocError>
+        ensures changes { OnOk result (self.new.changes.items ≡ self.old.changes.items ++ PutMeta self.old.meta ∷ book_moves self.old.meta.clock book.now (entry_of moved.now)) }
         ensures meta { OnOk result (self.new.meta ≡ self.old.meta) }
     {
         let moment = self.meta.clock.moment();
         self.push_meta()?;
-        put_accounts(&mut self.changes, book, entry, moment)?;
-        put_authorizations(&mut self.changes, alloc, book, entry, moment)?;
-        put_orders(&mut self.changes, alloc, book, entry, moment)
+        put_accounts(&mut self.changes, book, moved, moment)?;
+        put_authorizations(&mut self.changes, alloc, book, moved, moment)?;
+        put_orders(&mut self.changes, alloc, book, moved, moment)
     }
 
     /// Makes the next order of an account, with an authorization for each of these names, and gives its row.

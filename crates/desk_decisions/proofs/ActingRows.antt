@@ -19,32 +19,18 @@ use Rattle.desk_model.specs.declared.rows.AccountRow.{AccountRow}
 use Rattle.desk_model.specs.declared.rows.AuthorizationRow.{AuthorizationRow}
 use Rattle.desk_model.specs.declared.rows.Meta.{Meta}
 use Rattle.desk_model.specs.declared.rows.OrderRow.{OrderRow}
-use Rattle.desk_model.specs.declared.verdict.Shows.TheVariants as show
-use Rattle.desk_model.specs.declared.verdict.Verdict.{Verdict}
-use Rattle.desk_model.specs.declared.verdict.Verdict.TheVariants.{Refused as refused, Accepted as accepted}
 use Rattle.desk_laws.specs.Ordered.{Ascends, Below, IsOrdered}
 use Rattle.desk_model.specs.Limits.{last_end}
 use Rattle.desk_laws.proofs.Chain.{account_number, order_number}
 use Rattle.desk_laws.proofs.Local.{swept_order_number}
 use Rattle.desk_laws.proofs.RowLists.{ascends_above, ascends_found, none_below}
-use Rattle.desk_changes.specs.Acting.{IsActable, IsAt, is_recording}
+use Rattle.desk_changes.specs.Acting.{IsAt}
 use Rattle.desk_decisions.specs.HasTexts.{HasTexts}
 use Rattle.desk_changes.specs.Made.{made_rows, next_account, next_order, next_rows}
-use Rattle.desk_changes.specs.Recorded.{recorded_changes}
-use Rattle.desk_model.specs.Change.{all_changes, sweep_changes}
-use Rattle.desk_model.specs.Decide.{entries_of}
 use Rattle.desk_changes.proofs.MadeRows.{find-after, made_ascends, numbers_placed, stood_before}
 use Rattle.desk_changes.proofs.Moving.{below_standing, ordered_one}
 use Rattle.desk_decisions.proofs.ShownTexts.{order_text}
 use Rattle.swept_rows.proofs.SweptRows.{find-moved}
-
--- what a verdict names does not hang on the count of nonces
-pub actable_at : (m : ℕ) (B : Tables) (M : Meta) (v : Verdict) → IsAt m B M → IsActable B.meta v → IsActable M v
-actable_at m B M (refused n ss) is h = tt
-actable_at m B M (accepted (Some (opened key contacts)) what) is h = h ∙ ap (λ (x : Meta). show.OpenedAccount (x.accounts + 1)) (sym is)
-actable_at m B M (accepted (Some (ordered account wanted)) what) is h = h ∙ ap (λ (x : Meta). show.MadeOrder (x.orders + 1)) (sym is)
-actable_at m B M (accepted None what) is h = h
-actable_at m B M (accepted (Some _) what) is h = h
 
 -- the meta row when a recording has begun
 pub at_begun : (m : ℕ) (B : Tables) (M : Meta) → M ≡ record B.meta { clock = m } → IsAt m B M
@@ -70,10 +56,9 @@ account_after m B key contacts is =
 
 -- it is found by its number
 pub opened_found : (m : ℕ) (B : Tables) (M : Meta) (key : List ℕ) (contacts : List (List ℕ)) → IsAt m B M → IsOrdered B →
-    account_on (effect m (swept m B) (opened key contacts)) (M.accounts + 1) ≡ Some (next_account M key contacts)
+    (let T : Tables = effect m (swept m B) (opened key contacts) in account_on T T.meta.accounts ≡ Some (next_account M key contacts))
 opened_found m B M key contacts at is =
-    ap (λ (x : Meta). account_on (effect m (swept m B) (opened key contacts)) (x.accounts + 1)) at
-    ∙ account_after m B key contacts is
+    account_after m B key contacts is
     ∙ ap (λ x. Some (next_account x key contacts)) (sym at)
 
 -- ---- an order that is made
@@ -101,10 +86,9 @@ order_after m B account wanted is =
     stood = map (moved_order e m S.authorizations (authorizations_after S e m)) S.orders
 
 pub ordered_found : (m : ℕ) (B : Tables) (M : Meta) (account : ℕ) (wanted : List Wanted) → IsAt m B M → IsOrdered B →
-    order_on (effect m (swept m B) (ordered account wanted)) (M.orders + 1) ≡ Some (next_order M account wanted)
+    (let T : Tables = effect m (swept m B) (ordered account wanted) in order_on T T.meta.orders ≡ Some (next_order M account wanted))
 ordered_found m B M account wanted at is =
-    ap (λ (x : Meta). order_on (effect m (swept m B) (ordered account wanted)) (x.orders + 1)) at
-    ∙ order_after m B account wanted is
+    order_after m B account wanted is
     ∙ ap (λ x. Some (next_order x account wanted)) (sym at)
 
 -- rows that are found by their numbers are those that an order lists
@@ -155,19 +139,4 @@ ordered_names m B M account wanted at is =
 pub ordered_text : (m : ℕ) (B : Tables) (M : Meta) (account : ℕ) (wanted : List Wanted) → IsAt m B M → IsOrdered B →
     HasTexts (effect m (swept m B) (ordered account wanted)) → (next_order M account wanted).expires ≤ last_end
 ordered_text m B M account wanted at is texts =
-    order_text (effect m (swept m B) (ordered account wanted)) (M.orders + 1) _ (next_order M account wanted) texts (ordered_found m B M account wanted at is) refl
-
--- ---- verdicts with and without an entry
-
--- a verdict without an entry records nothing
-pub no_entries : (v : Verdict) → is_recording v ≡ false → entries_of v ≡ []
-no_entries (refused n ss) none = refl
-no_entries (accepted None what) none = refl
-no_entries (accepted (Some e) what) none = cc
-
--- one with an entry records it after the passing of time
-pub one_entry : (m : ℕ) (B : Tables) (v : Verdict) → is_recording v ≡ true →
-    sweep_changes m B ++ all_changes m (swept m B) (entries_of v) ≡ recorded_changes m B (entries_of v)
-one_entry m B (refused n ss) is = cc
-one_entry m B (accepted None what) is = cc
-one_entry m B (accepted (Some e) what) is = refl
+    order_text (effect m (swept m B) (ordered account wanted)) (B.meta.orders + 1) _ (next_order M account wanted) texts (ordered_found m B M account wanted at is) refl

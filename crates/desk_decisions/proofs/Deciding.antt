@@ -22,9 +22,8 @@ use Rattle.desk_model.specs.declared.rows.Meta.{Meta}
 use Rattle.desk_model.specs.declared.entry.Entry.{Entry}
 use Rattle.desk_model.specs.declared.entry.Entry.TheVariants.{Issued as issued, Spent as spent, Opened as opened, Ordered as ordered}
 use Rattle.desk_model.specs.declared.verdict.Verdict.{Verdict}
-use Rattle.desk_model.specs.declared.verdict.Verdict.TheVariants.{Refused as refused, Accepted as accepted}
-use Rattle.desk_laws.specs.News.{AreNews}
-use Rattle.desk_laws.specs.News.{AreKept, AreNewChildren}
+use Rattle.desk_model.specs.declared.verdict.Verdict.TheVariants.{Refused as refused, Answers as answers, Opens as opens, Orders as ordering, Moves as moves}
+use Rattle.desk_laws.specs.News.{AreNews, AreKept, AreNewChildren}
 use Rattle.desk_laws.proofs.KeptInOrder.{records_keep}
 use Rattle.desk_laws.proofs.NewChildren.{records_bring_new_children}
 use Rattle.desk_laws.proofs.NewsInOrder.{records_put_news}
@@ -33,7 +32,6 @@ use Rattle.desk_laws.proofs.Step.{steps, sweep}
 use Rattle.desk_laws.proofs.Keeps.{counters_fit, numbers_fit_counters}
 use Rattle.desk_laws.specs.LegalLaws.{CountersFit}
 use Rattle.desk_lives.proofs.SoundCalls.{moment_later, call_follows, legal_by_numbers}
-use Rattle.desk_changes.specs.Acting.{IsActable}
 use Rattle.desk_decisions.specs.HasTexts.{HasTexts}
 use Rattle.desk_changes.specs.Recorded.{recorded_changes}
 use Rattle.desk_decisions.specs.Decided.{IsDecision}
@@ -100,11 +98,11 @@ left_same M N v a o z c h =
     subst (λ (K : Meta). NumbersLeft K v) (λ i. record M { accounts = sym a i; orders = sym o i; authorizations = sym z i; challenges = sym c i }) (still v h)
   where
     still : (v : Verdict) → NumbersLeft N v → NumbersLeft (record M { accounts = N.accounts; orders = N.orders; authorizations = N.authorizations; challenges = N.challenges }) v
-    still (refused n ss) h = tt
-    still (accepted None what) h = tt
-    still (accepted (Some (opened key contacts)) what) h = h
-    still (accepted (Some (ordered account wanted)) what) h = h
-    still (accepted (Some _) what) h = tt
+    still (refused why ss) h = tt
+    still (answers what) h = tt
+    still (opens key contacts) h = h
+    still (ordering account wanted) h = h
+    still (moves move) h = tt
 
 pub spent_same : (M N : Meta) (v : Verdict) → M.accounts ≡ N.accounts → M.orders ≡ N.orders → M.authorizations ≡ N.authorizations → M.challenges ≡ N.challenges →
     NumbersSpent N v → NumbersSpent M v
@@ -112,19 +110,11 @@ spent_same M N v a o z c h =
     subst (λ (K : Meta). NumbersSpent K v) (λ i. record M { accounts = sym a i; orders = sym o i; authorizations = sym z i; challenges = sym c i }) (still v h)
   where
     still : (v : Verdict) → NumbersSpent N v → NumbersSpent (record M { accounts = N.accounts; orders = N.orders; authorizations = N.authorizations; challenges = N.challenges }) v
-    still (refused n ss) h = absurd h
-    still (accepted None what) h = absurd h
-    still (accepted (Some (opened key contacts)) what) h = h
-    still (accepted (Some (ordered account wanted)) what) h = h
-    still (accepted (Some _) what) h = absurd h
-
--- nor what it names
-pub actable_from : (m : ℕ) (B : Tables) (v : Verdict) → IsActable (record B.meta { clock = m }) v → IsActable B.meta v
-actable_from m B (refused n ss) h = tt
-actable_from m B (accepted None what) h = h
-actable_from m B (accepted (Some (opened key contacts)) what) h = h
-actable_from m B (accepted (Some (ordered account wanted)) what) h = h
-actable_from m B (accepted (Some _) what) h = h
+    still (refused why ss) h = absurd h
+    still (answers what) h = absurd h
+    still (opens key contacts) h = h
+    still (ordering account wanted) h = h
+    still (moves move) h = absurd h
 
 -- ---- tables
 

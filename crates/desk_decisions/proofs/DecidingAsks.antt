@@ -21,7 +21,6 @@ use Rattle.desk_model.specs.declared.verdict.Verdict.{Verdict}
 use Rattle.desk_model.specs.declared.rows.Change.{Change}
 use Rattle.desk_model.specs.declared.entry.Entry.{Entry}
 use Rattle.desk_model.specs.declared.entry.Entry.TheVariants.{Issued as issued, Spent as spent}
-use Rattle.desk_model.specs.declared.verdict.Verdict.TheVariants.{Refused as refused, Accepted as accepted}
 use Rattle.desk_laws.proofs.Recorded.{tables_ordered}
 use Rattle.desk_laws.proofs.Keeps.{numbers_fit_counters}
 use Rattle.desk_laws.specs.Ordered.{IsOrdered}
@@ -31,11 +30,10 @@ use Rattle.desk_decisions.specs.Decided.{IsDecision}
 use Rattle.desk_rules.specs.Needs.{NumbersLeft}
 use Rattle.desk_changes.specs.Recorded.{recorded_changes}
 use Rattle.desk_decisions.specs.SameRows.{SameRows}
-use Rattle.desk_decisions.proofs.Actable.{office_actable, signed_actable}
-use Rattle.desk_decisions.proofs.Deciding.{actable_from, after_is, counters, decides, decides_none, fits_issued, fits_nonces, left_same, now_is, texts_same}
+use Rattle.desk_decisions.proofs.Deciding.{after_is, counters, decides, decides_none, fits_issued, fits_nonces, left_same, now_is, texts_same}
 use Rattle.desk_decisions.proofs.NumbersAfter.{numbers_left}
 use Rattle.desk_decisions.proofs.QuietRows.{nonce_rows}
-use Rattle.desk_decisions.proofs.SameReplies.{effects-append, effects_same, nonce_effects, verdict_reply_same}
+use Rattle.desk_decisions.proofs.SameReplies.{effects-append, nonce_effects, verdict_reply_same, verdict_same}
 use Rattle.desk_decisions.proofs.SameVerdicts.{signed_same}
 use Rattle.desk_decisions.proofs.Spaced.{no_bytes, no_numbers, office_spaced, pieces_bounded, signed_spaced}
 use Rattle.desk_decisions.proofs.Parts.{asks_whole}
@@ -71,7 +69,7 @@ settles_reply : (F : History) (call : Call) (a : Ask) (changes : List Change) (r
     EachFollows (record_all (moment_of call.at F) (entries_of (settled F call a)) F) → reply ≡ (decide F call).reply
 settles_reply F call a changes reply legal is h follows =
     let grown = after_is F call (entries_of (settled F call a)) follows in
-    h.replies (tables_ordered F (clock F)) (actable_from (moment_of call.at F) (picture F) (settled F call a) (office_actable (swept (moment_of call.at F) (picture F)) a))
+    h.replies (tables_ordered F (clock F))
     (subst HasTexts grown (have_texts (record_all (moment_of call.at F) (entries_of (settled F call a)) F) follows (moment_of call.at F)))
     ∙ ap (λ T. verdict_reply false T (settled F call a)) (sym grown)
     ∙ sym (ap (λ (d : Decision). d.reply) is)
@@ -83,7 +81,7 @@ settles F call a changes reply legal formed at is h =
     by (entries_of (settled F call a)) refl
     (numbers_left F (moment_of call.at F) (settled F call a) (counters F legal) (office_spaced (swept (moment_of call.at F) (picture F)) a) (no_numbers (picture F).meta a (swept (moment_of call.at F) (picture F))))
     (no_bytes a (swept (moment_of call.at F) (picture F)))
-    (h.recorded (tables_ordered F (clock F)) (actable_from (moment_of call.at F) (picture F) (settled F call a) (office_actable (swept (moment_of call.at F) (picture F)) a)))
+    (h.recorded (tables_ordered F (clock F)))
     (settles_reply F call a changes reply legal is h)
   where
     by : (es : List Entry) → entries_of (settled F call a) ≡ es →
@@ -116,11 +114,6 @@ judged_left F call serial v h =
     let same = nonce_rows F (moment_of call.at F) serial (take 16 call.random) in
     left_same (picture (record_all (moment_of call.at F) (nonce_entries serial call.random) F)).meta (picture F).meta v same.last_accounts same.last_orders same.last_authorizations same.last_challenges h
 
--- what the verdict's entry leaves is the same behind the nonce's entries
-verdict_same : (m : ℕ) (T U : Tables) (v : Verdict) → SameRows T U → SameRows (effects m T (entries_of v)) (effects m U (entries_of v))
-verdict_same m T U (refused n ss) same = same
-verdict_same m T U (accepted entry what) same = effects_same m T U entry same
-
 -- the model's decision, by the verdict that the code comes to
 pub passed_is : (F : History) (call : Call) (s : Signed) (serial : ℕ) → decide F call ≡ signed_decision F (moment_of call.at F) call.random s (Some serial) →
     decide F call ≡ passed_decision F (moment_of call.at F) call.random serial (judged F call s)
@@ -138,7 +131,7 @@ passes_reply F call s serial changes reply is h follows =
     let grown : tables_after m (nonce_entries serial call.random ++ entries_of v) F ≡ effects m (effects m S (nonce_entries serial call.random)) (entries_of v) =
     after_is F call (nonce_entries serial call.random ++ entries_of v) follows ∙ effects-append m S (nonce_entries serial call.random) (entries_of v) in
     let same : SameRows (effects m S (nonce_entries serial call.random)) S = nonce_effects m S serial (take 16 call.random) in
-    h.replies (tables_ordered F (clock F)) (actable_from m (picture F) v (signed_actable S (drop 16 call.random) s))
+    h.replies (tables_ordered F (clock F))
     (texts_same (effects m (effects m S (nonce_entries serial call.random)) (entries_of v)) (effects m S (entries_of v)) (verdict_same m _ S v same)
     (subst HasTexts grown (have_texts (record_all m (nonce_entries serial call.random ++ entries_of v) F) follows m)))
     ∙ (λ i. with_nonce (fresh_nonce (picture F) call.random)
@@ -158,7 +151,7 @@ passes F call s serial changes reply legal formed at is h =
     (numbers_left (record_all m (nonce_entries serial call.random) F) m v (fits_nonces F m serial (take 16 call.random) (counters F legal) h.nonces)
     (signed_spaced S (drop 16 call.random) s) (judged_left F call serial v h.numbers))
     (let enough : 16 * (1 + count_pieces (entries_of v)) ≤ length call.random = pieces_bounded S (drop 16 call.random) s call.random h.tokens h.bytes in omega arith)
-    (h.recorded (tables_ordered F (clock F)) (actable_from m (picture F) v (signed_actable S (drop 16 call.random) s)))
+    (h.recorded (tables_ordered F (clock F)))
     (passes_reply F call s serial changes reply (passed_is F call s serial is) h)
 
 -- a signed request

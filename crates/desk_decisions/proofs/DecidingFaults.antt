@@ -2,7 +2,9 @@
 use Rattle.std.proofs.Common.{◌≡◌, ℕ, ◌+◌, ◌*◌, ◌<◌, ◌≤◌, ◌^◌, false, not, cond, List, [], ◌∷◌, ◌++◌, length, take, drop, max, Option, Some, None, refl, ap, subst, ◌∙◌, arith, length-append, ◌⊎◌, inl, inr}
 use Rattle.std.specs.Prelude.{nat_lt, nat_le, ◌&&◌, IsTrue}
 use Rattle.std.proofs.lemmas.Bool.Decides.{nat_tests}
-use Rattle.desk_model.specs.Entry.{History}
+use Rattle.desk_model.specs.Entry.{History, entry_of}
+use Rattle.desk_model.specs.declared.entry.Entry.{Entry}
+use Rattle.desk_model.specs.declared.entry.Entry.TheVariants.{Issued as issued, Opened as opened, Ordered as ordered}
 use Rattle.desk_model.specs.History.{clock, moment_of, record_all}
 use Rattle.desk_model.specs.Legal.{Legal, numbers_fit}
 use Rattle.desk_model.specs.Limits.{last_moment, last_number}
@@ -20,9 +22,7 @@ use Rattle.desk_model.specs.declared.call.Ask.{Ask}
 use Rattle.desk_model.specs.declared.call.Ask.TheVariants as ask
 use Rattle.desk_model.specs.declared.call.Signed.{Signed}
 use Rattle.desk_model.specs.declared.verdict.Verdict.{Verdict}
-use Rattle.desk_model.specs.declared.verdict.Verdict.TheVariants.{Refused as refused, Accepted as accepted}
-use Rattle.desk_model.specs.declared.entry.Entry.{Entry}
-use Rattle.desk_model.specs.declared.entry.Entry.TheVariants.{Issued as issued}
+use Rattle.desk_model.specs.declared.verdict.Verdict.TheVariants.{Refused as refused, Answers as answers, Opens as opens, Orders as ordering, Moves as moves}
 use Rattle.desk_laws.proofs.Recorded.{tables_ordered}
 use Rattle.desk_laws.specs.Ordered.{IsOrdered}
 use Rattle.desk_decisions.specs.Decided.{IsFaultOf}
@@ -86,10 +86,15 @@ issue_faults F call core.ShortRandom legal at is h =
     (let short : length call.random < 16 = h.1 in omega arith)
 
 -- nonces are not lost
+entry_grows : (G : History) (m : ℕ) (e : Entry) → length (nonces G) ≤ length (nonces (record_all m (e ∷ []) G))
+entry_grows G m e = omega (arith, length-append (nonces G) (issued_by e m (length (nonces G) + 1)))
+
 nonces_grow : (G : History) (m : ℕ) (v : Verdict) → length (nonces G) ≤ length (nonces (record_all m (entries_of v) G))
-nonces_grow G m (refused n ss) = omega arith
-nonces_grow G m (accepted None what) = omega arith
-nonces_grow G m (accepted (Some e) what) = omega (arith, length-append (nonces G) (issued_by e m (length (nonces G) + 1)))
+nonces_grow G m (refused why ss) = omega arith
+nonces_grow G m (answers what) = omega arith
+nonces_grow G m (opens key contacts) = entry_grows G m (opened key contacts)
+nonces_grow G m (ordering account wanted) = entry_grows G m (ordered account wanted)
+nonces_grow G m (moves move) = entry_grows G m (entry_of move)
 
 -- a signed request whose nonce was open
 passed_faults : (F : History) (call : Call) (s : Signed) (serial : ℕ) (e : CoreFault) → Legal F → call.at ≤ last_moment →

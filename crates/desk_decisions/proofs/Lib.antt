@@ -1,4 +1,3 @@
-pub mod Actable
 pub mod ActingRows
 pub mod Deciding
 pub mod DecidingAsks

@@ -5,7 +5,9 @@ use Rattle.std.proofs.lemmas.Bool.Decides.{nat_tests}
 use Rattle.desk_model.specs.Account.{accounts}
 use Rattle.desk_model.specs.Authorization.{authorizations, challenges_from, count_challenges, kinds_of, made_for}
 use Rattle.desk_model.specs.Decide.{entries_of}
-use Rattle.desk_model.specs.Entry.{History}
+use Rattle.desk_model.specs.Entry.{History, entry_of}
+use Rattle.desk_model.specs.declared.moves.Move.{Move}
+use Rattle.desk_model.specs.declared.moves.Move.TheVariants as move
 use Rattle.desk_model.specs.History.{clock, record_all, terms}
 use Rattle.desk_model.specs.Legal.{numbers_fit}
 use Rattle.desk_model.specs.Limits.{last_number}
@@ -20,7 +22,7 @@ use Rattle.desk_model.specs.declared.entry.Wanted.TheVariants.{New}
 use Rattle.desk_model.specs.declared.objects.Authorization.{Authorization}
 use Rattle.desk_model.specs.declared.objects.Kind.{Kind}
 use Rattle.desk_model.specs.declared.verdict.Verdict.{Verdict}
-use Rattle.desk_model.specs.declared.verdict.Verdict.TheVariants.{Refused as refused, Accepted as accepted}
+use Rattle.desk_model.specs.declared.verdict.Verdict.TheVariants.{Refused as refused, Answers as answers, Opens as opens, Orders as ordering, Moves as moves}
 use Rattle.desk_laws.specs.LegalLaws.{CountersFit}
 use Rattle.desk_laws.proofs.Keeps.{numbers_fit_counters}
 use Rattle.desk_laws.proofs.Numbers.{count-append}
@@ -124,18 +126,27 @@ fits_same F G n a o z h =
       challenges = subst (λ l. count_challenges l ≤ last_number) (sym (z ∙ append-nil (authorizations G))) h.challenges;
     }
 
--- where there are numbers for a verdict's entry, the numbers fit after it
+-- a move
+fits_moved : (G : History) (m : ℕ) (v : Move) → CountersFit (picture G).meta → CountersFit (picture (record { date = m; entry = entry_of v } ∷ G)).meta
+fits_moved G m (move.ContactsChanged n contacts) h = fits_same (record { date = m; entry = entry_of (move.ContactsChanged n contacts) } ∷ G) G refl refl refl refl h
+fits_moved G m (move.AccountEnded n ending) h = fits_same (record { date = m; entry = entry_of (move.AccountEnded n ending) } ∷ G) G refl refl refl refl h
+fits_moved G m (move.Answered n) h = fits_same (record { date = m; entry = entry_of (move.Answered n) } ∷ G) G refl refl refl refl h
+fits_moved G m (move.Reported n outcome) h = fits_same (record { date = m; entry = entry_of (move.Reported n outcome) } ∷ G) G refl refl refl refl h
+fits_moved G m (move.AuthorizationEnded n ending) h = fits_same (record { date = m; entry = entry_of (move.AuthorizationEnded n ending) } ∷ G) G refl refl refl refl h
+fits_moved G m (move.Finalized n csr) h = fits_same (record { date = m; entry = entry_of (move.Finalized n csr) } ∷ G) G refl refl refl refl h
+fits_moved G m (move.Certified n certificate) h = fits_same (record { date = m; entry = entry_of (move.Certified n certificate) } ∷ G) G refl refl refl refl h
+fits_moved G m (move.Failed n problem) h = fits_same (record { date = m; entry = entry_of (move.Failed n problem) } ∷ G) G refl refl refl refl h
+
+-- where there are numbers for what a verdict records, the numbers fit after it
 pub numbers_left : (G : History) (m : ℕ) (v : Verdict) → CountersFit (picture G).meta → IsSpaced v → NumbersLeft (picture G).meta v →
     IsTrue (numbers_fit (record_all m (entries_of v) G))
-numbers_left G m (refused number ss) h spaced left = fit_all G h
-numbers_left G m (accepted None what) h spaced left = fit_all G h
-numbers_left G m (accepted (Some (opened key contacts)) what) h spaced left =
+numbers_left G m (refused why ss) h spaced left = fit_all G h
+numbers_left G m (answers what) h spaced left = fit_all G h
+numbers_left G m (opens key contacts) h spaced left =
     fit_all (record { date = m; entry = opened key contacts } ∷ G) (fits_account G m key contacts h left)
-numbers_left G m (accepted (Some (ordered k ws)) what) h spaced left =
+numbers_left G m (ordering k ws) h spaced left =
     fit_all (record { date = m; entry = ordered k ws } ∷ G) (fits_ordered G m k ws h spaced left.0 left.1 left.2)
-numbers_left G m (accepted (Some (issued r)) what) h spaced left = absurd spaced
-numbers_left G m (accepted (Some e) what) h spaced left =
-    fit_all (record { date = m; entry = e } ∷ G) (fits_same (record { date = m; entry = e } ∷ G) G refl refl refl refl h)
+numbers_left G m (moves move) h spaced left = fit_all (record { date = m; entry = entry_of move } ∷ G) (fits_moved G m move h)
 
 -- ---- numbers that don't fit
 
@@ -194,16 +205,16 @@ challenges_over G h =
     (nat_le (length (authorizations G)) last_number) (nat_le (count_challenges (authorizations G)) last_number)
     (over (count_challenges (authorizations G)) last_number h)
 
--- where a number is wanting for a verdict's entry, the numbers don't fit after it
+-- where a number is wanting for what a verdict records, the numbers don't fit after it
 pub numbers_spent : (G : History) (m : ℕ) (v : Verdict) → IsSpaced v → NumbersSpent (picture G).meta v →
     numbers_fit (record_all m (entries_of v) G) ≡ false
-numbers_spent G m (refused number ss) spaced spent = absurd spent
-numbers_spent G m (accepted None what) spaced spent = absurd spent
-numbers_spent G m (accepted (Some (opened key contacts)) what) spaced spent =
+numbers_spent G m (refused why ss) spaced spent = absurd spent
+numbers_spent G m (answers what) spaced spent = absurd spent
+numbers_spent G m (opens key contacts) spaced spent =
     accounts_over (record { date = m; entry = opened key contacts } ∷ G)
     (let many : last_number ≤ length (accounts G) = spent in
     omega (arith, accounts_after G m key contacts))
-numbers_spent G m (accepted (Some (ordered k ws)) what) spaced spent = by spent
+numbers_spent G m (ordering k ws) spaced spent = by spent
   where
     by : (last_number ≤ length (orders G)) ⊎ ((last_number < length (authorizations G) + length ws) ⊎ (last_number < count_challenges (authorizations G) + count_tokens ws)) →
         numbers_fit (record { date = m; entry = ordered k ws } ∷ G) ≡ false
@@ -212,4 +223,4 @@ numbers_spent G m (accepted (Some (ordered k ws)) what) spaced spent = by spent
         authorizations_over (record { date = m; entry = ordered k ws } ∷ G) (subst (λ n. last_number < n) (sym (authorizations_after G m k ws)) many)
     by (inr (inr many)) =
         challenges_over (record { date = m; entry = ordered k ws } ∷ G) (subst (λ n. last_number < n) (sym (challenges_after G m k ws spaced)) many)
-numbers_spent G m (accepted (Some _) what) spaced spent = absurd spent
+numbers_spent G m (moves move) spaced spent = absurd spent

@@ -56,8 +56,8 @@ settles_whole m k T a changes reply ordered alike met =
     let v : Verdict = office_verdict (swept m T) a in
     let h : Settles m (restricted k T) v changes reply = subst (λ x. Settles m (restricted k T) x changes reply) alike.judged met in
     record {
-      recorded = λ whole actable. h.recorded ordered actable ∙ as_changes m (restricted k T) (entries_of v) ∙ alike.records ∙ sym (as_changes m T (entries_of v));
-      replies = λ whole actable texts. h.replies ordered actable (texts_then m T (restricted k T) v alike.verdict texts) ∙ alike.verdict.shows false;
+      recorded = λ whole. h.recorded ordered ∙ as_changes m (restricted k T) (entries_of v) ∙ alike.records ∙ sym (as_changes m T (entries_of v));
+      replies = λ whole texts. h.replies ordered (texts_then m T (restricted k T) v alike.verdict texts) ∙ alike.verdict.shows false;
     }
 
 passes_whole : (m : ℕ) (k : Kept) (T : Tables) (random : List ℕ) (serial : ℕ) (s : Signed) (changes : List Change) (reply : Reply) → IsOrdered (restricted k T) →
@@ -69,9 +69,9 @@ passes_whole m k T random serial s changes reply ordered alike met =
     let h : Passes m (restricted k T) random serial v changes reply =
     subst (λ x. Passes m (restricted k T) random serial x changes reply) (alike.judged (drop 16 random)) met in
     record {
-      recorded = λ whole actable. h.recorded ordered actable ∙ alike.records (drop 16 random) serial (take 16 random);
-      replies = λ whole actable texts.
-          h.replies ordered actable (texts_then m T (restricted k T) v (alike.verdict (drop 16 random)) texts)
+      recorded = λ whole. h.recorded ordered ∙ alike.records (drop 16 random) serial (take 16 random);
+      replies = λ whole texts.
+          h.replies ordered (texts_then m T (restricted k T) v (alike.verdict (drop 16 random)) texts)
           ∙ ap (with_nonce (fresh_nonce T random)) ((alike.verdict (drop 16 random)).shows true);
       nonces = h.nonces;
       numbers = h.numbers;

@@ -2,24 +2,18 @@
 use Rattle.std.proofs.Common.{◌≡◌, ℕ, ◌+◌, List, [], ◌∷◌, ◌++◌, Bool, Option, Some, None, refl, ap, ◌∙◌}
 use Rattle.desk_model.specs.Tables.{Tables}
 use Rattle.desk_model.specs.Effect.{effect, effects}
-use Rattle.desk_model.specs.Shown.{reply_of}
-use Rattle.desk_model.specs.Decide.{entries_of, listed_entry, verdict_reply}
+use Rattle.desk_model.specs.Shown.{made_account, made_order, moved_reply, reply_of}
+use Rattle.desk_model.specs.Decide.{entries_of, verdict_reply}
+use Rattle.desk_model.specs.Entry.{entry_of}
 use Rattle.desk_model.specs.declared.entry.Entry.{Entry}
-use Rattle.desk_model.specs.declared.entry.Entry.TheVariants.{Issued as issued, Spent as spent}
+use Rattle.desk_model.specs.declared.entry.Entry.TheVariants.{Issued as issued, Opened as opened, Ordered as ordered, Spent as spent}
 use Rattle.desk_model.specs.declared.rows.Meta.{Meta}
-use Rattle.desk_model.specs.declared.verdict.Shows.{Shows}
 use Rattle.desk_model.specs.declared.verdict.Verdict.{Verdict}
-use Rattle.desk_model.specs.declared.verdict.Verdict.TheVariants.{Refused as refused, Accepted as accepted}
+use Rattle.desk_model.specs.declared.verdict.Verdict.TheVariants.{Refused as refused, Answers as answers, Opens as opens, Orders as orders, Moves as moves}
 use Rattle.desk_laws.proofs.Plain.{issued_effect, spent_effect}
 use Rattle.desk_decisions.specs.SameRows.{SameRows}
 use Rattle.desk_changes.proofs.QuietEntries.{issued_meta, spent_meta}
 use Rattle.desk_decisions.proofs.SameVerdicts.{same_beside}
-
--- ---- what is shown
-
--- tables with the same rows show the same
-shown_same : (T U : Tables) (what : Shows) → SameRows T U → reply_of T what ≡ reply_of U what
-shown_same T U what h = ap (λ X. reply_of X what) (same_beside T U h)
 
 -- ---- what an entry does
 
@@ -38,21 +32,25 @@ entry_same m T U e h =
       last_challenges = ap (λ X. (effect m X e).meta.challenges) (same_beside T U h);
     }
 
--- so does the entry of a verdict, if it has one
-pub effects_same : (m : ℕ) (T U : Tables) (entry : Option Entry) → SameRows T U → SameRows (effects m T (listed_entry entry)) (effects m U (listed_entry entry))
-effects_same m T U None h = h
-effects_same m T U (Some e) h = entry_same m T U e h
+-- so does what a verdict records
+pub verdict_same : (m : ℕ) (T U : Tables) (v : Verdict) → SameRows T U → SameRows (effects m T (entries_of v)) (effects m U (entries_of v))
+verdict_same m T U (refused why subproblems) h = h
+verdict_same m T U (answers what) h = h
+verdict_same m T U (opens key contacts) h = entry_same m T U (opened key contacts) h
+verdict_same m T U (orders account wanted) h = entry_same m T U (ordered account wanted) h
+verdict_same m T U (moves move) h = entry_same m T U (entry_of move) h
 
--- whatever is shown after it is the same
-pub reply_same : (m : ℕ) (T U : Tables) (entry : Option Entry) (what : Shows) → SameRows T U →
-    reply_of (effects m T (listed_entry entry)) what ≡ reply_of (effects m U (listed_entry entry)) what
-reply_same m T U entry what h = shown_same (effects m T (listed_entry entry)) (effects m U (listed_entry entry)) what (effects_same m T U entry h)
-
--- so is the reply of a verdict
+-- the reply of a verdict is the same after it
 pub verdict_reply_same : (index : Bool) (m : ℕ) (T U : Tables) (v : Verdict) → SameRows T U →
     verdict_reply index (effects m T (entries_of v)) v ≡ verdict_reply index (effects m U (entries_of v)) v
-verdict_reply_same index m T U (refused number subproblems) h = refl
-verdict_reply_same index m T U (accepted entry what) h = reply_same m T U entry what h
+verdict_reply_same index m T U (refused why subproblems) h = refl
+verdict_reply_same index m T U (answers what) h = ap (λ X. reply_of X what) (same_beside T U h)
+verdict_reply_same index m T U (opens key contacts) h =
+    ap made_account (same_beside (effect m T (opened key contacts)) (effect m U (opened key contacts)) (entry_same m T U (opened key contacts) h))
+verdict_reply_same index m T U (orders account wanted) h =
+    ap made_order (same_beside (effect m T (ordered account wanted)) (effect m U (ordered account wanted)) (entry_same m T U (ordered account wanted) h))
+verdict_reply_same index m T U (moves move) h =
+    ap (λ X. moved_reply X move) (same_beside (effect m T (entry_of move)) (effect m U (entry_of move)) (entry_same m T U (entry_of move) h))
 
 -- entries after others
 pub effects-append : (m : ℕ) (T : Tables) (es fs : List Entry) → effects m T (es ++ fs) ≡ effects m (effects m T es) fs

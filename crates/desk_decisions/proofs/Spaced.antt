@@ -1,5 +1,5 @@
 -- The tokens that verdicts take: one for each challenge of a new order, and none else.
-use Rattle.std.proofs.Common.{◌≡◌, ◌≤◌, ◌+◌, ◌*◌, ℕ, length, List, [], ◌∷◌, Bool, not, drop, Option, Some, None, Result, Ok, Err, refl}
+use Rattle.std.proofs.Common.{◌≡◌, ◌≤◌, ◌+◌, ◌*◌, ℕ, length, List, [], ◌∷◌, Bool, not, drop, Option, Some, None, Result, Ok, Err, refl, arith}
 use Rattle.std.specs.Prelude.{nat_le}
 use Rattle.desk_model.specs.declared.refusal.Refusal.{Refusal}
 use Rattle.desk_model.specs.declared.refusal.Refusal.TheVariants as refusal
@@ -25,7 +25,9 @@ use Rattle.desk_model.specs.declared.call.OrderProblem.{OrderProblem}
 use Rattle.desk_model.specs.declared.call.Signed.{Signed}
 use Rattle.desk_model.specs.declared.call.Target.{Target}
 use Rattle.desk_model.specs.declared.call.Target.TheVariants as to
-use Rattle.desk_model.specs.declared.entry.Entry.TheVariants.{Made as made, Issued as issued, Spent as spent, Opened as opened, Ordered as ordered}
+use Rattle.desk_model.specs.Entry.{entry_of}
+use Rattle.desk_model.specs.declared.moves.Move.{Move}
+use Rattle.desk_model.specs.declared.moves.Move.TheVariants as move
 use Rattle.desk_model.specs.declared.entry.Outcome.{Outcome}
 use Rattle.desk_model.specs.declared.payload.AccountChange.{AccountChange}
 use Rattle.desk_model.specs.declared.payload.AccountChange.TheVariants as change
@@ -42,9 +44,8 @@ use Rattle.desk_model.specs.declared.rows.ChallengeRow.{ChallengeRow}
 use Rattle.desk_model.specs.declared.rows.Meta.{Meta}
 use Rattle.desk_model.specs.declared.rows.OrderRow.{OrderRow}
 use Rattle.desk_model.specs.declared.verdict.Verdict.{Verdict}
-use Rattle.desk_model.specs.declared.verdict.Verdict.TheVariants.{Refused as refused, Accepted as accepted}
+use Rattle.desk_model.specs.declared.verdict.Verdict.TheVariants.{Refused as refused, Answers as answers, Opens as opens, Orders as orders, Moves as moves}
 use Rattle.desk_lives.proofs.Steps as step
-use Rattle.desk_changes.specs.Acting.{MakesNone}
 use Rattle.desk_rules.specs.Needs.{HasTokens, IsSpaced, NumbersLeft, BytesLeft}
 use Rattle.desk_rules.proofs.NamesWanted.{length-pieces}
 
@@ -69,13 +70,13 @@ choose_keeps P b v w h = step.choose_keeps P b v w (λ _. h)
 -- ---- signed requests
 
 -- an account that is opened
-open_spaced : (T : Tables) (key : List ℕ) (p : NewAccount) → IsSpaced (open_account T key p)
-open_spaced T key p = check_keeps IsSpaced (not p.only_existing) refusal.AccountDoesNotExist _ tt (fault_keeps IsSpaced (contacts_fault p.contacts) _ (λ _. tt) tt)
+open_spaced : (key : List ℕ) (p : NewAccount) → IsSpaced (open_account key p)
+open_spaced key p = check_keeps IsSpaced (not p.only_existing) refusal.AccountDoesNotExist _ tt (fault_keeps IsSpaced (contacts_fault p.contacts) _ (λ _. tt) tt)
 
 -- newAccount
-new_account_spaced : (T : Tables) (key : List ℕ) (o : Option AccountRow) (p : Option NewAccount) → IsSpaced (new_account_verdict T key o p)
-new_account_spaced T key (Some a) p = check_keeps IsSpaced (is_valid_account a.status) refusal.Unauthorized _ tt (given_keeps IsSpaced p refusal.Malformed _ tt (λ _. tt))
-new_account_spaced T key None p = given_keeps IsSpaced p refusal.Malformed _ tt (open_spaced T key)
+new_account_spaced : (key : List ℕ) (o : Option AccountRow) (p : Option NewAccount) → IsSpaced (new_account_verdict key o p)
+new_account_spaced key (Some a) p = check_keeps IsSpaced (is_valid_account a.status) refusal.Unauthorized _ tt (given_keeps IsSpaced p refusal.Malformed _ tt (λ _. tt))
+new_account_spaced key None p = given_keeps IsSpaced p refusal.Malformed _ tt (open_spaced key)
 
 -- a change of an account
 account_spaced : (n : ℕ) (p : AccountChange) → IsSpaced (account_verdict n p)
@@ -90,13 +91,13 @@ wanted_spaced [] r = tt
 wanted_spaced (n ∷ ns) r = (length-pieces (length (kinds_of n)) r, wanted_spaced ns (drop (16 * length (kinds_of n)) r))
 
 -- an order of names
-order_spaced : (T : Tables) (r : List ℕ) (n : ℕ) (ids : List Identifier) (ss : List Subproblem) → IsSpaced (order_of T r n ids ss)
-order_spaced T r n ids (s ∷ ss) = tt
-order_spaced T r n ids [] = wanted_spaced (kept (names_in ids)) r
+order_spaced : (r : List ℕ) (n : ℕ) (ids : List Identifier) (ss : List Subproblem) → IsSpaced (order_of r n ids ss)
+order_spaced r n ids (s ∷ ss) = tt
+order_spaced r n ids [] = wanted_spaced (kept (names_in ids)) r
 
 -- newOrder
-new_order_spaced : (T : Tables) (r : List ℕ) (n : ℕ) (ids : List Identifier) → IsSpaced (new_order_verdict T r n ids)
-new_order_spaced T r n ids = check_keeps IsSpaced (has_length 1 most_names ids) refusal.Malformed _ tt (order_spaced T r n ids (subproblems ids))
+new_order_spaced : (r : List ℕ) (n : ℕ) (ids : List Identifier) → IsSpaced (new_order_verdict r n ids)
+new_order_spaced r n ids = check_keeps IsSpaced (has_length 1 most_names ids) refusal.Malformed _ tt (order_spaced r n ids (subproblems ids))
 
 -- an order that is finalized
 finalize_spaced : (n : ℕ) (o : OrderRow) (text : List ℕ) → IsSpaced (finalize_verdict n o text)
@@ -115,7 +116,7 @@ challenge_spaced n a chall_change.Answer = choose_keeps IsSpaced (stands_open (�
 -- a request of an account
 target_spaced : (T : Tables) (r : List ℕ) (n : ℕ) (p : List ℕ) (t : Target) → IsSpaced (target_verdict T r n p t)
 target_spaced T r n p to.NewAccount = tt
-target_spaced T r n p to.NewOrder = given_keeps IsSpaced _ refusal.Malformed _ tt (new_order_spaced T r n)
+target_spaced T r n p to.NewOrder = given_keeps IsSpaced _ refusal.Malformed _ tt (new_order_spaced r n)
 target_spaced T r n p (to.Account k) = check_keeps IsSpaced _ refusal.NotFound _ tt (given_keeps IsSpaced _ refusal.Malformed _ tt (account_spaced n))
 target_spaced T r n p (to.Orders k) = check_keeps IsSpaced _ refusal.NotFound _ tt (check_keeps IsSpaced _ refusal.Malformed _ tt tt)
 target_spaced T r n p (to.Order k) = given_keeps IsSpaced _ refusal.NotFound _ tt (λ o. check_keeps IsSpaced _ refusal.Malformed _ tt tt)
@@ -130,7 +131,7 @@ holder_spaced T r p t o = given_keeps IsSpaced o refusal.AccountDoesNotExist _ t
 
 -- a request of a key
 key_spaced : (T : Tables) (r key p : List ℕ) (t : Target) → IsSpaced (key_verdict T r key p t)
-key_spaced T r key p to.NewAccount = new_account_spaced T key (account_with_key T key) _
+key_spaced T r key p to.NewAccount = new_account_spaced key (account_with_key T key) _
 key_spaced T r key p t = holder_spaced T r p t (account_with_key T key)
 
 -- a signed request
@@ -143,10 +144,11 @@ signed_spaced T r s = by s.key
 
 -- ---- the other asks
 
--- the verdict's entry, if it has one, moves rows and makes none
+-- the verdict makes no account and no order
 abbrev pub IsQuiet : Verdict → Type 0
-IsQuiet (refused number subproblems) = Unit {0}
-IsQuiet (accepted entry what) = MakesNone entry
+IsQuiet (opens key contacts) = ⊥
+IsQuiet (orders account wanted) = ⊥
+IsQuiet _ = Unit {0}
 
 -- a report on a challenge
 outcome_quiet : (n : ℕ) (a : AuthorizationRow) (c : ChallengeRow) (outcome : Outcome) → IsQuiet (outcome_verdict n a c outcome)
@@ -193,30 +195,38 @@ office_quiet T (ask.KeyOf n) = given_keeps IsQuiet _ refusal.NotFound _ tt (λ _
 
 -- such a verdict takes no tokens
 quiet_spaced : (v : Verdict) → IsQuiet v → IsSpaced v
-quiet_spaced (refused number ss) h = tt
-quiet_spaced (accepted None what) h = tt
-quiet_spaced (accepted (Some (made terms)) what) h = absurd h
-quiet_spaced (accepted (Some (issued r)) what) h = absurd h
-quiet_spaced (accepted (Some (spent n)) what) h = absurd h
-quiet_spaced (accepted (Some (opened key contacts)) what) h = absurd h
-quiet_spaced (accepted (Some (ordered n ws)) what) h = absurd h
-quiet_spaced (accepted (Some _) what) h = tt
+quiet_spaced (refused why ss) h = tt
+quiet_spaced (answers what) h = tt
+quiet_spaced (opens key contacts) h = absurd h
+quiet_spaced (orders account wanted) h = absurd h
+quiet_spaced (moves move) h = tt
 
 -- no numbers
 quiet_numbers : (M : Meta) (v : Verdict) → IsQuiet v → NumbersLeft M v
-quiet_numbers M (refused number ss) h = tt
-quiet_numbers M (accepted None what) h = tt
-quiet_numbers M (accepted (Some (opened key contacts)) what) h = absurd h
-quiet_numbers M (accepted (Some (ordered n ws)) what) h = absurd h
-quiet_numbers M (accepted (Some _) what) h = tt
+quiet_numbers M (refused why ss) h = tt
+quiet_numbers M (answers what) h = tt
+quiet_numbers M (opens key contacts) h = absurd h
+quiet_numbers M (orders account wanted) h = absurd h
+quiet_numbers M (moves move) h = tt
+
+-- a move takes no random bytes
+no_pieces : (v : Move) → count_pieces (entry_of v ∷ []) ≡ 0
+no_pieces (move.ContactsChanged n contacts) = refl
+no_pieces (move.AccountEnded n ending) = refl
+no_pieces (move.Answered n) = refl
+no_pieces (move.Reported n outcome) = refl
+no_pieces (move.AuthorizationEnded n ending) = refl
+no_pieces (move.Finalized n csr) = refl
+no_pieces (move.Certified n certificate) = refl
+no_pieces (move.Failed n problem) = refl
 
 -- and no random bytes
 quiet_bytes : (v : Verdict) → IsQuiet v → count_pieces (entries_of v) ≡ 0
-quiet_bytes (refused number ss) h = refl
-quiet_bytes (accepted None what) h = refl
-quiet_bytes (accepted (Some (issued r)) what) h = absurd h
-quiet_bytes (accepted (Some (ordered n ws)) what) h = absurd h
-quiet_bytes (accepted (Some _) what) h = refl
+quiet_bytes (refused why ss) h = refl
+quiet_bytes (answers what) h = refl
+quiet_bytes (opens key contacts) h = absurd h
+quiet_bytes (orders account wanted) h = absurd h
+quiet_bytes (moves move) h = no_pieces move
 
 -- so it is for an ask that carries no nonce: no tokens,
 pub office_spaced : (T : Tables) (a : Ask) → IsSpaced (office_verdict T a)
@@ -234,11 +244,11 @@ no_bytes a T = quiet_bytes (office_verdict T a) (office_quiet T a)
 
 -- where there are bytes for the tokens of an order, and for a nonce, there are for both
 bytes_enough : (random : List ℕ) (v : Verdict) → IsSpaced v → BytesLeft random v → 16 ≤ length random → 16 * (1 + count_pieces (entries_of v)) ≤ length random
-bytes_enough random (refused number ss) spaced left enough = enough
-bytes_enough random (accepted None what) spaced left enough = enough
-bytes_enough random (accepted (Some (ordered n ws)) what) spaced left enough = left
-bytes_enough random (accepted (Some (issued r)) what) spaced left enough = absurd spaced
-bytes_enough random (accepted (Some _) what) spaced left enough = enough
+bytes_enough random (refused why ss) spaced left enough = enough
+bytes_enough random (answers what) spaced left enough = enough
+bytes_enough random (opens key contacts) spaced left enough = enough
+bytes_enough random (orders account wanted) spaced left enough = left
+bytes_enough random (moves move) spaced left enough = omega (arith, no_pieces move)
 
 -- a signed request
 pub pieces_bounded : (T : Tables) (r : List ℕ) (s : Signed) (random : List ℕ) → BytesLeft random (signed_verdict T r s) → 16 ≤ length random →

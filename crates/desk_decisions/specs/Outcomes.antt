@@ -16,7 +16,6 @@ use Rattle.desk_model.specs.declared.call.Ask.TheVariants as ask
 use Rattle.desk_model.specs.declared.call.Signed.{Signed}
 use Rattle.desk_model.specs.declared.refusal.Refusal.TheVariants as refusal
 use Rattle.desk_laws.specs.Ordered.{IsOrdered}
-use Rattle.desk_changes.specs.Acting.{IsActable}
 use Rattle.desk_decisions.specs.HasTexts.{HasTexts}
 use Rattle.desk_rules.specs.Needs.{BytesLeft, NumbersLeft, NumbersSpent}
 use Rattle.desk_changes.specs.Recorded.{recorded_changes}
@@ -33,8 +32,8 @@ pub record Issues (m : ℕ) (B : Tables) (random : List ℕ) (answer : Reply) (c
 
 -- a nonce is spent, one is issued, and the verdict is carried out
 pub record Passes (m : ℕ) (B : Tables) (random : List ℕ) (serial : ℕ) (v : Verdict) (changes : List Change) (reply : Reply) : Type 0 where
-  pub recorded : IsOrdered B → IsActable B.meta v → changes ≡ recorded_changes m B (nonce_entries serial random ++ entries_of v)
-  pub replies : IsOrdered B → IsActable B.meta v → HasTexts (effects m (swept m B) (entries_of v)) → reply ≡ with_nonce (fresh_nonce B random) (verdict_reply true (effects m (swept m B) (entries_of v)) v)
+  pub recorded : IsOrdered B → changes ≡ recorded_changes m B (nonce_entries serial random ++ entries_of v)
+  pub replies : IsOrdered B → HasTexts (effects m (swept m B) (entries_of v)) → reply ≡ with_nonce (fresh_nonce B random) (verdict_reply true (effects m (swept m B) (entries_of v)) v)
   pub nonces : B.meta.nonces < last_number
   pub numbers : NumbersLeft B.meta v
   pub tokens : BytesLeft random v
@@ -42,8 +41,8 @@ pub record Passes (m : ℕ) (B : Tables) (random : List ℕ) (serial : ℕ) (v :
 
 -- the verdict on a request without a nonce is carried out
 pub record Settles (m : ℕ) (B : Tables) (v : Verdict) (changes : List Change) (reply : Reply) : Type 0 where
-  pub recorded : IsOrdered B → IsActable B.meta v → changes ≡ recorded_changes m B (entries_of v)
-  pub replies : IsOrdered B → IsActable B.meta v → HasTexts (effects m (swept m B) (entries_of v)) → reply ≡ verdict_reply false (effects m (swept m B) (entries_of v)) v
+  pub recorded : IsOrdered B → changes ≡ recorded_changes m B (entries_of v)
+  pub replies : IsOrdered B → HasTexts (effects m (swept m B) (entries_of v)) → reply ≡ verdict_reply false (effects m (swept m B) (entries_of v)) v
 
 abbrev pub MeetsSigned : ℕ → Tables → List ℕ → Signed → Option ℕ → List Change → Reply → Type 0
 MeetsSigned m B random s None changes reply = Issues m B random (refusal_reply true refusal.BadNonce []) changes reply

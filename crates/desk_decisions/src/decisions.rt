@@ -14,7 +14,7 @@ ghost use Rattle.desk_model.specs.Entry.{History};
 ghost use Rattle.desk_model.specs.Legal.{Legal};
 ghost use Rattle.desk_model.specs.Tables.{picture};
 ghost use Rattle.desk_model.specs.Tokens.{nonce_text};
-ghost use Rattle.desk_changes.specs.Acting.{IsActable, IsAt, is_recording};
+ghost use Rattle.desk_changes.specs.Acting.{IsAt};
 ghost use Rattle.desk_decisions.specs.HasTexts.{HasTexts};
 ghost use Rattle.desk_decisions.specs.Decided.{IsDecision, IsFaultOf};
 ghost use Rattle.desk_parts.specs.IsPart.{IsPartFor};
@@ -119,10 +119,10 @@ fn act_with_nonce(
 ) -> Result<Reply, AllocError>
     requires nonces { book.now.meta.nonces < last_number }
     requires numbers { NumbersLeft recording.old.meta verdict }
-    ensures recorded { OnOk result (IsActable recording.old.meta verdict → (m : ℕ) (es : List EntryOf) → IsOrdered book.now → IsUntouched m book.now es
+    ensures recorded { OnOk result ((m : ℕ) (es : List EntryOf) → IsOrdered book.now → IsUntouched m book.now es
         → IsRecorded m book.now es recording.old.changes.items recording.old.meta
         → IsRecorded m book.now (es ++ entries_of verdict) recording.new.changes.items recording.new.meta) }
-    ensures reply { IfOk result (λ r. IsActable recording.old.meta verdict → (m : ℕ) → IsAt m book.now recording.old.meta → IsOrdered book.now
+    ensures reply { IfOk result (λ r. (m : ℕ) → IsAt m book.now recording.old.meta → IsOrdered book.now
         → HasTexts (effects m (swept m book.now) (entries_of verdict))
         → r ≡ with_nonce (nonce_text (book.now.meta.nonces + 1) random) (verdict_reply true (effects m (swept m book.now) (entries_of verdict)) verdict)) }
 {
@@ -143,9 +143,9 @@ fn passed(
     requires moment { moment ≤ last_moment }
     requires nonces { book.now.meta.nonces < last_number }
     requires numbers { NumbersLeft book.now.meta verdict }
-    ensures changes { IfOk result (λ o. IsOrdered book.now → IsActable book.now.meta verdict
+    ensures changes { IfOk result (λ o. IsOrdered book.now
         → o.changes.items ≡ recorded_changes moment book.now (nonce_entries serial random.now ++ entries_of verdict)) }
-    ensures reply { IfOk result (λ o. IsOrdered book.now → IsActable book.now.meta verdict → HasTexts (effects moment (swept moment book.now) (entries_of verdict))
+    ensures reply { IfOk result (λ o. IsOrdered book.now → HasTexts (effects moment (swept moment book.now) (entries_of verdict))
         → o.reply ≡ with_nonce (fresh_nonce book.now random.now) (verdict_reply true (effects moment (swept moment book.now) (entries_of verdict)) verdict)) }
     ensures bytes { IfOk result (λ _. 16 ≤ length random.now) }
     ensures fault { IfErr result (λ e. IsShort random.now e) }
@@ -204,16 +204,6 @@ fn signed(
     }
 }
 
-// Whether a verdict records an entry.
-fn records_entry(verdict: &Verdict) -> bool
-    ensures { result ≡ is_recording verdict.now }
-{
-    match verdict {
-        Verdict::Refused { .. } => false,
-        Verdict::Accepted { entry, .. } => entry.is_some(),
-    }
-}
-
 // A request without a nonce that records an entry.
 fn recorded(
     alloc: Global,
@@ -223,9 +213,9 @@ fn recorded(
 ) -> Result<Outcome, AllocError>
     requires moment { moment ≤ last_moment }
     requires numbers { NumbersLeft book.now.meta verdict }
-    ensures changes { IfOk result (λ o. IsOrdered book.now → IsActable book.now.meta verdict
+    ensures changes { IfOk result (λ o. IsOrdered book.now
         → o.changes.items ≡ sweep_changes moment book.now ++ all_changes moment (swept moment book.now) (entries_of verdict)) }
-    ensures reply { IfOk result (λ o. IsOrdered book.now → IsActable book.now.meta verdict → HasTexts (effects moment (swept moment book.now) (entries_of verdict))
+    ensures reply { IfOk result (λ o. IsOrdered book.now → HasTexts (effects moment (swept moment book.now) (entries_of verdict))
         → o.reply ≡ verdict_reply false (effects moment (swept moment book.now) (entries_of verdict)) verdict) }
 {
     let mut recording = Recording::begin(alloc, book, moment)?;
@@ -236,24 +226,14 @@ fn recorded(
     })
 }
 
-// The reply to a request without a nonce that records nothing.
-fn unrecorded(
-    alloc: Global,
-    book: &Book,
-    moment: u64,
-    verdict: Verdict,
-) -> Result<Reply, AllocError>
-    ensures { IfOk result (λ r. is_recording verdict ≡ false → HasTexts (swept moment book.now) → r ≡ verdict_reply false (swept moment book.now) verdict) }
+// A reply to a request that records nothing.
+fn unrecorded(alloc: Global, reply: Reply) -> Outcome
+    ensures changes { result.changes.items ≡ [] }
+    ensures reply { result.reply ≡ reply }
 {
-    match verdict {
-        Verdict::Refused {
-            refusal,
-            subproblems,
-        } => Ok(refusal_reply(refusal, subproblems, false)),
-        Verdict::Accepted { entry: _, shows } => {
-            let reply = show(alloc, book, &None, moment, shows)?;
-            Ok(reply)
-        }
+    Outcome {
+        changes: Vec::new(alloc),
+        reply,
     }
 }
 
@@ -263,15 +243,20 @@ fn settled(alloc: Global, book: &Book, moment: u64, verdict: Verdict) -> Result<
     requires numbers { NumbersLeft book.now.meta verdict }
     ensures { IfOk result (λ o. Settles moment book.now verdict o.changes.items o.reply) }
 {
-    if records_entry(&verdict) {
-        let outcome = recorded(alloc, book, moment, verdict)?;
-        return Ok(outcome);
+    match verdict {
+        Verdict::Refused {
+            refusal,
+            subproblems,
+        } => Ok(unrecorded(alloc, refusal_reply(refusal, subproblems, false))),
+        Verdict::Answers(shows) => {
+            let reply = show(alloc, book, moment, shows)?;
+            Ok(unrecorded(alloc, reply))
+        }
+        verdict => {
+            let outcome = recorded(alloc, book, moment, verdict)?;
+            Ok(outcome)
+        }
     }
-    let reply = unrecorded(alloc, book, moment, verdict)?;
-    Ok(Outcome {
-        changes: Vec::new(alloc),
-        reply,
-    })
 }
 
 // A request of the validator, the signing office or the operator, or for the directory.

@@ -1,218 +1,192 @@
-//! What a verdict names, shown as its rows stand at a moment and after an entry, if there is one (RFC 8555, 7).
-ghost use Rattle.std.specs.Prelude.{◌≡◌, IfOk};
+//! What a verdict names, shown as its rows stand at a moment and after a move, if there is one (RFC 8555, 7).
+ghost use Rattle.std.specs.Prelude.{◌≡◌, ◌∷◌, [], IfOk};
+ghost use Rattle.desk_model.specs.Effect.{effects, swept};
+ghost use Rattle.desk_model.specs.Entry.{entry_of};
 ghost use Rattle.desk_model.specs.Questions.{account_on, order_on};
-ghost use Rattle.desk_model.specs.Shown.{located_account, located_order, reply_of, shown};
+ghost use Rattle.desk_model.specs.Shown.{located_account, located_order, moved_reply, reply_of, shown};
+ghost use Rattle.desk_model.specs.Tables.{Tables};
 ghost use Rattle.desk_model.specs.declared.verdict.Shows.TheVariants as show;
-ghost use Rattle.desk_changes.specs.Acting.{IsShownWith, MakesNone, tables_with};
 ghost use Rattle.desk_decisions.specs.HasTexts.{HasTexts};
 
 use desk_book::Book;
-use desk_changes::{shown_account, shown_authorization, shown_order, shown_owner};
-use desk_model::{Entry, Reply, Shows};
+use desk_changes::View;
+use desk_model::{Move, Reply, Shows};
 use desk_replies::{
     account_reply, authorization_reply, certificate_reply, challenge_in, client_challenge_in,
-    key_reply, list_reply, located_account, located_order, order_names, order_reply, plain,
+    key_reply, list_reply, located_account, located_order, not_found, order_names, order_reply,
 };
 use std::alloc::{AllocError, Global};
 
-fn show_account(
-    alloc: Global,
-    book: &Book,
-    entry: &Option<Entry>,
-    moment: u64,
-    number: u64,
-) -> Result<Reply, AllocError>
-    ensures { IfOk result (λ r. MakesNone entry.now → r ≡ reply_of (tables_with moment book.now entry.now) (show.Account number)) }
+fn show_account(alloc: Global, view: &View, number: u64) -> Result<Reply, AllocError>
+    ensures { IfOk result (λ r. r ≡ reply_of view.now (show.Account number)) }
 {
-    match shown_account(book, entry, moment, number)? {
+    match view.account(number)? {
         Some(row) => {
-            let reply = account_reply(alloc, &book.meta().policy, 200, &row)?;
+            let reply = account_reply(alloc, view.policy(), 200, &row)?;
             Ok(reply)
         }
-        None => Ok(plain(200)),
+        None => Ok(not_found(alloc)),
     }
 }
 
-fn show_located_account(
-    alloc: Global,
-    book: &Book,
-    entry: &Option<Entry>,
-    moment: u64,
-    number: u64,
-    status: u16,
-) -> Result<Reply, AllocError>
-    ensures { IfOk result (λ r. MakesNone entry.now
-        → r ≡ shown (located_account status (tables_with moment book.now entry.now)) (account_on (tables_with moment book.now entry.now) number)) }
+fn show_known_account(alloc: Global, view: &View, number: u64) -> Result<Reply, AllocError>
+    ensures { IfOk result (λ r. r ≡ reply_of view.now (show.KnownAccount number)) }
 {
-    match shown_account(book, entry, moment, number)? {
+    match view.account(number)? {
         Some(row) => {
-            let reply = located_account(alloc, &book.meta().policy, status, &row)?;
+            let reply = located_account(alloc, view.policy(), 200, &row)?;
             Ok(reply)
         }
-        None => Ok(plain(200)),
+        None => Ok(not_found(alloc)),
     }
 }
 
-fn show_key(
-    alloc: Global,
-    book: &Book,
-    entry: &Option<Entry>,
-    moment: u64,
-    number: u64,
-) -> Result<Reply, AllocError>
-    ensures { IfOk result (λ r. MakesNone entry.now → r ≡ reply_of (tables_with moment book.now entry.now) (show.Key number)) }
+fn show_key(alloc: Global, view: &View, number: u64) -> Result<Reply, AllocError>
+    ensures { IfOk result (λ r. r ≡ reply_of view.now (show.Key number)) }
 {
-    match shown_account(book, entry, moment, number)? {
+    match view.account(number)? {
         Some(row) => {
             let reply = key_reply(alloc, &row)?;
             Ok(reply)
         }
-        None => Ok(plain(200)),
+        None => Ok(not_found(alloc)),
     }
 }
 
-fn show_order(
-    alloc: Global,
-    book: &Book,
-    entry: &Option<Entry>,
-    moment: u64,
-    number: u64,
-) -> Result<Reply, AllocError>
-    ensures { IfOk result (λ r. MakesNone entry.now → HasTexts (tables_with moment book.now entry.now) → r ≡ reply_of (tables_with moment book.now entry.now) (show.Order number)) }
+fn show_order(alloc: Global, view: &View, number: u64) -> Result<Reply, AllocError>
+    ensures { IfOk result (λ r. HasTexts view.now → r ≡ reply_of view.now (show.Order number)) }
 {
-    match shown_order(alloc, book, entry, moment, number)? {
+    match view.order(alloc, number)? {
         Some(row) => {
-            let names = order_names(alloc, book, &row)?;
-            let reply = order_reply(alloc, &book.meta().policy, 200, &row, &names)?;
+            let names = order_names(alloc, view.book(), &row)?;
+            let reply = order_reply(alloc, view.policy(), 200, &row, &names)?;
             Ok(reply)
         }
-        None => Ok(plain(200)),
+        None => Ok(not_found(alloc)),
     }
 }
 
-fn show_located_order(
-    alloc: Global,
-    book: &Book,
-    entry: &Option<Entry>,
-    moment: u64,
-    number: u64,
-    status: u16,
-) -> Result<Reply, AllocError>
-    ensures { IfOk result (λ r. MakesNone entry.now → HasTexts (tables_with moment book.now entry.now)
-        → r ≡ shown (located_order status (tables_with moment book.now entry.now)) (order_on (tables_with moment book.now entry.now) number)) }
+// An order that was finalized has its Location (RFC 8555, 7.4).
+fn show_finalized_order(alloc: Global, view: &View, number: u64) -> Result<Reply, AllocError>
+    ensures { IfOk result (λ r. HasTexts view.now → r ≡ shown (located_order 200 view.now) (order_on view.now number)) }
 {
-    match shown_order(alloc, book, entry, moment, number)? {
+    match view.order(alloc, number)? {
         Some(row) => {
-            let names = order_names(alloc, book, &row)?;
-            let reply = located_order(alloc, &book.meta().policy, status, &row, &names)?;
+            let names = order_names(alloc, view.book(), &row)?;
+            let reply = located_order(alloc, view.policy(), 200, &row, &names)?;
             Ok(reply)
         }
-        None => Ok(plain(200)),
+        None => Ok(not_found(alloc)),
     }
 }
 
-fn show_certificate(
-    alloc: Global,
-    book: &Book,
-    entry: &Option<Entry>,
-    moment: u64,
-    number: u64,
-) -> Result<Reply, AllocError>
-    ensures { IfOk result (λ r. MakesNone entry.now → r ≡ reply_of (tables_with moment book.now entry.now) (show.Certificate number)) }
+fn show_certificate(alloc: Global, view: &View, number: u64) -> Result<Reply, AllocError>
+    ensures { IfOk result (λ r. r ≡ reply_of view.now (show.Certificate number)) }
 {
-    match shown_order(alloc, book, entry, moment, number)? {
+    match view.order(alloc, number)? {
         Some(row) => {
-            let reply = certificate_reply(&row)?;
+            let reply = certificate_reply(alloc, &row)?;
             Ok(reply)
         }
-        None => Ok(plain(200)),
+        None => Ok(not_found(alloc)),
     }
 }
 
-fn show_authorization(
-    alloc: Global,
-    book: &Book,
-    entry: &Option<Entry>,
-    moment: u64,
-    number: u64,
-) -> Result<Reply, AllocError>
-    ensures { IfOk result (λ r. MakesNone entry.now → HasTexts (tables_with moment book.now entry.now) → r ≡ reply_of (tables_with moment book.now entry.now) (show.Authorization number)) }
+fn show_authorization(alloc: Global, view: &View, number: u64) -> Result<Reply, AllocError>
+    ensures { IfOk result (λ r. HasTexts view.now → r ≡ reply_of view.now (show.Authorization number)) }
 {
-    match shown_authorization(alloc, book, entry, moment, number)? {
+    match view.authorization(alloc, number)? {
         Some(row) => {
-            let reply = authorization_reply(alloc, &book.meta().policy, &row)?;
+            let reply = authorization_reply(alloc, view.policy(), &row)?;
             Ok(reply)
         }
-        None => Ok(plain(200)),
+        None => Ok(not_found(alloc)),
     }
 }
 
-fn show_challenge(
-    alloc: Global,
-    book: &Book,
-    entry: &Option<Entry>,
-    moment: u64,
-    number: u64,
-) -> Result<Reply, AllocError>
-    ensures { IfOk result (λ r. MakesNone entry.now → HasTexts (tables_with moment book.now entry.now) → r ≡ reply_of (tables_with moment book.now entry.now) (show.Challenge number)) }
+fn show_challenge(alloc: Global, view: &View, number: u64) -> Result<Reply, AllocError>
+    ensures { IfOk result (λ r. HasTexts view.now → r ≡ reply_of view.now (show.Challenge number)) }
 {
-    match shown_owner(alloc, book, entry, moment, number)? {
+    match view.owner(alloc, number)? {
         Some(row) => {
-            let reply = challenge_in(alloc, &book.meta().policy, number, &row)?;
+            let reply = challenge_in(alloc, view.policy(), number, &row)?;
             Ok(reply)
         }
-        None => Ok(plain(200)),
+        None => Ok(not_found(alloc)),
     }
 }
 
-fn show_client_challenge(
-    alloc: Global,
-    book: &Book,
-    entry: &Option<Entry>,
-    moment: u64,
-    number: u64,
-) -> Result<Reply, AllocError>
-    ensures { IfOk result (λ r. MakesNone entry.now → HasTexts (tables_with moment book.now entry.now) → r ≡ reply_of (tables_with moment book.now entry.now) (show.ClientChallenge number)) }
+fn show_client_challenge(alloc: Global, view: &View, number: u64) -> Result<Reply, AllocError>
+    ensures { IfOk result (λ r. HasTexts view.now → r ≡ reply_of view.now (show.ClientChallenge number)) }
 {
-    match shown_owner(alloc, book, entry, moment, number)? {
+    match view.owner(alloc, number)? {
         Some(row) => {
-            let reply = client_challenge_in(alloc, &book.meta().policy, number, &row)?;
+            let reply = client_challenge_in(alloc, view.policy(), number, &row)?;
             Ok(reply)
         }
-        None => Ok(plain(200)),
+        None => Ok(not_found(alloc)),
     }
 }
 
-/// What is shown of a book at a moment, after an entry that makes nothing, if there is one.
+// What is shown of a book at a moment, in this view of it.
+fn show_in(
+    alloc: Global,
+    book: &Book,
+    moment: u64,
+    view: &View,
+    shows: Shows,
+) -> Result<Reply, AllocError>
+    ensures { IfOk result (λ r. view.now ≡ swept moment book.now → HasTexts view.now → r ≡ reply_of view.now shows) }
+{
+    match shows {
+        Shows::List(listing) => list_reply(alloc, book, moment, listing),
+        Shows::Account(number) => show_account(alloc, view, number),
+        Shows::KnownAccount(number) => show_known_account(alloc, view, number),
+        Shows::Order(number) => show_order(alloc, view, number),
+        Shows::Certificate(number) => show_certificate(alloc, view, number),
+        Shows::Authorization(number) => show_authorization(alloc, view, number),
+        Shows::Challenge(number) => show_challenge(alloc, view, number),
+        Shows::ClientChallenge(number) => show_client_challenge(alloc, view, number),
+        Shows::Key(number) => show_key(alloc, view, number),
+    }
+}
+
+/// What is shown of a book at a moment.
 pub(crate) fn show(
     alloc: Global,
     book: &Book,
-    entry: &Option<Entry>,
     moment: u64,
     shows: Shows,
 ) -> Result<Reply, AllocError>
-    ensures { IfOk result (λ r. IsShownWith entry.now shows → HasTexts (tables_with moment book.now entry.now) → r ≡ reply_of (tables_with moment book.now entry.now) shows) }
+    ensures { IfOk result (λ r. HasTexts (swept moment book.now) → r ≡ reply_of (swept moment book.now) shows) }
 {
-    match shows {
-        Shows::Account(number) => show_account(alloc, book, entry, moment, number),
-        Shows::KnownAccount(number) => {
-            show_located_account(alloc, book, entry, moment, number, 200)
-        }
-        Shows::OpenedAccount(number) => {
-            show_located_account(alloc, book, entry, moment, number, 201)
-        }
-        Shows::Order(number) => show_order(alloc, book, entry, moment, number),
-        Shows::MadeOrder(number) => show_located_order(alloc, book, entry, moment, number, 201),
-        Shows::FinalizedOrder(number) => {
-            show_located_order(alloc, book, entry, moment, number, 200)
-        }
-        Shows::Certificate(number) => show_certificate(alloc, book, entry, moment, number),
-        Shows::Authorization(number) => show_authorization(alloc, book, entry, moment, number),
-        Shows::Challenge(number) => show_challenge(alloc, book, entry, moment, number),
-        Shows::ClientChallenge(number) => show_client_challenge(alloc, book, entry, moment, number),
-        Shows::Key(number) => show_key(alloc, book, entry, moment, number),
-        Shows::Directory | Shows::Orders(_) | Shows::ChallengeWork | Shows::OrderWork => {
-            list_reply(alloc, book, moment, shows)
-        }
+    show_in(alloc, book, moment, &View::at(book, moment), shows)
+}
+
+// The object that a move names.
+fn show_named(alloc: Global, view: &View, moved: &Move) -> Result<Reply, AllocError>
+    ensures { IfOk result (λ r. HasTexts view.now → r ≡ moved_reply view.now moved.now) }
+{
+    match moved {
+        Move::ContactsChanged(number, _) => show_account(alloc, view, *number),
+        Move::AccountEnded(number, _) => show_account(alloc, view, *number),
+        Move::Answered(number) => show_client_challenge(alloc, view, *number),
+        Move::Reported(number, _) => show_challenge(alloc, view, *number),
+        Move::AuthorizationEnded(number, _) => show_authorization(alloc, view, *number),
+        Move::Finalized(number, _) => show_finalized_order(alloc, view, *number),
+        Move::Certified(number, _) => show_order(alloc, view, *number),
+        Move::Failed(number, _) => show_order(alloc, view, *number),
     }
+}
+
+/// The object that a move names, as it stands after the move.
+pub(crate) fn show_moved(
+    alloc: Global,
+    book: &Book,
+    moment: u64,
+    moved: &Move,
+) -> Result<Reply, AllocError>
+    ensures { IfOk result (λ r. (let T : Tables = effects moment (swept moment book.now) (entry_of moved.now ∷ []) in HasTexts T → r ≡ moved_reply T moved.now)) }
+{
+    show_named(alloc, &View::after(book, moment, moved), moved)
 }

@@ -3,14 +3,13 @@ use Rattle.std.specs.Prelude.{◌≡◌, refl, ℕ, ◌+◌, List, [], ◌∷◌
 use Rattle.std.proofs.Common.{ap, ◌∙◌}
 use Rattle.desk_model.specs.declared.refusal.Refusal.TheVariants as refusal
 use Rattle.desk_model.specs.Rules.{subproblems, names_in, kept, wanted, order_of, new_order_verdict}
-use Rattle.desk_model.specs.Verdict.{check, given, records}
+use Rattle.desk_model.specs.Verdict.{check, given}
+use Rattle.desk_model.specs.declared.verdict.Verdict.TheVariants.{Orders as orders}
 use Rattle.desk_model.specs.Tables.{Tables}
 use Rattle.desk_model.specs.Name.{Name}
 use Rattle.desk_model.specs.declared.entry.Wanted.{Wanted}
 use Rattle.desk_model.specs.declared.payload.Identifier.{Identifier}
 use Rattle.desk_model.specs.declared.reply.Subproblem.{Subproblem}
-use Rattle.desk_model.specs.declared.verdict.Shows.TheVariants as show
-use Rattle.desk_examples.specs.Entries.{ordered}
 use Rattle.desk_examples.proofs.Computing.{computing}
 use Rattle.desk_examples.proofs.Naming.{naming}
 use Rattle.desk_examples.specs.Calls.{simple, zeros}
@@ -73,17 +72,17 @@ names_taken [] h = refl
 names_taken (x ∷ xs) h = rw (h.0, names_taken xs h.1) refl
 
 -- fifty identifiers are not too many
-in_number : (T : Tables) → given (Some (map identifier (names 50))) refusal.Malformed (new_order_verdict T (zeros 1600) 1) ≡ order_of T (zeros 1600) 1 (map identifier (names 50)) (subproblems (map identifier (names 50)))
+in_number : given (Some (map identifier (names 50))) refusal.Malformed (new_order_verdict (zeros 1600) 1) ≡ order_of (zeros 1600) 1 (map identifier (names 50)) (subproblems (map identifier (names 50)))
 unfolding check given
-in_number T = refl
+in_number = refl
 
 -- the steps of the decision, one after the other
 pub fifty_steps : FiftyIdentifiers → FiftyFaultless → FiftyTaken → FiftyKept → FiftyWanted → FiftyOrdered
 fifty_steps read faultless taken all_kept all_wanted T =
     let ids : List Identifier = map identifier (names 50) in
-    ap (λ (o : Option (List Identifier)). given o refusal.Malformed (new_order_verdict T (zeros 1600) 1)) read
-    ∙ in_number T
-    ∙ ap (λ (s : List Subproblem). order_of T (zeros 1600) 1 ids s) faultless
-    ∙ ap (λ (ns : List Name). records (ordered 1 (wanted (kept ns) (zeros 1600))) (show.MadeOrder (T.meta.orders + 1))) taken
-    ∙ ap (λ (ns : List Name). records (ordered 1 (wanted ns (zeros 1600))) (show.MadeOrder (T.meta.orders + 1))) all_kept
-    ∙ ap (λ (ws : List Wanted). records (ordered 1 ws) (show.MadeOrder (T.meta.orders + 1))) all_wanted
+    ap (λ (o : Option (List Identifier)). given o refusal.Malformed (new_order_verdict (zeros 1600) 1)) read
+    ∙ in_number
+    ∙ ap (λ (s : List Subproblem). order_of (zeros 1600) 1 ids s) faultless
+    ∙ ap (λ (ns : List Name). orders 1 (wanted (kept ns) (zeros 1600))) taken
+    ∙ ap (λ (ns : List Name). orders 1 (wanted ns (zeros 1600))) all_kept
+    ∙ ap (λ (ws : List Wanted). orders 1 ws) all_wanted

@@ -4,7 +4,7 @@ use Rattle.desk_model.specs.Names.{name_of}
 use Rattle.desk_model.specs.Payload.{new_order}
 use Rattle.desk_model.specs.Legal.{may_follow}
 use Rattle.desk_model.specs.Tables.{Tables}
-use Rattle.desk_model.specs.Verdict.{records}
+use Rattle.desk_model.specs.declared.verdict.Verdict.TheVariants.{Orders as orders}
 use Rattle.desk_model.specs.Rules.{subproblems, names_in, kept, wanted, target_verdict}
 use Rattle.desk_model.specs.Run.{count_pieces}
 use Rattle.desk_model.specs.declared.payload.Identifier.{Identifier}
@@ -74,7 +74,7 @@ abbrev pub FiftyOrdered : Type 0
 FiftyOrdered =
     (T : Tables)
     → target_verdict T (zeros 1600) 1 (order_text (names 50)) to.NewOrder
-    ≡ records (ordered 1 (map wants (names 50))) (show.MadeOrder (T.meta.orders + 1))
+    ≡ orders 1 (map wants (names 50))
 
 -- which takes 1600 random bytes, beside the 16 of the nonce
 abbrev pub FiftyPieces : Type 0

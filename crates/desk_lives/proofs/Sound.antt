@@ -5,7 +5,10 @@ use Rattle.std.proofs.lemmas.Bool.{and_from}
 use Rattle.desk_model.specs.declared.refusal.Refusal.{Refusal}
 use Rattle.desk_model.specs.declared.refusal.Refusal.TheVariants as refusal
 use Rattle.desk_model.specs.Keys.{IsKeyText}
+use Rattle.desk_model.specs.Entry.{entry_of}
 use Rattle.desk_model.specs.declared.entry.Entry.{Entry}
+use Rattle.desk_model.specs.declared.moves.Move.{Move}
+use Rattle.desk_model.specs.declared.entry.Entry.TheVariants.{Opened as opened, Ordered as ordered}
 use Rattle.desk_model.specs.declared.entry.Outcome.{Outcome}
 use Rattle.desk_model.specs.declared.call.OrderProblem.{OrderProblem}
 use Rattle.desk_model.specs.declared.objects.Nonce.{Nonce}
@@ -32,10 +35,10 @@ use Rattle.desk_model.specs.declared.payload.AuthorizationChange.TheVariants as 
 use Rattle.desk_model.specs.declared.payload.ChallengeChange.TheVariants as chall_change
 use Rattle.desk_model.specs.Run.{pieces_of, IsFormedAsk, IsFormedKey, IsFormedSigned}
 use Rattle.desk_model.specs.Texts.{IsTextProblem}
-use Rattle.desk_model.specs.Verdict.{answers, records, check, given, unless_fault, choose}
+use Rattle.desk_model.specs.Verdict.{check, given, unless_fault, choose}
+use Rattle.desk_model.specs.declared.verdict.Verdict.TheVariants.{Answers as answers, Opens as opens, Orders as orders, Moves as moves, Refused as refused}
 use Rattle.desk_model.specs.declared.verdict.Verdict.{Verdict}
 use Rattle.desk_model.specs.declared.verdict.Shows.{Shows}
-use Rattle.desk_model.specs.declared.verdict.Verdict.TheVariants.{Refused as refused, Accepted as accepted}
 use Rattle.desk_model.specs.Rules.{open_account, new_account_verdict, account_verdict, order_of, new_order_verdict, subproblems, if_fits, csr_in, finalize_verdict, is_endable, authorization_verdict, stands_open, challenge_verdict, own, target_verdict, holder_verdict, key_verdict, signed_verdict, if_spelled, open_nonce_in, open_nonce, outcome_verdict, report_verdict, certify_verdict, fail_verdict, revoke_authorization, revoke_account, office_verdict}
 use Rattle.desk_model.specs.declared.reply.Subproblem.{Subproblem}
 use Rattle.desk_model.specs.declared.call.Ask.{Ask}
@@ -61,9 +64,11 @@ pub record MayRecord (T : Tables) (e : Entry) : Type 0 where
 
 -- the entry of the verdict, if it has one, may be recorded
 abbrev pub Records : List ℕ → Tables → Verdict → Type 0
-Records r T (refused number subproblems) = Unit {0}
-Records r T (accepted None what) = Unit {0}
-Records r T (accepted (Some e) what) = 16 * pieces_of e ≤ length r → MayRecord T e
+Records r T (refused why subproblems) = Unit {0}
+Records r T (answers what) = Unit {0}
+Records r T (opens key contacts) = MayRecord T (opened key contacts)
+Records r T (orders account wanted) = 16 * pieces_of (ordered account wanted) ≤ length r → MayRecord T (ordered account wanted)
+Records r T (moves move) = MayRecord T (entry_of move)
 
 -- what the verdict records may be recorded, where there are random bytes enough for it
 pub record IsSound (r : List ℕ) (T : Tables) (v : Verdict) : Type 0 where
@@ -75,9 +80,9 @@ pub record IsSound (r : List ℕ) (T : Tables) (v : Verdict) : Type 0 where
 none_sound : {r : List ℕ} {T : Tables} (what : Shows) → IsSound r T (answers what)
 none_sound what = record { records = tt }
 
--- what records an entry that may follow
-one_sound : {r : List ℕ} {T : Tables} (e : Entry) (what : Shows) → IsLater e → IsFormed e → may_on T e ≡ true → IsSound r T (records e what)
-one_sound e what later formed may = record { records = λ _. record { later = later; formed = formed; allowed = may } }
+-- a move that may follow
+move_sound : {r : List ℕ} {T : Tables} (move : Move) → IsLater (entry_of move) → IsFormed (entry_of move) → may_on T (entry_of move) ≡ true → IsSound r T (moves move)
+move_sound move later formed may = record { records = record { later = later; formed = formed; allowed = may } }
 
 -- a refusal
 refused_sound : {r : List ℕ} {T : Tables} (n : Refusal) (ss : List Subproblem) → IsSound r T (refused n ss)
@@ -105,15 +110,15 @@ fault_sound r T o v h = fault_keeps (IsSound r T) o v (λ n. refused_sound n [])
 
 -- an account of another key is opened
 open_sound : (r : List ℕ) (T : Tables) (key : List ℕ) (p : NewAccount) → IsKeyText key → AsksWithTexts p → account_with_key T key ≡ None →
-    IsSound r T (open_account T key p)
+    IsSound r T (open_account key p)
 open_sound r T key p formed texts unknown =
     check_sound r T (not p.only_existing) refusal.AccountDoesNotExist _ (λ _. fault_sound r T (contacts_fault p.contacts) _
-    (λ pass. one_sound _ _ tt (formed, texts) (rw (unknown, pass) refl)))
+    (λ pass. record { records = record { later = tt; formed = (formed, texts); allowed = rw (unknown, pass) refl } }))
 
 -- newAccount
 new_account_sound : (r : List ℕ) (T : Tables) (key : List ℕ) (o : Option AccountRow) (p : Option NewAccount) → IsKeyText key →
     IfSome p AsksWithTexts → account_with_key T key ≡ o →
-    IsSound r T (new_account_verdict T key o p)
+    IsSound r T (new_account_verdict key o p)
 new_account_sound r T key (Some a) p formed texts is = check_sound r T _ refusal.Unauthorized _ (λ _. given_sound r T p refusal.Malformed _ (λ _ _. none_sound _))
 new_account_sound r T key None p formed texts is =
     given_sound r T p refusal.Malformed _ (λ x asked. open_sound r T key x formed (subst (λ o. IfSome o AsksWithTexts) asked texts) is)
@@ -123,17 +128,17 @@ account_sound : (r : List ℕ) (T : Tables) (n : ℕ) (a : AccountRow) (p : Acco
     is_valid_account a.status ≡ true →
     IsSound r T (account_verdict n p)
 account_sound r T n a change.Read texts found valid = none_sound _
-account_sound r T n a change.Deactivate texts found valid = one_sound _ _ tt tt (rw found valid)
+account_sound r T n a change.Deactivate texts found valid = move_sound _ tt tt (rw found valid)
 account_sound r T n a (change.Update None) texts found valid = none_sound _
 account_sound r T n a (change.Update (Some contacts)) texts found valid =
-    fault_sound r T (contacts_fault contacts) _ (λ pass. one_sound _ _ tt texts (rw (found, pass) (and_from _ _ valid refl)))
+    fault_sound r T (contacts_fault contacts) _ (λ pass. move_sound _ tt texts (rw (found, pass) (and_from _ _ valid refl)))
 
 -- ---- orders
 
 -- an order of names without a fault
 order_sound : (r : List ℕ) (T : Tables) (n : ℕ) (a : AccountRow) (ids : List Identifier) (ss : List Subproblem) → account_on T n ≡ Some a →
     is_valid_account a.status ≡ true → has_length 1 most_names ids ≡ true → subproblems ids ≡ ss →
-    IsSound r T (order_of T r n ids ss)
+    IsSound r T (order_of r n ids ss)
 order_sound r T n a ids (s ∷ ss) found valid fits is = refused_sound _ (s ∷ ss)
 order_sound r T n a ids [] found valid fits is =
     record {
@@ -146,7 +151,7 @@ order_sound r T n a ids [] found valid fits is =
 
 -- newOrder
 new_order_sound : (r : List ℕ) (T : Tables) (n : ℕ) (a : AccountRow) (ids : List Identifier) → account_on T n ≡ Some a → is_valid_account a.status ≡ true →
-    IsSound r T (new_order_verdict T r n ids)
+    IsSound r T (new_order_verdict r n ids)
 new_order_sound r T n a ids found valid =
     check_sound r T _ refusal.Malformed _ (λ fits. order_sound r T n a ids (subproblems ids) found valid fits refl)
 
@@ -163,7 +168,7 @@ csr_length (Some x) csr h = by (has_length 1 longest_csr x) refl h
 finalize_sound : (r : List ℕ) (T : Tables) (n : ℕ) (o : OrderRow) (text : List ℕ) → order_on T n ≡ Some o → IsSound r T (finalize_verdict n o text)
 finalize_sound r T n o text found =
     check_sound r T (is_ready o.status) refusal.OrderNotReady _ (λ ready. given_sound r T (csr_in text) refusal.BadCsr _
-    (λ csr fits. one_sound _ _ tt tt (rw found (and_from _ _ ready (csr_length (from_base64url text) csr fits)))))
+    (λ csr fits. move_sound _ tt tt (rw found (and_from _ _ ready (csr_length (from_base64url text) csr fits)))))
 
 -- ---- authorizations and challenges
 
@@ -172,14 +177,14 @@ authorization_sound : (r : List ℕ) (T : Tables) (n : ℕ) (a : AuthorizationRo
     IsSound r T (authorization_verdict n a p)
 authorization_sound r T n a authz_change.Read found = none_sound _
 authorization_sound r T n a authz_change.Deactivate found =
-    choose_sound r T (is_endable a) _ _ (λ live. one_sound _ _ tt tt (rw found live)) (none_sound _)
+    choose_sound r T (is_endable a) _ _ (λ live. move_sound _ tt tt (rw found live)) (none_sound _)
 
 -- a pending challenge is answered
 challenge_sound : (r : List ℕ) (T : Tables) (n : ℕ) (a : AuthorizationRow) (p : ChallengeChange) → owner_on T n ≡ Some a →
     IsSound r T (challenge_verdict n a p)
 challenge_sound r T n a chall_change.Read found = none_sound _
 challenge_sound r T n a chall_change.Answer found =
-    choose_sound r T (stands_open (λ c. is_pending_challenge c.status) a n) _ _ (λ open_one. one_sound _ _ tt tt (rw found open_one)) (none_sound _)
+    choose_sound r T (stands_open (λ c. is_pending_challenge c.status) a n) _ _ (λ open_one. move_sound _ tt tt (rw found open_one)) (none_sound _)
 
 -- ---- signed requests
 
@@ -245,7 +250,7 @@ outcome_sound : (r : List ℕ) (T : Tables) (n : ℕ) (a : AuthorizationRow) (c 
     IsSound r T (outcome_verdict n a c outcome)
 outcome_sound r T n a c outcome found =
     choose_sound r T _ _ _ (λ _. none_sound _)
-    (check_sound r T (stands_open (λ c. is_processing_challenge c.status) a n) refusal.Conflict _ (λ waits. one_sound _ _ tt tt (rw found waits)))
+    (check_sound r T (stands_open (λ c. is_processing_challenge c.status) a n) refusal.Conflict _ (λ waits. move_sound _ tt tt (rw found waits)))
 
 -- a report
 report_sound : (r : List ℕ) (T : Tables) (n : ℕ) (finding : Finding) → IsSound r T (report_verdict T n finding)
@@ -257,26 +262,26 @@ certify_sound : (r : List ℕ) (T : Tables) (n : ℕ) (bytes : List ℕ) (o : Or
 certify_sound r T n bytes o found =
     check_sound r T (nat_le 1 (length bytes)) refusal.Malformed _ (λ low. check_sound r T (nat_le (length bytes) longest_certificate) refusal.TooLarge _
     (λ high. choose_sound r T _ _ _ (λ _. none_sound _)
-    (check_sound r T (is_processing o.status) refusal.Conflict _ (λ waits. one_sound _ _ tt tt (rw found (and_from _ _ waits (and_from _ _ low high)))))))
+    (check_sound r T (is_processing o.status) refusal.Conflict _ (λ waits. move_sound _ tt tt (rw found (and_from _ _ waits (and_from _ _ low high)))))))
 
 -- a failure
 fail_sound : (r : List ℕ) (T : Tables) (n : ℕ) (problem : OrderProblem) (o : OrderRow) → IsTextProblem problem → order_on T n ≡ Some o →
     IsSound r T (fail_verdict n problem o)
 fail_sound r T n problem o texts found =
     check_sound r T (is_problem problem) refusal.Malformed _ (λ formed. choose_sound r T _ _ _ (λ _. none_sound _)
-    (check_sound r T (is_processing o.status) refusal.Conflict _ (λ waits. one_sound _ _ tt texts (rw found (and_from _ _ waits formed)))))
+    (check_sound r T (is_processing o.status) refusal.Conflict _ (λ waits. move_sound _ tt texts (rw found (and_from _ _ waits formed)))))
 
 -- the operator takes back an authorization
 revoke_authorization_sound : (r : List ℕ) (T : Tables) (n : ℕ) (a : AuthorizationRow) → authorization_on T n ≡ Some a →
     IsSound r T (revoke_authorization n a)
 revoke_authorization_sound r T n a found =
-    choose_sound r T _ _ _ (λ _. none_sound _) (check_sound r T (is_endable a) refusal.Conflict _ (λ live. one_sound _ _ tt tt (rw found live)))
+    choose_sound r T _ _ _ (λ _. none_sound _) (check_sound r T (is_endable a) refusal.Conflict _ (λ live. move_sound _ tt tt (rw found live)))
 
 -- the operator ends an account
 revoke_account_sound : (r : List ℕ) (T : Tables) (n : ℕ) (a : AccountRow) → account_on T n ≡ Some a → IsSound r T (revoke_account n a)
 revoke_account_sound r T n a found =
     choose_sound r T _ _ _ (λ _. none_sound _)
-    (check_sound r T (is_valid_account a.status) refusal.Conflict _ (λ valid. one_sound _ _ tt tt (rw found valid)))
+    (check_sound r T (is_valid_account a.status) refusal.Conflict _ (λ valid. move_sound _ tt tt (rw found valid)))
 
 -- an ask that carries no nonce
 pub office_sound : (r : List ℕ) (T : Tables) (a : Ask) → IsFormedAsk a → IsSound r T (office_verdict T a)

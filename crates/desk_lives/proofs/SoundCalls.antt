@@ -2,16 +2,16 @@
 use Rattle.std.proofs.Common.{◌≡◌, ◌≤◌, ◌*◌, ℕ, List, [], ◌∷◌, length, take, drop, Option, Some, None, refl, Bool, true, false, cond, not, arith, length-take, length-drop}
 use Rattle.std.specs.Prelude.{IsTrue, nat_lt}
 use Rattle.std.proofs.lemmas.Bool.{eq-eqb, ltb-false}
-use Rattle.desk_model.specs.Entry.{History}
+use Rattle.desk_model.specs.Entry.{History, entry_of}
 use Rattle.desk_model.specs.declared.entry.Entry.{Entry}
 use Rattle.desk_model.specs.declared.entry.Dated.{Dated}
-use Rattle.desk_model.specs.declared.entry.Entry.TheVariants.{Issued as issued, Spent as spent}
+use Rattle.desk_model.specs.declared.entry.Entry.TheVariants.{Issued as issued, Spent as spent, Opened as opened, Ordered as ordered}
 use Rattle.desk_model.specs.History.{clock, moment_of, record_all}
 use Rattle.desk_model.specs.Tables.{tables_at}
 use Rattle.desk_model.specs.Legal.{numbers_fit, EachFollows, BeginsMade, Legal}
 use Rattle.desk_model.specs.Limits.{last_moment}
 use Rattle.desk_model.specs.declared.verdict.Verdict.{Verdict}
-use Rattle.desk_model.specs.declared.verdict.Verdict.TheVariants.{Refused as refused, Accepted as accepted}
+use Rattle.desk_model.specs.declared.verdict.Verdict.TheVariants.{Refused as refused, Answers as answers, Opens as opens, Orders as orders, Moves as moves}
 use Rattle.desk_model.specs.Rules.{office_verdict, open_nonce}
 use Rattle.desk_model.specs.Decide.{Decision, entries_of, nonce_entries, signed_decision, office_decision, passed_decision, tables_after, decide, decide_at, after}
 use Rattle.desk_model.specs.Run.{fault, count_pieces, IsFormedAsk, IsFormedCall, IsFormedSigned}
@@ -21,7 +21,7 @@ use Rattle.desk_model.specs.declared.call.Ask.TheVariants as ask
 use Rattle.desk_model.specs.declared.call.Signed.{Signed}
 use Rattle.desk_laws.proofs.AllowedFacts.{legal_grows}
 use Rattle.desk_laws.proofs.Recorded.{tables_ordered}
-use Rattle.desk_lives.proofs.Sound.{IsSound, signed_sound, office_sound, open_serial}
+use Rattle.desk_lives.proofs.Sound.{IsSound, MayRecord, signed_sound, office_sound, open_serial}
 
 -- ---- moments
 
@@ -46,14 +46,19 @@ pub record IsMoment (F : History) (m : ℕ) : Type 0 where
   pub later : clock F ≤ m
   pub in_time : m ≤ last_moment
 
+-- an entry that may be recorded
+may_follow : (F : History) (m : ℕ) (e : Entry) → IsMoment F m → MayRecord (tables_at F m) e → EachFollows (record_all m (e ∷ []) F)
+may_follow F m e now may = legal_grows F e m now.each now.later now.in_time may.later may.formed may.allowed
+
 -- what a verdict records
 verdict_follows : (F : History) (m : ℕ) (r : List ℕ) (v : Verdict) → IsMoment F m → IsSound r (tables_at F m) v →
     16 * count_pieces (entries_of v) ≤ length r →
     EachFollows (record_all m (entries_of v) F)
 verdict_follows F m r (refused n ss) now sound enough = now.each
-verdict_follows F m r (accepted None what) now sound enough = now.each
-verdict_follows F m r (accepted (Some e) what) now sound enough =
-    let may = sound.records (omega arith) in legal_grows F e m now.each now.later now.in_time may.later may.formed may.allowed
+verdict_follows F m r (answers what) now sound enough = now.each
+verdict_follows F m r (opens key contacts) now sound enough = may_follow F m (opened key contacts) now sound.records
+verdict_follows F m r (orders account wanted) now sound enough = may_follow F m (ordered account wanted) now (sound.records (omega arith))
+verdict_follows F m r (moves move) now sound enough = may_follow F m (entry_of move) now sound.records
 
 -- a fresh nonce of full length is issued
 issued_follows : (F : History) (m : ℕ) (r : List ℕ) → IsMoment F m → 16 ≤ length r → EachFollows (record { date = m; entry = issued (take 16 r) } ∷ F)

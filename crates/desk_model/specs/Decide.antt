@@ -1,11 +1,11 @@
 -- What the desk decides on a call: a reply, and the entries to record, all at the moment at which the call acts.
 use Rattle.std.specs.Prelude.{ℕ, List, [], ◌∷◌, ◌++◌, take, drop, Bool, false, true, Option, Some, None}
-use Rattle.desk_model.specs.Entry.{Entry, issued, spent, History}
+use Rattle.desk_model.specs.Entry.{Entry, Move, entry_of, issued, spent, opened, ordered, History}
 use Rattle.desk_model.specs.History.{moment_of, record_all}
 use Rattle.desk_model.specs.Tables.{Tables, tables_at}
-use Rattle.desk_model.specs.Verdict.{Verdict, refused, accepted}
+use Rattle.desk_model.specs.Verdict.{Verdict, refused, answers, opens, orders, moves}
 use Rattle.desk_model.specs.Rules.{signed_verdict, office_verdict, open_nonce}
-use Rattle.desk_model.specs.Shown.{Reply, reply_of, refusal_reply, nonce_reply, with_nonce, fresh_nonce}
+use Rattle.desk_model.specs.Shown.{Reply, reply_of, made_account, made_order, moved_reply, refusal_reply, nonce_reply, with_nonce, fresh_nonce}
 use Rattle.desk_model.specs.declared.call.Call.{Call}
 use Rattle.desk_model.specs.declared.call.Ask.{Ask}
 use Rattle.desk_model.specs.declared.call.Ask.TheVariants as ask
@@ -16,19 +16,21 @@ pub record Decision : Type 0 where
   pub reply : Reply
   pub entries : List Entry
 
-abbrev pub listed_entry : Option Entry → List Entry
-listed_entry None = []
-listed_entry (Some e) = e ∷ []
-
 -- the entries that a verdict records
 abbrev pub entries_of : Verdict → List Entry
 entries_of (refused why subproblems) = []
-entries_of (accepted entry what) = listed_entry entry
+entries_of (answers what) = []
+entries_of (opens key contacts) = opened key contacts ∷ []
+entries_of (orders account wanted) = ordered account wanted ∷ []
+entries_of (moves move) = entry_of move ∷ []
 
 -- the reply of a verdict, by the tables after its entries
 abbrev pub verdict_reply : (index : Bool) → Tables → Verdict → Reply
 verdict_reply index T (refused why subproblems) = refusal_reply index why subproblems
-verdict_reply index T (accepted entry what) = reply_of T what
+verdict_reply index T (answers what) = reply_of T what
+verdict_reply index T (opens key contacts) = made_account T
+verdict_reply index T (orders account wanted) = made_order T
+verdict_reply index T (moves move) = moved_reply T move
 
 -- the tables after these entries, recorded at m
 abbrev pub tables_after : ℕ → List Entry → History → Tables

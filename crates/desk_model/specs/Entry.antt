@@ -10,6 +10,19 @@ pub use Rattle.desk_model.specs.declared.entry.Wanted.TheVariants.{New as new}
 pub use Rattle.desk_model.specs.declared.entry.Entry.{Entry}
 pub use Rattle.desk_model.specs.declared.entry.Entry.TheVariants.{Made as made, Issued as issued, Spent as spent, Opened as opened, ContactsChanged as contacts_changed, AccountEnded as account_ended, Ordered as ordered, Answered as answered, Reported as reported, AuthorizationEnded as authorization_ended, Finalized as finalized, Certified as certified, Failed as failed}
 pub use Rattle.desk_model.specs.declared.entry.Dated.{Dated}
+pub use Rattle.desk_model.specs.declared.moves.Move.{Move}
+use Rattle.desk_model.specs.declared.moves.Move.TheVariants as move
+
+-- the entry that a move is recorded as
+abbrev pub entry_of : Move → Entry
+entry_of (move.ContactsChanged account contacts) = contacts_changed account contacts
+entry_of (move.AccountEnded account ending) = account_ended account ending
+entry_of (move.Answered challenge) = answered challenge
+entry_of (move.Reported challenge outcome) = reported challenge outcome
+entry_of (move.AuthorizationEnded authorization ending) = authorization_ended authorization ending
+entry_of (move.Finalized order csr) = finalized order csr
+entry_of (move.Certified order certificate) = certified order certificate
+entry_of (move.Failed order problem) = failed order problem
 
 -- what was recorded, the latest first
 abbrev pub History : Type 0

@@ -4,7 +4,7 @@ use Rattle.desk_model.specs.Lookup.{holds}
 use Rattle.desk_model.specs.Name.{Name, same_name}
 use Rattle.desk_model.specs.Names.{name_of}
 use Rattle.desk_model.specs.Tokens.{NonceText, nonce_in, body_matches, records_match, from_base64url}
-use Rattle.desk_model.specs.Entry.{opened, contacts_changed, account_ended, ordered, answered, reported, authorization_ended, finalized, certified, failed, Wanted, new, Ending, deactivated, revoked, Outcome, good, incorrect_response, connection, dns, OrderProblem}
+use Rattle.desk_model.specs.Entry.{Wanted, new, Ending, deactivated, revoked, Outcome, good, incorrect_response, connection, dns, OrderProblem}
 use Rattle.desk_model.specs.Nonce.{Nonce}
 use Rattle.desk_model.specs.Account.{is_valid as is_valid_account}
 use Rattle.desk_model.specs.Authorization.{Kind, http_01, dns_01, is_pending, is_valid, kinds_of}
@@ -19,8 +19,10 @@ use Rattle.desk_model.specs.Payload as payload
 use Rattle.desk_model.specs.Document.{expected}
 use Rattle.desk_model.specs.declared.refusal.Refusal.{Refusal}
 use Rattle.desk_model.specs.declared.refusal.Refusal.TheVariants as refusal
-use Rattle.desk_model.specs.Verdict.{Verdict, refused, answers, records, check, given, unless_fault, choose}
+use Rattle.desk_model.specs.Verdict.{Verdict, refused, answers, opens, orders, moves, check, given, unless_fault, choose}
 use Rattle.desk_model.specs.declared.verdict.Shows.TheVariants as show
+use Rattle.desk_model.specs.declared.verdict.Listing.TheVariants as list
+use Rattle.desk_model.specs.declared.moves.Move.TheVariants as move
 use Rattle.desk_model.specs.declared.reply.Subproblem.{Subproblem}
 use Rattle.desk_model.specs.declared.status.AuthzStatus.{AuthzStatus}
 use Rattle.desk_model.specs.declared.status.AuthzStatus.TheVariants as authz
@@ -36,28 +38,28 @@ use Rattle.desk_model.specs.declared.call.FetchError.TheVariants as fetch
 -- ---- accounts (RFC 8555, 7.3)
 
 -- an account is opened, or refused: only an existing one was asked for, or a contact is refused
-abbrev pub open_account : Tables → List ℕ → NewAccount → Verdict
-open_account T key p =
+abbrev pub open_account : List ℕ → NewAccount → Verdict
+open_account key p =
     check (not p.only_existing) refusal.AccountDoesNotExist
     (unless_fault (contacts_fault p.contacts)
-    (records (opened key p.contacts) (show.OpenedAccount (T.meta.accounts + 1))))
+    (opens key p.contacts))
 
 -- of the payload of a known key only the form is looked at (7.3.1)
 abbrev pub known_account_verdict : AccountRow → Option NewAccount → Verdict
 known_account_verdict a payload = check (is_valid_account a.status) refusal.Unauthorized (given payload refusal.Malformed (λ p. answers (show.KnownAccount a.number)))
 
 -- newAccount (7.3)
-abbrev pub new_account_verdict : Tables → List ℕ → Option AccountRow → Option NewAccount → Verdict
-new_account_verdict T key (Some a) payload = known_account_verdict a payload
-new_account_verdict T key None payload = given payload refusal.Malformed (open_account T key)
+abbrev pub new_account_verdict : List ℕ → Option AccountRow → Option NewAccount → Verdict
+new_account_verdict key (Some a) payload = known_account_verdict a payload
+new_account_verdict key None payload = given payload refusal.Malformed (open_account key)
 
 -- POST to an account (7.3.2, 7.3.6)
 abbrev pub account_verdict : ℕ → AccountChange → Verdict
 account_verdict n payload.account.Read = answers (show.Account n)
-account_verdict n payload.account.Deactivate = records (account_ended n deactivated) (show.Account n)
+account_verdict n payload.account.Deactivate = moves (move.AccountEnded n deactivated)
 account_verdict n (payload.account.Update None) = answers (show.Account n)
 account_verdict n (payload.account.Update (Some contacts)) =
-    unless_fault (contacts_fault contacts) (records (contacts_changed n contacts) (show.Account n))
+    unless_fault (contacts_fault contacts) (moves (move.ContactsChanged n contacts))
 
 -- ---- orders (RFC 8555, 7.4)
 
@@ -101,12 +103,12 @@ wanted [] random = []
 wanted (n ∷ ns) random = new n (pieces (length (kinds_of n)) random) ∷ wanted ns (drop (16 * length (kinds_of n)) random)
 
 -- refused by the first identifier that is, with all of them listed; else an authorization is made for each name
-abbrev pub order_of : Tables → List ℕ → ℕ → List Identifier → List Subproblem → Verdict
-order_of T random n ids (s ∷ ss) = refused s.refusal (s ∷ ss)
-order_of T random n ids [] = records (ordered n (wanted (kept (names_in ids)) random)) (show.MadeOrder (T.meta.orders + 1))
+abbrev pub order_of : List ℕ → ℕ → List Identifier → List Subproblem → Verdict
+order_of random n ids (s ∷ ss) = refused s.refusal (s ∷ ss)
+order_of random n ids [] = orders n (wanted (kept (names_in ids)) random)
 
-abbrev pub new_order_verdict : Tables → List ℕ → ℕ → List Identifier → Verdict
-new_order_verdict T random n ids = check (has_length 1 most_names ids) refusal.Malformed (order_of T random n ids (subproblems ids))
+abbrev pub new_order_verdict : List ℕ → ℕ → List Identifier → Verdict
+new_order_verdict random n ids = check (has_length 1 most_names ids) refusal.Malformed (order_of random n ids (subproblems ids))
 
 abbrev pub if_fits : List ℕ → Option (List ℕ)
 if_fits csr = if has_length 1 longest_csr csr then Some csr else None
@@ -117,7 +119,7 @@ csr_in text = option_and_then if_fits (from_base64url text)
 
 abbrev pub finalize_verdict : ℕ → OrderRow → List ℕ → Verdict
 finalize_verdict n o text =
-    check (is_ready o.status) refusal.OrderNotReady (given (csr_in text) refusal.BadCsr (λ csr. records (finalized n csr) (show.FinalizedOrder n)))
+    check (is_ready o.status) refusal.OrderNotReady (given (csr_in text) refusal.BadCsr (λ csr. moves (move.Finalized n csr)))
 
 -- the bytes of a valid order (7.4.2)
 abbrev pub certificate_verdict : ℕ → OrderRow → Verdict
@@ -132,7 +134,7 @@ is_endable a = is_pending a.status || is_valid a.status
 abbrev pub authorization_verdict : ℕ → AuthorizationRow → AuthorizationChange → Verdict
 authorization_verdict n a payload.authz.Read = answers (show.Authorization n)
 authorization_verdict n a payload.authz.Deactivate =
-    choose (is_endable a) (records (authorization_ended n deactivated) (show.Authorization n)) (answers (show.Authorization n))
+    choose (is_endable a) (moves (move.AuthorizationEnded n deactivated)) (answers (show.Authorization n))
 
 -- the challenge passes, and its authorization is pending
 abbrev pub stands_open : (ChallengeRow → Bool) → AuthorizationRow → ℕ → Bool
@@ -142,7 +144,7 @@ stands_open test a n = is_pending a.status && holds test (challenge_of n a)
 abbrev pub challenge_verdict : ℕ → AuthorizationRow → ChallengeChange → Verdict
 challenge_verdict n a payload.chall.Read = answers (show.ClientChallenge n)
 challenge_verdict n a payload.chall.Answer =
-    choose (stands_open (λ c. is_pending_challenge c.status) a n) (records (answered n) (show.ClientChallenge n)) (answers (show.ClientChallenge n))
+    choose (stands_open (λ c. is_pending_challenge c.status) a n) (moves (move.Answered n)) (answers (show.ClientChallenge n))
 
 -- ---- signed requests (RFC 8555, 6)
 
@@ -159,9 +161,9 @@ own account n (Some x) = if account x == n then Some x else None
 -- the object is there and the account's own, the payload has its form, and the rules of the target, for account n
 abbrev pub target_verdict : Tables → List ℕ → ℕ → List ℕ → Target → Verdict
 target_verdict T random n p to.NewAccount = answers (show.KnownAccount n)
-target_verdict T random n p to.NewOrder = given (new_order p) refusal.Malformed (new_order_verdict T random n)
+target_verdict T random n p to.NewOrder = given (new_order p) refusal.Malformed (new_order_verdict random n)
 target_verdict T random n p (to.Account k) = check (k == n) refusal.NotFound (given (account_change p) refusal.Malformed (account_verdict n))
-target_verdict T random n p (to.Orders k) = check (k == n) refusal.NotFound (check (nothing p) refusal.Malformed (answers (show.Orders n)))
+target_verdict T random n p (to.Orders k) = check (k == n) refusal.NotFound (check (nothing p) refusal.Malformed (answers (show.List (list.Orders n))))
 target_verdict T random n p (to.Order k) = given (own (λ o. o.account) n (order_on T k)) refusal.NotFound (λ o. check (nothing p) refusal.Malformed (answers (show.Order k)))
 target_verdict T random n p (to.Finalize k) = given (own (λ o. o.account) n (order_on T k)) refusal.NotFound (λ o. given (finalize p) refusal.Malformed (finalize_verdict k o))
 target_verdict T random n p (to.Cert k) = given (own (λ o. o.account) n (order_on T k)) refusal.NotFound (λ o. check (nothing p) refusal.Malformed (certificate_verdict k o))
@@ -176,7 +178,7 @@ holder_verdict T random p target account =
     given account refusal.AccountDoesNotExist (λ a. check (is_valid_account a.status) refusal.Unauthorized (target_verdict T random a.number p target))
 
 abbrev pub key_verdict : Tables → List ℕ → List ℕ → List ℕ → Target → Verdict
-key_verdict T random key p to.NewAccount = new_account_verdict T key (account_with_key T key) (new_account p)
+key_verdict T random key p to.NewAccount = new_account_verdict key (account_with_key T key) (new_account p)
 key_verdict T random key p target = holder_verdict T random p target (account_with_key T key)
 
 -- a request that has passed the test of its nonce, by the tables after its nonce was spent and a fresh one issued;
@@ -223,7 +225,7 @@ abbrev pub outcome_verdict : ℕ → AuthorizationRow → ChallengeRow → Outco
 outcome_verdict n a c outcome =
     choose (holds (λ r. same_outcome r.outcome outcome) c.reported)
     (answers (show.Challenge n))
-    (check (stands_open (λ c. is_processing_challenge c.status) a n) refusal.Conflict (records (reported n outcome) (show.Challenge n)))
+    (check (stands_open (λ c. is_processing_challenge c.status) a n) refusal.Conflict (moves (move.Reported n outcome)))
 
 abbrev pub finding_verdict : Tables → ℕ → Finding → AuthorizationRow → ChallengeRow → Verdict
 finding_verdict T n finding a c = given (outcome_of c.kind (expected T a c) finding) refusal.Malformed (outcome_verdict n a c)
@@ -237,7 +239,7 @@ certify_verdict n bytes o =
     (check (nat_le (length bytes) longest_certificate) refusal.TooLarge
     (choose (holds (λ k. bytes_eq k.bytes bytes) o.certified)
     (answers (show.Order n))
-    (check (is_processing o.status) refusal.Conflict (records (certified n bytes) (show.Order n)))))
+    (check (is_processing o.status) refusal.Conflict (moves (move.Certified n bytes)))))
 
 abbrev pub same_problem : OrderProblem → OrderProblem → Bool
 same_problem a b = bytes_eq a.kind b.kind && bytes_eq a.detail b.detail
@@ -247,7 +249,7 @@ fail_verdict n problem o =
     check (is_problem problem) refusal.Malformed
     (choose (holds (λ f. same_problem f.problem problem) o.failed)
     (answers (show.Order n))
-    (check (is_processing o.status) refusal.Conflict (records (failed n problem) (show.Order n))))
+    (check (is_processing o.status) refusal.Conflict (moves (move.Failed n problem))))
 
 abbrev pub is_revoked_status : AuthzStatus → Bool
 is_revoked_status authz.Revoked = true
@@ -256,7 +258,7 @@ is_revoked_status _ = false
 abbrev pub revoke_authorization : ℕ → AuthorizationRow → Verdict
 revoke_authorization n a =
     choose (is_revoked_status a.status) (answers (show.Authorization n))
-    (check (is_endable a) refusal.Conflict (records (authorization_ended n revoked) (show.Authorization n)))
+    (check (is_endable a) refusal.Conflict (moves (move.AuthorizationEnded n revoked)))
 
 abbrev pub is_revoked : Ending → Bool
 is_revoked deactivated = false
@@ -265,11 +267,11 @@ is_revoked revoked = true
 abbrev pub revoke_account : ℕ → AccountRow → Verdict
 revoke_account n a =
     choose (holds (λ e. is_revoked e.ending) a.ended) (answers (show.Account n))
-    (check (is_valid_account a.status) refusal.Conflict (records (account_ended n revoked) (show.Account n)))
+    (check (is_valid_account a.status) refusal.Conflict (moves (move.AccountEnded n revoked)))
 
 -- the asks that carry no nonce; newNonce and signed requests are not among them
 abbrev pub office_verdict : Tables → Ask → Verdict
-office_verdict T ask.Directory = answers show.Directory
+office_verdict T ask.Directory = answers (show.List list.Directory)
 office_verdict T (ask.NewNonce head) = refused refusal.NotFound []
 office_verdict T (ask.Signed s) = refused refusal.NotFound []
 office_verdict T (ask.Report n finding) = report_verdict T n finding
@@ -277,6 +279,6 @@ office_verdict T (ask.Certify n bytes) = given (order_on T n) refusal.NotFound (
 office_verdict T (ask.FailOrder n problem) = given (order_on T n) refusal.NotFound (fail_verdict n problem)
 office_verdict T (ask.RevokeAuthz n) = given (authorization_on T n) refusal.NotFound (revoke_authorization n)
 office_verdict T (ask.RevokeAccount n) = given (account_on T n) refusal.NotFound (revoke_account n)
-office_verdict T ask.ChallengeWork = answers show.ChallengeWork
-office_verdict T ask.OrderWork = answers show.OrderWork
+office_verdict T ask.ChallengeWork = answers (show.List list.ChallengeWork)
+office_verdict T ask.OrderWork = answers (show.List list.OrderWork)
 office_verdict T (ask.KeyOf n) = given (account_on T n) refusal.NotFound (λ a. answers (show.Key n))

@@ -1,7 +1,8 @@
 -- Replies: what each shows, by the tables after its entries.
-use Rattle.std.specs.Prelude.{ℕ, ◌+◌, List, take, Bool, Option, Some, None, if◌then◌else◌}
+use Rattle.std.specs.Prelude.{ℕ, ◌+◌, List, [], take, Bool, false, Option, Some, None, if◌then◌else◌}
 use Rattle.serde_json.specs.Data.{Data}
 use Rattle.desk_model.specs.declared.refusal.Refusal.{Refusal}
+use Rattle.desk_model.specs.declared.refusal.Refusal.TheVariants as refusal
 use Rattle.desk_model.specs.Tokens.{nonce_text}
 use Rattle.desk_model.specs.Order.{DatedBytes}
 use Rattle.desk_model.specs.Tables.{Tables, AccountRow, ChallengeRow, AuthorizationRow, OrderRow}
@@ -10,6 +11,10 @@ use Rattle.desk_model.specs.Refusals.{refusal_of}
 use Rattle.desk_model.specs.Document.{directory, account_url, order_url, authorization_url, account_document, order_document, orders_document, authorization_document, challenge_document, challenge_work, order_work, key_document}
 use Rattle.desk_model.specs.Verdict.{Shows}
 use Rattle.desk_model.specs.declared.verdict.Shows.TheVariants as show
+use Rattle.desk_model.specs.declared.verdict.Listing.{Listing}
+use Rattle.desk_model.specs.declared.verdict.Listing.TheVariants as list
+use Rattle.desk_model.specs.declared.moves.Move.{Move}
+use Rattle.desk_model.specs.declared.moves.Move.TheVariants as move
 use Rattle.desk_model.specs.declared.reply.Subproblem.{Subproblem}
 use Rattle.desk_model.specs.declared.reply.Allow.TheVariants as allow
 pub use Rattle.desk_model.specs.declared.reply.Reply.{Reply}
@@ -40,9 +45,13 @@ refusal_reply index why subproblems =
 abbrev pub nonce_reply : Bool → Reply
 nonce_reply head = plain (if head then 200 else 204) body.Empty
 
--- what is shown of an object that is there
+-- an object that is not there
+abbrev pub not_found : Reply
+not_found = refusal_reply false refusal.NotFound []
+
+-- what is shown of an object
 abbrev pub shown : {X : Type 0} → (X → Reply) → Option X → Reply
-shown f None = plain 200 body.Empty
+shown f None = not_found
 shown f (Some x) = f x
 
 abbrev pub account_reply : ℕ → Tables → AccountRow → Reply
@@ -58,7 +67,7 @@ abbrev pub located_order : ℕ → Tables → OrderRow → Reply
 located_order status T o = at (order_url T.meta.policy o.number) (order_reply status T o)
 
 abbrev pub certificate_reply : Option DatedBytes → Reply
-certificate_reply None = plain 200 body.Empty
+certificate_reply None = not_found
 certificate_reply (Some k) = plain 200 (body.Certificate k.bytes)
 
 abbrev pub authorization_reply : Tables → AuthorizationRow → Reply
@@ -75,22 +84,43 @@ challenge_in T n a = shown (challenge_reply T) (challenge_of n a)
 abbrev pub client_challenge_in : Tables → ℕ → AuthorizationRow → Reply
 client_challenge_in T n a = below (authorization_url T.meta.policy a.number) (challenge_in T n a)
 
+-- the directory, and lists
+abbrev pub list_reply : Tables → Listing → Reply
+list_reply T list.Directory = ok 200 (directory T.meta.policy)
+list_reply T (list.Orders n) = ok 200 (orders_document T n)
+list_reply T list.ChallengeWork = ok 200 (challenge_work T)
+list_reply T list.OrderWork = ok 200 (order_work T)
+
+-- what a request shows that records nothing
 abbrev pub reply_of : Tables → Shows → Reply
-reply_of T show.Directory = ok 200 (directory T.meta.policy)
+reply_of T (show.List what) = list_reply T what
 reply_of T (show.Account n) = shown (account_reply 200 T) (account_on T n)
 reply_of T (show.KnownAccount n) = shown (located_account 200 T) (account_on T n)
-reply_of T (show.OpenedAccount n) = shown (located_account 201 T) (account_on T n)
-reply_of T (show.Orders n) = ok 200 (orders_document T n)
 reply_of T (show.Order n) = shown (order_reply 200 T) (order_on T n)
-reply_of T (show.MadeOrder n) = shown (located_order 201 T) (order_on T n)
-reply_of T (show.FinalizedOrder n) = shown (located_order 200 T) (order_on T n)
 reply_of T (show.Certificate n) = shown (λ o. certificate_reply o.certified) (order_on T n)
 reply_of T (show.Authorization n) = shown (authorization_reply T) (authorization_on T n)
 reply_of T (show.Challenge n) = shown (challenge_in T n) (owner_on T n)
 reply_of T (show.ClientChallenge n) = shown (client_challenge_in T n) (owner_on T n)
-reply_of T show.ChallengeWork = ok 200 (challenge_work T)
-reply_of T show.OrderWork = ok 200 (order_work T)
 reply_of T (show.Key n) = shown (λ a. ok 200 (key_document a.key)) (account_on T n)
+
+-- the account that was opened last (7.3)
+abbrev pub made_account : Tables → Reply
+made_account T = shown (located_account 201 T) (account_on T T.meta.accounts)
+
+-- the order that was made last (7.4)
+abbrev pub made_order : Tables → Reply
+made_order T = shown (located_order 201 T) (order_on T T.meta.orders)
+
+-- the object that a move names, by the tables after it; an order that is finalized is shown with its Location (7.4)
+abbrev pub moved_reply : Tables → Move → Reply
+moved_reply T (move.ContactsChanged n contacts) = reply_of T (show.Account n)
+moved_reply T (move.AccountEnded n ending) = reply_of T (show.Account n)
+moved_reply T (move.Answered n) = reply_of T (show.ClientChallenge n)
+moved_reply T (move.Reported n outcome) = reply_of T (show.Challenge n)
+moved_reply T (move.AuthorizationEnded n ending) = reply_of T (show.Authorization n)
+moved_reply T (move.Finalized n csr) = shown (located_order 200 T) (order_on T n)
+moved_reply T (move.Certified n certificate) = reply_of T (show.Order n)
+moved_reply T (move.Failed n problem) = reply_of T (show.Order n)
 
 -- the text of the nonce that is issued next
 abbrev pub fresh_nonce : Tables → List ℕ → List ℕ

@@ -1,17 +1,9 @@
 -- What becomes of a request: the first test that fails refuses it, else something is recorded and shown.
 use Rattle.std.specs.Prelude.{[], Bool, false, true, Option, Some, None}
-use Rattle.desk_model.specs.Entry.{Entry}
 use Rattle.desk_model.specs.declared.refusal.Refusal.{Refusal}
 pub use Rattle.desk_model.specs.declared.verdict.Verdict.{Verdict}
-pub use Rattle.desk_model.specs.declared.verdict.Verdict.TheVariants.{Refused as refused, Accepted as accepted}
+pub use Rattle.desk_model.specs.declared.verdict.Verdict.TheVariants.{Refused as refused, Answers as answers, Opens as opens, Orders as orders, Moves as moves}
 pub use Rattle.desk_model.specs.declared.verdict.Shows.{Shows}
-
--- nothing is recorded
-abbrev pub answers : Shows → Verdict
-answers what = accepted None what
-
-abbrev pub records : Entry → Shows → Verdict
-records entry what = accepted (Some entry) what
 
 -- the test, or this refusal
 unfoldable pub check : Bool → Refusal → Verdict → Verdict

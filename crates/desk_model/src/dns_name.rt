@@ -3,9 +3,11 @@ ghost use Rattle.std.specs.Prelude.{◌≡◌, ◌==◌, ◌||◌, ◌-◌, ℕ,
 ghost use Rattle.std.specs.Int.{is_in_range};
 ghost use Rattle.std.specs.List.{list_all};
 ghost use Rattle.std.specs.Char.{is_ascii_digit};
+ghost use Rattle.desk_model.specs.Authorization.{kinds_of};
 ghost use Rattle.desk_model.specs.BaseName.{is_base_name, is_label, is_label_byte, labels_of, last_label};
 ghost use Rattle.desk_model.specs.Names.{shown_name};
 
+use crate::objects::Kind;
 use crate::text::Text;
 use std::alloc::{AllocError, Global};
 use std::marker::Model;
@@ -57,6 +59,18 @@ impl DnsName {
         ensures { result ≡ self.now.wildcard }
     {
         self.wildcard
+    }
+
+    /// The types of the challenges that its authorization gets, in the order of their making: a wildcard name is tried by
+    /// DNS alone (RFC 8555, 8.4).
+    pub fn kinds(&self) -> &'static [Kind]
+        ensures { result.now ≡ kinds_of self.now }
+    {
+        if self.wildcard {
+            &[Kind::Dns01]
+        } else {
+            &[Kind::Http01, Kind::Dns01]
+        }
     }
 
     /// The canonical text of the name.

@@ -8,6 +8,7 @@ mod document;
 mod entry;
 mod jwk;
 mod limits;
+mod moves;
 mod objects;
 mod payload;
 mod policy;
@@ -32,6 +33,7 @@ pub use limits::{
     LAST_END, LAST_MOMENT, LAST_NUMBER, LONGEST_BODY, LONGEST_CERTIFICATE, LONGEST_CONTACT,
     LONGEST_CSR, LONGEST_DETAIL, LONGEST_HEAD, LONGEST_LIFE, MOST_CONTACTS, MOST_NAMES,
 };
+pub use moves::Move;
 pub use objects::{
     Account, AccountEnd, Authorization, AuthorizationEnd, Challenge, EndKind, Kind, Nonce, Order,
     Report,
@@ -47,4 +49,4 @@ pub use rows::{
 pub use sequence::Sequence;
 pub use status::{AccountStatus, AuthzStatus, ChallengeStatus, OrderStatus};
 pub use text::{Text, is_same_bytes, is_same_text};
-pub use verdict::{Shows, Verdict};
+pub use verdict::{Listing, Shows, Verdict};

@@ -14,15 +14,16 @@ use Rattle.desk_model.specs.declared.call.Ask.{Ask}
 use Rattle.desk_model.specs.declared.call.Ask.TheVariants as ask
 use Rattle.desk_model.specs.declared.call.Call.{Call}
 use Rattle.desk_model.specs.declared.call.Signed.{Signed}
+use Rattle.desk_model.specs.Entry.{entry_of}
 use Rattle.desk_model.specs.declared.entry.Entry.{Entry}
-use Rattle.desk_model.specs.declared.entry.Entry.TheVariants.{Issued as issued, Spent as spent}
+use Rattle.desk_model.specs.declared.entry.Entry.TheVariants.{Issued as issued, Opened as opened, Ordered as ordered, Spent as spent}
 use Rattle.desk_model.specs.declared.objects.Nonce.{Nonce}
 use Rattle.desk_model.specs.declared.rows.AccountRow.{AccountRow}
 use Rattle.desk_model.specs.declared.rows.AuthorizationRow.{AuthorizationRow}
 use Rattle.desk_model.specs.declared.rows.OrderRow.{OrderRow}
 use Rattle.desk_model.specs.declared.status.OrderStatus.TheVariants as order
 use Rattle.desk_model.specs.declared.verdict.Verdict.{Verdict}
-use Rattle.desk_model.specs.declared.verdict.Verdict.TheVariants.{Refused as refused, Accepted as accepted}
+use Rattle.desk_model.specs.declared.verdict.Verdict.TheVariants.{Refused as refused, Answers as answers, Opens as opens, Orders as orders, Moves as moves}
 use Rattle.desk_laws.specs.Ordered.{IsOrdered}
 use Rattle.desk_laws.proofs.Basics.{each, each_after, each_all, each_both, each-append, each-map}
 use Rattle.desk_laws.proofs.Chain.{effect_part}
@@ -153,14 +154,20 @@ open_kept k T = grown k (bare T)
 swept_bare : (k : Kept) (T : Tables) (m : ℕ) → IsOrdered T → swept m (restricted k (bare T)) ≡ restricted (open_kept k T) (swept m (bare T))
 swept_bare k T m h = ap (swept m) (sym (grown_part k (bare T))) ∙ swept_part (open_kept k T) (bare T) m (grown_closed k (bare T) (bare_ordered T h) tt)
 
-authorizations_stand : (k : Kept) (T : Tables) (m : ℕ) (v : Verdict) → IsOrdered T →
-    (effects m (swept m (restricted k T)) (entries_of v)).authorizations ≡ filter (λ r. (open_kept k T).authorizations r.number) (effects m (swept m T) (entries_of v)).authorizations
-authorizations_stand k T m (refused n ss) h = ap (λ (E : Tables). E.authorizations) (swept_bare k T m h)
-authorizations_stand k T m (accepted None what) h = ap (λ (E : Tables). E.authorizations) (swept_bare k T m h)
-authorizations_stand k T m (accepted (Some e) what) h =
+entry_stands : (k : Kept) (T : Tables) (m : ℕ) (e : Entry) → IsOrdered T →
+    (effect m (swept m (restricted k T)) e).authorizations ≡ filter (λ r. (open_kept k T).authorizations r.number) (effect m (swept m T) e).authorizations
+entry_stands k T m e h =
     let closed : IsClosed (open_kept k T) (swept m (bare T)) = swept_closed (open_kept k T) (bare T) m (grown_closed k (bare T) (bare_ordered T h) tt) in
     ap (λ (E : Tables). (effect m E e).authorizations) (swept_bare k T m h)
     ∙ ap (λ (E : Tables). E.authorizations) (effect_part (open_kept k T) (swept m (bare T)) m e closed (fresh_kept (open_kept k T) (swept m (bare T)) m e closed))
+
+authorizations_stand : (k : Kept) (T : Tables) (m : ℕ) (v : Verdict) → IsOrdered T →
+    (effects m (swept m (restricted k T)) (entries_of v)).authorizations ≡ filter (λ r. (open_kept k T).authorizations r.number) (effects m (swept m T) (entries_of v)).authorizations
+authorizations_stand k T m (refused n ss) h = ap (λ (E : Tables). E.authorizations) (swept_bare k T m h)
+authorizations_stand k T m (answers what) h = ap (λ (E : Tables). E.authorizations) (swept_bare k T m h)
+authorizations_stand k T m (opens key contacts) h = entry_stands k T m (opened key contacts) h
+authorizations_stand k T m (orders account wanted) h = entry_stands k T m (ordered account wanted) h
+authorizations_stand k T m (moves move) h = entry_stands k T m (entry_of move) h
 
 -- the ends of orders
 
@@ -226,9 +233,11 @@ orders_end : (k : Kept) (T : Tables) (m : ℕ) (v : Verdict) (n : ℕ) → EachO
     EachOf (EndBy n) (effects m (swept m (restricted k T)) (entries_of v)).orders
 orders_end k T m (refused j ss) n h =
     ends_kept n (swept_order m T.authorizations) (swept_order m (restricted k T).authorizations) (λ o. k.orders o.number) T.orders (swept_end m T.authorizations) (swept_end m (restricted k T).authorizations) h
-orders_end k T m (accepted None what) n h =
+orders_end k T m (answers what) n h =
     ends_kept n (swept_order m T.authorizations) (swept_order m (restricted k T).authorizations) (λ o. k.orders o.number) T.orders (swept_end m T.authorizations) (swept_end m (restricted k T).authorizations) h
-orders_end k T m (accepted (Some e) what) n h = entry_ends k T m e n h
+orders_end k T m (opens key contacts) n h = entry_ends k T m (opened key contacts) n h
+orders_end k T m (orders account wanted) n h = entry_ends k T m (ordered account wanted) n h
+orders_end k T m (moves move) n h = entry_ends k T m (entry_of move) n h
 
 -- ---- from the touched rows to the part
 

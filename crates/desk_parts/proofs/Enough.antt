@@ -5,19 +5,20 @@ use Rattle.desk_model.specs.Decide.{entries_of, verdict_reply}
 use Rattle.desk_model.specs.Effect.{effect, effects, swept}
 use Rattle.desk_model.specs.Rules.{office_verdict, open_nonce, signed_verdict}
 use Rattle.desk_model.specs.Tables.{Tables}
-use Rattle.desk_model.specs.Kept.{CoversSweep, EachOf, IsClosed, Kept, restricted}
+use Rattle.desk_model.specs.Kept.{Covers, CoversSweep, EachOf, IsClosed, Kept, restricted}
 use Rattle.desk_model.specs.declared.call.Ask.{Ask}
 use Rattle.desk_model.specs.declared.call.Ask.TheVariants as ask
 use Rattle.desk_model.specs.declared.call.Call.{Call}
 use Rattle.desk_model.specs.declared.call.Signed.{Signed}
+use Rattle.desk_model.specs.Entry.{entry_of}
 use Rattle.desk_model.specs.declared.entry.Entry.{Entry}
-use Rattle.desk_model.specs.declared.entry.Entry.TheVariants.{Issued as issued, Spent as spent}
+use Rattle.desk_model.specs.declared.entry.Entry.TheVariants.{Issued as issued, Opened as opened, Ordered as ordering, Spent as spent}
 use Rattle.desk_model.specs.declared.objects.Nonce.{Nonce}
 use Rattle.desk_model.specs.declared.rows.AccountRow.{AccountRow}
 use Rattle.desk_model.specs.declared.rows.AuthorizationRow.{AuthorizationRow}
 use Rattle.desk_model.specs.declared.rows.OrderRow.{OrderRow}
 use Rattle.desk_model.specs.declared.verdict.Verdict.{Verdict}
-use Rattle.desk_model.specs.declared.verdict.Verdict.TheVariants.{Refused as refused, Accepted as accepted}
+use Rattle.desk_model.specs.declared.verdict.Verdict.TheVariants.{Refused as refused, Answers as answers, Opens as opens, Orders as orders, Moves as moves}
 use Rattle.desk_laws.specs.Ordered.{IsOrdered, IsTable}
 use Rattle.desk_laws.specs.Parts.{CoversAll}
 use Rattle.desk_laws.proofs.Basics.{each, each_all}
@@ -56,22 +57,33 @@ parts_ordered T P call h part = subst IsOrdered (sym part.cut) (restricted_order
 
 -- ---- entries, on a part that is ready
 
+-- what an entry touches is kept
+entry_covered : (k : Kept) (m : ℕ) (S : Tables) (e : Entry) → IsClosed k S → Covers k S e → CoversAll k m S (e ∷ [])
+entry_covered k m S e closed covers = (closed, covers, fresh_kept k S m e closed, tt)
+
 -- what the verdict's entry touches is kept
 verdict_covered : (k : Kept) (m : ℕ) (S : Tables) (v : Verdict) → IsClosed k S → IsAnswered k m S v → CoversAll k m S (entries_of v)
 verdict_covered k m S (refused n ss) closed h = tt
-verdict_covered k m S (accepted None what) closed h = tt
-verdict_covered k m S (accepted (Some e) what) closed h = (closed, h.0, fresh_kept k S m e closed, tt)
+verdict_covered k m S (answers what) closed h = tt
+verdict_covered k m S (opens key contacts) closed h = entry_covered k m S (opened key contacts) closed h.0
+verdict_covered k m S (orders account wanted) closed h = entry_covered k m S (ordering account wanted) closed h.0
+verdict_covered k m S (moves move) closed h = entry_covered k m S (entry_of move) closed h.0
 
 -- also after a nonce was spent and one issued
-nonce_covered : (k : Kept) (m : ℕ) (S : Tables) (n : ℕ) (r : List ℕ) (v : Verdict) → IsClosed k S → IsAnswered k m S v →
-    CoversAll k m S (spent n ∷ issued r ∷ entries_of v)
-nonce_covered k m S n r (refused j ss) closed h = nonces_covered k m S n r [] closed tt
-nonce_covered k m S n r (accepted None what) closed h = nonces_covered k m S n r [] closed tt
-nonce_covered k m S n r (accepted (Some e) what) closed h =
+later_covered : (k : Kept) (m : ℕ) (S : Tables) (n : ℕ) (r : List ℕ) (e : Entry) → IsClosed k S → Covers k S e → CoversAll k m S (spent n ∷ issued r ∷ e ∷ [])
+later_covered k m S n r e closed covers =
     let T1 : Tables = effect m S (spent n) in
     let T2 : Tables = effect m T1 (issued r) in
     let later : IsClosed k T2 = issued_closed k m T1 r (spent_closed k m S n closed) in
-    nonces_covered k m S n r (e ∷ []) closed (later, issued_covers k m T1 r e (spent_covers k m S n e h.0), fresh_kept k T2 m e later, tt)
+    nonces_covered k m S n r (e ∷ []) closed (later, issued_covers k m T1 r e (spent_covers k m S n e covers), fresh_kept k T2 m e later, tt)
+
+nonce_covered : (k : Kept) (m : ℕ) (S : Tables) (n : ℕ) (r : List ℕ) (v : Verdict) → IsClosed k S → IsAnswered k m S v →
+    CoversAll k m S (spent n ∷ issued r ∷ entries_of v)
+nonce_covered k m S n r (refused j ss) closed h = nonces_covered k m S n r [] closed tt
+nonce_covered k m S n r (answers what) closed h = nonces_covered k m S n r [] closed tt
+nonce_covered k m S n r (opens key contacts) closed h = later_covered k m S n r (opened key contacts) closed h.0
+nonce_covered k m S n r (orders account wanted) closed h = later_covered k m S n r (ordering account wanted) closed h.0
+nonce_covered k m S n r (moves move) closed h = later_covered k m S n r (entry_of move) closed h.0
 
 -- the changes are the same
 changes_same : (k : Kept) (T : Tables) (m : ℕ) (es : List Entry) → IsClosed k T → CoversSweep k T m → CoversAll k m (swept m T) es →
@@ -85,8 +97,10 @@ changes_same k T m (e ∷ es) closed falling covers =
 reply_same : (k : Kept) (m : ℕ) (S : Tables) (v : Verdict) (index : Bool) → IsAnswered k m S v →
     verdict_reply index (restricted k (effects m S (entries_of v))) v ≡ verdict_reply index (effects m S (entries_of v)) v
 reply_same k m S (refused n ss) index h = refl
-reply_same k m S (accepted None what) index h = h
-reply_same k m S (accepted (Some e) what) index h = h.1
+reply_same k m S (answers what) index h = h
+reply_same k m S (opens key contacts) index h = h.1
+reply_same k m S (orders account wanted) index h = h.1
+reply_same k m S (moves move) index h = h.1
 
 carried_out : (k : Kept) (T : Tables) (m : ℕ) (v : Verdict) → IsClosed k T → IsAnswered k m (swept m T) v → CarriesOutAs m T (restricted k T) v
 carried_out k T m v closed h =

@@ -2,7 +2,8 @@
 use Rattle.std.proofs.Common.{◌≡◌, ℕ, List, Some, None, refl, sym, ap, ◌∙◌, true, false, Bool, cond}
 use Rattle.std.specs.Prelude.{◌==◌}
 use Rattle.desk_model.specs.Effect.{effect, falls, is_overdue, swept, swept_authorization, swept_order}
-use Rattle.desk_model.specs.Shown.{reply_of}
+use Rattle.desk_model.specs.Shown.{reply_of, made_account, made_order, moved_reply}
+use Rattle.desk_model.specs.declared.reply.Reply.{Reply}
 use Rattle.desk_model.specs.Tables.{Tables}
 use Rattle.desk_model.specs.Kept.{Covers, IsClosed, Kept, restricted}
 use Rattle.desk_model.specs.declared.call.Ask.{Ask}
@@ -10,13 +11,15 @@ use Rattle.desk_model.specs.declared.call.Ask.TheVariants as ask
 use Rattle.desk_model.specs.declared.call.Signed.{Signed}
 use Rattle.desk_model.specs.declared.call.Target.{Target}
 use Rattle.desk_model.specs.declared.call.Target.TheVariants as to
+use Rattle.desk_model.specs.Entry.{entry_of}
 use Rattle.desk_model.specs.declared.entry.Entry.{Entry}
+use Rattle.desk_model.specs.declared.entry.Entry.TheVariants.{Opened as opened, Ordered as ordered}
 use Rattle.desk_model.specs.declared.rows.AuthorizationRow.{AuthorizationRow}
 use Rattle.desk_model.specs.declared.rows.OrderRow.{OrderRow}
 use Rattle.desk_model.specs.declared.status.AuthzStatus.TheVariants as authz
 use Rattle.desk_model.specs.declared.status.OrderStatus.TheVariants as order
 use Rattle.desk_model.specs.declared.verdict.Verdict.{Verdict}
-use Rattle.desk_model.specs.declared.verdict.Verdict.TheVariants.{Refused as refused, Accepted as accepted}
+use Rattle.desk_model.specs.declared.verdict.Verdict.TheVariants.{Refused as refused, Answers as answers, Opens as opens, Orders as orders, Moves as moves}
 use Rattle.desk_laws.proofs.Basics.{each, each-map}
 use Rattle.desk_laws.proofs.Local.{swept_number, swept_order_number}
 use Rattle.desk_laws.proofs.SweptParts.{swept_covers}
@@ -81,10 +84,15 @@ swept_names k T m a h =
 
 -- ---- what is asked of a verdict: its entry touches kept rows alone, and the part shows what the whole shows
 
+abbrev pub IsCarried : Kept → ℕ → Tables → Entry → (Tables → Reply) → Type 0
+IsCarried k m S e reply = Covers k S e × (reply (restricted k (effect m S e)) ≡ reply (effect m S e))
+
 abbrev pub IsAnswered : Kept → ℕ → Tables → Verdict → Type 0
-IsAnswered k m S (refused number subproblems) = Unit {0}
-IsAnswered k m S (accepted None what) = reply_of (restricted k S) what ≡ reply_of S what
-IsAnswered k m S (accepted (Some e) what) = Covers k S e × (reply_of (restricted k (effect m S e)) what ≡ reply_of (effect m S e) what)
+IsAnswered k m S (refused why subproblems) = Unit {0}
+IsAnswered k m S (answers what) = reply_of (restricted k S) what ≡ reply_of S what
+IsAnswered k m S (opens key contacts) = IsCarried k m S (opened key contacts) made_account
+IsAnswered k m S (orders account wanted) = IsCarried k m S (ordered account wanted) made_order
+IsAnswered k m S (moves move) = IsCarried k m S (entry_of move) (λ T. moved_reply T move)
 
 -- an entry that touches what the ask names
 pub covered : (k : Kept) (T : Tables) (m : ℕ) (a : Ask) (e : Entry) → IsReady k T m a → IsNamedBy T m a e → Covers k (swept m T) e

@@ -11,7 +11,7 @@ use Rattle.desk_model.specs.Document.{and_row, authorization_url, certificate_ur
 use Rattle.desk_model.specs.Effect.{effect, fresh_authorization, fresh_order, has_row, moved_authorization, moved_order, new_authorizations, noted_order, touches_order}
 use Rattle.desk_model.specs.Order.{ordered_by}
 use Rattle.desk_model.specs.Questions.{order_on}
-use Rattle.desk_model.specs.Shown.{at, account_reply, authorization_reply, certificate_reply, challenge_in, client_challenge_in, located_account, ok, reply_of, shown}
+use Rattle.desk_model.specs.Shown.{at, account_reply, authorization_reply, certificate_reply, challenge_in, client_challenge_in, located_account, made_account, made_order, moved_reply, ok, reply_of, shown}
 use Rattle.desk_model.specs.Tables.{Tables}
 use Rattle.desk_model.specs.Terms.{Terms}
 use Rattle.desk_model.specs.Kept.{EachOf, IsClosed, Kept, restricted}
@@ -21,6 +21,8 @@ use Rattle.desk_model.specs.declared.rows.AccountRow.{AccountRow}
 use Rattle.desk_model.specs.declared.rows.AuthorizationRow.{AuthorizationRow}
 use Rattle.desk_model.specs.declared.rows.OrderRow.{OrderRow}
 use Rattle.desk_model.specs.declared.verdict.Shows.TheVariants as show
+use Rattle.desk_model.specs.declared.verdict.Listing.TheVariants as listing
+use Rattle.desk_model.specs.declared.moves.Move.TheVariants as move
 use Rattle.desk_laws.specs.Parts.{FreshKept}
 use Rattle.desk_laws.proofs.Basics.{each, each-append, each-map}
 use Rattle.desk_laws.proofs.Chain.{order_number, up_kept}
@@ -71,8 +73,8 @@ account_shown k E n h = ap (shown (account_reply 200 E)) (account_same k E n h)
 pub known_shown : (k : Kept) (E : Tables) (n : ℕ) → k.accounts n ≡ true → reply_of (restricted k E) (show.KnownAccount n) ≡ reply_of E (show.KnownAccount n)
 known_shown k E n h = ap (shown (located_account 200 E)) (account_same k E n h)
 
-pub opened_shown : (k : Kept) (E : Tables) (n : ℕ) → k.accounts n ≡ true → reply_of (restricted k E) (show.OpenedAccount n) ≡ reply_of E (show.OpenedAccount n)
-opened_shown k E n h = ap (shown (located_account 201 E)) (account_same k E n h)
+pub opened_shown : (k : Kept) (E : Tables) → k.accounts E.meta.accounts ≡ true → made_account (restricted k E) ≡ made_account E
+opened_shown k E h = ap (shown (located_account 201 E)) (account_same k E E.meta.accounts h)
 
 pub key_shown : (k : Kept) (E : Tables) (n : ℕ) → k.accounts n ≡ true → reply_of (restricted k E) (show.Key n) ≡ reply_of E (show.Key n)
 key_shown k E n h = ap (shown (λ (a : AccountRow). ok 200 (key_document a.key))) (account_same k E n h)
@@ -93,7 +95,7 @@ certificate_shown k E n h = ap (shown (λ (o : OrderRow). certificate_reply o.ce
 
 -- the orders of an account
 pub orders_shown : (k : Kept) (E : Tables) (n : ℕ) → EachOf (λ o. (o.account == n) ≡ true → k.orders o.number ≡ true) E.orders →
-    reply_of (restricted k E) (show.Orders n) ≡ reply_of E (show.Orders n)
+    reply_of (restricted k E) (show.List (listing.Orders n)) ≡ reply_of E (show.List (listing.Orders n))
 orders_shown k E n h =
     ap (λ rows. ok 200 (document ((codes "orders", list (map (λ (o : OrderRow). string (order_url E.meta.policy o.number)) rows)) ∷ [])))
     (filter_part (is_listed n) (λ (o : OrderRow). k.orders o.number) E.orders
@@ -137,8 +139,9 @@ order_by k E n f h listed = ap (shown (λ o. f o (order_document (restricted k E
 pub order_shown : (k : Kept) (E : Tables) (n : ℕ) → k.orders n ≡ true → KeepsListed k E → reply_of (restricted k E) (show.Order n) ≡ reply_of E (show.Order n)
 order_shown k E n h listed = order_by k E n (λ o d. ok 200 d) h listed
 
-pub made_shown : (k : Kept) (E : Tables) (n : ℕ) → k.orders n ≡ true → KeepsListed k E → reply_of (restricted k E) (show.MadeOrder n) ≡ reply_of E (show.MadeOrder n)
-made_shown k E n h listed = order_by k E n (λ o d. at (order_url E.meta.policy o.number) (ok 201 d)) h listed
+pub made_shown : (k : Kept) (E : Tables) → k.orders E.meta.orders ≡ true → KeepsListed k E → made_order (restricted k E) ≡ made_order E
+made_shown k E h listed = order_by k E E.meta.orders (λ o d. at (order_url E.meta.policy o.number) (ok 201 d)) h listed
 
-pub finalized_shown : (k : Kept) (E : Tables) (n : ℕ) → k.orders n ≡ true → KeepsListed k E → reply_of (restricted k E) (show.FinalizedOrder n) ≡ reply_of E (show.FinalizedOrder n)
-finalized_shown k E n h listed = order_by k E n (λ o d. at (order_url E.meta.policy o.number) (ok 200 d)) h listed
+pub finalized_shown : (k : Kept) (E : Tables) (n : ℕ) (csr : List ℕ) → k.orders n ≡ true → KeepsListed k E →
+    moved_reply (restricted k E) (move.Finalized n csr) ≡ moved_reply E (move.Finalized n csr)
+finalized_shown k E n csr h listed = order_by k E n (λ o d. at (order_url E.meta.policy o.number) (ok 200 d)) h listed

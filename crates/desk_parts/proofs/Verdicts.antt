@@ -13,9 +13,9 @@ use Rattle.desk_model.specs.Tables.{Tables}
 use Rattle.desk_model.specs.Tokens.{NonceText, authorization_of, nonce_in, token_text}
 use Rattle.sha2.specs.Sha256.{sha256}
 use Rattle.desk_model.specs.Kept.{EachOf, Kept, restricted}
-use Rattle.desk_model.specs.Verdict.{answers, check, given}
+use Rattle.desk_model.specs.Verdict.{check, given}
+use Rattle.desk_model.specs.declared.verdict.Verdict.TheVariants.{Answers as answers, Refused as refused}
 use Rattle.desk_model.specs.declared.verdict.Verdict.{Verdict}
-use Rattle.desk_model.specs.declared.verdict.Verdict.TheVariants.{Refused as refused}
 use Rattle.desk_model.specs.declared.call.Ask.{Ask}
 use Rattle.desk_model.specs.declared.call.Ask.TheVariants as ask
 use Rattle.desk_model.specs.declared.call.BadKey.{BadKey}
@@ -92,11 +92,6 @@ unfolding given
 holder_same k S r p t None h = refl
 holder_same k S r p t (Some a) h = ap (check (is_valid_account a.status) refusal.Unauthorized) (h a.number)
 
-new_account_same : (k : Kept) (S : Tables) (key p : List ℕ) (x : Option AccountRow) →
-    new_account_verdict (restricted k S) key x (new_account p) ≡ new_account_verdict S key x (new_account p)
-new_account_same k S key p None = refl
-new_account_same k S key p (Some a) = refl
-
 keyed_same : (k : Kept) (S : Tables) (r key p : List ℕ) (t : Target) →
     EachOf (λ x. bytes_eq x.key key ≡ true → k.accounts x.number ≡ true) S.accounts →
     ((j : ℕ) → target_order t j ≡ true → k.orders j ≡ true) →
@@ -104,7 +99,7 @@ keyed_same : (k : Kept) (S : Tables) (r key p : List ℕ) (t : Target) →
     EachOf (λ a. target_owner t a ≡ true → k.authorizations a.number ≡ true) S.authorizations →
     key_verdict (restricted k S) r key p t ≡ key_verdict S r key p t
 keyed_same k S r key p to.NewAccount h o a c =
-    ap (λ x. new_account_verdict (restricted k S) key x (new_account p)) (key_same k S key h) ∙ new_account_same k S key p (account_with_key S key)
+    ap (λ x. new_account_verdict key x (new_account p)) (key_same k S key h)
 keyed_same k S r key p t h o a c = rest t (λ n. target_same k S r n p t o a c)
   where
     rest : (u : Target) → ((n : ℕ) → target_verdict (restricted k S) r n p u ≡ target_verdict S r n p u) →

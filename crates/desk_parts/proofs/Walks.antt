@@ -235,18 +235,18 @@ office_answered k T m (ask.KeyOf n) w ready =
 abbrev sent : Signed → Target → Ask
 sent s t = ask.Signed (record s { target = t })
 
-open_answered : (k : Kept) (T : Tables) (m : ℕ) (a : Ask) (key : List ℕ) (p : NewAccount) → IsReady k T m a → IsAnswered k m (swept m T) (open_account (swept m T) key p)
+open_answered : (k : Kept) (T : Tables) (m : ℕ) (a : Ask) (key : List ℕ) (p : NewAccount) → IsReady k T m a → IsAnswered k m (swept m T) (open_account key p)
 open_answered k T m a key p ready =
     let S : Tables = swept m T in
     check_keeps (IsAnswered k m S) (not p.only_existing) refusal.AccountDoesNotExist _ tt (λ new_too.
     no_fault_keeps (IsAnswered k m S) (contacts_fault p.contacts) _ (λ n. tt) (
       covered k T m a (opened key p.contacts) ready (opened_named T m a key p.contacts),
-      opened_shown k (effect m S (opened key p.contacts)) (T.meta.accounts + 1) (ready.closed.new_accounts (T.meta.accounts + 1) (omega arith)),
+      opened_shown k (effect m S (opened key p.contacts)) (ready.closed.new_accounts (T.meta.accounts + 1) (omega arith)),
     ))
 
 new_account_answered : (k : Kept) (T : Tables) (m : ℕ) (a : Ask) (key : List ℕ) (p : Option NewAccount) → IsReady k T m a →
     (x : Option AccountRow) → ((y : AccountRow) → x ≡ Some y → k.accounts y.number ≡ true) →
-    IsAnswered k m (swept m T) (new_account_verdict (swept m T) key x p)
+    IsAnswered k m (swept m T) (new_account_verdict key x p)
 new_account_answered k T m a key p ready (Some y) h =
     check_keeps (IsAnswered k m (swept m T)) (is_valid_account y.status) refusal.Unauthorized _ tt (λ valid.
     given_keeps (IsAnswered k m (swept m T)) p refusal.Malformed _ tt (λ q is. known_shown k (swept m T) y.number (h y refl)))
@@ -271,12 +271,12 @@ account_answered k T m s j x (change.Update (Some contacts)) ready kept named me
     )
 
 new_order_answered : (k : Kept) (T : Tables) (m : ℕ) (a : Ask) (r : List ℕ) (n : ℕ) (ids : List Identifier) → IsReady k T m a → (ss : List Subproblem) →
-    IsAnswered k m (swept m T) (order_of (swept m T) r n ids ss)
+    IsAnswered k m (swept m T) (order_of r n ids ss)
 new_order_answered k T m a r n ids ready (s ∷ ss) = tt
 new_order_answered k T m a r n ids ready [] =
     let ws = wanted (kept (names_in ids)) r in (
       covered k T m a (ordered n ws) ready (ordered_named T m a n ws),
-      made_shown k (effect m (swept m T) (ordered n ws)) (T.meta.orders + 1) (ready.closed.new_orders (T.meta.orders + 1) (omega arith)) (listed_then k T m a (ordered n ws) ready),
+      made_shown k (effect m (swept m T) (ordered n ws)) (ready.closed.new_orders (T.meta.orders + 1) (omega arith)) (listed_then k T m a (ordered n ws) ready),
     )
 
 finalize_answered : (k : Kept) (T : Tables) (m : ℕ) (s : Signed) (j : ℕ) (o : OrderRow) (text : List ℕ) → IsReady k T m (sent s (to.Finalize j)) →
@@ -285,7 +285,7 @@ finalize_answered k T m s j o text ready =
     check_keeps (IsAnswered k m (swept m T)) (is_ready o.status) refusal.OrderNotReady _ tt (λ stands.
     given_keeps (IsAnswered k m (swept m T)) (csr_in text) refusal.BadCsr _ tt (λ csr is. (
       covered k T m (sent s (to.Finalize j)) (finalized j csr) ready (finalized_named T m (sent s (to.Finalize j)) j csr (same_number j)),
-      finalized_shown k (effect m (swept m T) (finalized j csr)) j (ready.named.order j (same_number j)) (listed_then k T m (sent s (to.Finalize j)) (finalized j csr) ready),
+      finalized_shown k (effect m (swept m T) (finalized j csr)) j csr (ready.named.order j (same_number j)) (listed_then k T m (sent s (to.Finalize j)) (finalized j csr) ready),
     )))
 
 authorization_answered : (k : Kept) (T : Tables) (m : ℕ) (s : Signed) (j : ℕ) (r : AuthorizationRow) (p : AuthorizationChange) → IsReady k T m (sent s (to.Authz j)) →

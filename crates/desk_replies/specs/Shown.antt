@@ -13,8 +13,6 @@ use Rattle.desk_model.specs.declared.rows.ChallengeRow.{ChallengeRow}
 use Rattle.desk_model.specs.declared.rows.AuthorizationRow.{AuthorizationRow}
 use Rattle.desk_model.specs.declared.rows.OrderRow.{OrderRow}
 use Rattle.desk_model.specs.Tables.{Tables}
-use Rattle.desk_model.specs.declared.verdict.Shows.{Shows}
-use Rattle.desk_model.specs.declared.verdict.Shows.TheVariants as show
 use Rattle.desk_model.specs.Authorization.{is_pending}
 use Rattle.desk_model.specs.Legal.{is_processing_challenge}
 use Rattle.desk_model.specs.Effect.{swept_authorization}
@@ -78,13 +76,3 @@ abbrev pub work_at : ℕ → Tables → AuthorizationRow → List Data
 work_at m T a =
     if is_pending (swept_authorization m a).status then map (work_document T a) (filter (λ c. is_processing_challenge c.status) a.challenges)
     else []
-
--- ---- lists
-
--- what is shown is a list, or the directory
-abbrev pub IsListing : Shows → Type 0
-IsListing show.Directory = Unit {0}
-IsListing (show.Orders n) = Unit {0}
-IsListing show.ChallengeWork = Unit {0}
-IsListing show.OrderWork = Unit {0}
-IsListing _ = ⊥

@@ -18,4 +18,4 @@ pub use object_replies::{
     key_reply, located_order, order_reply,
 };
 pub use order_documents::order_names;
-pub use replies::{located_account, nonce_reply, plain, refusal_reply, with_nonce};
+pub use replies::{located_account, nonce_reply, not_found, refusal_reply, with_nonce};

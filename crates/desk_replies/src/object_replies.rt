@@ -11,7 +11,7 @@ use crate::authorization_documents::{authorization_document, challenge_document}
 use crate::documents::account_document;
 use crate::key_documents::key_document;
 use crate::order_documents::order_document;
-use crate::replies::plain;
+use crate::replies::not_found;
 use crate::urls::{authorization_url, order_url};
 use desk_model::{
     AccountRow, AuthorizationRow, Body, ChallengeRow, DnsName, Document, OrderRow, Policy, Reply,
@@ -97,7 +97,7 @@ pub fn located_order(
 /// # Errors
 ///
 /// Where there is no memory for a copy of the certificate.
-pub fn certificate_reply(row: &OrderRow) -> Result<Reply, AllocError>
+pub fn certificate_reply(alloc: Global, row: &OrderRow) -> Result<Reply, AllocError>
     ensures { IfOk result (λ r. r ≡ certificate_reply row.now.certified) }
 {
     match &row.certified {
@@ -111,7 +111,7 @@ pub fn certificate_reply(row: &OrderRow) -> Result<Reply, AllocError>
                 body: Body::Certificate(bytes),
             })
         }
-        None => Ok(plain(200)),
+        None => Ok(not_found(alloc)),
     }
 }
 
@@ -157,7 +157,7 @@ pub fn challenge_in(
             let reply = challenge_reply(alloc, policy, row)?;
             Ok(reply)
         }
-        None => Ok(plain(200)),
+        None => Ok(not_found(alloc)),
     }
 }
 

@@ -35,7 +35,7 @@ signed-key T r s key p t is payload target =
 
 -- for a new account
 pub signed-new : (T : Tables) (r : List ℕ) (s : Signed) (key p : List ℕ) → s.key ≡ Ok key → p ≡ s.payload → s.target ≡ to.NewAccount →
-    signed_verdict T r s ≡ new_account_verdict T key (account_with_key T key) (new_account p)
+    signed_verdict T r s ≡ new_account_verdict key (account_with_key T key) (new_account p)
 signed-new T r s key p is payload target = signed-key T r s key p to.NewAccount is payload target
 
 -- what is said of the judgement of a request
@@ -43,7 +43,7 @@ abbrev pub IsJudged : Meta → List ℕ → Result Verdict CoreFault → Verdict
 IsJudged M random r asked = MatchResult r (λ v. (v ≡ asked) × NumbersLeft M v × BytesLeft random v) (λ e. IsNeedFault M random asked e)
 
 -- a newAccount request whose key has no account opens one
-pub new-opens : (T : Tables) (key : List ℕ) (o : Option AccountRow) (p : Option NewAccount) (asked : NewAccount) → o ≡ None → p ≡ Some asked →
-    new_account_verdict T key o p ≡ open_account T key asked
+pub new-opens : (key : List ℕ) (o : Option AccountRow) (p : Option NewAccount) (asked : NewAccount) → o ≡ None → p ≡ Some asked →
+    new_account_verdict key o p ≡ open_account key asked
 unfolding given
-new-opens T key o p asked none some = λ i. new_account_verdict T key (none i) (some i)
+new-opens key o p asked none some = λ i. new_account_verdict key (none i) (some i)

@@ -5,57 +5,53 @@ use Rattle.desk_model.specs.Limits.{last_number}
 use Rattle.desk_model.specs.Name.{Name}
 use Rattle.desk_model.specs.Rules.{wanted}
 use Rattle.desk_model.specs.Run.{count_tokens}
-use Rattle.desk_model.specs.Verdict.{records}
+use Rattle.desk_model.specs.declared.verdict.Verdict.TheVariants.{Orders as orders}
 use Rattle.desk_model.specs.declared.verdict.Verdict.{Verdict}
 use Rattle.desk_model.specs.declared.rows.Meta.{Meta}
-use Rattle.desk_model.specs.declared.verdict.Shows.{Shows}
-use Rattle.desk_model.specs.declared.verdict.Shows.TheVariants.{MadeOrder}
 use Rattle.desk_model.specs.declared.entry.Wanted.{Wanted}
-use Rattle.desk_model.specs.declared.entry.Entry.TheVariants.{Ordered as ordered}
 use Rattle.desk_rules.specs.Needs.{NumbersLeft, BytesLeft, IsNeedFault}
 use Rattle.desk_rules.specs.declared.fault.CoreFault.{CoreFault}
 use Rattle.desk_rules.specs.declared.fault.CoreFault.TheVariants as fault
 use Rattle.desk_rules.proofs.NamesWanted.{length-wanted, count_tokens-wanted}
 
 -- an order for these names
-abbrev pub order_for : ℕ → List Name → List ℕ → Shows → Verdict
-order_for account ns random what = records (ordered account (wanted ns (drop 16 random))) what
+abbrev pub order_for : ℕ → List Name → List ℕ → Verdict
+order_for account ns random = orders account (wanted ns (drop 16 random))
 
 -- there is no number for one of its objects
-pub order_full : (M : Meta) (random : List ℕ) (account : ℕ) (ns : List Name) (what : Shows) (count tokens : ℕ) (e : CoreFault) →
+pub order_full : (M : Meta) (random : List ℕ) (account : ℕ) (ns : List Name) (count tokens : ℕ) (e : CoreFault) →
     count ≡ length ns → tokens ≡ length ns + count_by (λ n. not n.wildcard) ns → e ≡ fault.Full →
     (last_number ≤ M.orders) ⊎ ((last_number < M.authorizations + count) ⊎ (last_number < M.challenges + tokens)) →
-    IsNeedFault M random (order_for account ns random what) e
-order_full M random account ns what count tokens e many as_many is h =
-    subst (λ d. IsNeedFault M random (order_for account ns random what) d) (sym is)
+    IsNeedFault M random (order_for account ns random) e
+order_full M random account ns count tokens e many as_many is h =
+    subst (λ d. IsNeedFault M random (order_for account ns random) d) (sym is)
     (subst (λ t. (last_number ≤ M.orders) ⊎ ((last_number < M.authorizations + length (wanted ns (drop 16 random))) ⊎ (last_number < M.challenges + t)))
     (as_many ∙ sym (count_tokens-wanted ns (drop 16 random)))
     (subst (λ n. (last_number ≤ M.orders) ⊎ ((last_number < M.authorizations + n) ⊎ (last_number < M.challenges + tokens)))
     (many ∙ sym (length-wanted ns (drop 16 random))) h))
 
 -- its numbers can be given
-pub order_numbered : (M : Meta) (random : List ℕ) (account : ℕ) (ns : List Name) (what : Shows) (count tokens : ℕ) →
+pub order_numbered : (M : Meta) (random : List ℕ) (account : ℕ) (ns : List Name) (count tokens : ℕ) →
     count ≡ length ns → tokens ≡ length ns + count_by (λ n. not n.wildcard) ns →
     (M.orders < last_number) × (M.authorizations + count ≤ last_number) × (M.challenges + tokens ≤ last_number) →
-    NumbersLeft M (order_for account ns random what)
-order_numbered M random account ns what count tokens many as_many h =
-    let orders : M.orders < last_number = h.0 in
+    NumbersLeft M (order_for account ns random)
+order_numbered M random account ns count tokens many as_many h =
     let authorizations : M.authorizations + count ≤ last_number = h.1 in
     let challenges : M.challenges + tokens ≤ last_number = h.2 in
-    (orders, omega (arith, length-wanted ns (drop 16 random)), omega (arith, count_tokens-wanted ns (drop 16 random)))
+    (h.0, omega (arith, length-wanted ns (drop 16 random)), omega (arith, count_tokens-wanted ns (drop 16 random)))
 
 -- there are random bytes for its tokens
-pub order_random : (random : List ℕ) (account : ℕ) (ns : List Name) (what : Shows) (tokens : ℕ) →
+pub order_random : (random : List ℕ) (account : ℕ) (ns : List Name) (tokens : ℕ) →
     tokens ≡ length ns + count_by (λ n. not n.wildcard) ns → 16 * (1 + tokens) ≤ length random →
-    BytesLeft random (order_for account ns random what)
-order_random random account ns what tokens as_many h = omega (arith, count_tokens-wanted ns (drop 16 random))
+    BytesLeft random (order_for account ns random)
+order_random random account ns tokens as_many h = omega (arith, count_tokens-wanted ns (drop 16 random))
 
 -- there are too few
-pub order_short : (M : Meta) (random : List ℕ) (account : ℕ) (ns : List Name) (what : Shows) (tokens : ℕ) (e : CoreFault) →
+pub order_short : (M : Meta) (random : List ℕ) (account : ℕ) (ns : List Name) (tokens : ℕ) (e : CoreFault) →
     tokens ≡ length ns + count_by (λ n. not n.wildcard) ns → e ≡ fault.ShortRandom → length random < 16 * (1 + tokens) →
-    NumbersLeft M (order_for account ns random what) → IsNeedFault M random (order_for account ns random what) e
-order_short M random account ns what tokens e as_many is h numbers =
-    subst (λ d. IsNeedFault M random (order_for account ns random what) d) (sym is)
+    NumbersLeft M (order_for account ns random) → IsNeedFault M random (order_for account ns random) e
+order_short M random account ns tokens e as_many is h numbers =
+    subst (λ d. IsNeedFault M random (order_for account ns random) d) (sym is)
     (numbers, omega (arith, count_tokens-wanted ns (drop 16 random)))
 
 -- the bytes behind the first 16 are enough for its tokens
@@ -65,20 +61,15 @@ order_fits random rest ns tokens as_many h is =
     subst (λ r. 16 * count_tokens (wanted ns r) ≤ length r) (sym is) (omega (arith, count_tokens-wanted ns (drop 16 random), length-drop 16 random))
 
 -- an order that was made
-pub order_made : (M N : Meta) (random rest : List ℕ) (account : ℕ) (ns : List Name) (asked : List Wanted) (count tokens : ℕ) (v : Verdict) →
-    v ≡ records (ordered account asked) (MadeOrder (N.orders + 1)) → asked ≡ wanted ns rest → rest ≡ drop 16 random → N ≡ M →
+pub order_made : (M N : Meta) (random rest : List ℕ) (account : ℕ) (ns : List Name) (asked : List Wanted) (count tokens : ℕ) →
+    asked ≡ wanted ns rest → rest ≡ drop 16 random → N ≡ M →
     count ≡ length ns → tokens ≡ length ns + count_by (λ n. not n.wildcard) ns →
     (N.orders < last_number) × (N.authorizations + count ≤ last_number) × (N.challenges + tokens ≤ last_number) → 16 * (1 + tokens) ≤ length random →
-    (v ≡ order_for account ns random (MadeOrder (M.orders + 1))) × NumbersLeft M v × BytesLeft random v
-order_made M N random rest account ns asked count tokens v is by behind same many as_many numbers bytes =
-    let made : v ≡ order_for account ns random (MadeOrder (M.orders + 1)) =
-    is
-    ∙ ap (λ l. records (ordered account l) (MadeOrder (N.orders + 1))) (by ∙ ap (wanted ns) behind)
-    ∙ ap (λ (m : Meta). order_for account ns random (MadeOrder (m.orders + 1))) same
-    in (
+    (orders account asked ≡ order_for account ns random) × NumbersLeft M (orders account asked) × BytesLeft random (orders account asked)
+order_made M N random rest account ns asked count tokens by behind same many as_many numbers bytes =
+    let made : orders account asked ≡ order_for account ns random = ap (orders account) (by ∙ ap (wanted ns) behind) in (
       made,
       subst (NumbersLeft M) (sym made)
-          (subst (λ m. NumbersLeft m (order_for account ns random (MadeOrder (M.orders + 1)))) same
-          (order_numbered N random account ns (MadeOrder (M.orders + 1)) count tokens many as_many numbers)),
-      subst (BytesLeft random) (sym made) (order_random random account ns (MadeOrder (M.orders + 1)) tokens as_many bytes),
+          (subst (λ m. NumbersLeft m (order_for account ns random)) same (order_numbered N random account ns count tokens many as_many numbers)),
+      subst (BytesLeft random) (sym made) (order_random random account ns tokens as_many bytes),
     )

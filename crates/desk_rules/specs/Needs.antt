@@ -1,5 +1,5 @@
--- What the entry of a verdict needs: numbers that can be given, and random bytes for tokens.
-use Rattle.std.specs.Prelude.{ℕ, ◌+◌, ◌*◌, ◌≡◌, ◌<◌, ◌≤◌, ◌^◌, ◌⊎◌, List, length, Option, Some}
+-- What a verdict needs: numbers that can be given, and random bytes for tokens.
+use Rattle.std.specs.Prelude.{ℕ, ◌+◌, ◌*◌, ◌≡◌, ◌<◌, ◌≤◌, ◌^◌, ◌⊎◌, List, length}
 use Rattle.desk_model.specs.Authorization.{kinds_of}
 use Rattle.desk_model.specs.Limits.{last_number}
 use Rattle.desk_model.specs.Run.{count_tokens, count_pieces}
@@ -7,40 +7,29 @@ use Rattle.desk_model.specs.Kept.{EachOf}
 use Rattle.desk_model.specs.Decide.{entries_of}
 use Rattle.desk_model.specs.declared.rows.Meta.{Meta}
 use Rattle.desk_model.specs.declared.verdict.Verdict.{Verdict}
-use Rattle.desk_model.specs.declared.verdict.Verdict.TheVariants.{Accepted as accepted}
-use Rattle.desk_model.specs.declared.entry.Entry.{Entry}
-use Rattle.desk_model.specs.declared.entry.Entry.TheVariants.{Issued as issued, Opened as opened, Ordered as ordered}
+use Rattle.desk_model.specs.declared.verdict.Verdict.TheVariants.{Opens as opens, Orders as orders}
 use Rattle.desk_model.specs.declared.entry.Wanted.{Wanted}
 use Rattle.desk_model.specs.declared.entry.Wanted.TheVariants.{New as new}
 use Rattle.desk_rules.specs.declared.fault.CoreFault.{CoreFault}
 use Rattle.desk_rules.specs.declared.fault.CoreFault.TheVariants as fault
 
--- the numbers of what the entry makes can be given
-abbrev pub NumbersLeftFor : Meta → Option Entry → Type 0
-NumbersLeftFor M (Some (opened key contacts)) = M.accounts < last_number
-NumbersLeftFor M (Some (ordered n wanted)) =
-    (M.orders < last_number) × (M.authorizations + length wanted ≤ last_number) × (M.challenges + count_tokens wanted ≤ last_number)
-NumbersLeftFor M _ = Unit {0}
-
+-- the numbers of what it makes can be given
 abbrev pub NumbersLeft : Meta → Verdict → Type 0
-NumbersLeft M (accepted entry what) = NumbersLeftFor M entry
+NumbersLeft M (opens key contacts) = M.accounts < last_number
+NumbersLeft M (orders account wanted) =
+    (M.orders < last_number) × (M.authorizations + length wanted ≤ last_number) × (M.challenges + count_tokens wanted ≤ last_number)
 NumbersLeft M _ = Unit {0}
 
 -- one of them can't
-abbrev pub NumbersSpentFor : Meta → Option Entry → Type 0
-NumbersSpentFor M (Some (opened key contacts)) = last_number ≤ M.accounts
-NumbersSpentFor M (Some (ordered n wanted)) =
-    (last_number ≤ M.orders) ⊎ ((last_number < M.authorizations + length wanted) ⊎ (last_number < M.challenges + count_tokens wanted))
-NumbersSpentFor M _ = ⊥
-
 abbrev pub NumbersSpent : Meta → Verdict → Type 0
-NumbersSpent M (accepted entry what) = NumbersSpentFor M entry
+NumbersSpent M (opens key contacts) = last_number ≤ M.accounts
+NumbersSpent M (orders account wanted) =
+    (last_number ≤ M.orders) ⊎ ((last_number < M.authorizations + length wanted) ⊎ (last_number < M.challenges + count_tokens wanted))
 NumbersSpent M _ = ⊥
 
 -- there are random bytes for the tokens of a new order, behind the 16 of the fresh nonce
 abbrev pub BytesLeft : List ℕ → Verdict → Type 0
-BytesLeft random (accepted (Some (ordered n wanted)) what) =
-    16 * (1 + count_pieces (entries_of (accepted (Some (ordered n wanted)) what))) ≤ length random
+BytesLeft random (orders account wanted) = 16 * (1 + count_pieces (entries_of (orders account wanted))) ≤ length random
 BytesLeft random _ = Unit {0}
 
 -- why a verdict is not given: want of memory, of numbers, or of random bytes where there are numbers
@@ -54,8 +43,7 @@ IsNeedFault M random v fault.Moment = ⊥
 abbrev pub HasTokens : Wanted → Type 0
 HasTokens (new name tokens) = length tokens ≡ length (kinds_of name)
 
--- so has each that the verdict orders, and it issues no nonce
+-- so has each that the verdict orders
 abbrev pub IsSpaced : Verdict → Type 0
-IsSpaced (accepted (Some (ordered account wanted)) what) = EachOf HasTokens wanted
-IsSpaced (accepted (Some (issued random)) what) = ⊥
+IsSpaced (orders account wanted) = EachOf HasTokens wanted
 IsSpaced _ = Unit {0}

@@ -11,10 +11,10 @@ use crate::contacts::contacts_refusal;
 use crate::fault::CoreFault;
 use crate::limits::has_room;
 use crate::payload::new_account;
-use crate::verdicts::{answers, records, refused};
+use crate::verdicts::refused;
 use desk_book::Book;
 use desk_model::{
-    AccountChange, AccountRow, AccountStatus, Ending, Entry, Jwk, NewAccount, Refusal, Sequence,
+    AccountChange, AccountRow, AccountStatus, Ending, Jwk, Move, NewAccount, Refusal, Sequence,
     Shows, Text, Verdict,
 };
 use std::alloc::{AllocError, Global};
@@ -27,7 +27,7 @@ pub(crate) fn new_account_verdict(
     key: &Jwk,
     payload: &str,
 ) -> Result<Verdict, CoreFault>
-    ensures { (random : List ℕ) → (let wanted = new_account_verdict book.now key.now (account_with_key book.now key.now) (new_account payload.now) in
+    ensures { (random : List ℕ) → (let wanted = new_account_verdict key.now (account_with_key book.now key.now) (new_account payload.now) in
         MatchResult result (λ v. (v ≡ wanted) × NumbersLeft book.now.meta v × BytesLeft random v) (λ e. IsNeedFault book.now.meta random wanted e)) }
 {
     match book.account_with_key(key.canonical()) {
@@ -54,10 +54,7 @@ fn known_account_verdict(
     if new_account(alloc, payload)?.is_none() {
         return Ok(refused(alloc, Refusal::Malformed));
     }
-    Ok(Verdict::Accepted {
-        entry: None,
-        shows: Shows::KnownAccount(row.number),
-    })
+    Ok(Verdict::Answers(Shows::KnownAccount(row.number)))
 }
 
 // A newAccount request whose key has none.
@@ -69,8 +66,8 @@ fn open_account(
     asked: NewAccount,
 ) -> Result<Verdict, CoreFault>
     ensures { (random : List ℕ) → MatchResult result
-        (λ v. (v ≡ open_account book.now key.now asked) × NumbersLeft book.now.meta v × BytesLeft random v)
-        (λ e. IsNeedFault book.now.meta random (open_account book.now key.now asked) e) }
+        (λ v. (v ≡ open_account key.now asked) × NumbersLeft book.now.meta v × BytesLeft random v)
+        (λ e. IsNeedFault book.now.meta random (open_account key.now asked) e) }
 {
     if asked.only_existing {
         return Ok(refused(alloc, Refusal::AccountDoesNotExist));
@@ -78,12 +75,8 @@ fn open_account(
     if let Some(refusal) = contacts_refusal(asked.contacts.as_slice()) {
         return Ok(refused(alloc, refusal));
     }
-    let last = book.meta().accounts;
-    has_room(last)?;
-    Ok(Verdict::Accepted {
-        entry: Some(Entry::Opened(key.clone()?, asked.contacts)),
-        shows: Shows::OpenedAccount(last + 1),
-    })
+    has_room(book.meta().accounts)?;
+    Ok(Verdict::Opens(key.clone()?, asked.contacts))
 }
 
 /// A request to an account by its own holder (RFC 8555, 7.3.2, 7.3.6).
@@ -91,11 +84,12 @@ pub(crate) fn account_verdict(alloc: Global, number: u64, change: AccountChange)
     ensures { result ≡ account_verdict number change }
 {
     match change {
-        AccountChange::Read | AccountChange::Update(None) => answers(Shows::Account(number)),
-        AccountChange::Deactivate => records(
-            Entry::AccountEnded(number, Ending::Deactivated),
-            Shows::Account(number),
-        ),
+        AccountChange::Read | AccountChange::Update(None) => {
+            Verdict::Answers(Shows::Account(number))
+        }
+        AccountChange::Deactivate => {
+            Verdict::Moves(Move::AccountEnded(number, Ending::Deactivated))
+        }
         AccountChange::Update(Some(contacts)) => contacts_verdict(alloc, number, contacts),
     }
 }
@@ -107,9 +101,6 @@ fn contacts_verdict(alloc: Global, number: u64, contacts: Sequence<Text>) -> Ver
 {
     match contacts_refusal(contacts.as_slice()) {
         Some(refusal) => refused(alloc, refusal),
-        None => records(
-            Entry::ContactsChanged(number, contacts),
-            Shows::Account(number),
-        ),
+        None => Verdict::Moves(Move::ContactsChanged(number, contacts)),
     }
 }

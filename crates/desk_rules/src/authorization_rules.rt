@@ -2,9 +2,8 @@
 ghost use Rattle.std.specs.Prelude.{◌≡◌};
 ghost use Rattle.desk_model.specs.Rules.{authorization_verdict};
 
-use crate::verdicts::{answers, records};
 use desk_model::{
-    AuthorizationChange, AuthorizationRow, AuthzStatus, Ending, Entry, Shows, Verdict,
+    AuthorizationChange, AuthorizationRow, AuthzStatus, Ending, Move, Shows, Verdict,
 };
 
 /// A request to an authorization: one that is over already stays as it is (RFC 8555, 7.5.2).
@@ -17,14 +16,12 @@ pub(crate) fn authorization_verdict(
 ) -> Verdict
     ensures { result ≡ authorization_verdict number (record row.now { status = status }) change }
 {
-    let shows = Shows::Authorization(number);
     match change {
         AuthorizationChange::Deactivate if status.is_live() => {
-            records(
-                Entry::AuthorizationEnded(number, Ending::Deactivated),
-                shows,
-            )
+            Verdict::Moves(Move::AuthorizationEnded(number, Ending::Deactivated))
         }
-        AuthorizationChange::Deactivate | AuthorizationChange::Read => answers(shows),
+        AuthorizationChange::Deactivate | AuthorizationChange::Read => {
+            Verdict::Answers(Shows::Authorization(number))
+        }
     }
 }

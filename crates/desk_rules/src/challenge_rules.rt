@@ -6,10 +6,10 @@ ghost use Rattle.desk_model.specs.Lookup.{holds};
 ghost use Rattle.desk_model.specs.Questions.{challenge_of};
 ghost use Rattle.desk_model.specs.Rules.{challenge_verdict, outcome_of, outcome_verdict, same_outcome, stands_open, judged};
 
-use crate::verdicts::{answers, records, refused};
+use crate::verdicts::refused;
 use desk_book::Book;
 use desk_model::{
-    AuthorizationRow, AuthzStatus, ChallengeChange, ChallengeRow, Entry, FetchError, Finding, Kind,
+    AuthorizationRow, AuthzStatus, ChallengeChange, ChallengeRow, FetchError, Finding, Kind, Move,
     Outcome, Refusal, Shows, Verdict,
 };
 use keys::{dns_matches, expected_text, http_matches};
@@ -47,12 +47,12 @@ pub(crate) fn challenge_verdict(
     ensures { result ≡ challenge_verdict number (record row.now { status = status }) change }
 {
     match change {
-        ChallengeChange::Read => answers(Shows::ClientChallenge(number)),
+        ChallengeChange::Read => Verdict::Answers(Shows::ClientChallenge(number)),
         ChallengeChange::Answer => {
             if status.is_pending() && has_pending(row, number) {
-                return records(Entry::Answered(number), Shows::ClientChallenge(number));
+                return Verdict::Moves(Move::Answered(number));
             }
-            answers(Shows::ClientChallenge(number))
+            Verdict::Answers(Shows::ClientChallenge(number))
         }
     }
 }
@@ -129,10 +129,10 @@ pub(crate) fn outcome_verdict(
     ensures { result ≡ outcome_verdict number (record row.now { status = status }) challenge.now outcome }
 {
     if has_outcome(challenge, outcome) {
-        return answers(Shows::Challenge(number));
+        return Verdict::Answers(Shows::Challenge(number));
     }
     if status.is_pending() && has_processing(row, number) {
-        return records(Entry::Reported(number, outcome), Shows::Challenge(number));
+        return Verdict::Moves(Move::Reported(number, outcome));
     }
     refused(alloc, Refusal::Conflict)
 }

@@ -15,7 +15,7 @@ use crate::targets::{
     account_target, authorization_target, certificate_target, challenge_target, finalize_target,
     order_target, orders_target,
 };
-use crate::verdicts::{answers, refused};
+use crate::verdicts::refused;
 use desk_book::Book;
 use desk_model::{Jwk, Refusal, Shows, Signed, Target, Verdict};
 use std::alloc::Global;
@@ -29,7 +29,7 @@ fn new_order_target(
     sender: u64,
     payload: &str,
 ) -> Result<Verdict, CoreFault>
-    ensures { let asked = given (new_order payload.now) Refusal.Malformed (new_order_verdict book.now (drop 16 random.now) sender) in
+    ensures { let asked = given (new_order payload.now) Refusal.Malformed (new_order_verdict (drop 16 random.now) sender) in
         MatchResult result (λ v. (v ≡ asked) × NumbersLeft book.now.meta v × BytesLeft random.now v) (λ e. IsNeedFault book.now.meta random.now asked e) }
 {
     match new_order(alloc, payload)? {
@@ -54,7 +54,7 @@ fn target_verdict(
         MatchResult result (λ v. (v ≡ asked) × NumbersLeft book.now.meta v × BytesLeft random.now v) (λ e. IsNeedFault book.now.meta random.now asked e) }
 {
     match target {
-        Target::NewAccount => Ok(answers(Shows::KnownAccount(sender))),
+        Target::NewAccount => Ok(Verdict::Answers(Shows::KnownAccount(sender))),
         Target::NewOrder => new_order_target(alloc, book, random, sender, payload),
         Target::Account(number) => Ok(account_target(alloc, sender, number, payload)?),
         Target::Orders(number) => Ok(orders_target(alloc, sender, number, payload)),

@@ -1,5 +1,5 @@
 //! The rules on new orders (RFC 8555, 7.4).
-ghost use Rattle.std.specs.Prelude.{◌≡◌, ◌+◌, ◌*◌, ◌<◌, ◌≤◌, ◌^◌, ◌⊎◌, bytes_eq, length, drop, not, count_by, IfOk, MatchResult};
+ghost use Rattle.std.specs.Prelude.{◌≡◌, ◌+◌, ◌*◌, ◌<◌, ◌≤◌, ◌⊎◌, bytes_eq, length, drop, not, count_by, IfOk, MatchResult};
 ghost use Rattle.std.specs.List.{list_any};
 ghost use Rattle.desk_rules.specs.Needs.{NumbersLeft, BytesLeft, IsNeedFault};
 ghost use Rattle.desk_model.specs.Authorization.{kinds_of};
@@ -7,18 +7,14 @@ ghost use Rattle.desk_model.specs.Limits.{last_number};
 ghost use Rattle.desk_model.specs.Name.{same_bool, same_name};
 ghost use Rattle.desk_model.specs.Rules.{kept, new_order_verdict, pieces, wanted};
 ghost use Rattle.desk_model.specs.Run.{count_tokens};
-ghost use Rattle.desk_model.specs.Verdict.{records as recording};
-ghost use Rattle.desk_model.specs.declared.entry.Entry.TheVariants.{Ordered as ordered};
-ghost use Rattle.desk_model.specs.declared.verdict.Shows.TheVariants.{MadeOrder};
+ghost use Rattle.desk_model.specs.declared.verdict.Verdict.TheVariants.{Orders as orders};
 
 use crate::fault::CoreFault;
 use crate::identified::{Identified, identify};
 use crate::limits::{first_piece, has_room, has_room_for, has_tokens, later_random};
-use crate::verdicts::{records, refused};
+use crate::verdicts::refused;
 use desk_book::Book;
-use desk_model::{
-    DnsName, Entry, Identifier, MOST_NAMES, Meta, Refusal, Sequence, Shows, Verdict, Wanted,
-};
+use desk_model::{DnsName, Identifier, MOST_NAMES, Meta, Refusal, Sequence, Verdict, Wanted};
 use std::alloc::{AllocError, Global};
 
 fn is_same_mark(wildcard: bool, other: bool) -> bool
@@ -122,7 +118,7 @@ fn order_for(
     account: u64,
     names: Vec<DnsName>,
 ) -> Result<Verdict, CoreFault>
-    ensures { let asked = recording (ordered account (wanted names.items (drop 16 random.now))) (MadeOrder (book.now.meta.orders + 1)) in
+    ensures { let asked = orders account (wanted names.items (drop 16 random.now)) in
         MatchResult result (λ v. (v ≡ asked) × NumbersLeft book.now.meta v × BytesLeft random.now v) (λ e. IsNeedFault book.now.meta random.now asked e) }
 {
     let meta = book.meta();
@@ -130,10 +126,7 @@ fn order_for(
     has_numbers(meta, names.len(), count)?;
     has_tokens(random, count)?;
     let wanted = wanted(alloc, names, later_random(random))?;
-    Ok(records(
-        Entry::Ordered(account, Sequence::new(wanted)),
-        Shows::MadeOrder(meta.orders + 1),
-    ))
+    Ok(Verdict::Orders(account, Sequence::new(wanted)))
 }
 
 /// A newOrder request of a valid account: refused by the first faulty identifier, with all of them listed.
@@ -145,7 +138,7 @@ pub(crate) fn new_order_verdict(
     account: u64,
     identifiers: &[Identifier],
 ) -> Result<Verdict, CoreFault>
-    ensures { let asked = new_order_verdict book.now (drop 16 random.now) account identifiers.now in
+    ensures { let asked = new_order_verdict (drop 16 random.now) account identifiers.now in
         MatchResult result (λ v. (v ≡ asked) × NumbersLeft book.now.meta v × BytesLeft random.now v) (λ e. IsNeedFault book.now.meta random.now asked e) }
 {
     if identifiers.is_empty() || identifiers.len() > MOST_NAMES {

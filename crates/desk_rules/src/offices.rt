@@ -1,5 +1,5 @@
 //! The rules on what the validator, the signing office and the operator ask (RFC 8555, 7.1.6, 7.4, 8).
-ghost use Rattle.std.specs.Prelude.{◌≡◌, ◌&&◌, ◌||◌, IfOk, bytes_eq, codes};
+ghost use Rattle.std.specs.Prelude.{◌≡◌, ◌&&◌, IfOk, bytes_eq};
 ghost use Rattle.desk_model.specs.Effect.{swept};
 ghost use Rattle.desk_model.specs.Legal.{is_problem, has_length};
 ghost use Rattle.desk_model.specs.Limits.{longest_detail};
@@ -10,12 +10,12 @@ ghost use Rattle.desk_model.specs.Verdict.{given};
 ghost use Rattle.desk_model.specs.declared.call.Ask.TheVariants.{KeyOf};
 
 use crate::challenge_rules::{expected, outcome_of, outcome_verdict};
-use crate::verdicts::{answers, records, refused};
+use crate::verdicts::refused;
 use desk_book::Book;
 use desk_model::{
-    AccountRow, AccountStatus, Ask, AuthorizationRow, AuthzStatus, Ending, Entry, Finding,
-    LONGEST_CERTIFICATE, LONGEST_DETAIL, OrderProblem, OrderRow, OrderStatus, Refusal, Sequence,
-    Shows, Verdict, is_problem_kind, is_same_bytes, is_same_text,
+    AccountRow, AccountStatus, Ask, AuthorizationRow, AuthzStatus, Ending, Finding,
+    LONGEST_CERTIFICATE, LONGEST_DETAIL, Listing, Move, OrderProblem, OrderRow, OrderStatus,
+    Refusal, Sequence, Shows, Verdict, is_problem_kind, is_same_bytes, is_same_text,
 };
 use std::alloc::{AllocError, Global};
 use swept_rows::{authorization_at, challenge_of, order_at, owner_at};
@@ -74,13 +74,12 @@ fn certify_verdict(
         return Ok(refused(alloc, Refusal::TooLarge));
     }
     if has_certificate(row, certificate) {
-        return Ok(answers(Shows::Order(number)));
+        return Ok(Verdict::Answers(Shows::Order(number)));
     }
     if !status.is_processing() {
         return Ok(refused(alloc, Refusal::Conflict));
     }
-    let entry = Entry::Certified(number, bytes.clone()?);
-    Ok(records(entry, Shows::Order(number)))
+    Ok(Verdict::Moves(Move::Certified(number, bytes.clone()?)))
 }
 
 // Whether a problem has an error type that the signing office may hand in, and a detail that is neither empty nor too long.
@@ -129,13 +128,12 @@ fn fail_verdict(
         return Ok(refused(alloc, Refusal::Malformed));
     }
     if has_failed_for(row, problem) {
-        return Ok(answers(Shows::Order(number)));
+        return Ok(Verdict::Answers(Shows::Order(number)));
     }
     if !status.is_processing() {
         return Ok(refused(alloc, Refusal::Conflict));
     }
-    let entry = Entry::Failed(number, problem.clone()?);
-    Ok(records(entry, Shows::Order(number)))
+    Ok(Verdict::Moves(Move::Failed(number, problem.clone()?)))
 }
 
 // The operator takes back an authorization; one that is revoked already stays as it is.
@@ -148,14 +146,13 @@ fn revoke_authorization(
 ) -> Verdict
     ensures { result ≡ revoke_authorization number (record row.now { status = status }) }
 {
-    let shows = Shows::Authorization(number);
     if is_revoked_status(status) {
-        return answers(shows);
+        return Verdict::Answers(Shows::Authorization(number));
     }
     if !status.is_live() {
         return refused(alloc, Refusal::Conflict);
     }
-    records(Entry::AuthorizationEnded(number, Ending::Revoked), shows)
+    Verdict::Moves(Move::AuthorizationEnded(number, Ending::Revoked))
 }
 
 fn is_revoked_status(status: AuthzStatus) -> bool
@@ -180,15 +177,12 @@ fn revoke_account(alloc: Global, number: u64, row: &AccountRow) -> Verdict
     ensures { result ≡ revoke_account number row.now }
 {
     if is_revoked(row) {
-        return answers(Shows::Account(number));
+        return Verdict::Answers(Shows::Account(number));
     }
     if row.status != AccountStatus::Valid {
         return refused(alloc, Refusal::Conflict);
     }
-    records(
-        Entry::AccountEnded(number, Ending::Revoked),
-        Shows::Account(number),
-    )
+    Verdict::Moves(Move::AccountEnded(number, Ending::Revoked))
 }
 
 // A certificate for the order of a number.
@@ -255,7 +249,7 @@ fn key_verdict(alloc: Global, book: &Book, number: u64) -> Verdict
     if book.account(number).is_none() {
         return refused(alloc, Refusal::NotFound);
     }
-    answers(Shows::Key(number))
+    Verdict::Answers(Shows::Key(number))
 }
 
 /// The verdict on an ask that carries no nonce, by the tables of a book at a moment; newNonce and signed requests,
@@ -273,7 +267,7 @@ pub fn judge_office(
     ensures { IfOk result (λ v. v ≡ office_verdict (swept moment book.now) ask.now) }
 {
     match ask {
-        Ask::Directory => Ok(answers(Shows::Directory)),
+        Ask::Directory => Ok(Verdict::Answers(Shows::List(Listing::Directory))),
         Ask::NewNonce { head: _ } | Ask::Signed(_) => Ok(refused(alloc, Refusal::NotFound)),
         Ask::Report { challenge, finding } => {
             report_verdict(alloc, book, moment, *challenge, finding)
@@ -282,8 +276,8 @@ pub fn judge_office(
         Ask::FailOrder { order, problem } => fail_order(alloc, book, moment, *order, problem),
         Ask::RevokeAuthz(number) => Ok(revoke_authorization_of(alloc, book, moment, *number)),
         Ask::RevokeAccount(number) => Ok(revoke_account_of(alloc, book, *number)),
-        Ask::ChallengeWork => Ok(answers(Shows::ChallengeWork)),
-        Ask::OrderWork => Ok(answers(Shows::OrderWork)),
+        Ask::ChallengeWork => Ok(Verdict::Answers(Shows::List(Listing::ChallengeWork))),
+        Ask::OrderWork => Ok(Verdict::Answers(Shows::List(Listing::OrderWork))),
         Ask::KeyOf(number) => Ok(key_verdict(alloc, book, *number)),
     }
 }

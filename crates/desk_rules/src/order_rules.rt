@@ -2,12 +2,12 @@
 ghost use Rattle.std.specs.Prelude.{◌≡◌, IfOk};
 ghost use Rattle.desk_model.specs.Order.{is_ready};
 ghost use Rattle.desk_model.specs.Rules.{certificate_verdict, csr_in, if_fits};
-ghost use Rattle.desk_model.specs.Verdict.{check, given, records as recording};
-ghost use Rattle.desk_model.specs.declared.entry.Entry.TheVariants.{Finalized as finalized};
-ghost use Rattle.desk_model.specs.declared.verdict.Shows.TheVariants.{FinalizedOrder};
+ghost use Rattle.desk_model.specs.Verdict.{check, given};
+ghost use Rattle.desk_model.specs.declared.verdict.Verdict.TheVariants.{Moves as moves};
+ghost use Rattle.desk_model.specs.declared.moves.Move.TheVariants as move;
 
-use crate::verdicts::{answers, records, refused};
-use desk_model::{Entry, LONGEST_CSR, OrderRow, OrderStatus, Refusal, Sequence, Shows, Verdict};
+use crate::verdicts::refused;
+use desk_model::{LONGEST_CSR, Move, OrderRow, OrderStatus, Refusal, Sequence, Shows, Verdict};
 use keys::from_base64url;
 use std::alloc::{AllocError, Global};
 
@@ -39,13 +39,13 @@ pub(crate) fn finalize_verdict(
     status: OrderStatus,
     text: &str,
 ) -> Result<Verdict, AllocError>
-    ensures { IfOk result (λ v. v ≡ check (is_ready status) Refusal.OrderNotReady (given (csr_in text.now) Refusal.BadCsr (λ csr. recording (finalized number csr) (FinalizedOrder number)))) }
+    ensures { IfOk result (λ v. v ≡ check (is_ready status) Refusal.OrderNotReady (given (csr_in text.now) Refusal.BadCsr (λ csr. moves (move.Finalized number csr)))) }
 {
     if !status.is_ready() {
         return Ok(refused(alloc, Refusal::OrderNotReady));
     }
     match csr_in(alloc, text)? {
-        Some(csr) => Ok(records(Entry::Finalized(number, csr), Shows::FinalizedOrder(number))),
+        Some(csr) => Ok(Verdict::Moves(Move::Finalized(number, csr))),
         None => Ok(refused(alloc, Refusal::BadCsr)),
     }
 }
@@ -58,5 +58,5 @@ pub(crate) fn certificate_verdict(alloc: Global, number: u64, row: &OrderRow) ->
     if row.certified.is_none() {
         return refused(alloc, Refusal::NotFound);
     }
-    answers(Shows::Certificate(number))
+    Verdict::Answers(Shows::Certificate(number))
 }

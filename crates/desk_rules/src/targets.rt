@@ -4,19 +4,21 @@ ghost use Rattle.desk_model.specs.Effect.{swept};
 ghost use Rattle.desk_model.specs.Payload.{account_change, authorization_change, challenge_change, finalize};
 ghost use Rattle.desk_model.specs.Questions.{account_with_key, authorization_on, order_on, owner_on};
 ghost use Rattle.desk_model.specs.Rules.{account_verdict, authorization_verdict, certificate_verdict, challenge_verdict, finalize_verdict, holder_verdict, nothing, own, signed_verdict, target_verdict};
-ghost use Rattle.desk_model.specs.Verdict.{answers, check, given};
+ghost use Rattle.desk_model.specs.Verdict.{check, given};
+ghost use Rattle.desk_model.specs.declared.verdict.Verdict.TheVariants.{Answers as answers};
 ghost use Rattle.desk_model.specs.declared.verdict.Shows.TheVariants as show;
+ghost use Rattle.desk_model.specs.declared.verdict.Listing.TheVariants as list;
 
 use crate::accounts::account_verdict;
 use crate::authorization_rules::authorization_verdict;
 use crate::challenge_rules::challenge_verdict;
 use crate::order_rules::{certificate_verdict, finalize_verdict};
 use crate::payload::{account_change, authorization_change, challenge_change, finalize};
-use crate::verdicts::{answers, refused};
+use crate::verdicts::refused;
 use desk_book::Book;
 use desk_model::{
-    AccountStatus, AuthorizationRow, AuthzStatus, OrderRow, OrderStatus, Refusal, Shows, Signed,
-    Target, Verdict,
+    AccountStatus, AuthorizationRow, AuthzStatus, Listing, OrderRow, OrderStatus, Refusal, Shows,
+    Signed, Target, Verdict,
 };
 use std::alloc::{AllocError, Global};
 use swept_rows::{authorization_at, order_at, owner_at};
@@ -84,7 +86,7 @@ pub(crate) fn account_target(
 /// A request for the orders of an account.
 #[tactic(auto, unfolding(desk_model::specs::Verdict::check))]
 pub(crate) fn orders_target(alloc: Global, sender: u64, number: u64, payload: &str) -> Verdict
-    ensures { result ≡ check (number == sender) Refusal.NotFound (check (nothing payload.now) Refusal.Malformed (answers (show.Orders sender))) }
+    ensures { result ≡ check (number == sender) Refusal.NotFound (check (nothing payload.now) Refusal.Malformed (answers (show.List (list.Orders sender)))) }
 {
     if number != sender {
         return refused(alloc, Refusal::NotFound);
@@ -92,7 +94,7 @@ pub(crate) fn orders_target(alloc: Global, sender: u64, number: u64, payload: &s
     if !is_nothing(payload) {
         return refused(alloc, Refusal::Malformed);
     }
-    answers(Shows::Orders(sender))
+    Verdict::Answers(Shows::List(Listing::Orders(sender)))
 }
 
 /// A request for an order.
@@ -113,7 +115,7 @@ pub(crate) fn order_target(
     if !is_nothing(payload) {
         return refused(alloc, Refusal::Malformed);
     }
-    answers(Shows::Order(number))
+    Verdict::Answers(Shows::Order(number))
 }
 
 /// A request to finalize an order.

@@ -1,4 +1,5 @@
 use Rattle.std.proofs.Common.{◌++◌, map, ap, sym, ◌∙◌}
+use Rattle.desk_model.specs.Entry.{entry_of}
 use Rattle.desk_model.specs.Change.{account_differs, moved_rows}
 use Rattle.desk_model.specs.Effect.{noted_account, touches_account}
 use Rattle.desk_model.specs.declared.rows.Change.TheVariants.{PutAccount}
@@ -7,7 +8,7 @@ use Rattle.desk_changes.proofs.moved.put_accounts.Goals as goal
 
 pub loop-row-preserved : goal.loop-row-preserved
 loop-row-preserved c =
-    puts-step PutAccount (touches_account c.args.entry.now) account_differs (noted_account c.args.entry.now c.args.moment) c.in-Some.row.now c.next.new.self
+    puts-step PutAccount (touches_account (entry_of c.args.moved.now)) account_differs (noted_account (entry_of c.args.moved.now) c.args.moment) c.in-Some.row.now c.next.new.self
     c.loop-row.changes.items c.put_account.new.changes.items _ c.in_ok-put_account.ensures
-    (ap (λ rows. c.loop-row.changes.items ++ map PutAccount (moved_rows (touches_account c.args.entry.now) account_differs (noted_account c.args.entry.now c.args.moment) rows)) (sym c.in-Some.ensures.steps)
+    (ap (λ rows. c.loop-row.changes.items ++ map PutAccount (moved_rows (touches_account (entry_of c.args.moved.now)) account_differs (noted_account (entry_of c.args.moved.now) c.args.moment) rows)) (sym c.in-Some.ensures.steps)
     ∙ c.loop-row.invariant)

@@ -1,4 +1,5 @@
 use Rattle.std.proofs.Common.{◌++◌, map, ap, sym, ◌∙◌}
+use Rattle.desk_model.specs.Entry.{entry_of}
 use Rattle.desk_model.specs.Change.{authorization_differs, moved_rows}
 use Rattle.desk_model.specs.Effect.{swept_authorization, touches_authorization}
 use Rattle.desk_model.specs.declared.rows.Change.TheVariants.{PutAuthorization}
@@ -8,8 +9,8 @@ use Rattle.desk_changes.proofs.moved.put_authorizations.Goals as goal
 
 pub loop-row-preserved : goal.loop-row-preserved
 loop-row-preserved c =
-    puts-step PutAuthorization (touches_authorization c.args.entry.now) authorization_differs (stated_authorization c.args.entry.now c.args.moment)
+    puts-step PutAuthorization (touches_authorization (entry_of c.args.moved.now)) authorization_differs (stated_authorization (entry_of c.args.moved.now) c.args.moment)
     (swept_authorization c.args.moment c.in-Some.row.now) (standing_rows c.args.moment c.next.new.self)
     c.loop-row.changes.items c.put_authorization.new.changes.items _ c.in_ok-put_authorization.ensures
-    (ap (λ rows. c.loop-row.changes.items ++ map PutAuthorization (moved_rows (touches_authorization c.args.entry.now) authorization_differs (stated_authorization c.args.entry.now c.args.moment) (standing_rows c.args.moment rows))) (sym c.in-Some.ensures.steps)
+    (ap (λ rows. c.loop-row.changes.items ++ map PutAuthorization (moved_rows (touches_authorization (entry_of c.args.moved.now)) authorization_differs (stated_authorization (entry_of c.args.moved.now) c.args.moment) (standing_rows c.args.moment rows))) (sym c.in-Some.ensures.steps)
     ∙ c.loop-row.invariant)

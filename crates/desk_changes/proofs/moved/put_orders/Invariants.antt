@@ -1,4 +1,5 @@
 use Rattle.std.proofs.Common.{◌≡◌, ◌++◌, map}
+use Rattle.desk_model.specs.Entry.{entry_of}
 use Rattle.desk_model.specs.Change.{order_differs, moved_rows}
 use Rattle.desk_model.specs.Effect.{swept_order, touches_order}
 use Rattle.desk_model.specs.declared.rows.Change.TheVariants.{PutOrder}
@@ -7,5 +8,5 @@ use Rattle.desk_changes.proofs.moved.put_orders.Given as goal
 
 abbrev pub invariant-loop-row : goal.invariant-loop-row
 invariant-loop-row l =
-    l.changes.items ++ map PutOrder (moved_rows (touches_order l.entry (standing_rows l.moment l.book.authorizations)) order_differs (stated_order l.entry l.moment l.book.authorizations) (map (swept_order l.moment l.book.authorizations) l.row-iterator))
-    ≡ l.fn.changes.items ++ map PutOrder (moved_rows (touches_order l.entry (standing_rows l.moment l.book.authorizations)) order_differs (stated_order l.entry l.moment l.book.authorizations) (map (swept_order l.moment l.book.authorizations) l.book.orders))
+    l.changes.items ++ map PutOrder (moved_rows (touches_order (entry_of l.moved) (standing_rows l.moment l.book.authorizations)) order_differs (stated_order (entry_of l.moved) l.moment l.book.authorizations) (map (swept_order l.moment l.book.authorizations) l.row-iterator))
+    ≡ l.fn.changes.items ++ map PutOrder (moved_rows (touches_order (entry_of l.moved) (standing_rows l.moment l.book.authorizations)) order_differs (stated_order (entry_of l.moved) l.moment l.book.authorizations) (map (swept_order l.moment l.book.authorizations) l.book.orders))

@@ -8,6 +8,6 @@ returns-clause-recorded c = c.in_ok-reply.ensures.recorded
 
 pub returns-clause-reply : goal.returns-clause-reply
 returns-clause-reply c =
-    λ actable m at ordered texts.
+    λ m at ordered texts.
     c.in_ok-reply-2.ensures
-    ∙ (λ i. with_nonce (nonce_text ((c.meta.ensures i).nonces + 1) c.args.random) (c.in_ok-reply.ensures.reply actable m at ordered texts i))
+    ∙ (λ i. with_nonce (nonce_text ((c.meta.ensures i).nonces + 1) c.args.random) (c.in_ok-reply.ensures.reply m at ordered texts i))

@@ -6,7 +6,7 @@ use Rattle.desk_model.specs.Tokens.{nonce_text}
 use Rattle.desk_model.specs.declared.entry.Entry.TheVariants.{Issued as issued, Spent as spent}
 use Rattle.desk_changes.specs.Acting.{IsAt}
 use Rattle.desk_changes.specs.Recorded.{recorded_changes}
-use Rattle.desk_decisions.proofs.ActingRows.{actable_at, at_issued}
+use Rattle.desk_decisions.proofs.ActingRows.{at_issued}
 use Rattle.desk_changes.proofs.Moving.{untouched_nonces}
 use Rattle.desk_decisions.proofs.decisions.passed.Goals as goal
 use Rattle.desk_decisions.proofs.decisions.passed.Goals.{After-drop-recording-2}
@@ -17,15 +17,13 @@ issued_at c = at_issued c.args.moment c.args.book.now c.in_ok-recording.recordin
 
 pub returns-clause-changes : goal.returns-clause-changes
 returns-clause-changes c =
-    λ ordered actable.
-    (c.in_ok-reply.ensures.recorded (actable_at c.args.moment c.args.book.now c.in_ok-recording.recording.meta c.args.verdict (issued_at c) actable)
-    c.args.moment (spent c.args.serial ∷ issued c.in_ok-bytes.bytes ∷ []) ordered (untouched_nonces c.args.moment c.args.book.now c.args.serial c.in_ok-bytes.bytes)
+    λ ordered.
+    (c.in_ok-reply.ensures.recorded c.args.moment (spent c.args.serial ∷ issued c.in_ok-bytes.bytes ∷ []) ordered (untouched_nonces c.args.moment c.args.book.now c.args.serial c.in_ok-bytes.bytes)
     c.in_ok-recording.ensures.recorded).changes
     ∙ ap (λ r. recorded_changes c.args.moment c.args.book.now (spent c.args.serial ∷ issued r ∷ entries_of c.args.verdict)) c.in_ok-bytes.ensures.0
 
 pub returns-clause-reply : goal.returns-clause-reply
 returns-clause-reply c =
-    λ ordered actable texts.
-    c.in_ok-reply.ensures.reply (actable_at c.args.moment c.args.book.now c.in_ok-recording.recording.meta c.args.verdict (issued_at c) actable)
-    c.args.moment (issued_at c) ordered texts
+    λ ordered texts.
+    c.in_ok-reply.ensures.reply c.args.moment (issued_at c) ordered texts
     ∙ ap (λ r. with_nonce (nonce_text (c.args.book.now.meta.nonces + 1) r) (verdict_reply true (effects c.args.moment (swept c.args.moment c.args.book.now) (entries_of c.args.verdict)) c.args.verdict)) c.in_ok-bytes.ensures.0

@@ -1,6 +1,6 @@
 use Rattle.std.proofs.Common.{[]}
 use Rattle.desk_changes.specs.Acting.{IsAt}
-use Rattle.desk_decisions.proofs.ActingRows.{actable_at, at_begun}
+use Rattle.desk_decisions.proofs.ActingRows.{at_begun}
 use Rattle.desk_changes.proofs.Moving.{untouched_none}
 use Rattle.desk_decisions.proofs.decisions.recorded.Goals as goal
 use Rattle.desk_decisions.proofs.decisions.recorded.Goals.{After-drop-recording-2}
@@ -11,12 +11,10 @@ begun_at c = at_begun c.args.moment c.args.book.now c.in_ok-recording.recording.
 
 pub returns-clause-changes : goal.returns-clause-changes
 returns-clause-changes c =
-    λ ordered actable.
-    (c.in_ok-reply.ensures.recorded (actable_at c.args.moment c.args.book.now c.in_ok-recording.recording.meta c.args.verdict (begun_at c) actable)
-    c.args.moment [] ordered (untouched_none c.args.moment c.args.book.now) c.in_ok-recording.ensures.recorded).changes
+    λ ordered.
+    (c.in_ok-reply.ensures.recorded c.args.moment [] ordered (untouched_none c.args.moment c.args.book.now) c.in_ok-recording.ensures.recorded).changes
 
 pub returns-clause-reply : goal.returns-clause-reply
 returns-clause-reply c =
-    λ ordered actable texts.
-    c.in_ok-reply.ensures.reply (actable_at c.args.moment c.args.book.now c.in_ok-recording.recording.meta c.args.verdict (begun_at c) actable)
-    c.args.moment (begun_at c) ordered texts
+    λ ordered texts.
+    c.in_ok-reply.ensures.reply c.args.moment (begun_at c) ordered texts

@@ -1,0 +1,23 @@
+use Rattle.std.proofs.Common.{◌∙◌, ap, sym, Option, Some}
+use Rattle.std.specs.Prelude.{option_copied}
+use Rattle.std.specs.Option.{option_map}
+use Rattle.desk_model.specs.Questions.{order_on}
+use Rattle.desk_model.specs.declared.moves.Move.{Move}
+use Rattle.desk_changes.specs.Acting.{order_with}
+use Rattle.desk_changes.proofs.ShownAfter.{order_on-with}
+use Rattle.desk_changes.proofs.view.View.order.Goals as goal
+
+pub returns-in_ok-shown-in-Some : goal.returns-in_ok-shown-in-Some
+returns-in_ok-shown-in-Some c =
+    let moved : Option Move = option_copied c.self.inside.moved in
+    ap (λ r. Some r) c.in_ok-shown-in-Some.ensures
+    ∙ ap (option_map (order_with moved c.self.inside.moment c.self.inside.book.now.authorizations)) (ap option_copied (sym c.in-Some.is) ∙ c.order.ensures)
+    ∙ sym (order_on-with c.self.inside.moment c.self.inside.book.now moved c.args.number)
+    ∙ ap (λ T. order_on T c.args.number) c.self.view_is
+
+pub returns-in-None : goal.returns-in-None
+returns-in-None c =
+    let moved : Option Move = option_copied c.self.inside.moved in
+    ap (option_map (order_with moved c.self.inside.moment c.self.inside.book.now.authorizations)) (ap option_copied (sym c.in-None.is) ∙ c.order.ensures)
+    ∙ sym (order_on-with c.self.inside.moment c.self.inside.book.now moved c.args.number)
+    ∙ ap (λ T. order_on T c.args.number) c.self.view_is
