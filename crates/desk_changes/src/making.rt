@@ -34,6 +34,26 @@ fn new_challenge(number: u64, kind: Kind, token: [u8; 16]) -> ChallengeRow
     }
 }
 
+// Puts challenges of these types with these tokens, numbered from here, at the end of a list.
+fn push_challenges(
+    rows: &mut Vec<ChallengeRow>,
+    kinds: &[Kind],
+    tokens: &[[u8; 16]],
+    number: u64,
+) -> Result<(), AllocError>
+    requires { number + length kinds.now < 2 ^ 64 }
+    ensures { OnOk result (rows.new.items ≡ rows.old.items ++ map fresh_challenge (challenges_from number kinds.now tokens.now)) }
+{
+    let Some((kind, kinds)) = kinds.split_first() else {
+        return Ok(());
+    };
+    let Some((token, tokens)) = tokens.split_first() else {
+        return Ok(());
+    };
+    rows.push(new_challenge(number, *kind, *token))?;
+    push_challenges(rows, kinds, tokens, number + 1)
+}
+
 // The challenges of a name with these tokens, numbered from here.
 fn new_challenges(
     alloc: Global,
@@ -45,18 +65,7 @@ fn new_challenges(
     ensures { IfOk result (λ rows. rows ≡ map fresh_challenge (challenges_from number (kinds_of name.now) tokens.now)) }
 {
     let mut rows = Vec::new(alloc);
-    if name.is_wildcard() {
-        if let Some(token) = tokens.first() {
-            rows.push(new_challenge(number, Kind::Dns01, *token))?;
-        }
-        return Ok(Sequence::new(rows));
-    }
-    if let Some((token, rest)) = tokens.split_first() {
-        rows.push(new_challenge(number, Kind::Http01, *token))?;
-        if let Some(token) = rest.first() {
-            rows.push(new_challenge(number + 1, Kind::Dns01, *token))?;
-        }
-    }
+    push_challenges(&mut rows, name.kinds(), tokens, number)?;
     Ok(Sequence::new(rows))
 }
 

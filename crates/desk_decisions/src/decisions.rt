@@ -18,7 +18,7 @@ ghost use Rattle.desk_changes.specs.Acting.{IsAt};
 ghost use Rattle.desk_decisions.specs.HasTexts.{HasTexts};
 ghost use Rattle.desk_decisions.specs.Decided.{IsDecision, IsFaultOf};
 ghost use Rattle.desk_parts.specs.IsPart.{IsPartFor};
-ghost use Rattle.desk_rules.specs.Needs.{NumbersLeft};
+ghost use Rattle.desk_rules.specs.Needs.{BytesLeft, IsNeedFault, NumbersLeft};
 ghost use Rattle.desk_decisions.specs.Outcomes.{IsAskFault, IsLater, IsPassedFault, IsShort, IsSignedFault, MeetsAsk, MeetsSigned, Passes, Settles};
 ghost use Rattle.desk_changes.specs.Recorded.{IsRecorded, IsUntouched, recorded_changes};
 ghost use Rattle.desk_decisions.specs.Room.{IsIssueFault};
@@ -33,6 +33,7 @@ use desk_model::{
 use desk_replies::{nonce_reply, refusal_reply, with_nonce};
 use desk_rules::{CoreFault, first_random, has_room, judge_office, judge_signed, open_nonce};
 use std::alloc::{AllocError, Global};
+use swept_rows::At;
 
 /// What a call does: the changes that it makes, none where nothing is recorded, and the reply.
 #[derive(Drop)]
@@ -159,6 +160,20 @@ fn passed(
     })
 }
 
+// The verdict on a signed request at a moment.
+fn signed_verdict(
+    alloc: Global,
+    book: &Book,
+    moment: u64,
+    random: &[u8],
+    signed: &Signed,
+) -> Result<Verdict, CoreFault>
+    ensures { let asked = verdict_of (swept moment book.now) (drop 16 random.now) signed.now in
+        MatchResult result (λ v. (v ≡ asked) × NumbersLeft book.now.meta v × BytesLeft random.now v) (λ e. IsNeedFault book.now.meta random.now asked e) }
+{
+    judge_signed(alloc, &At::new(book, moment), random, signed)
+}
+
 // A signed request whose nonce was open, by the verdict on it.
 fn spent(
     alloc: Global,
@@ -175,7 +190,7 @@ fn spent(
         (λ e. IsPassedFault book.now random.now v e) }
 {
     has_room(book.meta().nonces)?;
-    let verdict = judge_signed(alloc, book, moment, random, signed)?;
+    let verdict = signed_verdict(alloc, book, moment, random, signed)?;
     let outcome = passed(alloc, book, moment, random, serial, verdict)?;
     Ok(outcome)
 }
@@ -259,6 +274,13 @@ fn settled(alloc: Global, book: &Book, moment: u64, verdict: Verdict) -> Result<
     }
 }
 
+// The verdict on a request without a nonce at a moment.
+fn office_verdict(alloc: Global, book: &Book, moment: u64, ask: &Ask) -> Result<Verdict, AllocError>
+    ensures { IfOk result (λ v. v ≡ office_verdict (swept moment book.now) ask.now) }
+{
+    judge_office(alloc, &At::new(book, moment), ask)
+}
+
 // A request of the validator, the signing office or the operator, or for the directory.
 fn office(alloc: Global, book: &Book, moment: u64, ask: &Ask) -> Result<Outcome, CoreFault>
     requires { moment ≤ last_moment }
@@ -266,7 +288,7 @@ fn office(alloc: Global, book: &Book, moment: u64, ask: &Ask) -> Result<Outcome,
         (λ o. Settles moment book.now (office_verdict (swept moment book.now) ask.now) o.changes.items o.reply)
         (λ e. e ≡ Memory) }
 {
-    let verdict = judge_office(alloc, book, moment, ask)?;
+    let verdict = office_verdict(alloc, book, moment, ask)?;
     let outcome = settled(alloc, book, moment, verdict)?;
     Ok(outcome)
 }

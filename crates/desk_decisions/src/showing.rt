@@ -16,6 +16,7 @@ use desk_replies::{
     key_reply, list_reply, located_account, located_order, not_found, order_names, order_reply,
 };
 use std::alloc::{AllocError, Global};
+use swept_rows::At;
 
 fn show_account(alloc: Global, view: &View, number: u64) -> Result<Reply, AllocError>
     ensures { IfOk result (λ r. r ≡ reply_of view.now (show.Account number)) }
@@ -139,7 +140,7 @@ fn show_in(
     ensures { IfOk result (λ r. view.now ≡ swept moment book.now → HasTexts view.now → r ≡ reply_of view.now shows) }
 {
     match shows {
-        Shows::List(listing) => list_reply(alloc, book, moment, listing),
+        Shows::List(listing) => list_reply(alloc, &At::new(book, moment), listing),
         Shows::Account(number) => show_account(alloc, view, number),
         Shows::KnownAccount(number) => show_known_account(alloc, view, number),
         Shows::Order(number) => show_order(alloc, view, number),

@@ -21,7 +21,7 @@ use desk_model::{
 };
 use serde_json::{Map, Value, json, put};
 use std::alloc::{AllocError, Global};
-use swept_rows::order_status;
+use swept_rows::{At, order_status};
 
 // The URLs of the authorizations that are listed.
 fn authorization_urls(
@@ -214,29 +214,25 @@ fn order_urls(
     Ok(urls)
 }
 
-fn orders_list(alloc: Global, book: &Book, moment: u64, account: u64) -> Result<Value, AllocError>
+fn orders_list(alloc: Global, at: &At, account: u64) -> Result<Value, AllocError>
     ensures { IfOk result (λ v. view v
-        ≡ list (map (λ o. string (order_url book.now.meta.policy o.number)) (filter (is_listed account) (swept moment book.now).orders))) }
+        ≡ list (map (λ o. string (order_url at.now.meta.policy o.number)) (filter (is_listed account) at.now.orders))) }
 {
+    let (book, moment) = at.parts();
     Ok(list_value(order_urls(alloc, book, moment, account)?))
 }
 
-fn orders_value(alloc: Global, book: &Book, moment: u64, account: u64) -> Result<Value, AllocError>
-    ensures { IfOk result (λ v. view v ≡ orders_document (swept moment book.now) account) }
+fn orders_value(alloc: Global, at: &At, account: u64) -> Result<Value, AllocError>
+    ensures { IfOk result (λ v. view v ≡ orders_document at.now account) }
 {
-    let orders = orders_list(alloc, book, moment, account)?;
+    let orders = orders_list(alloc, at, account)?;
     json!(in alloc; {"orders": orders})
 }
 
 /// The document of an account's orders at a moment (RFC 8555, 7.1.2.1).
-pub(crate) fn orders_document(
-    alloc: Global,
-    book: &Book,
-    moment: u64,
-    account: u64,
-) -> Result<Document, AllocError>
-    ensures { IfOk result (λ d. d ≡ orders_document (swept moment book.now) account) }
+pub(crate) fn orders_document(alloc: Global, at: &At, account: u64) -> Result<Document, AllocError>
+    ensures { IfOk result (λ d. d ≡ orders_document at.now account) }
 {
-    let value = orders_value(alloc, book, moment, account)?;
+    let value = orders_value(alloc, at, account)?;
     Ok(Document::new(value))
 }

@@ -8,7 +8,7 @@ ghost use Rattle.desk_model.specs.Names.{shown_name};
 ghost use Rattle.desk_model.specs.Tokens.{base64url};
 ghost use Rattle.desk_model.specs.Legal.{is_processing_challenge};
 ghost use Rattle.desk_model.specs.Order.{is_processing};
-ghost use Rattle.desk_model.specs.Effect.{swept, swept_order};
+ghost use Rattle.desk_model.specs.Effect.{swept_order};
 ghost use Rattle.desk_model.specs.declared.rows.ChallengeRow.{ChallengeRow};
 ghost use Rattle.desk_model.specs.Document.{answer_key, expected, bytes_of, listed_rows, work_document, work_of, challenge_work, order_work_document, order_work};
 ghost use Rattle.desk_replies.specs.Shown.{work_at};
@@ -23,7 +23,7 @@ use desk_model::{
 use keys::expected_text;
 use serde_json::{Value, json};
 use std::alloc::{AllocError, Global};
-use swept_rows::{authorization_status, order_status};
+use swept_rows::{At, authorization_status, order_status};
 
 // The key under which the challenges of an authorization are answered, empty where its account is not there.
 fn answer_key<'b>(book: &'b Book, row: &AuthorizationRow) -> &'b str
@@ -111,28 +111,25 @@ fn waiting_challenges(alloc: Global, book: &Book, moment: u64) -> Result<Vec<Val
     Ok(work)
 }
 
-fn challenge_list(alloc: Global, book: &Book, moment: u64) -> Result<Value, AllocError>
-    ensures { IfOk result (λ v. view v ≡ list (flat_map (work_of (swept moment book.now)) (swept moment book.now).authorizations)) }
+fn challenge_list(alloc: Global, at: &At) -> Result<Value, AllocError>
+    ensures { IfOk result (λ v. view v ≡ list (flat_map (work_of at.now) at.now.authorizations)) }
 {
+    let (book, moment) = at.parts();
     Ok(list_value(waiting_challenges(alloc, book, moment)?))
 }
 
-fn challenge_work_value(alloc: Global, book: &Book, moment: u64) -> Result<Value, AllocError>
-    ensures { IfOk result (λ v. view v ≡ challenge_work (swept moment book.now)) }
+fn challenge_work_value(alloc: Global, at: &At) -> Result<Value, AllocError>
+    ensures { IfOk result (λ v. view v ≡ challenge_work at.now) }
 {
-    let challenges = challenge_list(alloc, book, moment)?;
+    let challenges = challenge_list(alloc, at)?;
     json!(in alloc; {"challenges": challenges})
 }
 
 /// The challenges that wait for the validator at a moment.
-pub(crate) fn challenge_work(
-    alloc: Global,
-    book: &Book,
-    moment: u64,
-) -> Result<Document, AllocError>
-    ensures { IfOk result (λ d. d ≡ challenge_work (swept moment book.now)) }
+pub(crate) fn challenge_work(alloc: Global, at: &At) -> Result<Document, AllocError>
+    ensures { IfOk result (λ d. d ≡ challenge_work at.now) }
 {
-    let value = challenge_work_value(alloc, book, moment)?;
+    let value = challenge_work_value(alloc, at)?;
     Ok(Document::new(value))
 }
 
@@ -188,24 +185,24 @@ fn waiting_orders(alloc: Global, book: &Book, moment: u64) -> Result<Vec<Value>,
     Ok(work)
 }
 
-fn order_list(alloc: Global, book: &Book, moment: u64) -> Result<Value, AllocError>
-    ensures { IfOk result (λ v. view v
-        ≡ list (map (order_work_document (swept moment book.now)) (filter (λ o. is_processing o.status) (swept moment book.now).orders))) }
+fn order_list(alloc: Global, at: &At) -> Result<Value, AllocError>
+    ensures { IfOk result (λ v. view v ≡ list (map (order_work_document at.now) (filter (λ o. is_processing o.status) at.now.orders))) }
 {
+    let (book, moment) = at.parts();
     Ok(list_value(waiting_orders(alloc, book, moment)?))
 }
 
-fn order_work_value(alloc: Global, book: &Book, moment: u64) -> Result<Value, AllocError>
-    ensures { IfOk result (λ v. view v ≡ order_work (swept moment book.now)) }
+fn order_work_value(alloc: Global, at: &At) -> Result<Value, AllocError>
+    ensures { IfOk result (λ v. view v ≡ order_work at.now) }
 {
-    let orders = order_list(alloc, book, moment)?;
+    let orders = order_list(alloc, at)?;
     json!(in alloc; {"orders": orders})
 }
 
 /// The orders that wait for the signing office at a moment.
-pub(crate) fn order_work(alloc: Global, book: &Book, moment: u64) -> Result<Document, AllocError>
-    ensures { IfOk result (λ d. d ≡ order_work (swept moment book.now)) }
+pub(crate) fn order_work(alloc: Global, at: &At) -> Result<Document, AllocError>
+    ensures { IfOk result (λ d. d ≡ order_work at.now) }
 {
-    let value = order_work_value(alloc, book, moment)?;
+    let value = order_work_value(alloc, at)?;
     Ok(Document::new(value))
 }

@@ -12,28 +12,28 @@ use crate::fault::CoreFault;
 use crate::limits::has_room;
 use crate::payload::new_account;
 use crate::verdicts::refused;
-use desk_book::Book;
 use desk_model::{
     AccountChange, AccountRow, AccountStatus, Ending, Jwk, Move, NewAccount, Refusal, Sequence,
     Shows, Text, Verdict,
 };
 use std::alloc::{AllocError, Global};
+use swept_rows::At;
 
 /// A newAccount request whose key is accepted (RFC 8555, 7.3, 7.3.1).
 #[tactic(auto, unfolding(desk_model::specs::Verdict::check, desk_model::specs::Verdict::given))]
 pub(crate) fn new_account_verdict(
     alloc: Global,
-    book: &Book,
+    at: &At,
     key: &Jwk,
     payload: &str,
 ) -> Result<Verdict, CoreFault>
-    ensures { (random : List ℕ) → (let wanted = new_account_verdict key.now (account_with_key book.now key.now) (new_account payload.now) in
-        MatchResult result (λ v. (v ≡ wanted) × NumbersLeft book.now.meta v × BytesLeft random v) (λ e. IsNeedFault book.now.meta random wanted e)) }
+    ensures { (random : List ℕ) → (let wanted = new_account_verdict key.now (account_with_key at.now key.now) (new_account payload.now) in
+        MatchResult result (λ v. (v ≡ wanted) × NumbersLeft at.now.meta v × BytesLeft random v) (λ e. IsNeedFault at.now.meta random wanted e)) }
 {
-    match book.account_with_key(key.canonical()) {
+    match at.account_with_key(key.canonical()) {
         Some(row) => Ok(known_account_verdict(alloc, row, payload)?),
         None => match new_account(alloc, payload)? {
-            Some(asked) => open_account(alloc, book, key, asked),
+            Some(asked) => open_account(alloc, at, key, asked),
             None => Ok(refused(alloc, Refusal::Malformed)),
         },
     }
@@ -59,15 +59,10 @@ fn known_account_verdict(
 
 // A newAccount request whose key has none.
 #[tactic(auto, unfolding(desk_model::specs::Verdict::check, desk_model::specs::Verdict::unless_fault))]
-fn open_account(
-    alloc: Global,
-    book: &Book,
-    key: &Jwk,
-    asked: NewAccount,
-) -> Result<Verdict, CoreFault>
+fn open_account(alloc: Global, at: &At, key: &Jwk, asked: NewAccount) -> Result<Verdict, CoreFault>
     ensures { (random : List ℕ) → MatchResult result
-        (λ v. (v ≡ open_account key.now asked) × NumbersLeft book.now.meta v × BytesLeft random v)
-        (λ e. IsNeedFault book.now.meta random (open_account key.now asked) e) }
+        (λ v. (v ≡ open_account key.now asked) × NumbersLeft at.now.meta v × BytesLeft random v)
+        (λ e. IsNeedFault at.now.meta random (open_account key.now asked) e) }
 {
     if asked.only_existing {
         return Ok(refused(alloc, Refusal::AccountDoesNotExist));
@@ -75,7 +70,7 @@ fn open_account(
     if let Some(refusal) = contacts_refusal(asked.contacts.as_slice()) {
         return Ok(refused(alloc, refusal));
     }
-    has_room(book.meta().accounts)?;
+    has_room(at.meta().accounts)?;
     Ok(Verdict::Opens(key.clone()?, asked.contacts))
 }
 

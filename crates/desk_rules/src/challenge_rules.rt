@@ -7,14 +7,13 @@ ghost use Rattle.desk_model.specs.Questions.{challenge_of};
 ghost use Rattle.desk_model.specs.Rules.{challenge_verdict, outcome_of, outcome_verdict, same_outcome, stands_open, judged};
 
 use crate::verdicts::refused;
-use desk_book::Book;
 use desk_model::{
     AuthorizationRow, AuthzStatus, ChallengeChange, ChallengeRow, FetchError, Finding, Kind, Move,
     Outcome, Refusal, Shows, Verdict,
 };
 use keys::{dns_matches, expected_text, http_matches};
 use std::alloc::{AllocError, Global};
-use swept_rows::challenge_of;
+use swept_rows::{At, challenge_of};
 
 // Whether a challenge of the authorization waits for its client's answer.
 fn has_pending(row: &AuthorizationRow, number: u64) -> bool
@@ -60,13 +59,13 @@ pub(crate) fn challenge_verdict(
 /// What the validator has to find for a challenge of a book, under the key of the account.
 pub(crate) fn expected(
     alloc: Global,
-    book: &Book,
+    at: &At,
     row: &AuthorizationRow,
     challenge: &ChallengeRow,
 ) -> Result<String, AllocError>
-    ensures { IfOk result (λ t. string_bytes t ≡ expected book.now row.now challenge.now) }
+    ensures { IfOk result (λ t. string_bytes t ≡ expected at.now row.now challenge.now) }
 {
-    let key = match book.account(row.account) {
+    let key = match at.account(row.account) {
         Some(account) => account.key.canonical(),
         None => "",
     };

@@ -1,7 +1,6 @@
 //! Verdicts on signed requests (RFC 8555, 6).
 ghost use Rattle.std.specs.Prelude.{◌≡◌, drop, MatchResult};
 ghost use Rattle.desk_rules.specs.Needs.{NumbersLeft, BytesLeft, IsNeedFault};
-ghost use Rattle.desk_model.specs.Effect.{swept};
 ghost use Rattle.desk_model.specs.Payload.{new_order};
 ghost use Rattle.desk_model.specs.Questions.{account_with_key};
 ghost use Rattle.desk_model.specs.Rules.{holder_verdict, new_order_verdict, signed_verdict, target_verdict};
@@ -16,25 +15,25 @@ use crate::targets::{
     order_target, orders_target,
 };
 use crate::verdicts::refused;
-use desk_book::Book;
 use desk_model::{Jwk, Refusal, Shows, Signed, Target, Verdict};
 use std::alloc::Global;
+use swept_rows::At;
 
 // A request for a new order (RFC 8555, 7.4).
 #[tactic(auto, unfolding(desk_model::specs::Verdict::given))]
 fn new_order_target(
     alloc: Global,
-    book: &Book,
+    at: &At,
     random: &[u8],
     sender: u64,
     payload: &str,
 ) -> Result<Verdict, CoreFault>
     ensures { let asked = given (new_order payload.now) Refusal.Malformed (new_order_verdict (drop 16 random.now) sender) in
-        MatchResult result (λ v. (v ≡ asked) × NumbersLeft book.now.meta v × BytesLeft random.now v) (λ e. IsNeedFault book.now.meta random.now asked e) }
+        MatchResult result (λ v. (v ≡ asked) × NumbersLeft at.now.meta v × BytesLeft random.now v) (λ e. IsNeedFault at.now.meta random.now asked e) }
 {
     match new_order(alloc, payload)? {
         Some(identifiers) => {
-            new_order_verdict(alloc, book, random, sender, identifiers.as_slice())
+            new_order_verdict(alloc, at, random, sender, identifiers.as_slice())
         }
         None => Ok(refused(alloc, Refusal::Malformed)),
     }
@@ -43,34 +42,25 @@ fn new_order_target(
 // A request of the holder of a valid account, by its target.
 fn target_verdict(
     alloc: Global,
-    book: &Book,
-    moment: u64,
+    at: &At,
     random: &[u8],
     sender: u64,
     payload: &str,
     target: Target,
 ) -> Result<Verdict, CoreFault>
-    ensures { let asked = target_verdict (swept moment book.now) (drop 16 random.now) sender payload.now target in
-        MatchResult result (λ v. (v ≡ asked) × NumbersLeft book.now.meta v × BytesLeft random.now v) (λ e. IsNeedFault book.now.meta random.now asked e) }
+    ensures { let asked = target_verdict at.now (drop 16 random.now) sender payload.now target in
+        MatchResult result (λ v. (v ≡ asked) × NumbersLeft at.now.meta v × BytesLeft random.now v) (λ e. IsNeedFault at.now.meta random.now asked e) }
 {
     match target {
         Target::NewAccount => Ok(Verdict::Answers(Shows::KnownAccount(sender))),
-        Target::NewOrder => new_order_target(alloc, book, random, sender, payload),
+        Target::NewOrder => new_order_target(alloc, at, random, sender, payload),
         Target::Account(number) => Ok(account_target(alloc, sender, number, payload)?),
         Target::Orders(number) => Ok(orders_target(alloc, sender, number, payload)),
-        Target::Order(number) => Ok(order_target(alloc, book, moment, sender, number, payload)),
-        Target::Finalize(number) => {
-            Ok(finalize_target(alloc, book, moment, sender, number, payload)?)
-        }
-        Target::Cert(number) => {
-            Ok(certificate_target(alloc, book, moment, sender, number, payload))
-        }
-        Target::Authz(number) => {
-            Ok(authorization_target(alloc, book, moment, sender, number, payload)?)
-        }
-        Target::Chall(number) => {
-            Ok(challenge_target(alloc, book, moment, sender, number, payload)?)
-        }
+        Target::Order(number) => Ok(order_target(alloc, at, sender, number, payload)),
+        Target::Finalize(number) => { Ok(finalize_target(alloc, at, sender, number, payload)?) }
+        Target::Cert(number) => { Ok(certificate_target(alloc, at, sender, number, payload)) }
+        Target::Authz(number) => { Ok(authorization_target(alloc, at, sender, number, payload)?) }
+        Target::Chall(number) => { Ok(challenge_target(alloc, at, sender, number, payload)?) }
     }
 }
 
@@ -78,23 +68,22 @@ fn target_verdict(
 #[tactic(auto, unfolding(desk_model::specs::Verdict::check, desk_model::specs::Verdict::given))]
 fn holder_verdict(
     alloc: Global,
-    book: &Book,
-    moment: u64,
+    at: &At,
     random: &[u8],
     key: &Jwk,
     payload: &str,
     target: Target,
 ) -> Result<Verdict, CoreFault>
-    ensures { let asked = holder_verdict (swept moment book.now) (drop 16 random.now) payload.now target (account_with_key book.now key.now) in
-        MatchResult result (λ v. (v ≡ asked) × NumbersLeft book.now.meta v × BytesLeft random.now v) (λ e. IsNeedFault book.now.meta random.now asked e) }
+    ensures { let asked = holder_verdict at.now (drop 16 random.now) payload.now target (account_with_key at.now key.now) in
+        MatchResult result (λ v. (v ≡ asked) × NumbersLeft at.now.meta v × BytesLeft random.now v) (λ e. IsNeedFault at.now.meta random.now asked e) }
 {
-    let Some(row) = book.account_with_key(key.canonical()) else {
+    let Some(row) = at.account_with_key(key.canonical()) else {
         return Ok(refused(alloc, Refusal::AccountDoesNotExist));
     };
     if !row.status.is_valid() {
         return Ok(refused(alloc, Refusal::Unauthorized));
     }
-    target_verdict(alloc, book, moment, random, row.number, payload, target)
+    target_verdict(alloc, at, random, row.number, payload, target)
 }
 
 /// The verdict on a signed request that has passed the test of its nonce, by the tables of a book at a moment. The
@@ -106,20 +95,19 @@ fn holder_verdict(
 /// a new order, `Memory` where a growth was refused.
 pub fn judge_signed(
     alloc: Global,
-    book: &Book,
-    moment: u64,
+    at: &At,
     random: &[u8],
     signed: &Signed,
 ) -> Result<Verdict, CoreFault>
-    ensures { let asked = signed_verdict (swept moment book.now) (drop 16 random.now) signed.now in
-        MatchResult result (λ v. (v ≡ asked) × NumbersLeft book.now.meta v × BytesLeft random.now v) (λ e. IsNeedFault book.now.meta random.now asked e) }
+    ensures { let asked = signed_verdict at.now (drop 16 random.now) signed.now in
+        MatchResult result (λ v. (v ≡ asked) × NumbersLeft at.now.meta v × BytesLeft random.now v) (λ e. IsNeedFault at.now.meta random.now asked e) }
 {
     let Ok(key) = &signed.key else {
         return Ok(refused(alloc, Refusal::BadPublicKey));
     };
     let payload = signed.payload.as_str();
     match signed.target {
-        Target::NewAccount => new_account_verdict(alloc, book, key, payload),
-        target => holder_verdict(alloc, book, moment, random, key, payload, target),
+        Target::NewAccount => new_account_verdict(alloc, at, key, payload),
+        target => holder_verdict(alloc, at, random, key, payload, target),
     }
 }

@@ -13,9 +13,9 @@ use crate::fault::CoreFault;
 use crate::identified::{Identified, identify};
 use crate::limits::{first_piece, has_room, has_room_for, has_tokens, later_random};
 use crate::verdicts::refused;
-use desk_book::Book;
 use desk_model::{DnsName, Identifier, MOST_NAMES, Meta, Refusal, Sequence, Verdict, Wanted};
 use std::alloc::{AllocError, Global};
+use swept_rows::At;
 
 fn is_same_mark(wildcard: bool, other: bool) -> bool
     ensures { result ≡ same_bool wildcard other }
@@ -113,15 +113,15 @@ fn has_numbers(meta: &Meta, authorizations: usize, challenges: usize) -> Result<
 // An order for these names, with a new authorization for each.
 fn order_for(
     alloc: Global,
-    book: &Book,
+    at: &At,
     random: &[u8],
     account: u64,
     names: Vec<DnsName>,
 ) -> Result<Verdict, CoreFault>
     ensures { let asked = orders account (wanted names.items (drop 16 random.now)) in
-        MatchResult result (λ v. (v ≡ asked) × NumbersLeft book.now.meta v × BytesLeft random.now v) (λ e. IsNeedFault book.now.meta random.now asked e) }
+        MatchResult result (λ v. (v ≡ asked) × NumbersLeft at.now.meta v × BytesLeft random.now v) (λ e. IsNeedFault at.now.meta random.now asked e) }
 {
-    let meta = book.meta();
+    let meta = at.meta();
     let count = count_tokens(names.as_slice());
     has_numbers(meta, names.len(), count)?;
     has_tokens(random, count)?;
@@ -133,13 +133,13 @@ fn order_for(
 #[tactic(auto, unfolding(desk_model::specs::Verdict::check))]
 pub(crate) fn new_order_verdict(
     alloc: Global,
-    book: &Book,
+    at: &At,
     random: &[u8],
     account: u64,
     identifiers: &[Identifier],
 ) -> Result<Verdict, CoreFault>
     ensures { let asked = new_order_verdict (drop 16 random.now) account identifiers.now in
-        MatchResult result (λ v. (v ≡ asked) × NumbersLeft book.now.meta v × BytesLeft random.now v) (λ e. IsNeedFault book.now.meta random.now asked e) }
+        MatchResult result (λ v. (v ≡ asked) × NumbersLeft at.now.meta v × BytesLeft random.now v) (λ e. IsNeedFault at.now.meta random.now asked e) }
 {
     if identifiers.is_empty() || identifiers.len() > MOST_NAMES {
         return Ok(refused(alloc, Refusal::Malformed));
@@ -151,5 +151,5 @@ pub(crate) fn new_order_verdict(
             subproblems: Sequence::new(faulty),
         });
     }
-    order_for(alloc, book, random, account, kept(alloc, names)?)
+    order_for(alloc, at, random, account, kept(alloc, names)?)
 }

@@ -1,6 +1,5 @@
 //! The rules on what the validator, the signing office and the operator ask (RFC 8555, 7.1.6, 7.4, 8).
 ghost use Rattle.std.specs.Prelude.{◌≡◌, ◌&&◌, IfOk, bytes_eq};
-ghost use Rattle.desk_model.specs.Effect.{swept};
 ghost use Rattle.desk_model.specs.Legal.{is_problem, has_length};
 ghost use Rattle.desk_model.specs.Limits.{longest_detail};
 ghost use Rattle.desk_model.specs.Lookup.{holds};
@@ -11,33 +10,31 @@ ghost use Rattle.desk_model.specs.declared.call.Ask.TheVariants.{KeyOf};
 
 use crate::challenge_rules::{expected, outcome_of, outcome_verdict};
 use crate::verdicts::refused;
-use desk_book::Book;
 use desk_model::{
     AccountRow, AccountStatus, Ask, AuthorizationRow, AuthzStatus, Ending, Finding,
     LONGEST_CERTIFICATE, LONGEST_DETAIL, Listing, Move, OrderProblem, OrderRow, OrderStatus,
     Refusal, Sequence, Shows, Verdict, is_problem_kind, is_same_bytes, is_same_text,
 };
 use std::alloc::{AllocError, Global};
-use swept_rows::{authorization_at, challenge_of, order_at, owner_at};
+use swept_rows::{At, challenge_of};
 
 // What the validator found for a challenge (RFC 8555, 8).
 #[tactic(auto, unfolding(desk_model::specs::Verdict::given))]
 fn report_verdict(
     alloc: Global,
-    book: &Book,
-    moment: u64,
+    at: &At,
     number: u64,
     finding: &Finding,
 ) -> Result<Verdict, AllocError>
-    ensures { IfOk result (λ v. v ≡ report_verdict (swept moment book.now) number finding.now) }
+    ensures { IfOk result (λ v. v ≡ report_verdict at.now number finding.now) }
 {
-    let Some((row, status)) = owner_at(book, moment, number) else {
+    let Some((row, status)) = at.owner(number) else {
         return Ok(refused(alloc, Refusal::NotFound));
     };
     let Some(challenge) = challenge_of(row, number) else {
         return Ok(refused(alloc, Refusal::NotFound));
     };
-    let wanted = expected(alloc, book, row, challenge)?;
+    let wanted = expected(alloc, at, row, challenge)?;
     match outcome_of(challenge.kind, wanted.as_str(), finding) {
         Some(outcome) => Ok(outcome_verdict(alloc, number, row, status, challenge, outcome)),
         None => Ok(refused(alloc, Refusal::Malformed)),
@@ -187,16 +184,10 @@ fn revoke_account(alloc: Global, number: u64, row: &AccountRow) -> Verdict
 
 // A certificate for the order of a number.
 #[tactic(auto, unfolding(desk_model::specs::Verdict::given))]
-fn certify(
-    alloc: Global,
-    book: &Book,
-    moment: u64,
-    number: u64,
-    bytes: &Sequence<u8>,
-) -> Result<Verdict, AllocError>
-    ensures { IfOk result (λ v. v ≡ given (order_on (swept moment book.now) number) Refusal.NotFound (certify_verdict number bytes.now)) }
+fn certify(alloc: Global, at: &At, number: u64, bytes: &Sequence<u8>) -> Result<Verdict, AllocError>
+    ensures { IfOk result (λ v. v ≡ given (order_on at.now number) Refusal.NotFound (certify_verdict number bytes.now)) }
 {
-    match order_at(book, moment, number) {
+    match at.order(number) {
         Some((row, status)) => certify_verdict(alloc, number, bytes, row, status),
         None => Ok(refused(alloc, Refusal::NotFound)),
     }
@@ -206,14 +197,13 @@ fn certify(
 #[tactic(auto, unfolding(desk_model::specs::Verdict::given))]
 fn fail_order(
     alloc: Global,
-    book: &Book,
-    moment: u64,
+    at: &At,
     number: u64,
     problem: &OrderProblem,
 ) -> Result<Verdict, AllocError>
-    ensures { IfOk result (λ v. v ≡ given (order_on (swept moment book.now) number) Refusal.NotFound (fail_verdict number problem.now)) }
+    ensures { IfOk result (λ v. v ≡ given (order_on at.now number) Refusal.NotFound (fail_verdict number problem.now)) }
 {
-    match order_at(book, moment, number) {
+    match at.order(number) {
         Some((row, status)) => fail_verdict(alloc, number, problem, row, status),
         None => Ok(refused(alloc, Refusal::NotFound)),
     }
@@ -221,10 +211,10 @@ fn fail_order(
 
 // The operator takes back the authorization of a number.
 #[tactic(auto, unfolding(desk_model::specs::Verdict::given))]
-fn revoke_authorization_of(alloc: Global, book: &Book, moment: u64, number: u64) -> Verdict
-    ensures { result ≡ given (authorization_on (swept moment book.now) number) Refusal.NotFound (revoke_authorization number) }
+fn revoke_authorization_of(alloc: Global, at: &At, number: u64) -> Verdict
+    ensures { result ≡ given (authorization_on at.now number) Refusal.NotFound (revoke_authorization number) }
 {
-    match authorization_at(book, moment, number) {
+    match at.authorization(number) {
         Some((row, status)) => revoke_authorization(alloc, number, row, status),
         None => refused(alloc, Refusal::NotFound),
     }
@@ -232,10 +222,10 @@ fn revoke_authorization_of(alloc: Global, book: &Book, moment: u64, number: u64)
 
 // The operator ends the account of a number.
 #[tactic(auto, unfolding(desk_model::specs::Verdict::given))]
-fn revoke_account_of(alloc: Global, book: &Book, number: u64) -> Verdict
-    ensures { result ≡ given (account_on book.now number) Refusal.NotFound (revoke_account number) }
+fn revoke_account_of(alloc: Global, at: &At, number: u64) -> Verdict
+    ensures { result ≡ given (account_on at.now number) Refusal.NotFound (revoke_account number) }
 {
-    match book.account(number) {
+    match at.account(number) {
         Some(row) => revoke_account(alloc, number, row),
         None => refused(alloc, Refusal::NotFound),
     }
@@ -243,10 +233,10 @@ fn revoke_account_of(alloc: Global, book: &Book, number: u64) -> Verdict
 
 // The key of the account of a number is asked for.
 #[tactic(auto, unfolding(desk_model::specs::Verdict::given))]
-fn key_verdict(alloc: Global, book: &Book, number: u64) -> Verdict
-    ensures { result ≡ office_verdict book.now (KeyOf number) }
+fn key_verdict(alloc: Global, at: &At, number: u64) -> Verdict
+    ensures { result ≡ office_verdict at.now (KeyOf number) }
 {
-    if book.account(number).is_none() {
+    if at.account(number).is_none() {
         return refused(alloc, Refusal::NotFound);
     }
     Verdict::Answers(Shows::Key(number))
@@ -258,26 +248,19 @@ fn key_verdict(alloc: Global, book: &Book, number: u64) -> Verdict
 /// # Errors
 ///
 /// Where there is no memory for what is recorded or compared.
-pub fn judge_office(
-    alloc: Global,
-    book: &Book,
-    moment: u64,
-    ask: &Ask,
-) -> Result<Verdict, AllocError>
-    ensures { IfOk result (λ v. v ≡ office_verdict (swept moment book.now) ask.now) }
+pub fn judge_office(alloc: Global, at: &At, ask: &Ask) -> Result<Verdict, AllocError>
+    ensures { IfOk result (λ v. v ≡ office_verdict at.now ask.now) }
 {
     match ask {
         Ask::Directory => Ok(Verdict::Answers(Shows::List(Listing::Directory))),
         Ask::NewNonce { head: _ } | Ask::Signed(_) => Ok(refused(alloc, Refusal::NotFound)),
-        Ask::Report { challenge, finding } => {
-            report_verdict(alloc, book, moment, *challenge, finding)
-        }
-        Ask::Certify { order, bytes } => certify(alloc, book, moment, *order, bytes),
-        Ask::FailOrder { order, problem } => fail_order(alloc, book, moment, *order, problem),
-        Ask::RevokeAuthz(number) => Ok(revoke_authorization_of(alloc, book, moment, *number)),
-        Ask::RevokeAccount(number) => Ok(revoke_account_of(alloc, book, *number)),
+        Ask::Report { challenge, finding } => { report_verdict(alloc, at, *challenge, finding) }
+        Ask::Certify { order, bytes } => certify(alloc, at, *order, bytes),
+        Ask::FailOrder { order, problem } => fail_order(alloc, at, *order, problem),
+        Ask::RevokeAuthz(number) => Ok(revoke_authorization_of(alloc, at, *number)),
+        Ask::RevokeAccount(number) => Ok(revoke_account_of(alloc, at, *number)),
         Ask::ChallengeWork => Ok(Verdict::Answers(Shows::List(Listing::ChallengeWork))),
         Ask::OrderWork => Ok(Verdict::Answers(Shows::List(Listing::OrderWork))),
-        Ask::KeyOf(number) => Ok(key_verdict(alloc, book, *number)),
+        Ask::KeyOf(number) => Ok(key_verdict(alloc, at, *number)),
     }
 }

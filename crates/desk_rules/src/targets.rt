@@ -1,6 +1,5 @@
 //! Signed requests, by their targets (RFC 8555, 6.2, 6.3).
 ghost use Rattle.std.specs.Prelude.{◌≡◌, ◌==◌, IfOk, MatchResult, drop, option_map};
-ghost use Rattle.desk_model.specs.Effect.{swept};
 ghost use Rattle.desk_model.specs.Payload.{account_change, authorization_change, challenge_change, finalize};
 ghost use Rattle.desk_model.specs.Questions.{account_with_key, authorization_on, order_on, owner_on};
 ghost use Rattle.desk_model.specs.Rules.{account_verdict, authorization_verdict, certificate_verdict, challenge_verdict, finalize_verdict, holder_verdict, nothing, own, signed_verdict, target_verdict};
@@ -15,13 +14,12 @@ use crate::challenge_rules::challenge_verdict;
 use crate::order_rules::{certificate_verdict, finalize_verdict};
 use crate::payload::{account_change, authorization_change, challenge_change, finalize};
 use crate::verdicts::refused;
-use desk_book::Book;
 use desk_model::{
     AccountStatus, AuthorizationRow, AuthzStatus, Listing, OrderRow, OrderStatus, Refusal, Shows,
     Signed, Target, Verdict,
 };
 use std::alloc::{AllocError, Global};
-use swept_rows::{authorization_at, order_at, owner_at};
+use swept_rows::At;
 
 // Whether a payload is that of a route that only reads (RFC 8555, 6.3).
 fn is_nothing(payload: &str) -> bool
@@ -31,10 +29,10 @@ fn is_nothing(payload: &str) -> bool
 }
 
 // The order of a number with its status at a moment, where it is the sender's own.
-fn own_order(book: &Book, moment: u64, sender: u64, number: u64) -> Option<(&OrderRow, OrderStatus)>
-    ensures { option_map (λ p. record p.0.now { status = p.1 }) result ≡ own (λ o. o.account) sender (order_on (swept moment book.now) number) }
+fn own_order<'a>(at: &'a At, sender: u64, number: u64) -> Option<(&'a OrderRow, OrderStatus)>
+    ensures { option_map (λ p. record p.0.now { status = p.1 }) result ≡ own (λ o. o.account) sender (order_on at.now number) }
 {
-    match order_at(book, moment, number) {
+    match at.order(number) {
         Some((row, status)) => {
             if row.account == sender {
                 return Some((row, status));
@@ -101,15 +99,14 @@ pub(crate) fn orders_target(alloc: Global, sender: u64, number: u64, payload: &s
 #[tactic(auto, unfolding(desk_model::specs::Verdict::check, desk_model::specs::Verdict::given))]
 pub(crate) fn order_target(
     alloc: Global,
-    book: &Book,
-    moment: u64,
+    at: &At,
     sender: u64,
     number: u64,
     payload: &str,
 ) -> Verdict
-    ensures { result ≡ given (own (λ o. o.account) sender (order_on (swept moment book.now) number)) Refusal.NotFound (λ o. check (nothing payload.now) Refusal.Malformed (answers (show.Order number))) }
+    ensures { result ≡ given (own (λ o. o.account) sender (order_on at.now number)) Refusal.NotFound (λ o. check (nothing payload.now) Refusal.Malformed (answers (show.Order number))) }
 {
-    if own_order(book, moment, sender, number).is_none() {
+    if own_order(at, sender, number).is_none() {
         return refused(alloc, Refusal::NotFound);
     }
     if !is_nothing(payload) {
@@ -122,15 +119,14 @@ pub(crate) fn order_target(
 #[tactic(auto, unfolding(desk_model::specs::Verdict::given))]
 pub(crate) fn finalize_target(
     alloc: Global,
-    book: &Book,
-    moment: u64,
+    at: &At,
     sender: u64,
     number: u64,
     payload: &str,
 ) -> Result<Verdict, AllocError>
-    ensures { IfOk result (λ v. v ≡ given (own (λ o. o.account) sender (order_on (swept moment book.now) number)) Refusal.NotFound (λ o. given (finalize payload.now) Refusal.Malformed (finalize_verdict number o))) }
+    ensures { IfOk result (λ v. v ≡ given (own (λ o. o.account) sender (order_on at.now number)) Refusal.NotFound (λ o. given (finalize payload.now) Refusal.Malformed (finalize_verdict number o))) }
 {
-    let Some((_row, status)) = own_order(book, moment, sender, number) else {
+    let Some((_row, status)) = own_order(at, sender, number) else {
         return Ok(refused(alloc, Refusal::NotFound));
     };
     match finalize(alloc, payload)? {
@@ -143,15 +139,14 @@ pub(crate) fn finalize_target(
 #[tactic(auto, unfolding(desk_model::specs::Verdict::check, desk_model::specs::Verdict::given))]
 pub(crate) fn certificate_target(
     alloc: Global,
-    book: &Book,
-    moment: u64,
+    at: &At,
     sender: u64,
     number: u64,
     payload: &str,
 ) -> Verdict
-    ensures { result ≡ given (own (λ o. o.account) sender (order_on (swept moment book.now) number)) Refusal.NotFound (λ o. check (nothing payload.now) Refusal.Malformed (certificate_verdict number o)) }
+    ensures { result ≡ given (own (λ o. o.account) sender (order_on at.now number)) Refusal.NotFound (λ o. check (nothing payload.now) Refusal.Malformed (certificate_verdict number o)) }
 {
-    let Some((row, _status)) = own_order(book, moment, sender, number) else {
+    let Some((row, _status)) = own_order(at, sender, number) else {
         return refused(alloc, Refusal::NotFound);
     };
     if !is_nothing(payload) {
@@ -164,16 +159,14 @@ pub(crate) fn certificate_target(
 #[tactic(auto, unfolding(desk_model::specs::Verdict::given))]
 pub(crate) fn authorization_target(
     alloc: Global,
-    book: &Book,
-    moment: u64,
+    at: &At,
     sender: u64,
     number: u64,
     payload: &str,
 ) -> Result<Verdict, AllocError>
-    ensures { IfOk result (λ v. v ≡ given (own (λ a. a.account) sender (authorization_on (swept moment book.now) number)) Refusal.NotFound (λ a. given (authorization_change payload.now) Refusal.Malformed (authorization_verdict number a))) }
+    ensures { IfOk result (λ v. v ≡ given (own (λ a. a.account) sender (authorization_on at.now number)) Refusal.NotFound (λ a. given (authorization_change payload.now) Refusal.Malformed (authorization_verdict number a))) }
 {
-    let Some((row, status)) = own_authorization(sender, authorization_at(book, moment, number))
-    else {
+    let Some((row, status)) = own_authorization(sender, at.authorization(number)) else {
         return Ok(refused(alloc, Refusal::NotFound));
     };
     match authorization_change(alloc, payload)? {
@@ -186,15 +179,14 @@ pub(crate) fn authorization_target(
 #[tactic(auto, unfolding(desk_model::specs::Verdict::given))]
 pub(crate) fn challenge_target(
     alloc: Global,
-    book: &Book,
-    moment: u64,
+    at: &At,
     sender: u64,
     number: u64,
     payload: &str,
 ) -> Result<Verdict, AllocError>
-    ensures { IfOk result (λ v. v ≡ given (own (λ a. a.account) sender (owner_on (swept moment book.now) number)) Refusal.NotFound (λ a. given (challenge_change payload.now) Refusal.Malformed (challenge_verdict number a))) }
+    ensures { IfOk result (λ v. v ≡ given (own (λ a. a.account) sender (owner_on at.now number)) Refusal.NotFound (λ a. given (challenge_change payload.now) Refusal.Malformed (challenge_verdict number a))) }
 {
-    let Some((row, status)) = own_authorization(sender, owner_at(book, moment, number)) else {
+    let Some((row, status)) = own_authorization(sender, at.owner(number)) else {
         return Ok(refused(alloc, Refusal::NotFound));
     };
     match challenge_change(alloc, payload)? {

@@ -1,7 +1,7 @@
 //! Rows at a moment: with the statuses that the passing of time leaves (RFC 8555, 7.1.6).
-ghost use Rattle.std.specs.Prelude.{◌≡◌, ◌==◌, option_copied, option_map};
-ghost use Rattle.desk_model.specs.Effect.{has_row, swept, swept_authorization, swept_order};
-ghost use Rattle.desk_model.specs.Questions.{authorization_on, challenge_of, order_on, owner_on};
+ghost use Rattle.std.specs.Prelude.{◌≡◌, ◌==◌, option_copied};
+ghost use Rattle.desk_model.specs.Effect.{swept_authorization, swept_order};
+ghost use Rattle.desk_model.specs.Questions.{challenge_of};
 
 use crate::sweep::{falls, is_overdue};
 use desk_book::Book;
@@ -26,44 +26,6 @@ pub fn order_status(book: &Book, moment: u64, row: &OrderRow) -> OrderStatus
         OrderStatus::Invalid
     } else {
         row.status
-    }
-}
-
-/// The authorization of a number, with its status at a moment.
-pub fn authorization_at(
-    book: &Book,
-    moment: u64,
-    number: u64,
-) -> Option<(&AuthorizationRow, AuthzStatus)>
-    ensures { option_map (λ p. record p.0.now { status = p.1 }) result ≡ authorization_on (swept moment book.now) number }
-{
-    match book.authorization(number) {
-        Some(row) => Some((row, authorization_status(moment, row))),
-        None => None,
-    }
-}
-
-/// The authorization that a challenge is of, with its status at a moment.
-pub fn owner_at(
-    book: &Book,
-    moment: u64,
-    challenge: u64,
-) -> Option<(&AuthorizationRow, AuthzStatus)>
-    ensures { option_map (λ p. record p.0.now { status = p.1 }) result ≡ owner_on (swept moment book.now) challenge }
-{
-    match book.owner(challenge) {
-        Some(row) => Some((row, authorization_status(moment, row))),
-        None => None,
-    }
-}
-
-/// The order of a number, with its status at a moment.
-pub fn order_at(book: &Book, moment: u64, number: u64) -> Option<(&OrderRow, OrderStatus)>
-    ensures { option_map (λ p. record p.0.now { status = p.1 }) result ≡ order_on (swept moment book.now) number }
-{
-    match book.order(number) {
-        Some(row) => Some((row, order_status(book, moment, row))),
-        None => None,
     }
 }
 

@@ -13,7 +13,7 @@ returns-in_err-has_numbers c =
     let fails = c.in_err-has_numbers.ensures in
     rw p.1
     (subst (λ (m : Meta). IsNeedFault m c.args.random.now (order_for c.args.account c.args.names.items c.args.random.now) p.0) c.meta-meta.ensures
-    (order_full c.meta-meta.result.now c.args.random.now c.args.account c.args.names.items c.len.result c.count_tokens-count.result p.0
+    (order_full (record c.meta-meta.result.now { clock = c.args.at.now.meta.clock }) c.args.random.now c.args.account c.args.names.items c.len.result c.count_tokens-count.result p.0
     (c.len.ensures ∙ sym c.as_slice.ensures.len ∙ ap (λ (l : List Name). length l) c.as_slice.ensures.value) (c.count_tokens-count.ensures ∙ ap (λ (l : List Name). length l + count_by (λ n. not n.wildcard) l) c.as_slice.ensures.value) (p.2 ∙ fails.0) fails.1))
 
 pub returns-in_err-has_tokens : goal.returns-in_err-has_tokens
@@ -23,9 +23,9 @@ returns-in_err-has_tokens c =
     let tokens = c.count_tokens-count.ensures ∙ ap (λ (l : List Name). length l + count_by (λ n. not n.wildcard) l) c.as_slice.ensures.value in
     rw p.1
     (subst (λ (m : Meta). IsNeedFault m c.args.random.now (order_for c.args.account c.args.names.items c.args.random.now) p.0) c.meta-meta.ensures
-    (order_short c.meta-meta.result.now c.args.random.now c.args.account c.args.names.items c.count_tokens-count.result p.0
+    (order_short (record c.meta-meta.result.now { clock = c.args.at.now.meta.clock }) c.args.random.now c.args.account c.args.names.items c.count_tokens-count.result p.0
     tokens (p.2 ∙ fails.0) fails.1
-    (order_numbered c.meta-meta.result.now c.args.random.now c.args.account c.args.names.items c.len.result c.count_tokens-count.result
+    (order_numbered (record c.meta-meta.result.now { clock = c.args.at.now.meta.clock }) c.args.random.now c.args.account c.args.names.items c.len.result c.count_tokens-count.result
     (c.len.ensures ∙ sym c.as_slice.ensures.len ∙ ap (λ (l : List Name). length l) c.as_slice.ensures.value) tokens c.in_ok-has_numbers.ensures)))
 
 pub wanted-requires : goal.wanted-requires
@@ -36,7 +36,7 @@ wanted-requires c =
 
 pub returns : goal.returns
 returns c =
-    order_made c.args.book.now.meta c.meta-meta.result.now c.args.random.now c.later_random.result.now c.args.account c.args.names.items c.new.result
+    order_made c.args.at.now.meta (record c.meta-meta.result.now { clock = c.args.at.now.meta.clock }) c.args.random.now c.later_random.result.now c.args.account c.args.names.items c.new.result
     c.len.result c.count_tokens-count.result (c.new.ensures ∙ c.in_ok-wanted.ensures) c.later_random.ensures c.meta-meta.ensures
     (c.len.ensures ∙ sym c.as_slice.ensures.len ∙ ap (λ (l : List Name). length l) c.as_slice.ensures.value) (c.count_tokens-count.ensures ∙ ap (λ (l : List Name). length l + count_by (λ n. not n.wildcard) l) c.as_slice.ensures.value)
     c.in_ok-has_numbers.ensures c.in_ok-has_tokens.ensures

@@ -3,7 +3,7 @@ use Rattle.std.specs.Prelude.{option_copied}
 use Rattle.std.specs.Option.{option_map}
 use Rattle.desk_model.specs.Effect.{swept_authorization}
 use Rattle.swept_rows.proofs.SweptRows.{authorization-found, swept_authorization_on}
-use Rattle.swept_rows.proofs.standing.authorization_at.Goals as goal
+use Rattle.swept_rows.proofs.at.authorization_at.Goals as goal
 
 pub returns-in-Some : goal.returns-in-Some
 returns-in-Some c =

@@ -3,7 +3,7 @@ use Rattle.std.specs.Prelude.{option_copied}
 use Rattle.std.specs.Option.{option_map}
 use Rattle.desk_model.specs.Effect.{swept_order}
 use Rattle.swept_rows.proofs.SweptRows.{order-found, swept_order_on}
-use Rattle.swept_rows.proofs.standing.order_at.Goals as goal
+use Rattle.swept_rows.proofs.at.order_at.Goals as goal
 
 pub returns-in-Some : goal.returns-in-Some
 returns-in-Some c =

@@ -1,0 +1,124 @@
+//! A book at a moment, as rules read it.
+ghost use Rattle.std.specs.Prelude.{◌≡◌, option_copied, option_map};
+ghost use Rattle.desk_model.specs.Effect.{swept};
+ghost use Rattle.desk_model.specs.Questions.{account_on, account_with_key, authorization_on, order_on, owner_on};
+
+use crate::standing::{authorization_status, order_status};
+use desk_book::Book;
+use desk_model::{AccountRow, AuthorizationRow, AuthzStatus, Meta, OrderRow, OrderStatus, Policy};
+use std::marker::Model;
+
+/// A book at a moment; contracts see the tables that stand then, rows with the statuses that the passing of time leaves.
+#[derive(Drop)]
+pub struct At<'a> {
+    book: &'a Book,
+    moment: u64,
+}
+
+impl<'a> Model for At<'a> {
+    ghost use Rattle.desk_model.specs.Effect.{swept};
+    ghost use Rattle.desk_model.specs.Tables.{Tables};
+
+    ghost Value = { Tables };
+
+    ghost view = { λ a. swept a.moment a.book.now };
+}
+
+impl<'a> At<'a> {
+    /// A book at a moment, in seconds since 1970.
+    pub fn new(book: &'a Book, moment: u64) -> At<'a>
+        ensures { result ≡ swept moment book.now }
+    {
+        At { book, moment }
+    }
+
+    /// The book and the moment.
+    pub fn parts(&self) -> (&'a Book, u64)
+        ensures { swept result.1 result.0.now ≡ self.now }
+    {
+        (self.book, self.moment)
+    }
+
+    /// The policy.
+    pub fn policy(&self) -> &Policy
+        ensures { result.now ≡ self.now.meta.policy }
+    {
+        &self.book.meta().policy
+    }
+
+    /// The policy and the counters; the clock that it has is the book's.
+    pub fn meta(&self) -> &Meta
+        ensures { record result.now { clock = self.now.meta.clock } ≡ self.now.meta }
+    {
+        self.book.meta()
+    }
+
+    /// The account of a number.
+    pub fn account(&self, number: u64) -> Option<&AccountRow>
+        ensures { option_copied result ≡ account_on self.now number }
+    {
+        self.book.account(number)
+    }
+
+    /// The account with a key, by its canonical text.
+    pub fn account_with_key(&self, key: &str) -> Option<&AccountRow>
+        ensures { option_copied result ≡ account_with_key self.now key.now }
+    {
+        self.book.account_with_key(key)
+    }
+
+    /// The authorization of a number, with its status at the moment.
+    pub fn authorization(&self, number: u64) -> Option<(&AuthorizationRow, AuthzStatus)>
+        ensures { option_map (λ p. record p.0.now { status = p.1 }) result ≡ authorization_on self.now number }
+    {
+        authorization_at(self.book, self.moment, number)
+    }
+
+    /// The authorization that a challenge is of, with its status at the moment.
+    pub fn owner(&self, challenge: u64) -> Option<(&AuthorizationRow, AuthzStatus)>
+        ensures { option_map (λ p. record p.0.now { status = p.1 }) result ≡ owner_on self.now challenge }
+    {
+        owner_at(self.book, self.moment, challenge)
+    }
+
+    /// The order of a number, with its status at the moment.
+    pub fn order(&self, number: u64) -> Option<(&OrderRow, OrderStatus)>
+        ensures { option_map (λ p. record p.0.now { status = p.1 }) result ≡ order_on self.now number }
+    {
+        order_at(self.book, self.moment, number)
+    }
+}
+
+// The authorization of a number, with its status at a moment.
+fn authorization_at(
+    book: &Book,
+    moment: u64,
+    number: u64,
+) -> Option<(&AuthorizationRow, AuthzStatus)>
+    ensures { option_map (λ p. record p.0.now { status = p.1 }) result ≡ authorization_on (swept moment book.now) number }
+{
+    match book.authorization(number) {
+        Some(row) => Some((row, authorization_status(moment, row))),
+        None => None,
+    }
+}
+
+// The authorization that a challenge is of, with its status at a moment.
+fn owner_at(book: &Book, moment: u64, challenge: u64) -> Option<(&AuthorizationRow, AuthzStatus)>
+    ensures { option_map (λ p. record p.0.now { status = p.1 }) result ≡ owner_on (swept moment book.now) challenge }
+{
+    match book.owner(challenge) {
+        Some(row) => Some((row, authorization_status(moment, row))),
+        None => None,
+    }
+}
+
+// The order of a number, with its status at a moment.
+fn order_at(book: &Book, moment: u64, number: u64) -> Option<(&OrderRow, OrderStatus)>
+    ensures { option_map (λ p. record p.0.now { status = p.1 }) result ≡ order_on (swept moment book.now) number }
+{
+    match book.order(number) {
+        Some(row) => Some((row, order_status(book, moment, row))),
+        None => None,
+    }
+}
