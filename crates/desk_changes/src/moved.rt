@@ -1,6 +1,6 @@
 //! Rows as a move leaves them, and the changes that this makes.
 ghost use Rattle.std.specs.Prelude.{◌≡◌, ◌++◌, true, map, option_map, IfOk, OnOk};
-ghost use Rattle.desk_model.specs.Derived.{authorization_numbered, numbers_of, restated_order, stored_statuses};
+ghost use Rattle.desk_model.specs.Derived.{authorization_numbered, numbers_of, stored_statuses};
 ghost use Rattle.desk_model.specs.Entry.{entry_of};
 ghost use Rattle.desk_model.specs.Effect.{swept_authorization, swept_order, moved_account, moved_authorization, moved_order, noted_account, touches_account, touches_authorization, touches_order};
 ghost use Rattle.desk_model.specs.Change.{account_differs, authorization_differs, order_differs, moved_rows};

@@ -5,7 +5,7 @@ ghost use Rattle.desk_model.specs.Entry.{entry_of};
 ghost use Rattle.desk_model.specs.Limits.{last_moment, last_number};
 ghost use Rattle.desk_model.specs.Run.{count_tokens};
 ghost use Rattle.desk_changes.specs.Made.{bare_order, next_account, next_order, next_rows, ordered_meta};
-ghost use Rattle.std.specs.Prelude.{◌≡◌, ◌<◌, ◌≤◌, length, map, ◌+◌, ◌^◌, ◌++◌, ◌∷◌, [], None, IfOk, OnOk, ℕ, List};
+ghost use Rattle.std.specs.Prelude.{◌≡◌, ◌<◌, ◌≤◌, length, map, ◌+◌, ◌++◌, ◌∷◌, [], None, IfOk, OnOk, ℕ, List};
 ghost use Rattle.desk_changes.specs.Recorded.{IsRecorded, IsUntouched, book_moves};
 ghost use Rattle.desk_model.specs.Tables.{Tables};
 ghost use Rattle.desk_model.specs.declared.entry.Entry.{Entry as EntryOf};

@@ -1,5 +1,5 @@
 -- The faults of calls, from those of their parts.
-use Rattle.std.proofs.Common.{◌≡◌, ℕ, ◌<◌, ◌≤◌, ◌^◌, List, length, inl, inr, arith, subst, Result, Err}
+use Rattle.std.proofs.Common.{◌≡◌, ℕ, ◌<◌, ◌≤◌, List, length, inl, inr, arith, subst, Result, Err}
 use Rattle.std.specs.Prelude.{IfErr, ◌↔◌}
 use Rattle.desk_model.specs.Limits.{last_moment, last_number}
 use Rattle.desk_model.specs.Tables.{Tables}

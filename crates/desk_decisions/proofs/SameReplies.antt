@@ -1,5 +1,5 @@
 -- What an entry does to the rows, and what is shown then, depends on no nonce.
-use Rattle.std.proofs.Common.{◌≡◌, ℕ, ◌+◌, List, [], ◌∷◌, ◌++◌, Bool, Option, Some, None, refl, ap, ◌∙◌}
+use Rattle.std.proofs.Common.{◌≡◌, ℕ, ◌+◌, List, [], ◌∷◌, ◌++◌, Bool, refl, ap, ◌∙◌}
 use Rattle.desk_model.specs.Tables.{Tables}
 use Rattle.desk_model.specs.Effect.{effect, effects}
 use Rattle.desk_model.specs.Shown.{made_account, made_order, moved_reply, reply_of}

@@ -1,5 +1,5 @@
 -- Whether a nonce can be issued.
-use Rattle.std.specs.Prelude.{ℕ, ◌<◌, ◌≤◌, ◌^◌, List, length}
+use Rattle.std.specs.Prelude.{ℕ, ◌<◌, ◌≤◌, List, length}
 use Rattle.desk_model.specs.Limits.{last_number}
 use Rattle.desk_model.specs.Tables.{Tables}
 use Rattle.desk_rules.specs.declared.fault.CoreFault.{CoreFault}

@@ -1,5 +1,5 @@
 //! The decision on a call: what changes in the book, and what is answered.
-ghost use Rattle.std.specs.Prelude.{◌≡◌, ◌↔◌, ◌<◌, ◌≤◌, ◌+◌, ◌^◌, ◌++◌, ◌∷◌, [], ℕ, List, true, false, length, take, drop, IfOk, IfErr, MatchResult, OnOk};
+ghost use Rattle.std.specs.Prelude.{◌≡◌, ◌↔◌, ◌<◌, ◌≤◌, ◌+◌, ◌++◌, ◌∷◌, [], ℕ, List, true, false, length, take, drop, IfOk, IfErr, MatchResult, OnOk};
 ghost use Rattle.desk_model.specs.Decide.{entries_of, nonce_entries, verdict_reply};
 ghost use Rattle.desk_model.specs.Effect.{effects, swept};
 ghost use Rattle.desk_model.specs.Limits.{last_moment, last_number};

@@ -2,7 +2,7 @@
 ghost use Rattle.std.specs.Prelude.{◌≡◌, ◌∷◌, [], IfOk};
 ghost use Rattle.desk_model.specs.Effect.{effects, swept};
 ghost use Rattle.desk_model.specs.Entry.{entry_of};
-ghost use Rattle.desk_model.specs.Questions.{account_on, order_on};
+ghost use Rattle.desk_model.specs.Questions.{order_on};
 ghost use Rattle.desk_model.specs.Shown.{located_account, located_order, moved_reply, reply_of, shown};
 ghost use Rattle.desk_model.specs.Tables.{Tables};
 ghost use Rattle.desk_model.specs.declared.verdict.Shows.TheVariants as show;

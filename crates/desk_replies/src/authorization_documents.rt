@@ -1,5 +1,5 @@
 //! The documents of authorizations and their challenges (RFC 8555, 7.1.4, 7.1.5, 8).
-ghost use Rattle.std.specs.Prelude.{◌≡◌, ◌∷◌, [], map, codes, is_some, true, string_bytes, IfOk, OnOk};
+ghost use Rattle.std.specs.Prelude.{◌≡◌, ◌∷◌, [], map, codes, is_some, true, IfOk, OnOk};
 ghost use Rattle.std.specs.List.{filter};
 ghost use Rattle.serde_json.specs.Data.{string, boolean};
 ghost use Rattle.serde_json.specs.View.{view, members_view};

@@ -1,5 +1,5 @@
 //! The values that several documents hold: lists, moments, identifiers and errors (RFC 8555, 6.7, 7.1).
-ghost use Rattle.std.specs.Prelude.{◌≡◌, map, codes, string_bytes, IfOk};
+ghost use Rattle.std.specs.Prelude.{◌≡◌, map, string_bytes, IfOk};
 ghost use Rattle.serde_json.specs.Data.{string};
 ghost use Rattle.serde_json.specs.View.{view};
 ghost use Rattle.desk_model.specs.Json.{list};

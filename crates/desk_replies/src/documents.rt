@@ -1,5 +1,5 @@
 //! The documents of the directory and of accounts (RFC 8555, 7.1.1, 7.1.2).
-ghost use Rattle.std.specs.Prelude.{◌≡◌, codes, IfOk};
+ghost use Rattle.std.specs.Prelude.{◌≡◌, IfOk};
 ghost use Rattle.serde_json.specs.View.{view};
 ghost use Rattle.desk_model.specs.Document.{directory, account_document};
 

@@ -1,5 +1,5 @@
 //! Replies with one object, by its row (RFC 8555, 7).
-ghost use Rattle.std.specs.Prelude.{◌≡◌, ◌≤◌, map, IfOk, option_copied};
+ghost use Rattle.std.specs.Prelude.{◌≡◌, ◌≤◌, map, IfOk};
 ghost use Rattle.desk_model.specs.Limits.{last_end};
 ghost use Rattle.desk_model.specs.Document.{key_document, listed_rows};
 ghost use Rattle.desk_model.specs.Questions.{challenge_of};

@@ -1,5 +1,5 @@
 //! Replies (RFC 8555, 6.5, 6.7, 7).
-ghost use Rattle.std.specs.Prelude.{◌≡◌, ◌+◌, ◌<◌, ◌^◌, [], true, IfOk, string_bytes};
+ghost use Rattle.std.specs.Prelude.{◌≡◌, ◌<◌, IfOk};
 ghost use Rattle.desk_model.specs.Tokens.{nonce_text};
 ghost use Rattle.desk_model.specs.Shown.{refusal_reply, nonce_reply, not_found, with_nonce, located_account, plain};
 ghost use Rattle.desk_model.specs.declared.reply.Body.TheVariants.{Empty};

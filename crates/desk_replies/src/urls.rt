@@ -1,5 +1,5 @@
 //! The URLs of a desk (RFC 8555, 7.1): the base and a path.
-ghost use Rattle.std.specs.Prelude.{◌≡◌, ◌++◌, codes, decimal, string_bytes, IfOk};
+ghost use Rattle.std.specs.Prelude.{◌≡◌, string_bytes, IfOk};
 ghost use Rattle.desk_model.specs.Document.{url, account_url, orders_url, order_url, finalize_url, certificate_url, authorization_url, challenge_url};
 
 use desk_model::Policy;

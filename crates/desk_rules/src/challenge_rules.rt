@@ -4,7 +4,7 @@ ghost use Rattle.desk_model.specs.Document.{expected};
 ghost use Rattle.desk_model.specs.Legal.{is_pending_challenge, is_processing_challenge};
 ghost use Rattle.desk_model.specs.Lookup.{holds};
 ghost use Rattle.desk_model.specs.Questions.{challenge_of};
-ghost use Rattle.desk_model.specs.Rules.{challenge_verdict, outcome_of, outcome_verdict, same_outcome, stands_open, judged};
+ghost use Rattle.desk_model.specs.Rules.{challenge_verdict, outcome_of, outcome_verdict, same_outcome, judged};
 
 use crate::verdicts::refused;
 use desk_model::{

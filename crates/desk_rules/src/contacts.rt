@@ -1,5 +1,5 @@
 //! The contacts of accounts (RFC 8555, 7.3).
-ghost use Rattle.std.specs.Prelude.{◌≡◌, ◌==◌, ◌&&◌, ◌||◌, not, nat_le, ℕ, ◌<◌, length, map, codes, bytes_eq, position, IfSome};
+ghost use Rattle.std.specs.Prelude.{◌≡◌, ◌==◌, ◌||◌, ◌<◌, length, map, codes, bytes_eq, position, IfSome};
 ghost use Rattle.std.specs.List.{list_any};
 ghost use Rattle.desk_model.specs.Contact.{lowered, parts_fault, contact_fault, first_fault, contacts_fault};
 

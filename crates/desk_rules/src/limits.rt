@@ -1,5 +1,5 @@
 //! The limits of moments, numbers and random bytes.
-ghost use Rattle.std.specs.Prelude.{◌≡◌, ◌+◌, ◌*◌, ◌<◌, ◌≤◌, ◌^◌, length, drop, take, MatchResult};
+ghost use Rattle.std.specs.Prelude.{◌≡◌, ◌+◌, ◌*◌, ◌<◌, ◌≤◌, length, drop, take, MatchResult};
 ghost use Rattle.desk_model.specs.Limits.{last_number};
 
 use crate::fault::CoreFault;

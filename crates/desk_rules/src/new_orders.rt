@@ -1,5 +1,5 @@
 //! The rules on new orders (RFC 8555, 7.4).
-ghost use Rattle.std.specs.Prelude.{◌≡◌, ◌+◌, ◌*◌, ◌<◌, ◌≤◌, ◌⊎◌, bytes_eq, length, drop, not, count_by, IfOk, MatchResult};
+ghost use Rattle.std.specs.Prelude.{◌≡◌, ◌+◌, ◌*◌, ◌<◌, ◌≤◌, ◌⊎◌, ◌++◌, bytes_eq, length, drop, not, count_by, IfOk, MatchResult, OnOk};
 ghost use Rattle.std.specs.List.{list_any};
 ghost use Rattle.desk_rules.specs.Needs.{NumbersLeft, BytesLeft, IsNeedFault};
 ghost use Rattle.desk_model.specs.Authorization.{kinds_of};
@@ -13,7 +13,7 @@ use crate::fault::CoreFault;
 use crate::identified::{Identified, identify};
 use crate::limits::{first_piece, has_room, has_room_for, has_tokens, later_random};
 use crate::verdicts::refused;
-use desk_model::{DnsName, Identifier, MOST_NAMES, Meta, Refusal, Sequence, Verdict, Wanted};
+use desk_model::{DnsName, Identifier, Kind, MOST_NAMES, Meta, Refusal, Sequence, Verdict, Wanted};
 use std::alloc::{AllocError, Global};
 use swept_rows::At;
 
@@ -56,18 +56,23 @@ fn kept(alloc: Global, names: Vec<DnsName>) -> Result<Vec<DnsName>, AllocError>
     Ok(found)
 }
 
-// How many challenges, and so tokens, a name gets.
-fn count_kinds(name: &DnsName) -> usize
-    ensures { result ≡ length (kinds_of name.now) }
-{
-    if name.is_wildcard() { 1 } else { 2 }
-}
-
 // How many tokens some names get: a wildcard one gets one, another two.
 fn count_tokens(names: &[DnsName]) -> usize
     ensures { result ≡ length names.now + count_by (λ n. not n.wildcard) names.now }
 {
     names.len() + names.iter().filter(|name| !name.is_wildcard()).count()
+}
+
+// Puts a token for each of these challenges, taken from the front of the random bytes, at the end of a list.
+fn push_tokens(tokens: &mut Vec<[u8; 16]>, kinds: &[Kind], random: &[u8]) -> Result<(), AllocError>
+    requires { 16 * length kinds.now ≤ length random.now }
+    ensures { OnOk result (tokens.new.items ≡ tokens.old.items ++ pieces (length kinds.now) random.now) }
+{
+    let Some((_kind, kinds)) = kinds.split_first() else {
+        return Ok(());
+    };
+    tokens.push(first_piece(random))?;
+    push_tokens(tokens, kinds, &random[16..])
 }
 
 // The tokens of a name, taken from the front of the random bytes.
@@ -76,10 +81,7 @@ fn tokens_of(alloc: Global, name: &DnsName, random: &[u8]) -> Result<Vec<[u8; 16
     ensures { IfOk result (λ v. v.items ≡ pieces (length (kinds_of name.now)) random.now) }
 {
     let mut tokens = Vec::new(alloc);
-    tokens.push(first_piece(random))?;
-    if !name.is_wildcard() {
-        tokens.push(first_piece(&random[16..]))?;
-    }
+    push_tokens(&mut tokens, name.kinds(), random)?;
     Ok(tokens)
 }
 
@@ -91,7 +93,7 @@ fn wanted(alloc: Global, names: Vec<DnsName>, random: &[u8]) -> Result<Vec<Wante
     let mut found = Vec::new(alloc);
     let mut rest = random;
     for name in names {
-        let count = count_kinds(&name);
+        let count = name.kinds().len();
         let tokens = Sequence::new(tokens_of(alloc, &name, rest)?);
         rest = &rest[16 * count..];
         found.push(Wanted::New { name, tokens })?;

@@ -3,7 +3,6 @@ ghost use Rattle.std.specs.Prelude.{◌≡◌, Some, Option, option_map, option_
 ghost use Rattle.serde_json.specs.View.{view, items_view};
 ghost use Rattle.desk_model.specs.Payload.{object_in, each_in, texts_in, optional, new_account, new_account_in, is_deactivated_text, says_deactivated, account_change, account_change_in, authorization_change, authorization_change_in, challenge_change, identifier_in, new_order, new_order_in, finalize};
 ghost use Rattle.serde_json.specs.Find.{get, as_bool, as_str};
-ghost use Rattle.serde_json.specs.Read.{read};
 
 use desk_model::{
     AccountChange, AuthorizationChange, ChallengeChange, Identifier, NewAccount, Sequence, Text,

@@ -1,8 +1,8 @@
 //! Signed requests, by their targets (RFC 8555, 6.2, 6.3).
-ghost use Rattle.std.specs.Prelude.{◌≡◌, ◌==◌, IfOk, MatchResult, drop, option_map};
+ghost use Rattle.std.specs.Prelude.{◌≡◌, ◌==◌, IfOk, option_map};
 ghost use Rattle.desk_model.specs.Payload.{account_change, authorization_change, challenge_change, finalize};
-ghost use Rattle.desk_model.specs.Questions.{account_with_key, authorization_on, order_on, owner_on};
-ghost use Rattle.desk_model.specs.Rules.{account_verdict, authorization_verdict, certificate_verdict, challenge_verdict, finalize_verdict, holder_verdict, nothing, own, signed_verdict, target_verdict};
+ghost use Rattle.desk_model.specs.Questions.{authorization_on, order_on, owner_on};
+ghost use Rattle.desk_model.specs.Rules.{account_verdict, authorization_verdict, certificate_verdict, challenge_verdict, finalize_verdict, nothing, own};
 ghost use Rattle.desk_model.specs.Verdict.{check, given};
 ghost use Rattle.desk_model.specs.declared.verdict.Verdict.TheVariants.{Answers as answers};
 ghost use Rattle.desk_model.specs.declared.verdict.Shows.TheVariants as show;

@@ -1,5 +1,5 @@
 //! The passing of time: what is past its end at a moment (RFC 8555, 7.1.6).
-ghost use Rattle.std.specs.Prelude.{◌≡◌, ◌≤◌, ◌++◌, ℕ, map, IfOk, OnOk};
+ghost use Rattle.std.specs.Prelude.{◌≡◌, ◌≤◌, ◌++◌, map, IfOk, OnOk};
 ghost use Rattle.std.specs.List.{list_any};
 ghost use Rattle.desk_model.specs.Limits.{last_moment};
 ghost use Rattle.desk_model.specs.Lookup.{holds};

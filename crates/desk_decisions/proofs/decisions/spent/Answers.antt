@@ -1,4 +1,4 @@
-use Rattle.std.proofs.Common.{◌<◌, ◌^◌, subst}
+use Rattle.std.proofs.Common.{◌<◌, subst}
 use Rattle.desk_model.specs.declared.rows.Meta.{Meta}
 use Rattle.desk_decisions.specs.Outcomes.{Passes}
 use Rattle.desk_decisions.proofs.decisions.spent.Goals as goal

@@ -1,4 +1,4 @@
-use Rattle.std.proofs.Common.{◌∙◌, sym}
+use Rattle.std.proofs.Common.{sym}
 use Rattle.desk_model.specs.Shown.{account_reply}
 use Rattle.desk_model.specs.Tables.{Tables}
 use Rattle.desk_changes.proofs.ShownAfter.{shown-some}
