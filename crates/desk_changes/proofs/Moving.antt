@@ -1,4 +1,4 @@
--- What is recorded of entries that move rows, and of a new order.
+-- What is recorded of moves, and of a new order.
 use Rattle.std.proofs.Common.{◌≡◌, ℕ, ◌+◌, List, [], ◌∷◌, ◌++◌, map, length, refl, sym, ap, subst, ◌∙◌, append-nil, add-zero, ◌<◌}
 use Rattle.desk_model.specs.Tables.{Tables}
 use Rattle.desk_model.specs.History.{terms_after}
@@ -118,7 +118,7 @@ same_moves m B es e h =
     ++ (map PutAuthorization (moved_rows (touches_authorization e) authorization_differs (stated_authorization e m) (h.authorizations i))
     ++ map PutOrder (moved_rows (touches_order e (h.authorizations i)) order_differs (λ r. restated_order m (map (moved_authorization e m) (h.authorizations i)) (noted_order e m r)) (h.orders i)))
 
--- an entry that moves rows is recorded
+-- a move is recorded
 pub and_moved : (m : ℕ) (B : Tables) (es : List Entry) (v : Move) (done : List Change) (meta : Meta) → IsUntouched m B es → IsRecorded m B es done meta →
     IsRecorded m B (es ++ entry_of v ∷ []) (done ++ PutMeta meta ∷ book_moves m B (entry_of v)) meta
 and_moved m B es v done meta untouched h =

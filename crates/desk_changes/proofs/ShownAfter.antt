@@ -1,4 +1,4 @@
--- Look-ups in the tables of a book at a moment, after an entry that makes nothing.
+-- Look-ups in the tables of a book at a moment, after a move if there is one.
 use Rattle.std.proofs.Common.{◌≡◌, ℕ, List, [], ◌∷◌, ◌++◌, map, Bool, true, false, cond, Option, Some, None, refl, sym, ap, ◌∙◌, append-nil}
 use Rattle.std.specs.Prelude.{◌==◌, find}
 use Rattle.std.specs.Option.{option_map}
@@ -23,7 +23,7 @@ use Rattle.desk_changes.specs.Moved.{rows_after, standing_rows}
 use Rattle.desk_changes.proofs.Moving.{makes_nothing, moving_after, moving_meta}
 use Rattle.swept_rows.proofs.SweptRows.{find-moved, swept_authorization-status, swept_authorization_on, swept_order_on, swept_order-status, swept_owner_on}
 
--- the tables after an entry that makes nothing
+-- the tables after a move
 moving_accounts : (m : ℕ) (T : Tables) (v : Move) → (effect m T (entry_of v)).accounts ≡ map (moved_account (entry_of v) m) T.accounts
 moving_accounts m T v =
     ap (λ l. map (moved_account (entry_of v) m) T.accounts ++ map fresh_account l) (makes_nothing m T v).accounts ∙ append-nil (map (moved_account (entry_of v) m) T.accounts)
