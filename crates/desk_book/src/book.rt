@@ -8,7 +8,9 @@ ghost use Rattle.desk_model.specs.Change.{applied_one, applied};
 ghost use Rattle.desk_model.specs.Effect.{has_row};
 
 use crate::table::Table;
-use desk_model::{AccountRow, AuthorizationRow, Change, Clock, Meta, Nonce, OrderRow, Policy};
+use desk_model::{
+    AccountRow, AuthorizationRow, Change, Clock, Counters, Meta, Nonce, OrderRow, Policy,
+};
 use std::alloc::{AllocError, Global};
 use std::marker::Model;
 
@@ -39,12 +41,14 @@ impl Book {
         Book {
             meta: Meta {
                 policy,
-                clock: at,
-                nonces: 0,
-                accounts: 0,
-                orders: 0,
-                authorizations: 0,
-                challenges: 0,
+                counters: Counters {
+                    clock: at,
+                    nonces: 0,
+                    accounts: 0,
+                    orders: 0,
+                    authorizations: 0,
+                    challenges: 0,
+                },
             },
             nonces: Table::new(alloc),
             accounts: Table::new(alloc),

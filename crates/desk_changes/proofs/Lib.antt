@@ -1,6 +1,6 @@
 pub mod MadeRows
-pub mod MovedRows
 pub mod Moving
 pub mod QuietEntries
 pub mod Recordings
+pub mod RowMoves
 pub mod ShownAfter

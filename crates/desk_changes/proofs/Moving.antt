@@ -18,31 +18,32 @@ use Rattle.desk_model.specs.declared.objects.Account.{Account}
 use Rattle.desk_model.specs.declared.objects.Authorization.{Authorization}
 use Rattle.desk_model.specs.declared.objects.Nonce.{Nonce}
 use Rattle.desk_model.specs.declared.objects.Order.{Order}
-use Rattle.desk_model.specs.declared.rows.Meta.{Meta}
+use Rattle.desk_model.specs.Terms.{Terms}
+use Rattle.desk_model.specs.declared.rows.Counters.{Counters}
 use Rattle.desk_model.specs.declared.rows.AuthorizationRow.{AuthorizationRow}
 use Rattle.desk_model.specs.declared.rows.OrderRow.{OrderRow}
 use Rattle.desk_model.specs.declared.rows.Change.{Change}
-use Rattle.desk_model.specs.declared.rows.Change.TheVariants.{PutMeta, PutNonce, RemoveNonce, PutAccount, PutAuthorization, PutOrder}
+use Rattle.desk_model.specs.declared.rows.Change.TheVariants.{PutNonce, RemoveNonce, PutAccount, PutAuthorization, PutOrder}
 use Rattle.desk_model.specs.declared.entry.Wanted.{Wanted}
 use Rattle.desk_laws.specs.Ordered.{Below, IsOrdered}
 use Rattle.desk_laws.proofs.Basics.{each, each-map}
 use Rattle.desk_laws.proofs.Plain.{issued_effect, spent_effect}
-use Rattle.desk_changes.specs.Made.{made_rows, next_order, next_rows, ordered_meta}
+use Rattle.desk_changes.specs.Made.{made_rows, next_order, next_rows, ordered_counters}
 use Rattle.desk_changes.proofs.MadeRows.{made_beside, places_made}
-use Rattle.desk_changes.proofs.QuietEntries.{issued_meta, quiet_changes, spent_meta}
+use Rattle.desk_changes.proofs.QuietEntries.{issued_counters, quiet_changes, spent_counters}
 use Rattle.swept_rows.proofs.SweptRows.{swept_authorization-status}
 use Rattle.desk_changes.specs.Moved.{standing_rows, stated_authorization}
 use Rattle.desk_changes.specs.Recorded.{IsRecorded, IsUntouched, book_moves}
-use Rattle.desk_changes.proofs.Recordings.{one_more, clock_is, same_clock}
+use Rattle.desk_changes.proofs.Recordings.{counters_then, one_more}
 
 -- what an entry of a move makes: nothing
 pub record MakesNothing (m : ℕ) (T : Tables) (e : Entry) : Type 0 where
   pub policy : terms_after e T.meta.policy ≡ T.meta.policy
   pub unspent : spent_by e ≡ []
-  pub nonces : issued_by e m (T.meta.nonces + 1) ≡ []
-  pub accounts : opened_by e m (T.meta.accounts + 1) ≡ []
+  pub nonces : issued_by e m (T.meta.counters.nonces + 1) ≡ []
+  pub accounts : opened_by e m (T.meta.counters.accounts + 1) ≡ []
   pub authorizations : new_authorizations T e m ≡ []
-  pub orders : (made : List Authorization) → ordered_by e m T.meta.policy made (T.meta.orders + 1) ≡ []
+  pub orders : (made : List Authorization) → ordered_by e m T.meta.policy made (T.meta.counters.orders + 1) ≡ []
 
 pub makes_nothing : (m : ℕ) (T : Tables) (v : Move) → MakesNothing m T (entry_of v)
 makes_nothing m T (move.ContactsChanged n contacts) = record { policy = refl; unspent = refl; nonces = refl; accounts = refl; authorizations = refl; orders = λ made. refl }
@@ -54,18 +55,17 @@ makes_nothing m T (move.Finalized n csr) = record { policy = refl; unspent = ref
 makes_nothing m T (move.Certified n certificate) = record { policy = refl; unspent = refl; nonces = refl; accounts = refl; authorizations = refl; orders = λ made. refl }
 makes_nothing m T (move.Failed n problem) = record { policy = refl; unspent = refl; nonces = refl; accounts = refl; authorizations = refl; orders = λ made. refl }
 
--- the meta row stays, but for the clock
-pub moving_meta : (m : ℕ) (T : Tables) (v : Move) → (effect m T (entry_of v)).meta ≡ record T.meta { clock = m }
-moving_meta m T v =
+-- the counters stay, but for the clock
+pub moving_counters : (m : ℕ) (T : Tables) (v : Move) → (effect m T (entry_of v)).meta.counters ≡ record T.meta.counters { clock = m }
+moving_counters m T v =
     let none : MakesNothing m T (entry_of v) = makes_nothing m T v in
-    λ i. record T.meta {
-      policy = none.policy i;
+    λ i. record T.meta.counters {
       clock = m;
-      nonces = (ap (λ (l : List Nonce). T.meta.nonces + length l) none.nonces ∙ add-zero T.meta.nonces) i;
-      accounts = (ap (λ (l : List Account). T.meta.accounts + length l) none.accounts ∙ add-zero T.meta.accounts) i;
-      orders = (ap (λ (l : List Order). T.meta.orders + length l) (none.orders (new_authorizations T (entry_of v) m)) ∙ add-zero T.meta.orders) i;
-      authorizations = (ap (λ (l : List Authorization). T.meta.authorizations + length l) none.authorizations ∙ add-zero T.meta.authorizations) i;
-      challenges = (ap (λ (l : List Authorization). T.meta.challenges + count_challenges l) none.authorizations ∙ add-zero T.meta.challenges) i;
+      nonces = (ap (λ (l : List Nonce). T.meta.counters.nonces + length l) none.nonces ∙ add-zero T.meta.counters.nonces) i;
+      accounts = (ap (λ (l : List Account). T.meta.counters.accounts + length l) none.accounts ∙ add-zero T.meta.counters.accounts) i;
+      orders = (ap (λ (l : List Order). T.meta.counters.orders + length l) (none.orders (new_authorizations T (entry_of v) m)) ∙ add-zero T.meta.counters.orders) i;
+      authorizations = (ap (λ (l : List Authorization). T.meta.counters.authorizations + length l) none.authorizations ∙ add-zero T.meta.counters.authorizations) i;
+      challenges = (ap (λ (l : List Authorization). T.meta.counters.challenges + count_challenges l) none.authorizations ∙ add-zero T.meta.counters.challenges) i;
     }
 
 -- the authorizations after it are those that stood, moved
@@ -82,12 +82,11 @@ moves m T e =
     ++ map PutOrder (moved_rows (touches_order e T.authorizations) order_differs (λ r. restated_order m (map (moved_authorization e m) T.authorizations) (noted_order e m r)) T.orders))
 
 -- and nothing else is recorded of it
-pub moving_changes : (m : ℕ) (T : Tables) (v : Move) → changes m T (entry_of v) ≡ PutMeta (record T.meta { clock = m }) ∷ moves m T (entry_of v)
+pub moving_changes : (m : ℕ) (T : Tables) (v : Move) → changes m T (entry_of v) ≡ moves m T (entry_of v)
 moving_changes m T v =
-    λ i. PutMeta (moving_meta m T v i)
-    ∷ (map RemoveNonce (none.unspent i)
+    λ i. map RemoveNonce (none.unspent i)
     ++ (map PutNonce (none.nonces i)
-    ++ (map PutAccount (accounts i) ++ (map PutAuthorization (authorizations i) ++ map PutOrder (orders i)))))
+    ++ (map PutAccount (accounts i) ++ (map PutAuthorization (authorizations i) ++ map PutOrder (orders i))))
   where
     e : Entry
     e = entry_of v
@@ -95,7 +94,7 @@ moving_changes m T v =
     none : MakesNothing m T e
     none = makes_nothing m T v
 
-    accounts : moved_rows (touches_account e) account_differs (noted_account e m) T.accounts ++ map fresh_account (opened_by e m (T.meta.accounts + 1))
+    accounts : moved_rows (touches_account e) account_differs (noted_account e m) T.accounts ++ map fresh_account (opened_by e m (T.meta.counters.accounts + 1))
         ≡ moved_rows (touches_account e) account_differs (noted_account e m) T.accounts
     accounts = ap (λ l. moved_rows (touches_account e) account_differs (noted_account e m) T.accounts ++ map fresh_account l) none.accounts ∙ append-nil _
 
@@ -104,7 +103,7 @@ moving_changes m T v =
     authorizations = ap (λ l. moved_rows (touches_authorization e) authorization_differs (stated_authorization e m) T.authorizations ++ map (λ a. restated_authorization m (fresh_authorization a)) l) none.authorizations ∙ append-nil _
 
     orders : moved_rows (touches_order e T.authorizations) order_differs (λ r. restated_order m (authorizations_after T e m) (noted_order e m r)) T.orders
-        ++ map (λ o. restated_order m (authorizations_after T e m) (fresh_order o)) (ordered_by e m T.meta.policy (new_authorizations T e m) (T.meta.orders + 1))
+        ++ map (λ o. restated_order m (authorizations_after T e m) (fresh_order o)) (ordered_by e m T.meta.policy (new_authorizations T e m) (T.meta.counters.orders + 1))
         ≡ moved_rows (touches_order e T.authorizations) order_differs (λ r. restated_order m (map (moved_authorization e m) T.authorizations) (noted_order e m r)) T.orders
     orders =
         ap (λ l. moved_rows (touches_order e T.authorizations) order_differs (λ r. restated_order m (authorizations_after T e m) (noted_order e m r)) T.orders
@@ -119,28 +118,31 @@ same_moves m B es e h =
     ++ map PutOrder (moved_rows (touches_order e (h.authorizations i)) order_differs (λ r. restated_order m (map (moved_authorization e m) (h.authorizations i)) (noted_order e m r)) (h.orders i)))
 
 -- a move is recorded
-pub and_moved : (m : ℕ) (B : Tables) (es : List Entry) (v : Move) (done : List Change) (meta : Meta) → IsUntouched m B es → IsRecorded m B es done meta →
-    IsRecorded m B (es ++ entry_of v ∷ []) (done ++ PutMeta meta ∷ book_moves m B (entry_of v)) meta
-and_moved m B es v done meta untouched h =
+pub and_moved : (m : ℕ) (B : Tables) (es : List Entry) (v : Move) (done : List Change) (counters : Counters) → IsUntouched m B es → IsRecorded m B es done counters →
+    IsRecorded m B (es ++ entry_of v ∷ []) (done ++ book_moves m B (entry_of v)) counters
+and_moved m B es v done counters untouched h =
     let T : Tables = effects m (swept m B) es in
-    let row : meta ≡ record T.meta { clock = m } = sym (same_clock m meta (clock_is m B es done meta h)) ∙ ap (λ (x : Meta). record x { clock = m }) h.row in
-    one_more m B es (entry_of v) done (PutMeta meta ∷ book_moves m B (entry_of v)) meta meta h
-    ((λ i. PutMeta (row i) ∷ sym (same_moves m B es (entry_of v) untouched) i) ∙ sym (moving_changes m T v))
-    (row ∙ sym (moving_meta m T v))
+    one_more m B es (entry_of v) done (book_moves m B (entry_of v)) counters counters h
+    (sym (same_moves m B es (entry_of v) untouched) ∙ sym (moving_changes m T v))
+    (counters_then m B es done counters h ∙ sym (moving_counters m T v)) (makes_nothing m T v).policy
 
 -- ---- a new order
 
--- the meta row after it
-ordered_row : (m : ℕ) (T : Tables) (account : ℕ) (wanted : List Wanted) → (effect m T (ordered account wanted)).meta ≡ ordered_meta (record T.meta { clock = m }) account wanted
-ordered_row m T account wanted =
-    λ i. record (ordered_meta (record T.meta { clock = m }) account wanted) { nonces = add-zero T.meta.nonces i; accounts = add-zero T.meta.accounts i }
+-- the counters after it
+counters_ordered : (m : ℕ) (T : Tables) (account : ℕ) (wanted : List Wanted) →
+    (effect m T (ordered account wanted)).meta.counters ≡ ordered_counters T.meta.policy (record T.meta.counters { clock = m }) account wanted
+counters_ordered m T account wanted =
+    λ i. record (ordered_counters T.meta.policy (record T.meta.counters { clock = m }) account wanted) {
+      nonces = add-zero T.meta.counters.nonces i;
+      accounts = add-zero T.meta.counters.accounts i;
+    }
 
 -- its row
-pub ordered_one : (m : ℕ) (T : Tables) (account : ℕ) (wanted : List Wanted) → Below (λ a. a.number) (T.meta.authorizations + 1) T.authorizations →
+pub ordered_one : (m : ℕ) (T : Tables) (account : ℕ) (wanted : List Wanted) → Below (λ a. a.number) (T.meta.counters.authorizations + 1) T.authorizations →
     (let e : Entry = ordered account wanted in
     let made : List Authorization = new_authorizations T e m in
-    map (λ o. restated_order m (authorizations_after T e m) (fresh_order o)) (ordered_by e m T.meta.policy made (T.meta.orders + 1))
-    ≡ next_order (record T.meta { clock = m }) account wanted ∷ [])
+    map (λ o. restated_order m (authorizations_after T e m) (fresh_order o)) (ordered_by e m T.meta.policy made (T.meta.counters.orders + 1))
+    ≡ next_order T.meta.policy (record T.meta.counters { clock = m }) account wanted ∷ [])
 ordered_one m T account wanted below =
     ap (λ (o : OrderRow). o ∷ [])
     (made_beside T m account wanted fresh below (sym (places_made m 1 made))
@@ -150,17 +152,16 @@ ordered_one m T account wanted below =
     made = new_authorizations T (ordered account wanted) m
 
     fresh : OrderRow
-    fresh = fresh_order (record { number = T.meta.orders + 1; account = account; made = m; expires = m + T.meta.policy.order_life; authorizations = made })
+    fresh = fresh_order (record { number = T.meta.counters.orders + 1; account = account; made = m; expires = m + T.meta.policy.order_life; authorizations = made })
 
 -- what is recorded of it
-ordered_changes : (m : ℕ) (T : Tables) (account : ℕ) (wanted : List Wanted) → Below (λ a. a.number) (T.meta.authorizations + 1) T.authorizations →
+ordered_changes : (m : ℕ) (T : Tables) (account : ℕ) (wanted : List Wanted) → Below (λ a. a.number) (T.meta.counters.authorizations + 1) T.authorizations →
     changes m T (ordered account wanted)
-    ≡ PutMeta (ordered_meta (record T.meta { clock = m }) account wanted)
-    ∷ (map PutAuthorization (next_rows (record T.meta { clock = m }) account wanted) ++ PutOrder (next_order (record T.meta { clock = m }) account wanted) ∷ [])
+    ≡ map PutAuthorization (next_rows T.meta.policy (record T.meta.counters { clock = m }) account wanted)
+    ++ PutOrder (next_order T.meta.policy (record T.meta.counters { clock = m }) account wanted) ∷ []
 ordered_changes m T account wanted below =
     quiet_changes m T (ordered account wanted) (λ a. refl) (λ a. refl) (λ k. refl)
-    ∙ (λ i. PutMeta (ordered_row m T account wanted i)
-    ∷ (map PutAuthorization (next_rows (record T.meta { clock = m }) account wanted) ++ map PutOrder (ordered_one m T account wanted below i)))
+    ∙ (λ i. map PutAuthorization (next_rows T.meta.policy (record T.meta.counters { clock = m }) account wanted) ++ map PutOrder (ordered_one m T account wanted below i))
 
 -- the authorizations that stand at the moment have no later number
 pub below_standing : (m n : ℕ) (rows : List AuthorizationRow) → Below (λ a. a.number) n rows → Below (λ a. a.number) n (standing_rows m rows)
@@ -169,36 +170,38 @@ below_standing m n rows h =
     (each _ _ rows (λ a lt. subst (λ k. k < n) (ap (λ (r : AuthorizationRow). r.number) (swept_authorization-status m a)) lt) h)
 
 -- a new order is recorded
-pub and_ordered : (m : ℕ) (B : Tables) (es : List Entry) (account : ℕ) (wanted : List Wanted) (done : List Change) (meta : Meta) → IsOrdered B → IsUntouched m B es → IsRecorded m B es done meta →
+pub and_ordered : (m : ℕ) (B : Tables) (es : List Entry) (policy : Terms) (account : ℕ) (wanted : List Wanted) (done : List Change) (counters : Counters) →
+    B.meta.policy ≡ policy → IsOrdered B → IsUntouched m B es → IsRecorded m B es done counters →
     IsRecorded m B (es ++ ordered account wanted ∷ [])
-    (done ++ PutMeta (ordered_meta meta account wanted) ∷ (map PutAuthorization (next_rows meta account wanted) ++ PutOrder (next_order meta account wanted) ∷ []))
-    (ordered_meta meta account wanted)
-and_ordered m B es account wanted done meta is untouched h =
+    (done ++ (map PutAuthorization (next_rows policy counters account wanted) ++ PutOrder (next_order policy counters account wanted) ∷ []))
+    (ordered_counters policy counters account wanted)
+and_ordered m B es policy account wanted done counters same is untouched h =
     let T : Tables = effects m (swept m B) es in
-    let row : meta ≡ record T.meta { clock = m } = sym (same_clock m meta (clock_is m B es done meta h)) ∙ ap (λ (x : Meta). record x { clock = m }) h.row in
-    let last : T.meta.authorizations ≡ B.meta.authorizations = ap (λ (x : Meta). x.authorizations) untouched.meta in
-    let below : Below (λ a. a.number) (T.meta.authorizations + 1) T.authorizations =
+    let terms : policy ≡ T.meta.policy = sym (h.policy ∙ same) in
+    let then : counters ≡ record T.meta.counters { clock = m } = counters_then m B es done counters h in
+    let last : T.meta.counters.authorizations ≡ B.meta.counters.authorizations = ap (λ (x : Counters). x.authorizations) untouched.counters in
+    let below : Below (λ a. a.number) (T.meta.counters.authorizations + 1) T.authorizations =
     subst (λ n. Below (λ a. a.number) (n + 1) T.authorizations) (sym last)
-    (subst (Below (λ a. a.number) (B.meta.authorizations + 1)) (sym untouched.authorizations) (below_standing m (B.meta.authorizations + 1) B.authorizations is.authorizations.1)) in
-    one_more m B es (ordered account wanted) done _ meta _ h
-    (ap (λ x. PutMeta (ordered_meta x account wanted) ∷ (map PutAuthorization (next_rows x account wanted) ++ PutOrder (next_order x account wanted) ∷ [])) row
+    (subst (Below (λ a. a.number) (B.meta.counters.authorizations + 1)) (sym untouched.authorizations) (below_standing m (B.meta.counters.authorizations + 1) B.authorizations is.authorizations.1)) in
+    one_more m B es (ordered account wanted) done _ counters _ h
+    ((λ i. map PutAuthorization (next_rows (terms i) (then i) account wanted) ++ PutOrder (next_order (terms i) (then i) account wanted) ∷ [])
     ∙ sym (ordered_changes m T account wanted below))
-    (ap (λ x. ordered_meta x account wanted) row ∙ sym (ordered_row m T account wanted))
+    ((λ i. ordered_counters (terms i) (then i) account wanted) ∙ sym (counters_ordered m T account wanted)) refl
 
 -- ---- entries that touch no row but the nonces'
 
 -- none
 pub untouched_none : (m : ℕ) (B : Tables) → IsUntouched m B []
-untouched_none m B = record { meta = refl; accounts = refl; authorizations = refl; orders = refl }
+untouched_none m B = record { counters = refl; accounts = refl; authorizations = refl; orders = refl }
 
 -- a nonce spent, and one issued
 pub untouched_nonces : (m : ℕ) (B : Tables) (n : ℕ) (r : List ℕ) → IsUntouched m B (spent n ∷ issued r ∷ [])
 untouched_nonces m B n r =
     record {
-      meta =
-          issued_meta m (effect m (swept m B) (spent n)) r
-          ∙ (λ i. record (spent_meta m (swept m B) n i) { clock = m; nonces = (effect m (swept m B) (spent n)).meta.nonces + 1 })
-          ∙ (λ i. record B.meta { clock = m; nonces = sym (ap (λ (x : Meta). x.nonces) (issued_meta m (effect m (swept m B) (spent n)) r)) i });
+      counters =
+          issued_counters m (effect m (swept m B) (spent n)) r
+          ∙ (λ i. record (spent_counters m (swept m B) n i) { clock = m; nonces = (effect m (swept m B) (spent n)).meta.counters.nonces + 1 })
+          ∙ (λ i. record B.meta.counters { clock = m; nonces = sym (ap (λ (x : Counters). x.nonces) (issued_counters m (effect m (swept m B) (spent n)) r)) i });
       accounts = ap (λ (T : Tables). T.accounts) (issued_effect m (effect m (swept m B) (spent n)) r) ∙ ap (λ (T : Tables). T.accounts) (spent_effect m (swept m B) n);
       authorizations = ap (λ (T : Tables). T.authorizations) (issued_effect m (effect m (swept m B) (spent n)) r) ∙ ap (λ (T : Tables). T.authorizations) (spent_effect m (swept m B) n);
       orders = ap (λ (T : Tables). T.orders) (issued_effect m (effect m (swept m B) (spent n)) r) ∙ ap (λ (T : Tables). T.orders) (spent_effect m (swept m B) n);

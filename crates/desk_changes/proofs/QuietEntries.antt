@@ -2,8 +2,8 @@
 use Rattle.std.proofs.Common.{◌≡◌, ℕ, ◌+◌, List, [], ◌∷◌, ◌++◌, map, filter, Bool, false, cond, Option, Some, None, refl, ap, ◌∙◌, add-zero}
 use Rattle.std.specs.Prelude.{◌&&◌, ◌||◌}
 use Rattle.desk_model.specs.Tables.{Tables}
-use Rattle.desk_model.specs.declared.rows.Meta.{Meta}
-use Rattle.desk_model.specs.declared.rows.Change.TheVariants.{PutMeta, PutNonce, RemoveNonce, PutAccount, PutAuthorization, PutOrder}
+use Rattle.desk_model.specs.declared.rows.Counters.{Counters}
+use Rattle.desk_model.specs.declared.rows.Change.TheVariants.{PutNonce, RemoveNonce, PutAccount, PutAuthorization, PutOrder}
 use Rattle.desk_model.specs.declared.objects.Nonce.{Nonce}
 use Rattle.desk_model.specs.declared.entry.Entry.{Entry}
 use Rattle.desk_model.specs.declared.entry.Entry.TheVariants.{Issued as issued, Spent as spent, Opened as opened}
@@ -19,27 +19,27 @@ use Rattle.desk_model.specs.Effect.{effect, noted_account, noted_authorization, 
 use Rattle.desk_model.specs.Change.{changes, moved_rows, account_differs, authorization_differs, order_differs, spent_by, nonces_put}
 
 -- the same counters with nothing added
-abbrev with_nonces : ℕ → ℕ → Meta → Meta
+abbrev with_nonces : ℕ → ℕ → Counters → Counters
 with_nonces m more old = record old { clock = m; nonces = old.nonces + more }
 
-counters : (m more : ℕ) (old : Meta) →
-    (let counted : Meta = record old { clock = m; nonces = old.nonces + more; accounts = old.accounts + 0; orders = old.orders + 0; authorizations = old.authorizations + 0; challenges = old.challenges + 0 } in
-    counted ≡ with_nonces m more old)
-counters m more old =
+counted : (m more : ℕ) (old : Counters) →
+    (let now : Counters = record old { clock = m; nonces = old.nonces + more; accounts = old.accounts + 0; orders = old.orders + 0; authorizations = old.authorizations + 0; challenges = old.challenges + 0 } in
+    now ≡ with_nonces m more old)
+counted m more old =
     λ i. record old { clock = m; nonces = old.nonces + more; accounts = add-zero old.accounts i; orders = add-zero old.orders i; authorizations = add-zero old.authorizations i; challenges = add-zero old.challenges i }
 
--- the meta row after a nonce is spent
-pub spent_meta : (m : ℕ) (T : Tables) (n : ℕ) → (effect m T (spent n)).meta ≡ record T.meta { clock = m }
-spent_meta m T n = counters m 0 T.meta ∙ (λ i. record T.meta { clock = m; nonces = add-zero T.meta.nonces i })
+-- the counters after a nonce is spent
+pub spent_counters : (m : ℕ) (T : Tables) (n : ℕ) → (effect m T (spent n)).meta.counters ≡ record T.meta.counters { clock = m }
+spent_counters m T n = counted m 0 T.meta.counters ∙ (λ i. record T.meta.counters { clock = m; nonces = add-zero T.meta.counters.nonces i })
 
--- the meta row after a nonce is issued
-pub issued_meta : (m : ℕ) (T : Tables) (r : List ℕ) → (effect m T (issued r)).meta ≡ record T.meta { clock = m; nonces = T.meta.nonces + 1 }
-issued_meta m T r = counters m 1 T.meta
+-- the counters after a nonce is issued
+pub issued_counters : (m : ℕ) (T : Tables) (r : List ℕ) → (effect m T (issued r)).meta.counters ≡ record T.meta.counters { clock = m; nonces = T.meta.counters.nonces + 1 }
+issued_counters m T r = counted m 1 T.meta.counters
 
--- the meta row after an account is opened
-pub opened_meta : (m : ℕ) (T : Tables) (key : List ℕ) (contacts : List (List ℕ)) → (effect m T (opened key contacts)).meta ≡ record T.meta { clock = m; accounts = T.meta.accounts + 1 }
-opened_meta m T key contacts =
-    λ i. record T.meta { clock = m; nonces = add-zero T.meta.nonces i; accounts = T.meta.accounts + 1; orders = add-zero T.meta.orders i; authorizations = add-zero T.meta.authorizations i; challenges = add-zero T.meta.challenges i }
+-- the counters after an account is opened
+pub opened_counters : (m : ℕ) (T : Tables) (key : List ℕ) (contacts : List (List ℕ)) → (effect m T (opened key contacts)).meta.counters ≡ record T.meta.counters { clock = m; accounts = T.meta.counters.accounts + 1 }
+opened_counters m T key contacts =
+    λ i. record T.meta.counters { clock = m; nonces = add-zero T.meta.counters.nonces i; accounts = T.meta.counters.accounts + 1; orders = add-zero T.meta.counters.orders i; authorizations = add-zero T.meta.counters.authorizations i; challenges = add-zero T.meta.counters.challenges i }
 
 filter_none : {X : Type 0} (p : X → Bool) (xs : List X) → ((x : X) → p x ≡ false) → filter p xs ≡ []
 filter_none p [] h = refl
@@ -66,39 +66,31 @@ unmoved_rows touched differs move xs none = ap (map move) (filter_none (λ r. to
 -- an entry that touches no row that stands records what it makes
 pub quiet_changes : (m : ℕ) (T : Tables) (e : Entry) → ((a : AccountRow) → touches_account e a ≡ false) → ((a : AuthorizationRow) → touches_authorization e a ≡ false) →
     ((n : ℕ) → names_order e n ≡ false) →
-    changes m T e ≡ PutMeta (effect m T e).meta
-    ∷ (map RemoveNonce (spent_by e)
+    changes m T e ≡ map RemoveNonce (spent_by e)
     ++ (map PutNonce (nonces_put T e m)
-    ++ (map PutAccount (map fresh_account (opened_by e m (T.meta.accounts + 1)))
+    ++ (map PutAccount (map fresh_account (opened_by e m (T.meta.counters.accounts + 1)))
     ++ (map PutAuthorization (map (λ a. restated_authorization m (fresh_authorization a)) (new_authorizations T e m))
-    ++ map PutOrder (map (λ o. restated_order m (authorizations_after T e m) (fresh_order o)) (ordered_by e m T.meta.policy (new_authorizations T e m) (T.meta.orders + 1)))))))
+    ++ map PutOrder (map (λ o. restated_order m (authorizations_after T e m) (fresh_order o)) (ordered_by e m T.meta.policy (new_authorizations T e m) (T.meta.counters.orders + 1))))))
 quiet_changes m T e no_account no_authorization no_order =
-    λ i. PutMeta (effect m T e).meta
-    ∷ (map RemoveNonce (spent_by e)
+    λ i. map RemoveNonce (spent_by e)
     ++ (map PutNonce (nonces_put T e m)
-    ++ (map PutAccount (unmoved_rows (touches_account e) account_differs (noted_account e m) T.accounts no_account i ++ map fresh_account (opened_by e m (T.meta.accounts + 1)))
+    ++ (map PutAccount (unmoved_rows (touches_account e) account_differs (noted_account e m) T.accounts no_account i ++ map fresh_account (opened_by e m (T.meta.counters.accounts + 1)))
     ++ (map PutAuthorization (unmoved_rows (touches_authorization e) authorization_differs (λ r. restated_authorization m (noted_authorization e m r)) T.authorizations no_authorization i
     ++ map (λ a. restated_authorization m (fresh_authorization a)) (new_authorizations T e m))
     ++ map PutOrder (unmoved_rows (touches_order e T.authorizations) order_differs (λ r. restated_order m (authorizations_after T e m) (noted_order e m r)) T.orders (λ r. order_untouched e T r no_authorization (no_order r.number)) i
-    ++ map (λ o. restated_order m (authorizations_after T e m) (fresh_order o)) (ordered_by e m T.meta.policy (new_authorizations T e m) (T.meta.orders + 1)))))))
+    ++ map (λ o. restated_order m (authorizations_after T e m) (fresh_order o)) (ordered_by e m T.meta.policy (new_authorizations T e m) (T.meta.counters.orders + 1))))))
 
 -- what is recorded of a nonce that is spent
-pub spent_changes : (m : ℕ) (T : Tables) (n : ℕ) → changes m T (spent n) ≡ PutMeta (record T.meta { clock = m }) ∷ RemoveNonce n ∷ []
-spent_changes m T n = quiet_changes m T (spent n) (λ a. refl) (λ a. refl) (λ k. refl) ∙ ap (λ meta. PutMeta meta ∷ RemoveNonce n ∷ []) (spent_meta m T n)
+pub spent_changes : (m : ℕ) (T : Tables) (n : ℕ) → changes m T (spent n) ≡ RemoveNonce n ∷ []
+spent_changes m T n = quiet_changes m T (spent n) (λ a. refl) (λ a. refl) (λ k. refl)
 
 -- what is recorded of a nonce that is issued
 pub issued_changes : (m : ℕ) (T : Tables) (r : List ℕ) →
-    (let fresh : Nonce = record { serial = T.meta.nonces + 1; random = r; issued = m } in
-    changes m T (issued r) ≡ PutMeta (record T.meta { clock = m; nonces = T.meta.nonces + 1 }) ∷ PutNonce fresh ∷ [])
-issued_changes m T r =
-    quiet_changes m T (issued r) (λ a. refl) (λ a. refl) (λ k. refl)
-    ∙ ap (λ meta. PutMeta meta ∷ PutNonce (record { serial = T.meta.nonces + 1; random = r; issued = m }) ∷ []) (issued_meta m T r)
+    (let fresh : Nonce = record { serial = T.meta.counters.nonces + 1; random = r; issued = m } in changes m T (issued r) ≡ PutNonce fresh ∷ [])
+issued_changes m T r = quiet_changes m T (issued r) (λ a. refl) (λ a. refl) (λ k. refl)
 
 -- what is recorded of an account that is opened
 pub opened_changes : (m : ℕ) (T : Tables) (key : List ℕ) (contacts : List (List ℕ)) →
-    (let fresh : AccountRow = record { number = T.meta.accounts + 1; key = key; contacts = contacts; opened = m; ended = None; status = account.Valid } in
-    changes m T (opened key contacts) ≡ PutMeta (record T.meta { clock = m; accounts = T.meta.accounts + 1 }) ∷ PutAccount fresh ∷ [])
-opened_changes m T key contacts =
-    quiet_changes m T (opened key contacts) (λ a. refl) (λ a. refl) (λ k. refl)
-    ∙ ap (λ meta. PutMeta meta ∷ PutAccount (record { number = T.meta.accounts + 1; key = key; contacts = contacts; opened = m; ended = None; status = account.Valid }) ∷ [])
-    (opened_meta m T key contacts)
+    (let fresh : AccountRow = record { number = T.meta.counters.accounts + 1; key = key; contacts = contacts; opened = m; ended = None; status = account.Valid } in
+    changes m T (opened key contacts) ≡ PutAccount fresh ∷ [])
+opened_changes m T key contacts = quiet_changes m T (opened key contacts) (λ a. refl) (λ a. refl) (λ k. refl)

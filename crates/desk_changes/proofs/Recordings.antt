@@ -2,17 +2,18 @@
 use Rattle.std.proofs.Common.{◌≡◌, ℕ, ◌+◌, List, [], ◌∷◌, ◌++◌, None, refl, sym, ap, ◌∙◌, append-nil, append_assoc, Result, Ok, Err, OnOk}
 use Rattle.desk_model.specs.Tables.{Tables}
 use Rattle.desk_model.specs.Effect.{effect, effects, swept}
-use Rattle.desk_model.specs.Change.{changes, all_changes, sweep_changes}
-use Rattle.desk_model.specs.declared.rows.Meta.{Meta}
+use Rattle.desk_model.specs.Change.{changes, all_changes, recorded_changes, sweep_changes}
+use Rattle.desk_model.specs.Terms.{Terms}
 use Rattle.desk_model.specs.declared.rows.AccountRow.{AccountRow}
 use Rattle.desk_model.specs.declared.rows.Change.{Change}
 use Rattle.desk_model.specs.declared.rows.Change.TheVariants.{PutMeta, PutNonce, RemoveNonce, PutAccount}
+use Rattle.desk_model.specs.declared.rows.Counters.{Counters}
 use Rattle.desk_model.specs.declared.objects.Nonce.{Nonce}
 use Rattle.desk_model.specs.declared.status.AccountStatus.TheVariants as account
 use Rattle.desk_model.specs.declared.entry.Entry.{Entry}
 use Rattle.desk_model.specs.declared.entry.Entry.TheVariants.{Issued as issued, Spent as spent, Opened as opened}
 use Rattle.desk_changes.specs.Recorded.{IsRecorded}
-use Rattle.desk_changes.proofs.QuietEntries.{spent_meta, spent_changes, issued_meta, issued_changes, opened_meta, opened_changes}
+use Rattle.desk_changes.proofs.QuietEntries.{spent_counters, spent_changes, issued_counters, issued_changes, opened_counters, opened_changes}
 
 all_changes-last : (m : ℕ) (T : Tables) (es : List Entry) (e : Entry) → all_changes m T (es ++ e ∷ []) ≡ all_changes m T es ++ changes m (effects m T es) e
 all_changes-last m T [] e = append-nil (changes m T e)
@@ -24,73 +25,82 @@ effects-last : (m : ℕ) (T : Tables) (es : List Entry) (e : Entry) → effects 
 effects-last m T [] e = refl
 effects-last m T (d ∷ es) e = effects-last m (effect m T d) es e
 
-clocked : (m : ℕ) (T : Tables) (es : List Entry) → T.meta.clock ≡ m → (effects m T es).meta.clock ≡ m
+clocked : (m : ℕ) (T : Tables) (es : List Entry) → T.meta.counters.clock ≡ m → (effects m T es).meta.counters.clock ≡ m
 clocked m T [] h = h
 clocked m T (e ∷ es) h = clocked m (effect m T e) es refl
 
 -- nothing is recorded but the passing of time
-pub begun : (m : ℕ) (B : Tables) (done : List Change) (meta : Meta) → done ≡ sweep_changes m B → meta ≡ record B.meta { clock = m } → IsRecorded m B [] done meta
-begun m B done meta c r = record { changes = c ∙ sym (append-nil (sweep_changes m B)); row = r }
+pub begun : (m : ℕ) (B : Tables) (done : List Change) (counters : Counters) → done ≡ sweep_changes m B → counters ≡ record B.meta.counters { clock = m } → IsRecorded m B [] done counters
+begun m B done counters c r = record { changes = c ∙ sym (append-nil (sweep_changes m B)); counted = r; policy = refl }
 
-pub one_more : (m : ℕ) (B : Tables) (es : List Entry) (e : Entry) (done more : List Change) (meta after : Meta) → IsRecorded m B es done meta →
-    more ≡ changes m (effects m (swept m B) es) e → after ≡ (effect m (effects m (swept m B) es) e).meta → IsRecorded m B (es ++ e ∷ []) (done ++ more) after
-one_more m B es e done more meta after h c r =
+-- one more entry is recorded, which leaves the policy
+pub one_more : (m : ℕ) (B : Tables) (es : List Entry) (e : Entry) (done more : List Change) (counters after : Counters) → IsRecorded m B es done counters →
+    more ≡ changes m (effects m (swept m B) es) e → after ≡ (effect m (effects m (swept m B) es) e).meta.counters →
+    (effect m (effects m (swept m B) es) e).meta.policy ≡ (effects m (swept m B) es).meta.policy → IsRecorded m B (es ++ e ∷ []) (done ++ more) after
+one_more m B es e done more counters after h c r p =
     record {
       changes =
           ap (λ l. l ++ more) h.changes
           ∙ ap (λ l. (sweep_changes m B ++ all_changes m (swept m B) es) ++ l) c
           ∙ append_assoc (sweep_changes m B) (all_changes m (swept m B) es) (changes m (effects m (swept m B) es) e)
           ∙ ap (λ l. sweep_changes m B ++ l) (sym (all_changes-last m (swept m B) es e));
-      row = r ∙ ap (λ (T : Tables). T.meta) (sym (effects-last m (swept m B) es e));
+      counted = r ∙ ap (λ (T : Tables). T.meta.counters) (sym (effects-last m (swept m B) es e));
+      policy = ap (λ (T : Tables). T.meta.policy) (effects-last m (swept m B) es e) ∙ p ∙ h.policy;
     }
 
--- the clock of what is recorded
-pub clock_is : (m : ℕ) (B : Tables) (es : List Entry) (done : List Change) (meta : Meta) → IsRecorded m B es done meta → meta.clock ≡ m
-clock_is m B es done meta h = ap (λ (x : Meta). x.clock) h.row ∙ clocked m (swept m B) es refl
+-- with the meta row at the end, all of it is
+pub finished : (m : ℕ) (B : Tables) (e : Entry) (es : List Entry) (done all : List Change) (counters : Counters) (policy : Terms) → B.meta.policy ≡ policy →
+    all ≡ done ++ PutMeta (record { policy = policy; counters = counters }) ∷ [] → IsRecorded m B (e ∷ es) done counters → all ≡ recorded_changes m B (e ∷ es)
+finished m B e es done all counters policy same put h =
+    put
+    ∙ (λ i. h.changes i ++ PutMeta (record { policy = sym (h.policy ∙ same) i; counters = h.counted i }) ∷ [])
+    ∙ append_assoc (sweep_changes m B) (all_changes m (swept m B) (e ∷ es)) (PutMeta (effects m (swept m B) (e ∷ es)).meta ∷ [])
 
-pub same_clock : (m : ℕ) (x : Meta) → x.clock ≡ m → record x { clock = m } ≡ x
+-- the clock of what is recorded
+pub clock_is : (m : ℕ) (B : Tables) (es : List Entry) (done : List Change) (counters : Counters) → IsRecorded m B es done counters → counters.clock ≡ m
+clock_is m B es done counters h = ap (λ (x : Counters). x.clock) h.counted ∙ clocked m (swept m B) es refl
+
+-- counters whose clock is at the moment
+pub same_clock : (m : ℕ) (x : Counters) → x.clock ≡ m → record x { clock = m } ≡ x
 same_clock m x e = λ i. record x { clock = sym e i }
 
+-- the counters of what is recorded, in terms of the tables
+pub counters_then : (m : ℕ) (B : Tables) (es : List Entry) (done : List Change) (counters : Counters) → IsRecorded m B es done counters →
+    counters ≡ record (effects m (swept m B) es).meta.counters { clock = m }
+counters_then m B es done counters h = sym (same_clock m counters (clock_is m B es done counters h)) ∙ ap (λ (x : Counters). record x { clock = m }) h.counted
+
 -- a nonce is spent
-pub and_spent : (m : ℕ) (B : Tables) (es : List Entry) (n : ℕ) (done : List Change) (meta : Meta) → IsRecorded m B es done meta →
-    IsRecorded m B (es ++ spent n ∷ []) (done ++ PutMeta meta ∷ RemoveNonce n ∷ []) meta
-and_spent m B es n done meta h =
+pub and_spent : (m : ℕ) (B : Tables) (es : List Entry) (n : ℕ) (done : List Change) (counters : Counters) → IsRecorded m B es done counters →
+    IsRecorded m B (es ++ spent n ∷ []) (done ++ RemoveNonce n ∷ []) counters
+and_spent m B es n done counters h =
     let T : Tables = effects m (swept m B) es in
-    let row : meta ≡ record T.meta { clock = m } = sym (same_clock m meta (clock_is m B es done meta h)) ∙ ap (λ (x : Meta). record x { clock = m }) h.row in
-    one_more m B es (spent n) done (PutMeta meta ∷ RemoveNonce n ∷ []) meta meta h
-    (ap (λ x. PutMeta x ∷ RemoveNonce n ∷ []) row ∙ sym (spent_changes m T n))
-    (row ∙ sym (spent_meta m T n))
+    one_more m B es (spent n) done (RemoveNonce n ∷ []) counters counters h (sym (spent_changes m T n))
+    (counters_then m B es done counters h ∙ sym (spent_counters m T n)) refl
 
 -- a nonce is issued
-pub and_issued : (m : ℕ) (B : Tables) (es : List Entry) (r : List ℕ) (done : List Change) (meta : Meta) → IsRecorded m B es done meta →
-    (let fresh : Nonce = record { serial = meta.nonces + 1; random = r; issued = meta.clock } in
-    IsRecorded m B (es ++ issued r ∷ []) (done ++ PutMeta (record meta { nonces = meta.nonces + 1 }) ∷ PutNonce fresh ∷ []) (record meta { nonces = meta.nonces + 1 }))
-and_issued m B es r done meta h =
+pub and_issued : (m : ℕ) (B : Tables) (es : List Entry) (r : List ℕ) (done : List Change) (counters : Counters) → IsRecorded m B es done counters →
+    (let fresh : Nonce = record { serial = counters.nonces + 1; random = r; issued = counters.clock } in
+    IsRecorded m B (es ++ issued r ∷ []) (done ++ PutNonce fresh ∷ []) (record counters { nonces = counters.nonces + 1 }))
+and_issued m B es r done counters h =
     let T : Tables = effects m (swept m B) es in
-    let at_m : meta.clock ≡ m = clock_is m B es done meta h in
-    let row : record meta { nonces = meta.nonces + 1 } ≡ record T.meta { clock = m; nonces = T.meta.nonces + 1 } =
-    ap (λ (x : Meta). record x { nonces = x.nonces + 1 }) (sym (same_clock m meta at_m) ∙ ap (λ (x : Meta). record x { clock = m }) h.row) in
-    one_more m B es (issued r) done _ meta _ h
-    ((λ i. PutMeta (row i) ∷ PutNonce (record { serial = (h.row i).nonces + 1; random = r; issued = at_m i }) ∷ []) ∙ sym (issued_changes m T r))
-    (row ∙ sym (issued_meta m T r))
+    one_more m B es (issued r) done _ counters _ h
+    ((λ i. PutNonce (record { serial = (h.counted i).nonces + 1; random = r; issued = clock_is m B es done counters h i }) ∷ []) ∙ sym (issued_changes m T r))
+    (ap (λ (x : Counters). record x { nonces = x.nonces + 1 }) (counters_then m B es done counters h) ∙ sym (issued_counters m T r)) refl
 
 -- an account is opened
-pub and_opened : (m : ℕ) (B : Tables) (es : List Entry) (key : List ℕ) (contacts : List (List ℕ)) (done : List Change) (meta : Meta) → IsRecorded m B es done meta →
-    (let fresh : AccountRow = record { number = meta.accounts + 1; key = key; contacts = contacts; opened = meta.clock; ended = None; status = account.Valid } in
-    IsRecorded m B (es ++ opened key contacts ∷ []) (done ++ PutMeta (record meta { accounts = meta.accounts + 1 }) ∷ PutAccount fresh ∷ []) (record meta { accounts = meta.accounts + 1 }))
-and_opened m B es key contacts done meta h =
+pub and_opened : (m : ℕ) (B : Tables) (es : List Entry) (key : List ℕ) (contacts : List (List ℕ)) (done : List Change) (counters : Counters) → IsRecorded m B es done counters →
+    (let fresh : AccountRow = record { number = counters.accounts + 1; key = key; contacts = contacts; opened = counters.clock; ended = None; status = account.Valid } in
+    IsRecorded m B (es ++ opened key contacts ∷ []) (done ++ PutAccount fresh ∷ []) (record counters { accounts = counters.accounts + 1 }))
+and_opened m B es key contacts done counters h =
     let T : Tables = effects m (swept m B) es in
-    let at_m : meta.clock ≡ m = clock_is m B es done meta h in
-    let row : record meta { accounts = meta.accounts + 1 } ≡ record T.meta { clock = m; accounts = T.meta.accounts + 1 } =
-    ap (λ (x : Meta). record x { accounts = x.accounts + 1 }) (sym (same_clock m meta at_m) ∙ ap (λ (x : Meta). record x { clock = m }) h.row) in
-    one_more m B es (opened key contacts) done _ meta _ h
-    ((λ i. PutMeta (row i) ∷ PutAccount (record { number = (h.row i).accounts + 1; key = key; contacts = contacts; opened = at_m i; ended = None; status = account.Valid }) ∷ [])
+    one_more m B es (opened key contacts) done _ counters _ h
+    ((λ i. PutAccount (record { number = (h.counted i).accounts + 1; key = key; contacts = contacts; opened = clock_is m B es done counters h i; ended = None; status = account.Valid }) ∷ [])
     ∙ sym (opened_changes m T key contacts))
-    (row ∙ sym (opened_meta m T key contacts))
+    (ap (λ (x : Counters). record x { accounts = x.accounts + 1 }) (counters_then m B es done counters h) ∙ sym (opened_counters m T key contacts)) refl
 
--- the same recording, by equal changes and an equal row
-pub recorded_as : (m : ℕ) (B : Tables) (es : List Entry) (done other : List Change) (meta row : Meta) → other ≡ done → row ≡ meta → IsRecorded m B es done meta → IsRecorded m B es other row
-recorded_as m B es done other meta row c r h = record { changes = c ∙ h.changes; row = r ∙ h.row }
+-- the same recording, by equal changes and equal counters
+pub recorded_as : (m : ℕ) (B : Tables) (es : List Entry) (done other : List Change) (counters others : Counters) → other ≡ done → others ≡ counters → IsRecorded m B es done counters → IsRecorded m B es other others
+recorded_as m B es done other counters others c r h = record { changes = c ∙ h.changes; counted = r ∙ h.counted; policy = h.policy }
 
 -- what two clauses give on the way that went well
 pub both_ok : {T E : Type 0} {P Q S : Type 0} (r : Result T E) → OnOk r P → OnOk r Q → (P → Q → S) → OnOk r S

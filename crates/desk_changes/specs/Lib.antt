@@ -1,4 +1,3 @@
-pub mod Acting
 pub mod Made
 pub mod Moved
 pub mod Recorded

@@ -1,8 +1,11 @@
 -- The rows of a book after an entry, which stood at its moment before it.
-use Rattle.std.specs.Prelude.{ℕ, ◌&&◌, List, [], ◌∷◌, map, Bool, cond}
+use Rattle.std.specs.Prelude.{ℕ, ◌≡◌, ◌&&◌, List, [], ◌∷◌, map, Bool, cond, Option, Some, None}
+use Rattle.std.specs.List.{filter}
 use Rattle.desk_model.specs.Derived.{restated_authorization, restated_order}
-use Rattle.desk_model.specs.Effect.{swept_authorization, moved_authorization, noted_authorization, noted_order}
+use Rattle.desk_model.specs.Effect.{swept_authorization, swept_order, moved_authorization, noted_account, noted_authorization, noted_order, touches_account, touches_authorization, touches_order}
+use Rattle.desk_model.specs.Tables.{Tables}
 use Rattle.desk_model.specs.declared.entry.Entry.{Entry}
+use Rattle.desk_model.specs.declared.rows.AccountRow.{AccountRow}
 use Rattle.desk_model.specs.declared.rows.AuthorizationRow.{AuthorizationRow}
 use Rattle.desk_model.specs.declared.rows.OrderRow.{OrderRow}
 
@@ -17,6 +20,15 @@ rows_after e m rows = map (moved_authorization e m) (standing_rows m rows)
 abbrev pub moved_one : {X : Type 0} → (touched : X → Bool) → (differs : X → X → Bool) → (move : X → X) → X → List X
 moved_one touched differs move x = cond (touched x && differs x (move x)) (move x ∷ []) []
 
+-- the moved row, where it is touched
+abbrev pub touched_one : {X : Type 0} → (touched : X → Bool) → (move : X → X) → X → Option X
+touched_one touched move x = cond (touched x) (Some (move x)) None
+
+-- the row, if there is one
+abbrev pub row_of : {X : Type 0} → Option X → List X
+row_of None = []
+row_of (Some x) = x ∷ []
+
 -- an authorization as the entry leaves it, with the status that it ought to have
 abbrev pub stated_authorization : Entry → ℕ → AuthorizationRow → AuthorizationRow
 stated_authorization e m row = restated_authorization m (noted_authorization e m row)
@@ -24,3 +36,21 @@ stated_authorization e m row = restated_authorization m (noted_authorization e m
 -- an order as the entry leaves it, beside these authorizations
 abbrev pub stated_order : Entry → ℕ → List AuthorizationRow → OrderRow → OrderRow
 stated_order e m rows row = restated_order m (rows_after e m rows) (noted_order e m row)
+
+-- ---- the rows that the entry touches, as it leaves them, whether they differ then or not
+
+abbrev pub accounts_moved : Entry → ℕ → List AccountRow → List AccountRow
+accounts_moved e m rows = map (noted_account e m) (filter (touches_account e) rows)
+
+abbrev pub authorizations_moved : Entry → ℕ → List AuthorizationRow → List AuthorizationRow
+authorizations_moved e m rows = map (stated_authorization e m) (filter (touches_authorization e) (standing_rows m rows))
+
+abbrev pub orders_moved : Entry → ℕ → List AuthorizationRow → List OrderRow → List OrderRow
+orders_moved e m rows orders =
+    map (stated_order e m rows) (filter (touches_order e (standing_rows m rows)) (map (swept_order m rows) orders))
+
+-- these are the rows of a book that the entry touches, as it leaves them
+pub record AreMoved (m : ℕ) (B : Tables) (e : Entry) (xs : List AccountRow) (ys : List AuthorizationRow) (zs : List OrderRow) : Type 0 where
+  pub accounts : xs ≡ accounts_moved e m B.accounts
+  pub authorizations : ys ≡ authorizations_moved e m B.authorizations
+  pub orders : zs ≡ orders_moved e m B.authorizations B.orders

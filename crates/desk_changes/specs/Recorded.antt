@@ -1,27 +1,27 @@
 -- What is recorded of some entries: the passing of time first, then entry by entry.
-use Rattle.std.specs.Prelude.{ℕ, ◌≡◌, List, [], ◌∷◌, ◌++◌, map}
+use Rattle.std.specs.Prelude.{ℕ, ◌≡◌, List, ◌++◌, map}
 use Rattle.desk_model.specs.Tables.{Tables}
 use Rattle.desk_model.specs.Effect.{effects, swept, swept_order, noted_account, touches_account, touches_authorization, touches_order}
 use Rattle.desk_model.specs.Change.{all_changes, sweep_changes, moved_rows, account_differs, authorization_differs, order_differs}
-use Rattle.desk_model.specs.declared.rows.Meta.{Meta}
 use Rattle.desk_model.specs.declared.rows.Change.{Change}
 use Rattle.desk_model.specs.declared.rows.Change.TheVariants.{PutAccount, PutAuthorization, PutOrder}
+use Rattle.desk_model.specs.declared.rows.Counters.{Counters}
 use Rattle.desk_model.specs.declared.entry.Entry.{Entry}
 use Rattle.desk_changes.specs.Moved.{standing_rows, stated_authorization, stated_order}
 
--- these entries are recorded at m: the changes so far, and the meta row after them
-pub record IsRecorded (m : ℕ) (B : Tables) (es : List Entry) (done : List Change) (meta : Meta) : Type 0 where
+-- these entries are recorded at m: the changes of rows so far, and the counters after them; the policy stays
+pub record IsRecorded (m : ℕ) (B : Tables) (es : List Entry) (done : List Change) (counters : Counters) : Type 0 where
   pub changes : done ≡ sweep_changes m B ++ all_changes m (swept m B) es
-  pub row : meta ≡ (effects m (swept m B) es).meta
+  pub counted : counters ≡ (effects m (swept m B) es).meta.counters
+  pub policy : (effects m (swept m B) es).meta.policy ≡ B.meta.policy
 
--- the changes of these entries: none where nothing is recorded
-abbrev pub recorded_changes : ℕ → Tables → List Entry → List Change
-recorded_changes m B [] = []
-recorded_changes m B (e ∷ es) = sweep_changes m B ++ all_changes m (swept m B) (e ∷ es)
+-- the counters are those of a book at the moment, but for that of nonces
+abbrev pub IsAt : ℕ → Tables → Counters → Type 0
+IsAt m B C = C ≡ record B.meta.counters { clock = m; nonces = C.nonces }
 
--- these entries left the meta row, but for the count of nonces, and each row but the nonces' as the passing of time left them
+-- these entries left the counters, but for that of nonces, and each row but the nonces' as the passing of time left them
 pub record IsUntouched (m : ℕ) (B : Tables) (es : List Entry) : Type 0 where
-  pub meta : (effects m (swept m B) es).meta ≡ record B.meta { clock = m; nonces = (effects m (swept m B) es).meta.nonces }
+  pub counters : IsAt m B (effects m (swept m B) es).meta.counters
   pub accounts : (effects m (swept m B) es).accounts ≡ B.accounts
   pub authorizations : (effects m (swept m B) es).authorizations ≡ standing_rows m B.authorizations
   pub orders : (effects m (swept m B) es).orders ≡ map (swept_order m B.authorizations) B.orders

@@ -7,7 +7,6 @@ mod moved;
 mod noted;
 mod recording;
 mod touched;
-mod view;
 
+pub use moved::MovedRows;
 pub use recording::Recording;
-pub use view::View;

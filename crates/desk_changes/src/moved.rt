@@ -1,75 +1,134 @@
 //! Rows as a move leaves them, and the changes that this makes.
-ghost use Rattle.std.specs.Prelude.{◌≡◌, ◌++◌, true, map, option_map, IfOk, OnOk};
+ghost use Rattle.std.specs.Prelude.{◌≡◌, ◌==◌, ◌++◌, ◌∷◌, [], cond, map, find, option_copied, option_map, IfOk, OnOk};
 ghost use Rattle.desk_model.specs.Derived.{authorization_numbered, numbers_of, stored_statuses};
 ghost use Rattle.desk_model.specs.Entry.{entry_of};
-ghost use Rattle.desk_model.specs.Effect.{swept_authorization, swept_order, moved_account, moved_authorization, moved_order, noted_account, touches_account, touches_authorization, touches_order};
+ghost use Rattle.desk_model.specs.Effect.{has_row, swept_authorization, swept_order, noted_account, touches_account, touches_authorization, touches_order};
 ghost use Rattle.desk_model.specs.Change.{account_differs, authorization_differs, order_differs, moved_rows};
 ghost use Rattle.desk_model.specs.declared.rows.Change.TheVariants.{PutAccount, PutAuthorization, PutOrder};
-ghost use Rattle.desk_changes.specs.Moved.{moved_one, rows_after, standing_rows, stated_authorization, stated_order};
+ghost use Rattle.desk_changes.specs.Moved.{accounts_moved, authorizations_moved, moved_one, orders_moved, rows_after, standing_rows, stated_authorization, stated_order, row_of, touched_one};
 
 use crate::differing::{account_differs, authorization_differs, order_differs};
 use crate::noted::{noted_account, noted_authorization, noted_order};
-use crate::touched::{touches_account, touches_authorization, touches_order};
+use crate::touched::{has_challenge, touches_account, touches_authorization, touches_order};
 use desk_book::{Book, derived_authorization, derived_order};
 use desk_model::{AccountRow, AuthorizationRow, AuthzStatus, Change, Listed, Move, OrderRow};
 use std::alloc::{AllocError, Global};
 use swept_rows::{authorization_status, order_status};
 
-// ---- accounts
-
-/// An account after a move.
-pub(crate) fn account_after(
-    moved: &Move,
-    moment: u64,
-    row: &AccountRow,
-) -> Result<AccountRow, AllocError>
-    ensures { IfOk result (λ r. r ≡ moved_account (entry_of moved.now) moment row.now) }
-{
-    if touches_account(moved, row) {
-        return noted_account(moved, moment, row);
-    }
-    row.clone()
+/// The rows that a move touches, as it leaves them.
+#[derive(Drop)]
+pub struct MovedRows {
+    /// The account that it changes or ends.
+    pub accounts: Vec<AccountRow>,
+    /// That of its challenge, the one that it ends, or those of its account.
+    pub authorizations: Vec<AuthorizationRow>,
+    /// The one that it names, and those that list one of the authorizations.
+    pub orders: Vec<OrderRow>,
 }
 
-fn put_account(
-    changes: &mut Vec<Change>,
-    moved: &Move,
-    moment: u64,
-    row: &AccountRow,
-) -> Result<(), AllocError>
-    ensures { OnOk result (changes.new.items ≡ changes.old.items
-        ++ map PutAccount (moved_one (touches_account (entry_of moved.now)) account_differs (noted_account (entry_of moved.now) moment) row.now)) }
-{
-    if !touches_account(moved, row) {
-        return Ok(());
+impl MovedRows {
+    /// The account of a number.
+    pub fn account(self, number: u64) -> Option<AccountRow>
+        ensures { result ≡ find (λ a. a.number == number) self.accounts.items }
+    {
+        self.accounts.into_iter().find(|row| row.number == number)
     }
-    let next = noted_account(moved, moment, row)?;
-    if account_differs(row, &next) {
-        changes.push(Change::PutAccount(next))?;
+
+    /// The authorization of a number.
+    pub fn authorization(self, number: u64) -> Option<AuthorizationRow>
+        ensures { result ≡ find (λ a. a.number == number) self.authorizations.items }
+    {
+        self.authorizations
+            .into_iter()
+            .find(|row| row.number == number)
+    }
+
+    /// The authorization that a challenge is of.
+    pub fn owner(self, challenge: u64) -> Option<AuthorizationRow>
+        ensures { result ≡ find (has_row challenge) self.authorizations.items }
+    {
+        self.authorizations
+            .into_iter()
+            .find(|row| has_challenge(row, challenge))
+    }
+
+    /// The order of a number.
+    pub fn order(self, number: u64) -> Option<OrderRow>
+        ensures { result ≡ find (λ o. o.number == number) self.orders.items }
+    {
+        self.orders.into_iter().find(|row| row.number == number)
+    }
+}
+
+// Adds the row to the rows, if there is one.
+fn push_row<R: Drop>(rows: &mut Vec<R>, row: Option<R>) -> Result<(), AllocError>
+    ensures { OnOk result (rows.new.items ≡ rows.old.items ++ row_of row) }
+{
+    if let Some(row) = row {
+        rows.push(row)?;
     }
     Ok(())
 }
 
-/// Puts the accounts that a move changes.
+// ---- accounts
+
+// Puts an account that a move touches, where it differs from the one before.
+fn put_account(
+    changes: &mut Vec<Change>,
+    before: &AccountRow,
+    after: &AccountRow,
+) -> Result<(), AllocError>
+    ensures { OnOk result (changes.new.items ≡ changes.old.items ++ map PutAccount (cond (account_differs before.now after.now) (after.now ∷ []) [])) }
+{
+    if account_differs(before, after) {
+        changes.push(Change::PutAccount(after.clone()?))?;
+    }
+    Ok(())
+}
+
+// The account as a move leaves it, if it touches it, with the change that this makes.
+fn move_account(
+    changes: &mut Vec<Change>,
+    moved: &Move,
+    moment: u64,
+    row: &AccountRow,
+) -> Result<Option<AccountRow>, AllocError>
+    ensures changes { OnOk result (changes.new.items ≡ changes.old.items
+        ++ map PutAccount (moved_one (touches_account (entry_of moved.now)) account_differs (noted_account (entry_of moved.now) moment) row.now)) }
+    ensures row { IfOk result (λ o. o ≡ touched_one (touches_account (entry_of moved.now)) (noted_account (entry_of moved.now) moment) row.now) }
+{
+    if !touches_account(moved, row) {
+        return Ok(None);
+    }
+    let next = noted_account(moved, moment, row)?;
+    put_account(changes, row, &next)?;
+    Ok(Some(next))
+}
+
+/// Puts the accounts that a move changes, and gives those that it touches.
 pub(crate) fn put_accounts(
     changes: &mut Vec<Change>,
+    alloc: Global,
     book: &Book,
     moved: &Move,
     moment: u64,
-) -> Result<(), AllocError>
-    ensures { OnOk result (changes.new.items ≡ changes.old.items
+) -> Result<Vec<AccountRow>, AllocError>
+    ensures changes { OnOk result (changes.new.items ≡ changes.old.items
         ++ map PutAccount (moved_rows (touches_account (entry_of moved.now)) account_differs (noted_account (entry_of moved.now) moment) book.now.accounts)) }
+    ensures rows { IfOk result (λ v. v.items ≡ accounts_moved (entry_of moved.now) moment book.now.accounts) }
 {
+    let mut rows = Vec::new(alloc);
     for row in book.accounts().iter() {
-        put_account(changes, moved, moment, row)?;
+        let next = move_account(changes, moved, moment, row)?;
+        push_row(&mut rows, next)?;
     }
-    Ok(())
+    Ok(rows)
 }
 
 // ---- authorizations
 
-/// An authorization at a moment.
-pub(crate) fn standing_authorization(
+// An authorization at a moment.
+fn standing_authorization(
     moment: u64,
     row: &AuthorizationRow,
 ) -> Result<AuthorizationRow, AllocError>
@@ -93,122 +152,111 @@ fn stated_authorization(
     Ok(stated)
 }
 
-/// An authorization after a move.
-pub(crate) fn authorization_after(
-    alloc: Global,
-    moved: &Move,
-    moment: u64,
-    row: &AuthorizationRow,
-) -> Result<AuthorizationRow, AllocError>
-    ensures { IfOk result (λ r. r ≡ moved_authorization (entry_of moved.now) moment (swept_authorization moment row.now)) }
-{
-    let standing = standing_authorization(moment, row)?;
-    if touches_authorization(moved, &standing) {
-        return stated_authorization(alloc, moved, moment, &standing);
-    }
-    Ok(standing)
-}
-
-fn put_stated_authorization(
-    changes: &mut Vec<Change>,
-    alloc: Global,
-    moved: &Move,
-    moment: u64,
-    standing: &AuthorizationRow,
-) -> Result<(), AllocError>
-    ensures { OnOk result (changes.new.items ≡ changes.old.items
-        ++ map PutAuthorization (moved_one (touches_authorization (entry_of moved.now)) authorization_differs (stated_authorization (entry_of moved.now) moment) standing.now)) }
-{
-    if !touches_authorization(moved, standing) {
-        return Ok(());
-    }
-    let next = stated_authorization(alloc, moved, moment, standing)?;
-    if authorization_differs(standing, &next) {
-        changes.push(Change::PutAuthorization(next))?;
-    }
-    Ok(())
-}
-
+// Puts an authorization that a move touches, where it differs from the one before.
 fn put_authorization(
     changes: &mut Vec<Change>,
+    before: &AuthorizationRow,
+    after: &AuthorizationRow,
+) -> Result<(), AllocError>
+    ensures { OnOk result (changes.new.items ≡ changes.old.items ++ map PutAuthorization (cond (authorization_differs before.now after.now) (after.now ∷ []) [])) }
+{
+    if authorization_differs(before, after) {
+        changes.push(Change::PutAuthorization(after.clone()?))?;
+    }
+    Ok(())
+}
+
+// The authorization as a move leaves it, if it touches it, with the change that this makes.
+fn move_authorization(
+    changes: &mut Vec<Change>,
     alloc: Global,
     moved: &Move,
     moment: u64,
     row: &AuthorizationRow,
-) -> Result<(), AllocError>
-    ensures { OnOk result (changes.new.items ≡ changes.old.items
+) -> Result<Option<AuthorizationRow>, AllocError>
+    ensures changes { OnOk result (changes.new.items ≡ changes.old.items
         ++ map PutAuthorization (moved_one (touches_authorization (entry_of moved.now)) authorization_differs (stated_authorization (entry_of moved.now) moment) (swept_authorization moment row.now))) }
+    ensures row { IfOk result (λ o. o ≡ touched_one (touches_authorization (entry_of moved.now)) (stated_authorization (entry_of moved.now) moment) (swept_authorization moment row.now)) }
 {
     if !touches_authorization(moved, row) {
-        return Ok(());
+        return Ok(None);
     }
     let standing = standing_authorization(moment, row)?;
-    put_stated_authorization(changes, alloc, moved, moment, &standing)?;
-    Ok(())
+    let next = stated_authorization(alloc, moved, moment, &standing)?;
+    put_authorization(changes, &standing, &next)?;
+    Ok(Some(next))
 }
 
-/// Puts the authorizations that a move changes.
+/// Puts the authorizations that a move changes, and gives those that it touches.
 pub(crate) fn put_authorizations(
     changes: &mut Vec<Change>,
     alloc: Global,
     book: &Book,
     moved: &Move,
     moment: u64,
-) -> Result<(), AllocError>
-    ensures { OnOk result (changes.new.items ≡ changes.old.items
+) -> Result<Vec<AuthorizationRow>, AllocError>
+    ensures changes { OnOk result (changes.new.items ≡ changes.old.items
         ++ map PutAuthorization (moved_rows (touches_authorization (entry_of moved.now)) authorization_differs (stated_authorization (entry_of moved.now) moment) (standing_rows moment book.now.authorizations))) }
+    ensures rows { IfOk result (λ v. v.items ≡ authorizations_moved (entry_of moved.now) moment book.now.authorizations) }
 {
+    let mut rows = Vec::new(alloc);
     for row in book.authorizations().iter() {
-        put_authorization(changes, alloc, moved, moment, row)?;
+        let next = move_authorization(changes, alloc, moved, moment, row)?;
+        push_row(&mut rows, next)?;
     }
-    Ok(())
+    Ok(rows)
 }
 
 // ---- orders
 
-// The status of the authorization of a number after a move.
+// The authorization of a number among these.
+fn row_numbered(rows: &[AuthorizationRow], number: u64) -> Option<&AuthorizationRow>
+    ensures { option_copied result ≡ authorization_numbered number rows.now }
+{
+    rows.iter().find(|row| row.number == number)
+}
+
+// The status of the authorization of a number after a move, by those that it touches.
 fn status_after(
-    alloc: Global,
     book: &Book,
     moved: &Move,
+    after: &[AuthorizationRow],
     moment: u64,
     number: u64,
-) -> Result<Option<AuthzStatus>, AllocError>
-    ensures { IfOk result (λ o. o ≡ option_map (λ r. r.status) (authorization_numbered number (rows_after (entry_of moved.now) moment book.now.authorizations))) }
+) -> Option<AuthzStatus>
+    requires { after.now ≡ authorizations_moved (entry_of moved.now) moment book.now.authorizations }
+    ensures { result ≡ option_map (λ r. r.status) (authorization_numbered number (rows_after (entry_of moved.now) moment book.now.authorizations)) }
 {
-    match book.authorization(number) {
-        Some(row) => {
-            let after = authorization_after(alloc, moved, moment, row)?;
-            Ok(Some(after.status))
-        }
-        None => Ok(None),
+    let row = book.authorization(number)?;
+    if !touches_authorization(moved, row) {
+        return Some(authorization_status(moment, row));
     }
+    let next = row_numbered(after, number)?;
+    Some(next.status)
 }
 
 fn statuses_after(
     alloc: Global,
     book: &Book,
     moved: &Move,
+    after: &[AuthorizationRow],
     moment: u64,
     listed: &[Listed],
 ) -> Result<Vec<AuthzStatus>, AllocError>
+    requires { after.now ≡ authorizations_moved (entry_of moved.now) moment book.now.authorizations }
     ensures { IfOk result (λ v. v.items ≡ stored_statuses (rows_after (entry_of moved.now) moment book.now.authorizations) (numbers_of listed.now)) }
 {
     let mut statuses = Vec::new(alloc);
     for listed in listed {
-        if let Some(status) = status_after(alloc, book, moved, moment, listed.authorization)? {
+        if let Some(status) = status_after(book, moved, after, moment, listed.authorization) {
             statuses.push(status)?;
         }
     }
     Ok(statuses)
 }
 
-/// An order at a moment.
-pub(crate) fn standing_order(
-    book: &Book,
-    moment: u64,
-    row: &OrderRow,
-) -> Result<OrderRow, AllocError>
+// An order at a moment.
+fn standing_order(book: &Book, moment: u64, row: &OrderRow) -> Result<OrderRow, AllocError>
     ensures { IfOk result (λ r. r ≡ swept_order moment book.now.authorizations row.now) }
 {
     let mut standing = row.clone()?;
@@ -220,85 +268,82 @@ fn stated_order(
     alloc: Global,
     book: &Book,
     moved: &Move,
+    after: &[AuthorizationRow],
     moment: u64,
     standing: &OrderRow,
 ) -> Result<OrderRow, AllocError>
+    requires { after.now ≡ authorizations_moved (entry_of moved.now) moment book.now.authorizations }
     ensures { IfOk result (λ r. r ≡ stated_order (entry_of moved.now) moment book.now.authorizations standing.now) }
 {
     let mut stated = noted_order(moved, moment, standing)?;
-    let statuses = statuses_after(alloc, book, moved, moment, standing.listed.as_slice())?;
+    let statuses = statuses_after(
+        alloc,
+        book,
+        moved,
+        after,
+        moment,
+        standing.listed.as_slice(),
+    )?;
     stated.status = derived_order(moment, &stated, &statuses);
     Ok(stated)
 }
 
-/// An order after a move.
-pub(crate) fn order_after(
-    alloc: Global,
-    book: &Book,
-    moved: &Move,
-    moment: u64,
-    row: &OrderRow,
-) -> Result<OrderRow, AllocError>
-    ensures { IfOk result (λ r. r ≡ moved_order (entry_of moved.now) moment (standing_rows moment book.now.authorizations) (rows_after (entry_of moved.now) moment book.now.authorizations) (swept_order moment book.now.authorizations row.now)) }
-{
-    if !touches_order(moved, book, row) {
-        return standing_order(book, moment, row);
-    }
-    let standing = standing_order(book, moment, row)?;
-    let stated = stated_order(alloc, book, moved, moment, &standing)?;
-    Ok(stated)
-}
-
-fn put_stated_order(
-    changes: &mut Vec<Change>,
-    alloc: Global,
-    book: &Book,
-    moved: &Move,
-    moment: u64,
-    standing: &OrderRow,
-) -> Result<(), AllocError>
-    ensures { OnOk result (changes.new.items ≡ changes.old.items
-        ++ map PutOrder (moved_one (λ _. true) order_differs (stated_order (entry_of moved.now) moment book.now.authorizations) standing.now)) }
-{
-    let next = stated_order(alloc, book, moved, moment, standing)?;
-    if order_differs(standing, &next) {
-        changes.push(Change::PutOrder(next))?;
-    }
-    Ok(())
-}
-
+// Puts an order that a move touches, where it differs from the one before.
 fn put_order(
     changes: &mut Vec<Change>,
-    alloc: Global,
-    book: &Book,
-    moved: &Move,
-    moment: u64,
-    row: &OrderRow,
+    before: &OrderRow,
+    after: &OrderRow,
 ) -> Result<(), AllocError>
-    ensures { OnOk result (changes.new.items ≡ changes.old.items
-        ++ map PutOrder (moved_one (touches_order (entry_of moved.now) (standing_rows moment book.now.authorizations)) order_differs (stated_order (entry_of moved.now) moment book.now.authorizations) (swept_order moment book.now.authorizations row.now))) }
+    ensures { OnOk result (changes.new.items ≡ changes.old.items ++ map PutOrder (cond (order_differs before.now after.now) (after.now ∷ []) [])) }
 {
-    if !touches_order(moved, book, row) {
-        return Ok(());
+    if order_differs(before, after) {
+        changes.push(Change::PutOrder(after.clone()?))?;
     }
-    let standing = standing_order(book, moment, row)?;
-    put_stated_order(changes, alloc, book, moved, moment, &standing)?;
     Ok(())
 }
 
-/// Puts the orders that a move changes.
+// The order as a move leaves it, if it touches it, with the change that this makes.
+fn move_order(
+    changes: &mut Vec<Change>,
+    alloc: Global,
+    book: &Book,
+    moved: &Move,
+    after: &[AuthorizationRow],
+    moment: u64,
+    row: &OrderRow,
+) -> Result<Option<OrderRow>, AllocError>
+    requires { after.now ≡ authorizations_moved (entry_of moved.now) moment book.now.authorizations }
+    ensures changes { OnOk result (changes.new.items ≡ changes.old.items
+        ++ map PutOrder (moved_one (touches_order (entry_of moved.now) (standing_rows moment book.now.authorizations)) order_differs (stated_order (entry_of moved.now) moment book.now.authorizations) (swept_order moment book.now.authorizations row.now))) }
+    ensures row { IfOk result (λ o. o ≡ touched_one (touches_order (entry_of moved.now) (standing_rows moment book.now.authorizations)) (stated_order (entry_of moved.now) moment book.now.authorizations) (swept_order moment book.now.authorizations row.now)) }
+{
+    if !touches_order(moved, book, row) {
+        return Ok(None);
+    }
+    let standing = standing_order(book, moment, row)?;
+    let next = stated_order(alloc, book, moved, after, moment, &standing)?;
+    put_order(changes, &standing, &next)?;
+    Ok(Some(next))
+}
+
+/// Puts the orders that a move changes, by the authorizations that it touches, and gives those that it touches.
 pub(crate) fn put_orders(
     changes: &mut Vec<Change>,
     alloc: Global,
     book: &Book,
     moved: &Move,
+    after: &[AuthorizationRow],
     moment: u64,
-) -> Result<(), AllocError>
-    ensures { OnOk result (changes.new.items ≡ changes.old.items
+) -> Result<Vec<OrderRow>, AllocError>
+    requires { after.now ≡ authorizations_moved (entry_of moved.now) moment book.now.authorizations }
+    ensures changes { OnOk result (changes.new.items ≡ changes.old.items
         ++ map PutOrder (moved_rows (touches_order (entry_of moved.now) (standing_rows moment book.now.authorizations)) order_differs (stated_order (entry_of moved.now) moment book.now.authorizations) (map (swept_order moment book.now.authorizations) book.now.orders))) }
+    ensures rows { IfOk result (λ v. v.items ≡ orders_moved (entry_of moved.now) moment book.now.authorizations book.now.orders) }
 {
+    let mut rows = Vec::new(alloc);
     for row in book.orders().iter() {
-        put_order(changes, alloc, book, moved, moment, row)?;
+        let next = move_order(changes, alloc, book, moved, after, moment, row)?;
+        push_row(&mut rows, next)?;
     }
-    Ok(())
+    Ok(rows)
 }

@@ -2,30 +2,17 @@
 use Rattle.std.proofs.Common.{◌≡◌}
 use Rattle.std.specs.Prelude.{pos}
 use Rattle.desk_model.specs.Terms.{Terms}
+use Rattle.desk_model.specs.declared.rows.Counters.{Counters}
 use Rattle.desk_model.specs.declared.rows.Meta.{Meta}
 use Rattle.desk_columns.specs.Columns.{meta_columns}
 use Rattle.desk_columns.specs.Limits.{IsStoredMeta}
 use Rattle.desk_columns.specs.MetaParts.{AreCounters, IsPolicy}
 use Rattle.desk_columns.specs.declared.columns.MetaColumns.{MetaColumns}
-use Rattle.desk_columns.specs.declared.meta.Counters.{Counters}
-
--- the row with this policy and these counters
-abbrev pub row_of : Terms → Counters → Meta
-row_of policy counters =
-    record {
-      policy = policy;
-      clock = counters.clock;
-      nonces = counters.nonces;
-      accounts = counters.accounts;
-      orders = counters.orders;
-      authorizations = counters.authorizations;
-      challenges = counters.challenges;
-    }
 
 -- columns that hold both parts are those of their row
 pub read_parts : (columns : MetaColumns) (policy : Terms) (counters : Counters) → (columns.id ≡ pos 1) × (columns.format ≡ pos 1)
     → IsPolicy columns policy → AreCounters columns counters
-    → IsStoredMeta (row_of policy counters) × (columns ≡ meta_columns (row_of policy counters))
+    → (let row : Meta = record { policy = policy; counters = counters } in IsStoredMeta row × (columns ≡ meta_columns row))
 read_parts columns policy counters first p k = (
   record {
     policy = p.allowed;

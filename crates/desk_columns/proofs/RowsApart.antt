@@ -107,12 +107,14 @@ metas-apart row other kept kept2 same =
         order_life = pos-apart _ _ (ap (λ c. c.order_life) same) i;
         authz_life = pos-apart _ _ (ap (λ c. c.authz_life) same) i;
       };
-      clock = pos-apart _ _ (ap (λ c. c.clock) same) i;
-      nonces = pos-apart _ _ (ap (λ c. c.nonces) same) i;
-      accounts = pos-apart _ _ (ap (λ c. c.accounts) same) i;
-      orders = pos-apart _ _ (ap (λ c. c.orders) same) i;
-      authorizations = pos-apart _ _ (ap (λ c. c.authzs) same) i;
-      challenges = pos-apart _ _ (ap (λ c. c.challs) same) i;
+      counters = record {
+        clock = pos-apart _ _ (ap (λ c. c.clock) same) i;
+        nonces = pos-apart _ _ (ap (λ c. c.nonces) same) i;
+        accounts = pos-apart _ _ (ap (λ c. c.accounts) same) i;
+        orders = pos-apart _ _ (ap (λ c. c.orders) same) i;
+        authorizations = pos-apart _ _ (ap (λ c. c.authzs) same) i;
+        challenges = pos-apart _ _ (ap (λ c. c.challs) same) i;
+      };
     }
 
 pub nonces-apart : AreToldApart nonce_columns IsStoredNonce

@@ -61,12 +61,12 @@ meta_columns row =
       nonce_life = pos row.policy.nonce_life;
       order_life = pos row.policy.order_life;
       authz_life = pos row.policy.authz_life;
-      clock = pos row.clock;
-      nonces = pos row.nonces;
-      accounts = pos row.accounts;
-      orders = pos row.orders;
-      authzs = pos row.authorizations;
-      challs = pos row.challenges;
+      clock = pos row.counters.clock;
+      nonces = pos row.counters.nonces;
+      accounts = pos row.counters.accounts;
+      orders = pos row.counters.orders;
+      authzs = pos row.counters.authorizations;
+      challs = pos row.counters.challenges;
     }
 
 -- those of `nonce`

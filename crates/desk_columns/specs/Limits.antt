@@ -74,12 +74,12 @@ IsDatedProblem failure = IsMoment failure.date × IsProblem failure.problem
 -- a row of `meta`
 pub record IsStoredMeta (row : Meta) : Type 0 where
   pub policy : IsTrue (are_terms row.policy)
-  pub clock : IsMoment row.clock
-  pub nonces : IsCounter row.nonces
-  pub accounts : IsCounter row.accounts
-  pub orders : IsCounter row.orders
-  pub authorizations : IsCounter row.authorizations
-  pub challenges : IsCounter row.challenges
+  pub clock : IsMoment row.counters.clock
+  pub nonces : IsCounter row.counters.nonces
+  pub accounts : IsCounter row.counters.accounts
+  pub orders : IsCounter row.counters.orders
+  pub authorizations : IsCounter row.counters.authorizations
+  pub challenges : IsCounter row.counters.challenges
 
 -- a row of `nonce`
 pub record IsStoredNonce (row : Nonce) : Type 0 where

@@ -3,7 +3,7 @@ use Rattle.std.specs.Prelude.{◌≡◌, pos, IsTrue}
 use Rattle.desk_model.specs.Terms.{Terms, are_terms}
 use Rattle.desk_columns.specs.Limits.{IsCounter, IsMoment}
 use Rattle.desk_columns.specs.declared.columns.MetaColumns.{MetaColumns}
-use Rattle.desk_columns.specs.declared.meta.Counters.{Counters}
+use Rattle.desk_model.specs.declared.rows.Counters.{Counters}
 
 -- the columns hold this policy
 pub record IsPolicy (columns : MetaColumns) (policy : Terms) : Type 0 where

@@ -9,19 +9,8 @@ ghost use Rattle.desk_columns.specs.Reading.{IsRead};
 use crate::columns::MetaColumns;
 use crate::numbers::{read_counter, read_moment, read_natural};
 use crate::table::Columns;
-use desk_model::{Clock, Meta, Policy};
+use desk_model::{Clock, Counters, Meta, Policy};
 use std::alloc::{AllocError, Global};
-
-// The clock, and the last numbers given.
-#[derive(Clone, Copy, Debug)]
-struct Counters {
-    clock: Clock,
-    nonces: u64,
-    accounts: u64,
-    orders: u64,
-    authorizations: u64,
-    challenges: u64,
-}
 
 /// The row with these columns, or `None` where none in its limits has them.
 ///
@@ -40,15 +29,7 @@ pub fn read_meta(alloc: Global, columns: MetaColumns) -> Result<Option<Meta>, Al
     let Some(policy) = read_policy(alloc, &columns)? else {
         return Ok(None);
     };
-    Ok(Some(Meta {
-        policy,
-        clock: counters.clock,
-        nonces: counters.nonces,
-        accounts: counters.accounts,
-        orders: counters.orders,
-        authorizations: counters.authorizations,
-        challenges: counters.challenges,
-    }))
+    Ok(Some(Meta { policy, counters }))
 }
 
 // Whether the row is the first, of format 1.

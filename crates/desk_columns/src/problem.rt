@@ -7,7 +7,7 @@ ghost use Rattle.desk_columns.specs.ProblemParts.{IsProblemIn};
 ghost use Rattle.desk_columns.specs.Reading.{IsRead};
 ghost use Rattle.desk_columns.specs.Spelling.{problem_document, problem_text};
 
-use desk_model::{OrderProblem, Text, is_problem_kind, is_same_text};
+use desk_model::{OrderProblem, Text, is_same_text};
 use json_values::value_of;
 use serde_json::{Value, json};
 use std::alloc::{AllocError, Global};
@@ -39,7 +39,7 @@ fn problem_in(alloc: Global, value: &Value) -> Result<Option<OrderProblem>, Allo
     let Some(kind) = string_in(value, "type") else {
         return Ok(None);
     };
-    if !is_problem_kind(kind) {
+    if !OrderProblem::is_kind(kind) {
         return Ok(None);
     }
     Ok(Some(OrderProblem {

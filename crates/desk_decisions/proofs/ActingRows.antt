@@ -1,5 +1,5 @@
 -- What a verdict's entry makes, as the reply shows it.
-use Rattle.std.proofs.Common.{◌≡◌, ℕ, ◌+◌, ◌<◌, ◌≤◌, List, [], ◌∷◌, ◌++◌, map, Some, None, refl, sym, ap, ◌∙◌, arith, cond}
+use Rattle.std.proofs.Common.{◌≡◌, ℕ, ◌+◌, ◌<◌, ◌≤◌, List, [], ◌∷◌, ◌++◌, map, Some, None, IfSome, refl, sym, ap, subst, ◌∙◌, arith, cond}
 use Rattle.std.specs.Prelude.{◌==◌, find}
 use Rattle.std.specs.Option.{option_map}
 use Rattle.std.proofs.lemmas.Bool.{eq-eqb}
@@ -17,47 +17,52 @@ use Rattle.desk_model.specs.declared.entry.Wanted.{Wanted}
 use Rattle.desk_model.specs.declared.entry.Wanted.TheVariants.{New as new}
 use Rattle.desk_model.specs.declared.rows.AccountRow.{AccountRow}
 use Rattle.desk_model.specs.declared.rows.AuthorizationRow.{AuthorizationRow}
-use Rattle.desk_model.specs.declared.rows.Meta.{Meta}
+use Rattle.desk_model.specs.declared.rows.Change.{Change}
+use Rattle.desk_model.specs.declared.rows.Counters.{Counters}
 use Rattle.desk_model.specs.declared.rows.OrderRow.{OrderRow}
 use Rattle.desk_laws.specs.Ordered.{Ascends, Below, IsOrdered}
 use Rattle.desk_model.specs.Limits.{last_end}
 use Rattle.desk_laws.proofs.Chain.{account_number, order_number}
 use Rattle.desk_laws.proofs.Local.{swept_order_number}
 use Rattle.desk_laws.proofs.RowLists.{ascends_above, ascends_found, none_below}
-use Rattle.desk_changes.specs.Acting.{IsAt}
+use Rattle.desk_changes.specs.Recorded.{IsAt, IsRecorded}
 use Rattle.desk_decisions.specs.HasTexts.{HasTexts}
 use Rattle.desk_changes.specs.Made.{made_rows, next_account, next_order, next_rows}
 use Rattle.desk_changes.proofs.MadeRows.{find-after, made_ascends, numbers_placed, stood_before}
 use Rattle.desk_changes.proofs.Moving.{below_standing, ordered_one}
-use Rattle.desk_decisions.proofs.ShownTexts.{order_text}
+use Rattle.desk_decisions.proofs.ShownTexts.{order_ends}
 use Rattle.swept_rows.proofs.SweptRows.{find-moved}
 
--- the meta row when a recording has begun
-pub at_begun : (m : ℕ) (B : Tables) (M : Meta) → M ≡ record B.meta { clock = m } → IsAt m B M
-at_begun m B M is = is ∙ (λ i. record B.meta { clock = m; nonces = (sym is i).nonces })
+-- the counters when a recording has begun
+pub at_begun : (m : ℕ) (B : Tables) (C : Counters) → C ≡ record B.meta.counters { clock = m } → IsAt m B C
+at_begun m B C is = is ∙ (λ i. record B.meta.counters { clock = m; nonces = (sym is i).nonces })
 
 -- and when a nonce was spent and one issued
-pub at_issued : (m : ℕ) (B : Tables) (M : Meta) → M ≡ record B.meta { clock = m; nonces = B.meta.nonces + 1 } → IsAt m B M
-at_issued m B M is = is ∙ (λ i. record B.meta { clock = m; nonces = (sym is i).nonces })
+pub at_issued : (m : ℕ) (B : Tables) (C : Counters) → C ≡ record B.meta.counters { clock = m; nonces = B.meta.counters.nonces + 1 } → IsAt m B C
+at_issued m B C is = is ∙ (λ i. record B.meta.counters { clock = m; nonces = (sym is i).nonces })
+
+-- the same entries are recorded
+pub same_entries : (m : ℕ) (B : Tables) {es ds : List Entry} {done : List Change} {counters : Counters} → es ≡ ds → IsRecorded m B es done counters → IsRecorded m B ds done counters
+same_entries m B {es} {ds} {done} {counters} is h = subst (λ l. IsRecorded m B l done counters) is h
 
 -- ---- an account that is opened
 
 -- the accounts that stood have not its number
 account_after : (m : ℕ) (B : Tables) (key : List ℕ) (contacts : List (List ℕ)) → IsOrdered B →
-    account_on (effect m (swept m B) (opened key contacts)) (B.meta.accounts + 1) ≡ Some (next_account (record B.meta { clock = m }) key contacts)
+    account_on (effect m (swept m B) (opened key contacts)) (B.meta.counters.accounts + 1) ≡ Some (next_account (record B.meta.counters { clock = m }) key contacts)
 account_after m B key contacts is =
-    find-after (λ a. a.number == B.meta.accounts + 1) (map (moved_account (opened key contacts) m) B.accounts) (fresh ∷ [])
-    (find-moved (λ a. a.number == B.meta.accounts + 1) (moved_account (opened key contacts) m) B.accounts (λ a. ap (λ k. k == B.meta.accounts + 1) (account_number (opened key contacts) m a))
-    ∙ ap (option_map (moved_account (opened key contacts) m)) (none_below (λ a. a.number) (B.meta.accounts + 1) (B.meta.accounts + 1) B.accounts (omega arith) is.accounts.1))
-    ∙ ap (λ b. cond b (Some fresh) None) (eq-eqb (B.meta.accounts + 1) (B.meta.accounts + 1) refl)
+    find-after (λ a. a.number == B.meta.counters.accounts + 1) (map (moved_account (opened key contacts) m) B.accounts) (fresh ∷ [])
+    (find-moved (λ a. a.number == B.meta.counters.accounts + 1) (moved_account (opened key contacts) m) B.accounts (λ a. ap (λ k. k == B.meta.counters.accounts + 1) (account_number (opened key contacts) m a))
+    ∙ ap (option_map (moved_account (opened key contacts) m)) (none_below (λ a. a.number) (B.meta.counters.accounts + 1) (B.meta.counters.accounts + 1) B.accounts (omega arith) is.accounts.1))
+    ∙ ap (λ b. cond b (Some fresh) None) (eq-eqb (B.meta.counters.accounts + 1) (B.meta.counters.accounts + 1) refl)
   where
     fresh : AccountRow
-    fresh = next_account (record B.meta { clock = m }) key contacts
+    fresh = next_account (record B.meta.counters { clock = m }) key contacts
 
 -- it is found by its number
-pub opened_found : (m : ℕ) (B : Tables) (M : Meta) (key : List ℕ) (contacts : List (List ℕ)) → IsAt m B M → IsOrdered B →
-    (let T : Tables = effect m (swept m B) (opened key contacts) in account_on T T.meta.accounts ≡ Some (next_account M key contacts))
-opened_found m B M key contacts at is =
+pub opened_found : (m : ℕ) (B : Tables) (C : Counters) (key : List ℕ) (contacts : List (List ℕ)) → IsAt m B C → IsOrdered B →
+    (let T : Tables = effect m (swept m B) (opened key contacts) in account_on T T.meta.counters.accounts ≡ Some (next_account C key contacts))
+opened_found m B C key contacts at is =
     account_after m B key contacts is
     ∙ ap (λ x. Some (next_account x key contacts)) (sym at)
 
@@ -65,16 +70,16 @@ opened_found m B M key contacts at is =
 
 -- it is found by its number
 order_after : (m : ℕ) (B : Tables) (account : ℕ) (wanted : List Wanted) → IsOrdered B →
-    order_on (effect m (swept m B) (ordered account wanted)) (B.meta.orders + 1) ≡ Some (next_order (record B.meta { clock = m }) account wanted)
+    order_on (effect m (swept m B) (ordered account wanted)) (B.meta.counters.orders + 1) ≡ Some (next_order B.meta.policy (record B.meta.counters { clock = m }) account wanted)
 order_after m B account wanted is =
-    find-after (λ o. o.number == B.meta.orders + 1) stood _
-    (find-moved (λ o. o.number == B.meta.orders + 1) (moved_order e m S.authorizations (authorizations_after S e m)) S.orders
-    (λ o. ap (λ k. k == B.meta.orders + 1) (order_number e m S.authorizations (authorizations_after S e m) o))
+    find-after (λ o. o.number == B.meta.counters.orders + 1) stood _
+    (find-moved (λ o. o.number == B.meta.counters.orders + 1) (moved_order e m S.authorizations (authorizations_after S e m)) S.orders
+    (λ o. ap (λ k. k == B.meta.counters.orders + 1) (order_number e m S.authorizations (authorizations_after S e m) o))
     ∙ ap (option_map (moved_order e m S.authorizations (authorizations_after S e m)))
-    (find-moved (λ o. o.number == B.meta.orders + 1) (swept_order m B.authorizations) B.orders (λ o. ap (λ k. k == B.meta.orders + 1) (swept_order_number m B.authorizations o))
-    ∙ ap (option_map (swept_order m B.authorizations)) (none_below (λ o. o.number) (B.meta.orders + 1) (B.meta.orders + 1) B.orders (omega arith) is.orders.1)))
-    ∙ ap (find (λ o. o.number == B.meta.orders + 1)) (ordered_one m S account wanted (below_standing m (B.meta.authorizations + 1) B.authorizations is.authorizations.1))
-    ∙ ap (λ b. cond b (Some (next_order (record B.meta { clock = m }) account wanted)) None) (eq-eqb (B.meta.orders + 1) (B.meta.orders + 1) refl)
+    (find-moved (λ o. o.number == B.meta.counters.orders + 1) (swept_order m B.authorizations) B.orders (λ o. ap (λ k. k == B.meta.counters.orders + 1) (swept_order_number m B.authorizations o))
+    ∙ ap (option_map (swept_order m B.authorizations)) (none_below (λ o. o.number) (B.meta.counters.orders + 1) (B.meta.counters.orders + 1) B.orders (omega arith) is.orders.1)))
+    ∙ ap (find (λ o. o.number == B.meta.counters.orders + 1)) (ordered_one m S account wanted (below_standing m (B.meta.counters.authorizations + 1) B.authorizations is.authorizations.1))
+    ∙ ap (λ b. cond b (Some (next_order B.meta.policy (record B.meta.counters { clock = m }) account wanted)) None) (eq-eqb (B.meta.counters.orders + 1) (B.meta.counters.orders + 1) refl)
   where
     e : Entry
     e = ordered account wanted
@@ -85,11 +90,11 @@ order_after m B account wanted is =
     stood : List OrderRow
     stood = map (moved_order e m S.authorizations (authorizations_after S e m)) S.orders
 
-pub ordered_found : (m : ℕ) (B : Tables) (M : Meta) (account : ℕ) (wanted : List Wanted) → IsAt m B M → IsOrdered B →
-    (let T : Tables = effect m (swept m B) (ordered account wanted) in order_on T T.meta.orders ≡ Some (next_order M account wanted))
-ordered_found m B M account wanted at is =
+pub ordered_found : (m : ℕ) (B : Tables) (C : Counters) (account : ℕ) (wanted : List Wanted) → IsAt m B C → IsOrdered B →
+    (let T : Tables = effect m (swept m B) (ordered account wanted) in order_on T T.meta.counters.orders ≡ Some (next_order B.meta.policy C account wanted))
+ordered_found m B C account wanted at is =
     order_after m B account wanted is
-    ∙ ap (λ x. Some (next_order x account wanted)) (sym at)
+    ∙ ap (λ x. Some (next_order B.meta.policy x account wanted)) (sym at)
 
 -- rows that are found by their numbers are those that an order lists
 rows_found : (all rows : List AuthorizationRow) → EachOf (λ r. authorization_numbered r.number all ≡ Some r) rows → rows_of all (map (λ r. r.number) rows) ≡ rows
@@ -97,13 +102,13 @@ rows_found all [] h = refl
 rows_found all (r ∷ rows) h = λ i. and_row (h.0 i) (rows_found all rows h.1 i)
 
 -- new rows are found among all
-made_found : (T : Tables) (m account : ℕ) (wanted : List Wanted) → Below (λ a. a.number) (T.meta.authorizations + 1) T.authorizations →
-    (all rows : List AuthorizationRow) → EachOf (λ r. T.meta.authorizations < r.number) rows → EachOf (λ r. authorization_numbered r.number all ≡ Some r) rows →
+made_found : (T : Tables) (m account : ℕ) (wanted : List Wanted) → Below (λ a. a.number) (T.meta.counters.authorizations + 1) T.authorizations →
+    (all rows : List AuthorizationRow) → EachOf (λ r. T.meta.counters.authorizations < r.number) rows → EachOf (λ r. authorization_numbered r.number all ≡ Some r) rows →
     EachOf (λ r. authorization_numbered r.number (map (moved_authorization (ordered account wanted) m) T.authorizations ++ all) ≡ Some r) rows
 made_found T m account wanted below all [] h k = tt
 made_found T m account wanted below all (r ∷ rows) h k = (
   find-after (λ a. a.number == r.number) (map (moved_authorization (ordered account wanted) m) T.authorizations) all
-      (stood_before T m account r.number wanted below (let lt : T.meta.authorizations < r.number = h.0 in omega arith)) ∙ k.0,
+      (stood_before T m account r.number wanted below (let lt : T.meta.counters.authorizations < r.number = h.0 in omega arith)) ∙ k.0,
   made_found T m account wanted below all rows h.1 k.1,
 )
 
@@ -114,29 +119,29 @@ made_names m account expires (new name tokens ∷ wanted) n c = ap (λ l. name �
 
 -- so the new order names them
 names_after : (m : ℕ) (B : Tables) (account : ℕ) (wanted : List Wanted) → IsOrdered B →
-    map (λ a. a.name) (listed_rows (effect m (swept m B) (ordered account wanted)) (next_order (record B.meta { clock = m }) account wanted)) ≡ map wanted_name wanted
+    map (λ a. a.name) (listed_rows (effect m (swept m B) (ordered account wanted)) (next_order B.meta.policy (record B.meta.counters { clock = m }) account wanted)) ≡ map wanted_name wanted
 names_after m B account wanted is =
     ap (λ ns. map (λ a. a.name) (rows_of (effect m (swept m B) (ordered account wanted)).authorizations ns)) (numbers_placed 1 rows)
     ∙ ap (map (λ a. a.name)) (rows_found (effect m (swept m B) (ordered account wanted)).authorizations rows
-    (made_found (swept m B) m account wanted (below_standing m (B.meta.authorizations + 1) B.authorizations is.authorizations.1) rows rows
-    (ascends_above (λ r. r.number) B.meta.authorizations (B.meta.authorizations + 1) rows (omega arith) up)
-    (ascends_found (λ r. r.number) (B.meta.authorizations + 1) rows up)))
-    ∙ made_names m account (m + B.meta.policy.authz_life) wanted (B.meta.authorizations + 1) (B.meta.challenges + 1)
+    (made_found (swept m B) m account wanted (below_standing m (B.meta.counters.authorizations + 1) B.authorizations is.authorizations.1) rows rows
+    (ascends_above (λ r. r.number) B.meta.counters.authorizations (B.meta.counters.authorizations + 1) rows (omega arith) up)
+    (ascends_found (λ r. r.number) (B.meta.counters.authorizations + 1) rows up)))
+    ∙ made_names m account (m + B.meta.policy.authz_life) wanted (B.meta.counters.authorizations + 1) (B.meta.counters.challenges + 1)
   where
     rows : List AuthorizationRow
-    rows = next_rows (record B.meta { clock = m }) account wanted
+    rows = next_rows B.meta.policy (record B.meta.counters { clock = m }) account wanted
 
-    up : Ascends (λ r. r.number) (B.meta.authorizations + 1) (next_rows (record B.meta { clock = m }) account wanted)
-    up = made_ascends m account B.meta.policy.authz_life wanted (B.meta.authorizations + 1) (B.meta.challenges + 1)
+    up : Ascends (λ r. r.number) (B.meta.counters.authorizations + 1) (next_rows B.meta.policy (record B.meta.counters { clock = m }) account wanted)
+    up = made_ascends m account B.meta.policy.authz_life wanted (B.meta.counters.authorizations + 1) (B.meta.counters.challenges + 1)
 
-pub ordered_names : (m : ℕ) (B : Tables) (M : Meta) (account : ℕ) (wanted : List Wanted) → IsAt m B M → IsOrdered B →
-    map (λ a. a.name) (listed_rows (effect m (swept m B) (ordered account wanted)) (next_order M account wanted)) ≡ map wanted_name wanted
-ordered_names m B M account wanted at is =
-    ap (λ x. map (λ a. a.name) (listed_rows (effect m (swept m B) (ordered account wanted)) (next_order x account wanted))) at
+pub ordered_names : (m : ℕ) (B : Tables) (C : Counters) (account : ℕ) (wanted : List Wanted) → IsAt m B C → IsOrdered B →
+    map (λ a. a.name) (listed_rows (effect m (swept m B) (ordered account wanted)) (next_order B.meta.policy C account wanted)) ≡ map wanted_name wanted
+ordered_names m B C account wanted at is =
+    ap (λ x. map (λ a. a.name) (listed_rows (effect m (swept m B) (ordered account wanted)) (next_order B.meta.policy x account wanted))) at
     ∙ names_after m B account wanted is
 
 -- its moment has a text
-pub ordered_text : (m : ℕ) (B : Tables) (M : Meta) (account : ℕ) (wanted : List Wanted) → IsAt m B M → IsOrdered B →
-    HasTexts (effect m (swept m B) (ordered account wanted)) → (next_order M account wanted).expires ≤ last_end
-ordered_text m B M account wanted at is texts =
-    order_text (effect m (swept m B) (ordered account wanted)) (B.meta.orders + 1) _ (next_order M account wanted) texts (ordered_found m B M account wanted at is) refl
+pub ordered_text : (m : ℕ) (B : Tables) (C : Counters) (account : ℕ) (wanted : List Wanted) → IsAt m B C → IsOrdered B →
+    HasTexts (effect m (swept m B) (ordered account wanted)) → (next_order B.meta.policy C account wanted).expires ≤ last_end
+ordered_text m B C account wanted at is texts =
+    subst (λ o. IfSome o (λ o. o.expires ≤ last_end)) (ordered_found m B C account wanted at is) (order_ends (effect m (swept m B) (ordered account wanted)) (B.meta.counters.orders + 1) texts)

@@ -11,14 +11,14 @@ use Rattle.desk_model.specs.Order.{orders}
 use Rattle.desk_model.specs.Authorization.{authorizations, count_challenges}
 use Rattle.desk_model.specs.Tables.{Tables, picture, tables_at}
 use Rattle.desk_model.specs.Kept.{EachOf}
-use Rattle.desk_model.specs.Change.{applied}
+use Rattle.desk_model.specs.Change.{applied, recorded_changes}
 use Rattle.desk_model.specs.Decide.{decide, after, tables_after}
 use Rattle.desk_model.specs.Effect.{effects, swept}
 use Rattle.desk_model.specs.Run.{fault, count_pieces, IsFormedCall}
 use Rattle.desk_model.specs.declared.call.Call.{Call}
 use Rattle.desk_model.specs.declared.reply.Reply.{Reply}
 use Rattle.desk_model.specs.declared.rows.Change.{Change}
-use Rattle.desk_model.specs.declared.rows.Meta.{Meta}
+use Rattle.desk_model.specs.declared.rows.Counters.{Counters}
 use Rattle.desk_model.specs.declared.entry.Entry.{Entry}
 use Rattle.desk_model.specs.declared.entry.Entry.TheVariants.{Issued as issued, Spent as spent}
 use Rattle.desk_model.specs.declared.verdict.Verdict.{Verdict}
@@ -33,7 +33,6 @@ use Rattle.desk_laws.proofs.Keeps.{counters_fit, numbers_fit_counters}
 use Rattle.desk_laws.specs.LegalLaws.{CountersFit}
 use Rattle.desk_lives.proofs.SoundCalls.{moment_later, call_follows, legal_by_numbers}
 use Rattle.desk_decisions.specs.HasTexts.{HasTexts}
-use Rattle.desk_changes.specs.Recorded.{recorded_changes}
 use Rattle.desk_decisions.specs.Decided.{IsDecision}
 use Rattle.desk_rules.specs.Needs.{NumbersLeft, NumbersSpent}
 use Rattle.desk_decisions.specs.SameRows.{SameRows}
@@ -56,14 +55,14 @@ faultless F call at fits enough =
 
 -- ---- numbers
 
-pub counters : (F : History) → Legal F → CountersFit (picture F).meta
+pub counters : (F : History) → Legal F → CountersFit (picture F).meta.counters
 counters F legal = counters_fit F legal.numbered (clock F)
 
-pub fitting : (F : History) → CountersFit (picture F).meta → IsTrue (numbers_fit F)
+pub fitting : (F : History) → CountersFit (picture F).meta.counters → IsTrue (numbers_fit F)
 fitting F h = numbers_fit_counters F (clock F) h
 
 -- the numbers after some entries
-pub fits_issued : (F : History) (m : ℕ) (r : List ℕ) → CountersFit (picture F).meta → length (nonces F) < last_number → CountersFit (picture (record { date = m; entry = issued r } ∷ F)).meta
+pub fits_issued : (F : History) (m : ℕ) (r : List ℕ) → CountersFit (picture F).meta.counters → length (nonces F) < last_number → CountersFit (picture (record { date = m; entry = issued r } ∷ F)).meta.counters
 fits_issued F m r h lt =
     record {
       nonces = omega (arith, length-append (nonces F) (record { serial = length (nonces F) + 1; random = r; issued = m } ∷ []));
@@ -73,7 +72,7 @@ fits_issued F m r h lt =
       challenges = subst (λ l. count_challenges l ≤ last_number) (sym (append-nil (authorizations F))) h.challenges;
     }
 
-fits_spent : (F : History) (m n : ℕ) → CountersFit (picture F).meta → CountersFit (picture (record { date = m; entry = spent n } ∷ F)).meta
+fits_spent : (F : History) (m n : ℕ) → CountersFit (picture F).meta.counters → CountersFit (picture (record { date = m; entry = spent n } ∷ F)).meta.counters
 fits_spent F m n h =
     record {
       nonces = let le : length (nonces F) ≤ last_number = h.nonces in omega (arith, length-append (nonces F) []);
@@ -87,29 +86,29 @@ nonces_stay : (F : History) (m n : ℕ) → length (nonces (record { date = m; e
 nonces_stay F m n = omega (arith, length-append (nonces F) [])
 
 -- the numbers after a nonce was spent and one issued
-pub fits_nonces : (F : History) (m n : ℕ) (r : List ℕ) → CountersFit (picture F).meta → length (nonces F) < last_number →
-    CountersFit (picture (record_all m (spent n ∷ issued r ∷ []) F)).meta
+pub fits_nonces : (F : History) (m n : ℕ) (r : List ℕ) → CountersFit (picture F).meta.counters → length (nonces F) < last_number →
+    CountersFit (picture (record_all m (spent n ∷ issued r ∷ []) F)).meta.counters
 fits_nonces F m n r h lt = fits_issued (record { date = m; entry = spent n } ∷ F) m r (fits_spent F m n h) (omega (arith, nonces_stay F m n))
 
 -- what a verdict needs does not hang on the count of nonces
-pub left_same : (M N : Meta) (v : Verdict) → M.accounts ≡ N.accounts → M.orders ≡ N.orders → M.authorizations ≡ N.authorizations → M.challenges ≡ N.challenges →
-    NumbersLeft N v → NumbersLeft M v
-left_same M N v a o z c h =
-    subst (λ (K : Meta). NumbersLeft K v) (λ i. record M { accounts = sym a i; orders = sym o i; authorizations = sym z i; challenges = sym c i }) (still v h)
+pub left_same : (C D : Counters) (v : Verdict) → C.accounts ≡ D.accounts → C.orders ≡ D.orders → C.authorizations ≡ D.authorizations → C.challenges ≡ D.challenges →
+    NumbersLeft D v → NumbersLeft C v
+left_same C D v a o z c h =
+    subst (λ (K : Counters). NumbersLeft K v) (λ i. record C { accounts = sym a i; orders = sym o i; authorizations = sym z i; challenges = sym c i }) (still v h)
   where
-    still : (v : Verdict) → NumbersLeft N v → NumbersLeft (record M { accounts = N.accounts; orders = N.orders; authorizations = N.authorizations; challenges = N.challenges }) v
+    still : (v : Verdict) → NumbersLeft D v → NumbersLeft (record C { accounts = D.accounts; orders = D.orders; authorizations = D.authorizations; challenges = D.challenges }) v
     still (refused why ss) h = tt
     still (answers what) h = tt
     still (opens key contacts) h = h
     still (ordering account wanted) h = h
     still (moves move) h = tt
 
-pub spent_same : (M N : Meta) (v : Verdict) → M.accounts ≡ N.accounts → M.orders ≡ N.orders → M.authorizations ≡ N.authorizations → M.challenges ≡ N.challenges →
-    NumbersSpent N v → NumbersSpent M v
-spent_same M N v a o z c h =
-    subst (λ (K : Meta). NumbersSpent K v) (λ i. record M { accounts = sym a i; orders = sym o i; authorizations = sym z i; challenges = sym c i }) (still v h)
+pub spent_same : (C D : Counters) (v : Verdict) → C.accounts ≡ D.accounts → C.orders ≡ D.orders → C.authorizations ≡ D.authorizations → C.challenges ≡ D.challenges →
+    NumbersSpent D v → NumbersSpent C v
+spent_same C D v a o z c h =
+    subst (λ (K : Counters). NumbersSpent K v) (λ i. record C { accounts = sym a i; orders = sym o i; authorizations = sym z i; challenges = sym c i }) (still v h)
   where
-    still : (v : Verdict) → NumbersSpent N v → NumbersSpent (record M { accounts = N.accounts; orders = N.orders; authorizations = N.authorizations; challenges = N.challenges }) v
+    still : (v : Verdict) → NumbersSpent D v → NumbersSpent (record C { accounts = D.accounts; orders = D.orders; authorizations = D.authorizations; challenges = D.challenges }) v
     still (refused why ss) h = absurd h
     still (answers what) h = absurd h
     still (opens key contacts) h = h

@@ -1,6 +1,7 @@
 -- What is promised of each ask.
 use Rattle.std.proofs.Common.{◌≡◌, ℕ, ◌+◌, ◌*◌, ◌≤◌, max, true, false, List, [], ◌∷◌, ◌++◌, length, take, drop, Option, Some, None, refl, sym, ap, subst, ◌∙◌, arith, Result, Ok, Err, IfOk, IfErr, MatchResult}
 use Rattle.std.specs.Prelude.{IsTrue}
+use Rattle.desk_model.specs.Change.{recorded_changes}
 use Rattle.desk_model.specs.declared.refusal.Refusal.TheVariants as refusal
 use Rattle.desk_model.specs.Entry.{History}
 use Rattle.desk_model.specs.History.{clock, moment_of, record_all}
@@ -28,7 +29,6 @@ use Rattle.desk_decisions.specs.HasTexts.{HasTexts}
 use Rattle.desk_decisions.specs.Outcomes.{Issues, Passes, Settles, MeetsSigned, MeetsAsk}
 use Rattle.desk_decisions.specs.Decided.{IsDecision}
 use Rattle.desk_rules.specs.Needs.{NumbersLeft}
-use Rattle.desk_changes.specs.Recorded.{recorded_changes}
 use Rattle.desk_decisions.specs.SameRows.{SameRows}
 use Rattle.desk_decisions.proofs.Deciding.{after_is, counters, decides, decides_none, fits_issued, fits_nonces, left_same, now_is, texts_same}
 use Rattle.desk_decisions.proofs.NumbersAfter.{numbers_left}
@@ -79,7 +79,7 @@ settles : (F : History) (call : Call) (a : Ask) (changes : List Change) (reply :
     Settles (moment_of call.at F) (picture F) (settled F call a) changes reply → IsDecision F call changes reply
 settles F call a changes reply legal formed at is h =
     by (entries_of (settled F call a)) refl
-    (numbers_left F (moment_of call.at F) (settled F call a) (counters F legal) (office_spaced (swept (moment_of call.at F) (picture F)) a) (no_numbers (picture F).meta a (swept (moment_of call.at F) (picture F))))
+    (numbers_left F (moment_of call.at F) (settled F call a) (counters F legal) (office_spaced (swept (moment_of call.at F) (picture F)) a) (no_numbers (picture F).meta.counters a (swept (moment_of call.at F) (picture F))))
     (no_bytes a (swept (moment_of call.at F) (picture F)))
     (h.recorded (tables_ordered F (clock F)))
     (settles_reply F call a changes reply legal is h)
@@ -108,11 +108,11 @@ abbrev pub judged : History → Call → Signed → Verdict
 judged F call s = signed_verdict (swept (moment_of call.at F) (picture F)) (drop 16 call.random) s
 
 -- its numbers, after the nonce's entries
-pub judged_left : (F : History) (call : Call) (serial : ℕ) (v : Verdict) → NumbersLeft (picture F).meta v →
-    NumbersLeft (picture (record_all (moment_of call.at F) (nonce_entries serial call.random) F)).meta v
+pub judged_left : (F : History) (call : Call) (serial : ℕ) (v : Verdict) → NumbersLeft (picture F).meta.counters v →
+    NumbersLeft (picture (record_all (moment_of call.at F) (nonce_entries serial call.random) F)).meta.counters v
 judged_left F call serial v h =
     let same = nonce_rows F (moment_of call.at F) serial (take 16 call.random) in
-    left_same (picture (record_all (moment_of call.at F) (nonce_entries serial call.random) F)).meta (picture F).meta v same.last_accounts same.last_orders same.last_authorizations same.last_challenges h
+    left_same (picture (record_all (moment_of call.at F) (nonce_entries serial call.random) F)).meta.counters (picture F).meta.counters v same.last_accounts same.last_orders same.last_authorizations same.last_challenges h
 
 -- the model's decision, by the verdict that the code comes to
 pub passed_is : (F : History) (call : Call) (s : Signed) (serial : ℕ) → decide F call ≡ signed_decision F (moment_of call.at F) call.random s (Some serial) →
@@ -201,15 +201,15 @@ asks_decide F call changes reply legal formed at h = by call.ask refl h
 
 -- the same, as the code has its parts
 pub code_decides : (F : History) (call : Call) (B : Tables) (m : ℕ) (random : List ℕ) (changes : List Change) (reply : Reply) → Legal F → IsPartFor call (picture F) B → IsFormedCall call →
-    call.at ≤ last_moment → m ≡ max call.at B.meta.clock → random ≡ call.random →
+    call.at ≤ last_moment → m ≡ max call.at B.meta.counters.clock → random ≡ call.random →
     (IsOrdered B → MeetsAsk m B random call.ask changes reply) → IsDecision F call changes reply
 code_decides F call B m random changes reply legal part formed at acts bytes meets =
     let T : Tables = picture F in
     let ordered : IsOrdered B = parts_ordered T B call (tables_ordered F (clock F)) part in
     asks_decide F call changes reply legal formed at
-    (asks_whole (max call.at T.meta.clock) part.kept T call.random call.ask changes reply (subst IsOrdered part.cut ordered)
-    (subst (AnswersAs (max call.at T.meta.clock) call.ask T) part.cut (parts_answer T B call (tables_ordered F (clock F)) part))
-    (subst (λ X. MeetsAsk (max call.at X.meta.clock) X call.random call.ask changes reply) part.cut
+    (asks_whole (max call.at T.meta.counters.clock) part.kept T call.random call.ask changes reply (subst IsOrdered part.cut ordered)
+    (subst (AnswersAs (max call.at T.meta.counters.clock) call.ask T) part.cut (parts_answer T B call (tables_ordered F (clock F)) part))
+    (subst (λ X. MeetsAsk (max call.at X.meta.counters.clock) X call.random call.ask changes reply) part.cut
     (subst (λ n. MeetsAsk n B call.random call.ask changes reply) acts
     (subst (λ r. MeetsAsk m B r call.ask changes reply) bytes (meets ordered)))))
 

@@ -104,11 +104,11 @@ passed_faults F call s serial core.Memory legal at is h = tt
 passed_faults F call s serial core.Moment legal at is h = absurd h
 passed_faults F call s serial core.Full legal at is h = is_full F call _ at is (over h)
   where
-    over : NumbersSpent (picture F).meta (judged F call s) ⊎ (last_number ≤ length (nonces F)) →
+    over : NumbersSpent (picture F).meta.counters (judged F call s) ⊎ (last_number ≤ length (nonces F)) →
         numbers_fit (record_all (moment_of call.at F) (nonce_entries serial call.random ++ entries_of (judged F call s)) F) ≡ false
     over (inl full) =
         numbers_spent (record_all (moment_of call.at F) (nonce_entries serial call.random) F) (moment_of call.at F) (judged F call s) (signed_spaced (swept (moment_of call.at F) (picture F)) (drop 16 call.random) s)
-        (spent_same (picture (record_all (moment_of call.at F) (nonce_entries serial call.random) F)).meta (picture F).meta (judged F call s)
+        (spent_same (picture (record_all (moment_of call.at F) (nonce_entries serial call.random) F)).meta.counters (picture F).meta.counters (judged F call s)
         (nonce_rows F (moment_of call.at F) serial (take 16 call.random)).last_accounts (nonce_rows F (moment_of call.at F) serial (take 16 call.random)).last_orders
         (nonce_rows F (moment_of call.at F) serial (take 16 call.random)).last_authorizations (nonce_rows F (moment_of call.at F) serial (take 16 call.random)).last_challenges full)
     over (inr full) =
@@ -160,13 +160,13 @@ asks_fail F call e legal at h = by call.ask refl h
 
 -- the same, as the code has its parts
 pub code_fails : (F : History) (call : Call) (B : Tables) (m : ℕ) (random : List ℕ) (e : CoreFault) → Legal F → IsPartFor call (picture F) B →
-    call.at ≤ last_moment → m ≡ max call.at B.meta.clock → random ≡ call.random →
+    call.at ≤ last_moment → m ≡ max call.at B.meta.counters.clock → random ≡ call.random →
     (IsOrdered B → IsAskFault m B random call.ask e) → IsFaultOf F call e
 code_fails F call B m random e legal part at acts bytes fails =
     let T : Tables = picture F in
     asks_fail F call e legal at
-    (faults_whole (max call.at T.meta.clock) part.kept T call.random call.ask e
-    (subst (AnswersAs (max call.at T.meta.clock) call.ask T) part.cut (parts_answer T B call (tables_ordered F (clock F)) part))
-    (subst (λ X. IsAskFault (max call.at X.meta.clock) X call.random call.ask e) part.cut
+    (faults_whole (max call.at T.meta.counters.clock) part.kept T call.random call.ask e
+    (subst (AnswersAs (max call.at T.meta.counters.clock) call.ask T) part.cut (parts_answer T B call (tables_ordered F (clock F)) part))
+    (subst (λ X. IsAskFault (max call.at X.meta.counters.clock) X call.random call.ask e) part.cut
     (subst (λ n. IsAskFault n B call.random call.ask e) acts
     (subst (λ r. IsAskFault m B r call.ask e) bytes (fails (parts_ordered T B call (tables_ordered F (clock F)) part))))))

@@ -3,11 +3,12 @@ pub mod Deciding
 pub mod DecidingAsks
 pub mod DecidingFaults
 pub mod Faults
+pub mod MovedReplies
 pub mod NumbersAfter
+pub mod Parts
 pub mod QuietRows
 pub mod SameReplies
 pub mod SameVerdicts
+pub mod ShownTexts
 pub mod Spaced
 pub mod Texts
-pub mod Parts
-pub mod ShownTexts

@@ -80,7 +80,7 @@ challenges_after G m k ws h =
 -- ---- numbers that fit
 
 -- where the counters of a picture fit, so do the numbers
-fit_all : (F : History) → CountersFit (picture F).meta → IsTrue (numbers_fit F)
+fit_all : (F : History) → CountersFit (picture F).meta.counters → IsTrue (numbers_fit F)
 fit_all F h = numbers_fit_counters F (clock F) h
 
 -- how many accounts there are after one more
@@ -90,8 +90,8 @@ accounts_after G m key contacts =
     length-append (accounts G) (record { number = length (accounts G) + 1; key = key; contacts = contacts; opened = m } ∷ [])
 
 -- an account whose number can be given
-fits_account : (G : History) (m : ℕ) (key : List ℕ) (contacts : List (List ℕ)) → CountersFit (picture G).meta → length (accounts G) < last_number →
-    CountersFit (picture (record { date = m; entry = opened key contacts } ∷ G)).meta
+fits_account : (G : History) (m : ℕ) (key : List ℕ) (contacts : List (List ℕ)) → CountersFit (picture G).meta.counters → length (accounts G) < last_number →
+    CountersFit (picture (record { date = m; entry = opened key contacts } ∷ G)).meta.counters
 fits_account G m key contacts h first =
     record {
       nonces = let le : length (nonces G) ≤ last_number = h.nonces in omega (arith, length-append (nonces G) []);
@@ -102,9 +102,9 @@ fits_account G m key contacts h first =
     }
 
 -- an order whose numbers can be given
-fits_ordered : (G : History) (m k : ℕ) (ws : List Wanted) → CountersFit (picture G).meta → EachOf HasTokens ws →
+fits_ordered : (G : History) (m k : ℕ) (ws : List Wanted) → CountersFit (picture G).meta.counters → EachOf HasTokens ws →
     length (orders G) < last_number → length (authorizations G) + length ws ≤ last_number → count_challenges (authorizations G) + count_tokens ws ≤ last_number →
-    CountersFit (picture (record { date = m; entry = ordered k ws } ∷ G)).meta
+    CountersFit (picture (record { date = m; entry = ordered k ws } ∷ G)).meta.counters
 fits_ordered G m k ws h spaced first second third =
     record {
       nonces = let le : length (nonces G) ≤ last_number = h.nonces in omega (arith, length-append (nonces G) []);
@@ -116,7 +116,7 @@ fits_ordered G m k ws h spaced first second third =
 
 -- an entry that gives no number
 fits_same : (F G : History) → nonces F ≡ nonces G ++ [] → accounts F ≡ accounts G ++ [] → orders F ≡ orders G ++ [] →
-    authorizations F ≡ authorizations G ++ [] → CountersFit (picture G).meta → CountersFit (picture F).meta
+    authorizations F ≡ authorizations G ++ [] → CountersFit (picture G).meta.counters → CountersFit (picture F).meta.counters
 fits_same F G n a o z h =
     record {
       nonces = subst (λ l. length l ≤ last_number) (sym (n ∙ append-nil (nonces G))) h.nonces;
@@ -127,7 +127,7 @@ fits_same F G n a o z h =
     }
 
 -- a move
-fits_moved : (G : History) (m : ℕ) (v : Move) → CountersFit (picture G).meta → CountersFit (picture (record { date = m; entry = entry_of v } ∷ G)).meta
+fits_moved : (G : History) (m : ℕ) (v : Move) → CountersFit (picture G).meta.counters → CountersFit (picture (record { date = m; entry = entry_of v } ∷ G)).meta.counters
 fits_moved G m (move.ContactsChanged n contacts) h = fits_same (record { date = m; entry = entry_of (move.ContactsChanged n contacts) } ∷ G) G refl refl refl refl h
 fits_moved G m (move.AccountEnded n ending) h = fits_same (record { date = m; entry = entry_of (move.AccountEnded n ending) } ∷ G) G refl refl refl refl h
 fits_moved G m (move.Answered n) h = fits_same (record { date = m; entry = entry_of (move.Answered n) } ∷ G) G refl refl refl refl h
@@ -138,7 +138,7 @@ fits_moved G m (move.Certified n certificate) h = fits_same (record { date = m; 
 fits_moved G m (move.Failed n problem) h = fits_same (record { date = m; entry = entry_of (move.Failed n problem) } ∷ G) G refl refl refl refl h
 
 -- where there are numbers for what a verdict records, the numbers fit after it
-pub numbers_left : (G : History) (m : ℕ) (v : Verdict) → CountersFit (picture G).meta → IsSpaced v → NumbersLeft (picture G).meta v →
+pub numbers_left : (G : History) (m : ℕ) (v : Verdict) → CountersFit (picture G).meta.counters → IsSpaced v → NumbersLeft (picture G).meta.counters v →
     IsTrue (numbers_fit (record_all m (entries_of v) G))
 numbers_left G m (refused why ss) h spaced left = fit_all G h
 numbers_left G m (answers what) h spaced left = fit_all G h
@@ -206,7 +206,7 @@ challenges_over G h =
     (over (count_challenges (authorizations G)) last_number h)
 
 -- where a number is wanting for what a verdict records, the numbers don't fit after it
-pub numbers_spent : (G : History) (m : ℕ) (v : Verdict) → IsSpaced v → NumbersSpent (picture G).meta v →
+pub numbers_spent : (G : History) (m : ℕ) (v : Verdict) → IsSpaced v → NumbersSpent (picture G).meta.counters v →
     numbers_fit (record_all m (entries_of v) G) ≡ false
 numbers_spent G m (refused why ss) spaced spent = absurd spent
 numbers_spent G m (answers what) spaced spent = absurd spent

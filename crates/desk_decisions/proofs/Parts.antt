@@ -1,5 +1,5 @@
 -- What the code answers by a part of the rows it answers by all of them.
-use Rattle.std.proofs.Common.{◌≡◌, ℕ, List, [], ◌∷◌, take, drop, Option, Some, None, refl, sym, ap, subst, ◌∙◌, true, false}
+use Rattle.std.proofs.Common.{ℕ, List, [], take, drop, Option, Some, None, sym, ap, subst, ◌∙◌, true, false}
 use Rattle.desk_model.specs.declared.refusal.Refusal.TheVariants as refusal
 use Rattle.desk_model.specs.Decide.{entries_of}
 use Rattle.desk_model.specs.Effect.{effects, swept}
@@ -10,27 +10,20 @@ use Rattle.desk_model.specs.Kept.{EachOf, Kept, restricted}
 use Rattle.desk_model.specs.declared.call.Ask.{Ask}
 use Rattle.desk_model.specs.declared.call.Ask.TheVariants as ask
 use Rattle.desk_model.specs.declared.call.Signed.{Signed}
-use Rattle.desk_model.specs.declared.entry.Entry.{Entry}
 use Rattle.desk_model.specs.declared.reply.Reply.{Reply}
 use Rattle.desk_model.specs.declared.rows.Change.{Change}
 use Rattle.desk_model.specs.declared.verdict.Verdict.{Verdict}
 use Rattle.desk_decisions.specs.HasTexts.{HasTexts}
-use Rattle.desk_changes.specs.Recorded.{recorded_changes}
 use Rattle.desk_replies.specs.Shown.{HasMoments}
 use Rattle.desk_model.specs.Limits.{last_end}
 use Rattle.desk_decisions.specs.Outcomes.{IsAskFault, IsPassedFault, IsSignedFault, Issues, MeetsAsk, MeetsSigned, Passes, Settles}
 use Rattle.desk_decisions.specs.Room.{IsIssueFault}
 use Rattle.desk_laws.specs.Ordered.{IsOrdered}
-use Rattle.desk_parts.specs.AnswersAs.{AnswersAs, CarriesOutAs, IssuesAs, PassesAs, SettlesAs, changes_of}
+use Rattle.desk_parts.specs.AnswersAs.{AnswersAs, CarriesOutAs, IssuesAs, PassesAs, SettlesAs}
 use Rattle.desk_parts.proofs.Lists.{filtered_each}
 use Rattle.desk_laws.proofs.Basics.{each}
 use Rattle.desk_rules.specs.declared.fault.CoreFault.{CoreFault}
 use Rattle.desk_rules.specs.declared.fault.CoreFault.TheVariants as core
-
--- the changes of some entries, as the laws on parts have them
-as_changes : (m : ℕ) (B : Tables) (es : List Entry) → recorded_changes m B es ≡ changes_of m B es
-as_changes m B [] = refl
-as_changes m B (e ∷ es) = refl
 
 -- moments that have texts in all rows have them in those of a part
 texts_then : (m : ℕ) (T P : Tables) (v : Verdict) → CarriesOutAs m T P v → HasTexts (effects m (swept m T) (entries_of v)) → HasTexts (effects m (swept m P) (entries_of v))
@@ -56,7 +49,7 @@ settles_whole m k T a changes reply ordered alike met =
     let v : Verdict = office_verdict (swept m T) a in
     let h : Settles m (restricted k T) v changes reply = subst (λ x. Settles m (restricted k T) x changes reply) alike.judged met in
     record {
-      recorded = λ whole. h.recorded ordered ∙ as_changes m (restricted k T) (entries_of v) ∙ alike.records ∙ sym (as_changes m T (entries_of v));
+      recorded = λ whole. h.recorded ordered ∙ alike.records;
       replies = λ whole texts. h.replies ordered (texts_then m T (restricted k T) v alike.verdict texts) ∙ alike.verdict.shows false;
     }
 

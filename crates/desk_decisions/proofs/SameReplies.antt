@@ -7,12 +7,12 @@ use Rattle.desk_model.specs.Decide.{entries_of, verdict_reply}
 use Rattle.desk_model.specs.Entry.{entry_of}
 use Rattle.desk_model.specs.declared.entry.Entry.{Entry}
 use Rattle.desk_model.specs.declared.entry.Entry.TheVariants.{Issued as issued, Opened as opened, Ordered as ordered, Spent as spent}
-use Rattle.desk_model.specs.declared.rows.Meta.{Meta}
+use Rattle.desk_model.specs.declared.rows.Counters.{Counters}
 use Rattle.desk_model.specs.declared.verdict.Verdict.{Verdict}
 use Rattle.desk_model.specs.declared.verdict.Verdict.TheVariants.{Refused as refused, Answers as answers, Opens as opens, Orders as orders, Moves as moves}
 use Rattle.desk_laws.proofs.Plain.{issued_effect, spent_effect}
 use Rattle.desk_decisions.specs.SameRows.{SameRows}
-use Rattle.desk_changes.proofs.QuietEntries.{issued_meta, spent_meta}
+use Rattle.desk_changes.proofs.QuietEntries.{issued_counters, spent_counters}
 use Rattle.desk_decisions.proofs.SameVerdicts.{same_beside}
 
 -- ---- what an entry does
@@ -26,10 +26,10 @@ entry_same m T U e h =
       orders = ap (λ X. (effect m X e).orders) (same_beside T U h);
       policy = ap (λ X. (effect m X e).meta.policy) (same_beside T U h);
       clock = refl;
-      last_accounts = ap (λ X. (effect m X e).meta.accounts) (same_beside T U h);
-      last_orders = ap (λ X. (effect m X e).meta.orders) (same_beside T U h);
-      last_authorizations = ap (λ X. (effect m X e).meta.authorizations) (same_beside T U h);
-      last_challenges = ap (λ X. (effect m X e).meta.challenges) (same_beside T U h);
+      last_accounts = ap (λ X. (effect m X e).meta.counters.accounts) (same_beside T U h);
+      last_orders = ap (λ X. (effect m X e).meta.counters.orders) (same_beside T U h);
+      last_authorizations = ap (λ X. (effect m X e).meta.counters.authorizations) (same_beside T U h);
+      last_challenges = ap (λ X. (effect m X e).meta.counters.challenges) (same_beside T U h);
     }
 
 -- so does what a verdict records
@@ -59,19 +59,19 @@ effects-append m T (e ∷ es) fs = effects-append m (effect m T e) es fs
 
 -- a nonce that is spent and one that is issued set the clock and leave each row but the nonces'
 pub nonce_effects : (m : ℕ) (T : Tables) (serial : ℕ) (r : List ℕ) →
-    SameRows (effects m T (spent serial ∷ issued r ∷ [])) (record T { meta = record T.meta { clock = m } })
+    SameRows (effects m T (spent serial ∷ issued r ∷ [])) (record T { meta = record T.meta { counters = record T.meta.counters { clock = m } } })
 nonce_effects m T serial r =
     let first : Tables = effect m T (spent serial) in
-    let meta : (effect m first (issued r)).meta ≡ record T.meta { clock = m; nonces = first.meta.nonces + 1 } =
-    issued_meta m first r ∙ ap (λ (x : Meta). record x { clock = m; nonces = first.meta.nonces + 1 }) (spent_meta m T serial) in
+    let counters : (effect m first (issued r)).meta.counters ≡ record T.meta.counters { clock = m; nonces = first.meta.counters.nonces + 1 } =
+    issued_counters m first r ∙ ap (λ (x : Counters). record x { clock = m; nonces = first.meta.counters.nonces + 1 }) (spent_counters m T serial) in
     record {
       accounts = ap (λ (X : Tables). X.accounts) (issued_effect m first r) ∙ ap (λ (X : Tables). X.accounts) (spent_effect m T serial);
       authorizations = ap (λ (X : Tables). X.authorizations) (issued_effect m first r) ∙ ap (λ (X : Tables). X.authorizations) (spent_effect m T serial);
       orders = ap (λ (X : Tables). X.orders) (issued_effect m first r) ∙ ap (λ (X : Tables). X.orders) (spent_effect m T serial);
-      policy = ap (λ (x : Meta). x.policy) meta;
-      clock = ap (λ (x : Meta). x.clock) meta;
-      last_accounts = ap (λ (x : Meta). x.accounts) meta;
-      last_orders = ap (λ (x : Meta). x.orders) meta;
-      last_authorizations = ap (λ (x : Meta). x.authorizations) meta;
-      last_challenges = ap (λ (x : Meta). x.challenges) meta;
+      policy = refl;
+      clock = ap (λ (x : Counters). x.clock) counters;
+      last_accounts = ap (λ (x : Counters). x.accounts) counters;
+      last_orders = ap (λ (x : Counters). x.orders) counters;
+      last_authorizations = ap (λ (x : Counters). x.authorizations) counters;
+      last_challenges = ap (λ (x : Counters). x.challenges) counters;
     }

@@ -7,7 +7,7 @@ use Rattle.desk_decisions.specs.SameRows.{SameRows}
 
 -- the tables with the nonces of others
 abbrev pub nonces_from : Tables → Tables → Tables
-nonces_from U T = record T { nonces = U.nonces; meta = record T.meta { nonces = U.meta.nonces } }
+nonces_from U T = record T { nonces = U.nonces; meta = record T.meta { counters = record T.meta.counters { nonces = U.meta.counters.nonces } } }
 
 -- with the same nonces, tables with the same rows are the same
 pub same_beside : (T U : Tables) → SameRows T U → nonces_from U T ≡ U
@@ -16,13 +16,15 @@ same_beside T U h =
       accounts = h.accounts i;
       authorizations = h.authorizations i;
       orders = h.orders i;
-      meta = record U.meta {
+      meta = record {
         policy = h.policy i;
-        clock = h.clock i;
-        accounts = h.last_accounts i;
-        orders = h.last_orders i;
-        authorizations = h.last_authorizations i;
-        challenges = h.last_challenges i;
+        counters = record U.meta.counters {
+          clock = h.clock i;
+          accounts = h.last_accounts i;
+          orders = h.last_orders i;
+          authorizations = h.last_authorizations i;
+          challenges = h.last_challenges i;
+        };
       };
     }
 

@@ -1,21 +1,42 @@
 -- The moments of rows that are found have texts.
-use Rattle.std.proofs.Common.{◌≡◌, ℕ, ◌≤◌, Option, Some, ◌∙◌, sym}
-use Rattle.std.specs.Prelude.{◌==◌}
+use Rattle.std.proofs.Common.{◌≡◌, ℕ, ◌≤◌, List, Option, Some, None, IfSome, Result, Ok, Err, IfOk, ◌∙◌, ap, refl, subst, sym}
+use Rattle.std.specs.Prelude.{◌==◌, find, Bool}
 use Rattle.desk_laws.proofs.Finds.{each_found}
+use Rattle.desk_model.specs.Kept.{EachOf}
 use Rattle.desk_model.specs.Limits.{last_end}
 use Rattle.desk_model.specs.Effect.{has_row}
 use Rattle.desk_model.specs.Questions.{authorization_on, order_on, owner_on}
+use Rattle.desk_model.specs.Shown.{shown}
 use Rattle.desk_model.specs.Tables.{Tables}
-use Rattle.desk_model.specs.declared.rows.AuthorizationRow.{AuthorizationRow}
-use Rattle.desk_model.specs.declared.rows.OrderRow.{OrderRow}
+use Rattle.desk_model.specs.declared.reply.Reply.{Reply}
 use Rattle.desk_replies.specs.Shown.{HasMoments}
 use Rattle.desk_decisions.specs.HasTexts.{HasTexts}
 
-pub order_text : (T : Tables) (n : ℕ) (found : Option OrderRow) (row : OrderRow) → HasTexts T → found ≡ Some row → found ≡ order_on T n → row.expires ≤ last_end
-order_text T n found row texts is looked = each_found (λ o. o.expires ≤ last_end) (λ o. o.number == n) T.orders row texts.orders (sym looked ∙ is)
+-- what holds of each item holds of the one that is found
+found_has : {X : Type 0} (P : X → Type 0) (test : X → Bool) (xs : List X) → EachOf P xs → IfSome (find test xs) P
+found_has {X} P test xs h = by (find test xs) refl
+  where
+    by : (o : Option X) → find test xs ≡ o → IfSome o P
+    by None is = tt
+    by (Some x) is = each_found P test xs x h is
 
-pub authorization_text : (T : Tables) (n : ℕ) (found : Option AuthorizationRow) (row : AuthorizationRow) → HasTexts T → found ≡ Some row → found ≡ authorization_on T n → HasMoments row
-authorization_text T n found row texts is looked = each_found HasMoments (λ a. a.number == n) T.authorizations row texts.authorizations (sym looked ∙ is)
+-- so the order that is found ends at a moment with a text
+pub order_ends : (T : Tables) (n : ℕ) → HasTexts T → IfSome (order_on T n) (λ o. o.expires ≤ last_end)
+order_ends T n texts = found_has (λ o. o.expires ≤ last_end) (λ o. o.number == n) T.orders texts.orders
 
-pub owner_text : (T : Tables) (n : ℕ) (found : Option AuthorizationRow) (row : AuthorizationRow) → HasTexts T → found ≡ Some row → found ≡ owner_on T n → HasMoments row
-owner_text T n found row texts is looked = each_found HasMoments (has_row n) T.authorizations row texts.authorizations (sym looked ∙ is)
+-- and the authorization that is found has such moments
+pub authorization_moments : (T : Tables) (n : ℕ) → HasTexts T → IfSome (authorization_on T n) HasMoments
+authorization_moments T n texts = found_has HasMoments (λ a. a.number == n) T.authorizations texts.authorizations
+
+-- and the one that a challenge is of
+pub owner_moments : (T : Tables) (n : ℕ) → HasTexts T → IfSome (owner_on T n) HasMoments
+owner_moments T n texts = found_has HasMoments (has_row n) T.authorizations texts.authorizations
+
+-- what follows of what is given
+pub ok_so : {X E : Type 0} {P Q : X → Type 0} (r : Result X E) → ((x : X) → P x → Q x) → IfOk r P → IfOk r Q
+ok_so (Ok x) f h = f x h
+ok_so (Err e) f h = tt
+
+-- what is shown of one that is found is shown of what was looked for
+pub shown_found : {X : Type 0} (f : X → Reply) (P : X → Type 0) (found on : Option X) (r : Reply) → found ≡ on → IfSome on P → (IfSome found P → r ≡ shown f found) → r ≡ shown f on
+shown_found f P found on r is h said = said (subst (λ o. IfSome o P) (sym is) h) ∙ ap (shown f) is

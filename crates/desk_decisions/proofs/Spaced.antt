@@ -1,10 +1,10 @@
 -- The tokens that verdicts take: one for each challenge of a new order, and none else.
 use Rattle.std.proofs.Common.{◌≡◌, ◌≤◌, ◌+◌, ◌*◌, ℕ, length, List, [], ◌∷◌, Bool, not, drop, Option, Some, None, Result, Ok, Err, refl, arith}
-use Rattle.std.specs.Prelude.{nat_le}
+use Rattle.std.specs.Prelude.{◌&&◌, nat_le}
 use Rattle.desk_model.specs.declared.refusal.Refusal.{Refusal}
 use Rattle.desk_model.specs.declared.refusal.Refusal.TheVariants as refusal
 use Rattle.desk_model.specs.Account.{is_valid as is_valid_account}
-use Rattle.desk_model.specs.Authorization.{kinds_of}
+use Rattle.desk_model.specs.Authorization.{kinds_of, is_live, is_pending}
 use Rattle.desk_model.specs.Contact.{contacts_fault}
 use Rattle.desk_model.specs.Decide.{entries_of}
 use Rattle.desk_model.specs.Legal.{has_length, is_pending_challenge, is_problem, is_processing_challenge}
@@ -16,7 +16,7 @@ use Rattle.desk_model.specs.Run.{count_pieces}
 use Rattle.desk_model.specs.Tables.{Tables}
 use Rattle.desk_model.specs.Kept.{EachOf}
 use Rattle.desk_model.specs.Verdict.{check, given, unless_fault, choose}
-use Rattle.desk_model.specs.Rules.{open_account, new_account_verdict, account_verdict, kept, names_in, wanted, order_of, new_order_verdict, subproblems, csr_in, finalize_verdict, is_endable, authorization_verdict, stands_open, challenge_verdict, target_verdict, holder_verdict, key_verdict, signed_verdict, outcome_verdict, report_verdict, certify_verdict, fail_verdict, revoke_authorization, revoke_account, office_verdict}
+use Rattle.desk_model.specs.Rules.{open_account, new_account_verdict, account_verdict, kept, names_in, wanted, order_of, new_order_verdict, subproblems, csr_in, finalize_verdict, authorization_verdict, stands_open, challenge_verdict, target_verdict, holder_verdict, key_verdict, signed_verdict, outcome_verdict, report_verdict, certify_verdict, fail_verdict, revoke_authorization, revoke_account, office_verdict}
 use Rattle.desk_model.specs.declared.call.Ask.{Ask}
 use Rattle.desk_model.specs.declared.call.Ask.TheVariants as ask
 use Rattle.desk_model.specs.declared.call.BadKey.{BadKey}
@@ -41,7 +41,7 @@ use Rattle.desk_model.specs.declared.reply.Subproblem.{Subproblem}
 use Rattle.desk_model.specs.declared.rows.AccountRow.{AccountRow}
 use Rattle.desk_model.specs.declared.rows.AuthorizationRow.{AuthorizationRow}
 use Rattle.desk_model.specs.declared.rows.ChallengeRow.{ChallengeRow}
-use Rattle.desk_model.specs.declared.rows.Meta.{Meta}
+use Rattle.desk_model.specs.declared.rows.Counters.{Counters}
 use Rattle.desk_model.specs.declared.rows.OrderRow.{OrderRow}
 use Rattle.desk_model.specs.declared.verdict.Verdict.{Verdict}
 use Rattle.desk_model.specs.declared.verdict.Verdict.TheVariants.{Refused as refused, Answers as answers, Opens as opens, Orders as orders, Moves as moves}
@@ -106,7 +106,7 @@ finalize_spaced n o text = check_keeps IsSpaced (is_ready o.status) refusal.Orde
 -- an authorization that is ended
 authorization_spaced : (n : ℕ) (a : AuthorizationRow) (p : AuthorizationChange) → IsSpaced (authorization_verdict n a p)
 authorization_spaced n a authz_change.Read = tt
-authorization_spaced n a authz_change.Deactivate = choose_keeps IsSpaced (is_endable a) _ _ tt tt
+authorization_spaced n a authz_change.Deactivate = choose_keeps IsSpaced (is_live a.status) _ _ tt tt
 
 -- a challenge that is answered
 challenge_spaced : (n : ℕ) (a : AuthorizationRow) (p : ChallengeChange) → IsSpaced (challenge_verdict n a p)
@@ -151,9 +151,9 @@ IsQuiet (orders account wanted) = ⊥
 IsQuiet _ = Unit {0}
 
 -- a report on a challenge
-outcome_quiet : (n : ℕ) (a : AuthorizationRow) (c : ChallengeRow) (outcome : Outcome) → IsQuiet (outcome_verdict n a c outcome)
+outcome_quiet : (n : ℕ) (a : AuthorizationRow) (c : ChallengeRow) (outcome : Outcome) → IsQuiet (outcome_verdict n a.status c outcome)
 outcome_quiet n a c outcome =
-    choose_keeps IsQuiet _ _ _ tt (check_keeps IsQuiet (stands_open (λ c. is_processing_challenge c.status) a n) refusal.Conflict _ tt tt)
+    choose_keeps IsQuiet _ _ _ tt (check_keeps IsQuiet (is_pending a.status && is_processing_challenge c.status) refusal.Conflict _ tt tt)
 
 -- a report
 report_quiet : (T : Tables) (n : ℕ) (finding : Finding) → IsQuiet (report_verdict T n finding)
@@ -173,7 +173,7 @@ fail_quiet n problem o =
 
 -- the operator takes back an authorization
 revoke_authorization_quiet : (n : ℕ) (a : AuthorizationRow) → IsQuiet (revoke_authorization n a)
-revoke_authorization_quiet n a = choose_keeps IsQuiet _ _ _ tt (check_keeps IsQuiet (is_endable a) refusal.Conflict _ tt tt)
+revoke_authorization_quiet n a = choose_keeps IsQuiet _ _ _ tt (check_keeps IsQuiet (is_live a.status) refusal.Conflict _ tt tt)
 
 -- the operator ends an account
 revoke_account_quiet : (n : ℕ) (a : AccountRow) → IsQuiet (revoke_account n a)
@@ -202,12 +202,12 @@ quiet_spaced (orders account wanted) h = absurd h
 quiet_spaced (moves move) h = tt
 
 -- no numbers
-quiet_numbers : (M : Meta) (v : Verdict) → IsQuiet v → NumbersLeft M v
-quiet_numbers M (refused why ss) h = tt
-quiet_numbers M (answers what) h = tt
-quiet_numbers M (opens key contacts) h = absurd h
-quiet_numbers M (orders account wanted) h = absurd h
-quiet_numbers M (moves move) h = tt
+quiet_numbers : (C : Counters) (v : Verdict) → IsQuiet v → NumbersLeft C v
+quiet_numbers C (refused why ss) h = tt
+quiet_numbers C (answers what) h = tt
+quiet_numbers C (opens key contacts) h = absurd h
+quiet_numbers C (orders account wanted) h = absurd h
+quiet_numbers C (moves move) h = tt
 
 -- a move takes no random bytes
 no_pieces : (v : Move) → count_pieces (entry_of v ∷ []) ≡ 0
@@ -233,8 +233,8 @@ pub office_spaced : (T : Tables) (a : Ask) → IsSpaced (office_verdict T a)
 office_spaced T a = quiet_spaced (office_verdict T a) (office_quiet T a)
 
 -- no numbers
-pub no_numbers : (M : Meta) (a : Ask) (T : Tables) → NumbersLeft M (office_verdict T a)
-no_numbers M a T = quiet_numbers M (office_verdict T a) (office_quiet T a)
+pub no_numbers : (C : Counters) (a : Ask) (T : Tables) → NumbersLeft C (office_verdict T a)
+no_numbers C a T = quiet_numbers C (office_verdict T a) (office_quiet T a)
 
 -- and no random bytes
 pub no_bytes : (a : Ask) (T : Tables) → count_pieces (entries_of (office_verdict T a)) ≡ 0

@@ -4,13 +4,12 @@ use Rattle.desk_model.specs.Entry.{History}
 use Rattle.desk_model.specs.History.{moment_of}
 use Rattle.desk_model.specs.Legal.{Legal}
 use Rattle.desk_model.specs.Tables.{picture}
-use Rattle.desk_model.specs.Change.{applied}
+use Rattle.desk_model.specs.Change.{applied, recorded_changes}
 use Rattle.desk_model.specs.Decide.{decide, after}
 use Rattle.desk_model.specs.Run.{fault}
 use Rattle.desk_model.specs.declared.call.Call.{Call}
 use Rattle.desk_model.specs.declared.reply.Reply.{Reply}
 use Rattle.desk_model.specs.declared.rows.Change.{Change}
-use Rattle.desk_changes.specs.Recorded.{recorded_changes}
 use Rattle.desk_laws.specs.News.{AreKept, AreNewChildren, AreNews}
 use Rattle.desk_rules.specs.declared.fault.CoreFault.{CoreFault}
 use Rattle.desk_rules.specs.declared.fault.CoreFault.TheVariants as core

@@ -1,5 +1,6 @@
 -- What the deciding code answers, by the rows of the book.
 use Rattle.std.specs.Prelude.{ℕ, ◌+◌, ◌*◌, ◌≡◌, ◌<◌, ◌≤◌, ◌⊎◌, List, [], ◌∷◌, ◌++◌, length, take, drop, true, false, Option, Some, None}
+use Rattle.desk_model.specs.Change.{recorded_changes}
 use Rattle.desk_model.specs.Limits.{last_number}
 use Rattle.desk_model.specs.Tables.{Tables}
 use Rattle.desk_model.specs.Effect.{effects, swept}
@@ -18,7 +19,6 @@ use Rattle.desk_model.specs.declared.refusal.Refusal.TheVariants as refusal
 use Rattle.desk_laws.specs.Ordered.{IsOrdered}
 use Rattle.desk_decisions.specs.HasTexts.{HasTexts}
 use Rattle.desk_rules.specs.Needs.{BytesLeft, NumbersLeft, NumbersSpent}
-use Rattle.desk_changes.specs.Recorded.{recorded_changes}
 use Rattle.desk_decisions.specs.Room.{IsIssueFault}
 use Rattle.desk_rules.specs.declared.fault.CoreFault.{CoreFault}
 use Rattle.desk_rules.specs.declared.fault.CoreFault.TheVariants as fault
@@ -27,15 +27,15 @@ use Rattle.desk_rules.specs.declared.fault.CoreFault.TheVariants as fault
 pub record Issues (m : ℕ) (B : Tables) (random : List ℕ) (answer : Reply) (changes : List Change) (reply : Reply) : Type 0 where
   pub recorded : changes ≡ recorded_changes m B (issued (take 16 random) ∷ [])
   pub replies : reply ≡ with_nonce (fresh_nonce B random) answer
-  pub nonces : B.meta.nonces < last_number
+  pub nonces : B.meta.counters.nonces < last_number
   pub bytes : 16 ≤ length random
 
 -- a nonce is spent, one is issued, and the verdict is carried out
 pub record Passes (m : ℕ) (B : Tables) (random : List ℕ) (serial : ℕ) (v : Verdict) (changes : List Change) (reply : Reply) : Type 0 where
   pub recorded : IsOrdered B → changes ≡ recorded_changes m B (nonce_entries serial random ++ entries_of v)
   pub replies : IsOrdered B → HasTexts (effects m (swept m B) (entries_of v)) → reply ≡ with_nonce (fresh_nonce B random) (verdict_reply true (effects m (swept m B) (entries_of v)) v)
-  pub nonces : B.meta.nonces < last_number
-  pub numbers : NumbersLeft B.meta v
+  pub nonces : B.meta.counters.nonces < last_number
+  pub numbers : NumbersLeft B.meta.counters v
   pub tokens : BytesLeft random v
   pub bytes : 16 ≤ length random
 
@@ -68,8 +68,8 @@ IsShort random _ = ⊥
 -- why a request whose nonce was open is not answered
 abbrev pub IsPassedFault : Tables → List ℕ → Verdict → CoreFault → Type 0
 IsPassedFault B random v fault.Memory = Unit {0}
-IsPassedFault B random v fault.Full = NumbersSpent B.meta v ⊎ (last_number ≤ B.meta.nonces)
-IsPassedFault B random v fault.ShortRandom = (B.meta.nonces < last_number) × NumbersLeft B.meta v × (length random < 16 * (1 + count_pieces (entries_of v)))
+IsPassedFault B random v fault.Full = NumbersSpent B.meta.counters v ⊎ (last_number ≤ B.meta.counters.nonces)
+IsPassedFault B random v fault.ShortRandom = (B.meta.counters.nonces < last_number) × NumbersLeft B.meta.counters v × (length random < 16 * (1 + count_pieces (entries_of v)))
 IsPassedFault B random v fault.Moment = ⊥
 
 abbrev pub IsSignedFault : ℕ → Tables → List ℕ → Signed → Option ℕ → CoreFault → Type 0

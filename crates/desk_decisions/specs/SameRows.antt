@@ -8,8 +8,8 @@ pub record SameRows (T U : Tables) : Type 0 where
   pub authorizations : T.authorizations ≡ U.authorizations
   pub orders : T.orders ≡ U.orders
   pub policy : T.meta.policy ≡ U.meta.policy
-  pub clock : T.meta.clock ≡ U.meta.clock
-  pub last_accounts : T.meta.accounts ≡ U.meta.accounts
-  pub last_orders : T.meta.orders ≡ U.meta.orders
-  pub last_authorizations : T.meta.authorizations ≡ U.meta.authorizations
-  pub last_challenges : T.meta.challenges ≡ U.meta.challenges
+  pub clock : T.meta.counters.clock ≡ U.meta.counters.clock
+  pub last_accounts : T.meta.counters.accounts ≡ U.meta.counters.accounts
+  pub last_orders : T.meta.counters.orders ≡ U.meta.counters.orders
+  pub last_authorizations : T.meta.counters.authorizations ≡ U.meta.counters.authorizations
+  pub last_challenges : T.meta.counters.challenges ≡ U.meta.counters.challenges

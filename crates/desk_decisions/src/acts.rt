@@ -12,10 +12,9 @@ ghost use Rattle.desk_model.specs.Shown.{located_order, made_account, made_order
 ghost use Rattle.desk_model.specs.Tables.{Tables};
 ghost use Rattle.desk_model.specs.declared.entry.Entry.{Entry as EntryOf};
 ghost use Rattle.desk_model.specs.declared.entry.Entry.TheVariants.{Opened as opened, Ordered as ordered};
-ghost use Rattle.desk_changes.specs.Acting.{IsAt};
 ghost use Rattle.desk_decisions.specs.HasTexts.{HasTexts};
 ghost use Rattle.desk_rules.specs.Needs.{NumbersLeft};
-ghost use Rattle.desk_changes.specs.Recorded.{IsRecorded, IsUntouched};
+ghost use Rattle.desk_changes.specs.Recorded.{IsAt, IsRecorded, IsUntouched};
 
 use crate::showing::{show, show_moved};
 use desk_book::Book;
@@ -32,14 +31,13 @@ fn act_on_rows(
     moved: &Move,
 ) -> Result<Reply, AllocError>
     ensures recorded { OnOk result ((m : ℕ) (es : List EntryOf) → IsUntouched m book.now es
-        → IsRecorded m book.now es recording.old.changes.items recording.old.meta
-        → IsRecorded m book.now (es ++ entry_of moved.now ∷ []) recording.new.changes.items recording.new.meta) }
-    ensures reply { IfOk result (λ r. (let T : Tables = effects recording.old.meta.clock (swept recording.old.meta.clock book.now) (entry_of moved.now ∷ []) in
+        → IsRecorded m book.now es recording.old.changes.items recording.old.counters
+        → IsRecorded m book.now (es ++ entry_of moved.now ∷ []) recording.new.changes.items recording.new.counters) }
+    ensures reply { IfOk result (λ r. (let T : Tables = effects recording.old.counters.clock (swept recording.old.counters.clock book.now) (entry_of moved.now ∷ []) in
         HasTexts T → r ≡ moved_reply T moved.now)) }
 {
-    let moment = recording.meta.clock.moment();
-    recording.shift(alloc, book, moved)?;
-    let reply = show_moved(alloc, book, moment, moved)?;
+    let rows = recording.shift(alloc, book, moved)?;
+    let reply = show_moved(alloc, book, moved, rows)?;
     Ok(reply)
 }
 
@@ -51,11 +49,11 @@ fn act_on_account(
     key: Jwk,
     contacts: Sequence<Text>,
 ) -> Result<Reply, AllocError>
-    requires { recording.old.meta.accounts < last_number }
+    requires { recording.old.counters.accounts < last_number }
     ensures recorded { OnOk result ((m : ℕ) (es : List EntryOf)
-        → IsRecorded m book.now es recording.old.changes.items recording.old.meta
-        → IsRecorded m book.now (es ++ opened key contacts ∷ []) recording.new.changes.items recording.new.meta) }
-    ensures reply { IfOk result (λ r. (m : ℕ) → IsAt m book.now recording.old.meta → IsOrdered book.now
+        → IsRecorded m book.now es recording.old.changes.items recording.old.counters
+        → IsRecorded m book.now (es ++ opened key contacts ∷ []) recording.new.changes.items recording.new.counters) }
+    ensures reply { IfOk result (λ r. (m : ℕ) → IsAt m book.now recording.old.counters → IsOrdered book.now
         → r ≡ made_account (effects m (swept m book.now) (opened key contacts ∷ []))) }
 {
     let row = recording.open(key, contacts)?;
@@ -98,18 +96,19 @@ fn act_on_order(
     account: u64,
     wanted: &[Wanted],
 ) -> Result<Reply, AllocError>
-    requires orders { recording.old.meta.orders < last_number }
-    requires authorizations { recording.old.meta.authorizations + length wanted.now ≤ last_number }
-    requires challenges { recording.old.meta.challenges + count_tokens wanted.now ≤ last_number }
+    requires orders { recording.old.counters.orders < last_number }
+    requires authorizations { recording.old.counters.authorizations + length wanted.now ≤ last_number }
+    requires challenges { recording.old.counters.challenges + count_tokens wanted.now ≤ last_number }
     ensures recorded { OnOk result ((m : ℕ) (es : List EntryOf) → IsOrdered book.now → IsUntouched m book.now es
-        → IsRecorded m book.now es recording.old.changes.items recording.old.meta
-        → IsRecorded m book.now (es ++ ordered account wanted.now ∷ []) recording.new.changes.items recording.new.meta) }
-    ensures reply { IfOk result (λ r. (m : ℕ) → IsAt m book.now recording.old.meta → IsOrdered book.now
+        → IsRecorded m book.now es recording.old.changes.items recording.old.counters
+        → IsRecorded m book.now (es ++ ordered account wanted.now ∷ []) recording.new.changes.items recording.new.counters) }
+    ensures reply { IfOk result (λ r. (m : ℕ) → IsAt m book.now recording.old.counters → IsOrdered book.now
         → HasTexts (effects m (swept m book.now) (ordered account wanted.now ∷ []))
         → r ≡ made_order (effects m (swept m book.now) (ordered account wanted.now ∷ []))) }
 {
-    let row = recording.order(alloc, account, wanted)?;
-    let reply = made_order_reply(alloc, &book.meta().policy, &row, wanted)?;
+    let policy = &book.meta().policy;
+    let row = recording.order(alloc, policy, account, wanted)?;
+    let reply = made_order_reply(alloc, policy, &row, wanted)?;
     Ok(reply)
 }
 
@@ -121,11 +120,11 @@ pub(crate) fn act(
     verdict: Verdict,
     index: bool,
 ) -> Result<Reply, AllocError>
-    requires numbers { NumbersLeft recording.old.meta verdict }
+    requires numbers { NumbersLeft recording.old.counters verdict }
     ensures recorded { OnOk result ((m : ℕ) (es : List EntryOf) → IsOrdered book.now → IsUntouched m book.now es
-        → IsRecorded m book.now es recording.old.changes.items recording.old.meta
-        → IsRecorded m book.now (es ++ entries_of verdict) recording.new.changes.items recording.new.meta) }
-    ensures reply { IfOk result (λ r. (m : ℕ) → IsAt m book.now recording.old.meta → IsOrdered book.now
+        → IsRecorded m book.now es recording.old.changes.items recording.old.counters
+        → IsRecorded m book.now (es ++ entries_of verdict) recording.new.changes.items recording.new.counters) }
+    ensures reply { IfOk result (λ r. (m : ℕ) → IsAt m book.now recording.old.counters → IsOrdered book.now
         → HasTexts (effects m (swept m book.now) (entries_of verdict))
         → r ≡ verdict_reply index (effects m (swept m book.now) (entries_of verdict)) verdict) }
 {
@@ -134,7 +133,7 @@ pub(crate) fn act(
             refusal,
             subproblems,
         } => Ok(refusal_reply(refusal, subproblems, index)),
-        Verdict::Answers(shows) => show(alloc, book, recording.meta.clock.moment(), shows),
+        Verdict::Answers(shows) => show(alloc, book, recording.counters.clock.moment(), shows),
         Verdict::Opens(key, contacts) => act_on_account(alloc, book, recording, key, contacts),
         Verdict::Orders(account, wanted) => {
             let reply = act_on_order(alloc, book, recording, account, wanted.as_slice())?;

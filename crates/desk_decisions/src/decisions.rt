@@ -5,7 +5,7 @@ ghost use Rattle.desk_model.specs.Effect.{effects, swept};
 ghost use Rattle.desk_model.specs.Limits.{last_moment, last_number};
 ghost use Rattle.desk_model.specs.Rules.{office_verdict, open_nonce, signed_verdict as verdict_of};
 ghost use Rattle.desk_laws.specs.Ordered.{IsOrdered};
-ghost use Rattle.desk_model.specs.Change.{all_changes, sweep_changes};
+ghost use Rattle.desk_model.specs.Change.{recorded_changes};
 ghost use Rattle.desk_rules.specs.declared.fault.CoreFault.TheVariants.{Memory};
 ghost use Rattle.desk_model.specs.Shown.{fresh_nonce, with_nonce};
 ghost use Rattle.desk_model.specs.declared.entry.Entry.TheVariants.{Issued as issued_entry, Spent as spent_entry};
@@ -14,13 +14,12 @@ ghost use Rattle.desk_model.specs.Entry.{History};
 ghost use Rattle.desk_model.specs.Legal.{Legal};
 ghost use Rattle.desk_model.specs.Tables.{picture};
 ghost use Rattle.desk_model.specs.Tokens.{nonce_text};
-ghost use Rattle.desk_changes.specs.Acting.{IsAt};
 ghost use Rattle.desk_decisions.specs.HasTexts.{HasTexts};
 ghost use Rattle.desk_decisions.specs.Decided.{IsDecision, IsFaultOf};
 ghost use Rattle.desk_parts.specs.IsPart.{IsPartFor};
 ghost use Rattle.desk_rules.specs.Needs.{BytesLeft, IsNeedFault, NumbersLeft};
 ghost use Rattle.desk_decisions.specs.Outcomes.{IsAskFault, IsLater, IsPassedFault, IsShort, IsSignedFault, MeetsAsk, MeetsSigned, Passes, Settles};
-ghost use Rattle.desk_changes.specs.Recorded.{IsRecorded, IsUntouched, recorded_changes};
+ghost use Rattle.desk_changes.specs.Recorded.{IsAt, IsRecorded, IsUntouched};
 ghost use Rattle.desk_decisions.specs.Room.{IsIssueFault};
 
 use crate::acts::act;
@@ -38,7 +37,7 @@ use swept_rows::At;
 /// What a call does: the changes that it makes, none where nothing is recorded, and the reply.
 #[derive(Drop)]
 pub struct Outcome {
-    /// In their order: the sweep's, then those of each entry.
+    /// In their order: the sweep's, then those of each entry, and the meta row.
     pub changes: Vec<Change>,
     /// What is given once the changes are made.
     pub reply: Reply,
@@ -47,10 +46,10 @@ pub struct Outcome {
 // The random bytes of the nonce that a call issues.
 fn fresh_random(book: &Book, random: &[u8]) -> Result<[u8; 16], CoreFault>
     ensures { MatchResult result
-        (λ r. (r ≡ take 16 random.now) × (book.now.meta.nonces < last_number) × (16 ≤ length random.now))
+        (λ r. (r ≡ take 16 random.now) × (book.now.meta.counters.nonces < last_number) × (16 ≤ length random.now))
         (λ e. IsIssueFault book.now random.now e) }
 {
-    has_room(book.meta().nonces)?;
+    has_room(book.meta().counters.nonces)?;
     first_random(random)
 }
 
@@ -62,12 +61,12 @@ fn issue(
     random: [u8; 16],
 ) -> Result<Vec<Change>, AllocError>
     requires moment { moment ≤ last_moment }
-    requires nonces { book.now.meta.nonces < last_number }
+    requires nonces { book.now.meta.counters.nonces < last_number }
     ensures { IfOk result (λ v. v.items ≡ recorded_changes moment book.now (issued_entry random ∷ [])) }
 {
     let mut recording = Recording::begin(alloc, book, moment)?;
     recording.issue(random)?;
-    Ok(recording.changes)
+    recording.finish(&book.meta().policy)
 }
 
 // Issues a nonce and nothing else, with this reply.
@@ -81,12 +80,12 @@ fn issued(
     requires { moment ≤ last_moment }
     ensures changes { IfOk result (λ o. o.changes.items ≡ recorded_changes moment book.now (issued_entry (take 16 random.now) ∷ [])) }
     ensures reply { IfOk result (λ o. o.reply ≡ with_nonce (fresh_nonce book.now random.now) reply) }
-    ensures room { IfOk result (λ _. (book.now.meta.nonces < last_number) × (16 ≤ length random.now)) }
+    ensures room { IfOk result (λ _. (book.now.meta.counters.nonces < last_number) × (16 ≤ length random.now)) }
     ensures fault { IfErr result (λ e. IsIssueFault book.now random.now e) }
 {
     let bytes = fresh_random(book, random)?;
     let changes = issue(alloc, book, moment, bytes)?;
-    let last = book.meta().nonces;
+    let last = book.meta().counters.nonces;
     let reply = with_nonce(alloc, last + 1, bytes, reply)?;
     Ok(Outcome { changes, reply })
 }
@@ -100,9 +99,9 @@ fn begin_signed(
     random: [u8; 16],
 ) -> Result<Recording, AllocError>
     requires moment { moment ≤ last_moment }
-    requires nonces { book.now.meta.nonces < last_number }
-    ensures recorded { IfOk result (λ r. IsRecorded moment book.now (spent_entry serial ∷ issued_entry random ∷ []) r.changes.items r.meta) }
-    ensures meta { IfOk result (λ r. r.meta ≡ record book.now.meta { clock = moment; nonces = book.now.meta.nonces + 1 }) }
+    requires nonces { book.now.meta.counters.nonces < last_number }
+    ensures recorded { IfOk result (λ r. IsRecorded moment book.now (spent_entry serial ∷ issued_entry random ∷ []) r.changes.items r.counters) }
+    ensures counters { IfOk result (λ r. r.counters ≡ record book.now.meta.counters { clock = moment; nonces = book.now.meta.counters.nonces + 1 }) }
 {
     let mut recording = Recording::begin(alloc, book, moment)?;
     recording.spend(serial)?;
@@ -118,17 +117,17 @@ fn act_with_nonce(
     verdict: Verdict,
     random: [u8; 16],
 ) -> Result<Reply, AllocError>
-    requires nonces { book.now.meta.nonces < last_number }
-    requires numbers { NumbersLeft recording.old.meta verdict }
+    requires nonces { book.now.meta.counters.nonces < last_number }
+    requires numbers { NumbersLeft recording.old.counters verdict }
     ensures recorded { OnOk result ((m : ℕ) (es : List EntryOf) → IsOrdered book.now → IsUntouched m book.now es
-        → IsRecorded m book.now es recording.old.changes.items recording.old.meta
-        → IsRecorded m book.now (es ++ entries_of verdict) recording.new.changes.items recording.new.meta) }
-    ensures reply { IfOk result (λ r. (m : ℕ) → IsAt m book.now recording.old.meta → IsOrdered book.now
+        → IsRecorded m book.now es recording.old.changes.items recording.old.counters
+        → IsRecorded m book.now (es ++ entries_of verdict) recording.new.changes.items recording.new.counters) }
+    ensures reply { IfOk result (λ r. (m : ℕ) → IsAt m book.now recording.old.counters → IsOrdered book.now
         → HasTexts (effects m (swept m book.now) (entries_of verdict))
-        → r ≡ with_nonce (nonce_text (book.now.meta.nonces + 1) random) (verdict_reply true (effects m (swept m book.now) (entries_of verdict)) verdict)) }
+        → r ≡ with_nonce (nonce_text (book.now.meta.counters.nonces + 1) random) (verdict_reply true (effects m (swept m book.now) (entries_of verdict)) verdict)) }
 {
     let reply = act(alloc, book, recording, verdict, true)?;
-    let reply = with_nonce(alloc, book.meta().nonces + 1, random, reply)?;
+    let reply = with_nonce(alloc, book.meta().counters.nonces + 1, random, reply)?;
     Ok(reply)
 }
 
@@ -142,8 +141,8 @@ fn passed(
     verdict: Verdict,
 ) -> Result<Outcome, CoreFault>
     requires moment { moment ≤ last_moment }
-    requires nonces { book.now.meta.nonces < last_number }
-    requires numbers { NumbersLeft book.now.meta verdict }
+    requires nonces { book.now.meta.counters.nonces < last_number }
+    requires numbers { NumbersLeft book.now.meta.counters verdict }
     ensures changes { IfOk result (λ o. IsOrdered book.now
         → o.changes.items ≡ recorded_changes moment book.now (nonce_entries serial random.now ++ entries_of verdict)) }
     ensures reply { IfOk result (λ o. IsOrdered book.now → HasTexts (effects moment (swept moment book.now) (entries_of verdict))
@@ -154,10 +153,8 @@ fn passed(
     let bytes = first_random(random)?;
     let mut recording = begin_signed(alloc, book, moment, serial, bytes)?;
     let reply = act_with_nonce(alloc, book, &mut recording, verdict, bytes)?;
-    Ok(Outcome {
-        changes: recording.changes,
-        reply,
-    })
+    let changes = recording.finish(&book.meta().policy)?;
+    Ok(Outcome { changes, reply })
 }
 
 // The verdict on a signed request at a moment.
@@ -169,7 +166,7 @@ fn signed_verdict(
     signed: &Signed,
 ) -> Result<Verdict, CoreFault>
     ensures { let asked = verdict_of (swept moment book.now) (drop 16 random.now) signed.now in
-        MatchResult result (λ v. (v ≡ asked) × NumbersLeft book.now.meta v × BytesLeft random.now v) (λ e. IsNeedFault book.now.meta random.now asked e) }
+        MatchResult result (λ v. (v ≡ asked) × NumbersLeft book.now.meta.counters v × BytesLeft random.now v) (λ e. IsNeedFault book.now.meta.counters random.now asked e) }
 {
     judge_signed(alloc, &At::new(book, moment), random, signed)
 }
@@ -189,7 +186,7 @@ fn spent(
         (λ o. Passes moment book.now random.now serial v o.changes.items o.reply)
         (λ e. IsPassedFault book.now random.now v e) }
 {
-    has_room(book.meta().nonces)?;
+    has_room(book.meta().counters.nonces)?;
     let verdict = signed_verdict(alloc, book, moment, random, signed)?;
     let outcome = passed(alloc, book, moment, random, serial, verdict)?;
     Ok(outcome)
@@ -227,18 +224,16 @@ fn recorded(
     verdict: Verdict,
 ) -> Result<Outcome, AllocError>
     requires moment { moment ≤ last_moment }
-    requires numbers { NumbersLeft book.now.meta verdict }
-    ensures changes { IfOk result (λ o. IsOrdered book.now
-        → o.changes.items ≡ sweep_changes moment book.now ++ all_changes moment (swept moment book.now) (entries_of verdict)) }
+    requires numbers { NumbersLeft book.now.meta.counters verdict }
+    ensures changes { IfOk result (λ o. IsOrdered book.now → (e : EntryOf) (es : List EntryOf) → entries_of verdict ≡ e ∷ es
+        → o.changes.items ≡ recorded_changes moment book.now (entries_of verdict)) }
     ensures reply { IfOk result (λ o. IsOrdered book.now → HasTexts (effects moment (swept moment book.now) (entries_of verdict))
         → o.reply ≡ verdict_reply false (effects moment (swept moment book.now) (entries_of verdict)) verdict) }
 {
     let mut recording = Recording::begin(alloc, book, moment)?;
     let reply = act(alloc, book, &mut recording, verdict, false)?;
-    Ok(Outcome {
-        changes: recording.changes,
-        reply,
-    })
+    let changes = recording.finish(&book.meta().policy)?;
+    Ok(Outcome { changes, reply })
 }
 
 // A reply to a request that records nothing.
@@ -255,7 +250,7 @@ fn unrecorded(alloc: Global, reply: Reply) -> Outcome
 // A request without a nonce, by the verdict on it.
 fn settled(alloc: Global, book: &Book, moment: u64, verdict: Verdict) -> Result<Outcome, AllocError>
     requires moment { moment ≤ last_moment }
-    requires numbers { NumbersLeft book.now.meta verdict }
+    requires numbers { NumbersLeft book.now.meta.counters verdict }
     ensures { IfOk result (λ o. Settles moment book.now verdict o.changes.items o.reply) }
 {
     match verdict {
@@ -332,6 +327,6 @@ pub fn decide(alloc: Global, book: &Book, call: &Call) -> Result<Outcome, CoreFa
         return Err(CoreFault::Moment);
     }
     keep_form(call);
-    let moment = call.at.max(book.meta().clock.moment());
+    let moment = call.at.max(book.meta().counters.clock.moment());
     decide_at(alloc, book, moment, call.random.as_slice(), &call.ask)
 }

@@ -23,7 +23,10 @@ abbrev pub FirstRows : Type 0
 FirstRows =
     picture with_account
     ≡ (record {
-      meta = record { policy = default_terms; clock = 0; nonces = 2; accounts = 1; orders = 0; authorizations = 0; challenges = 0 };
+      meta = record {
+        policy = default_terms;
+        counters = record { clock = 0; nonces = 2; accounts = 1; orders = 0; authorizations = 0; challenges = 0 };
+      };
       nonces = (record { serial = 2; random = zeros 16; issued = 0 }) ∷ [];
       accounts = (record { number = 1; key = first_key; contacts = codes "mailto:a@b.example" ∷ []; opened = 0; ended = None; status = account.Valid }) ∷ [];
       authorizations = [];

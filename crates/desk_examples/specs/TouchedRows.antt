@@ -71,7 +71,10 @@ abbrev pub Directory : Type 0
 Directory =
     touched client_rows (asked 2592001 0 ask.Directory)
     ≡ (record {
-      meta = record { policy = default_terms; clock = 0; nonces = 2; accounts = 2; orders = 4; authorizations = 5; challenges = 10 };
+      meta = record {
+        policy = default_terms;
+        counters = record { clock = 0; nonces = 2; accounts = 2; orders = 4; authorizations = 5; challenges = 10 };
+      };
       nonces = [];
       accounts = [];
       authorizations = [];
@@ -341,7 +344,7 @@ RequestAtEnd = Touches ending_rows (asked 604801 16 (signed second_key nonce_fou
 
 -- a call with an earlier moment acts at the clock
 abbrev pub EarlierMoment : Type 0
-EarlierMoment = Touches (record ending_rows { meta = record ending_rows.meta { clock = 604801 } }) (nonce_at 0) fallen_rows
+EarlierMoment = Touches (record ending_rows { meta = record ending_rows.meta { counters = record ending_rows.meta.counters { clock = 604801 } } }) (nonce_at 0) fallen_rows
 
 -- what has fallen falls no more
 abbrev pub FallenOnce : Type 0

@@ -1,6 +1,7 @@
 //! One request from a reader, and its reply to a writer.
-ghost use Rattle.std.specs.Prelude.{◌≡◌, IfOk, IfErr, MatchResult, OnOk, Bool, Ok};
+ghost use Rattle.std.specs.Prelude.{◌≡◌, ◌+◌, IfOk, IfErr, MatchResult, OnOk, Bool, Ok};
 ghost use Rattle.std.specs.Io.KnownBytes.{Appends};
+ghost use Rattle.desk_model.specs.Limits.{longest_body, longest_head};
 ghost use Rattle.http_requests.specs.Head.{TakesAtMost};
 ghost use Rattle.desk_http.specs.Serving.{Breaks, IsAnswer, LacksReply, LacksText, Responds, Says, Serves, Tells, call_of, index_for};
 
@@ -79,7 +80,7 @@ pub fn serve_one<R: Read, W: Write, K: Storage + Drop>(
     ensures failed { IfErr result (λ e.
         Breaks K.Storage.sight K.Storage.may_meet at random.now
         (R.remaining reader.old) (W.contents writer.old) (W.contents writer.new) desk.old desk.new e) }
-    ensures taken { TakesAtMost (R.remaining reader.old) (R.remaining reader.new) 147456 }
+    ensures taken { TakesAtMost (R.remaining reader.old) (R.remaining reader.new) (longest_head + longest_body) }
 {
     let Ok(heard) = read_call(alloc, reader) else {
         return Err(IoFault::Read);

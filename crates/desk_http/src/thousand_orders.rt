@@ -3,8 +3,8 @@ use desk_book::{Book, Table};
 use desk_loading::touched_book;
 use desk_model::{
     AccountRow, AccountStatus, Ask, AuthorizationRow, AuthzStatus, Call, ChallengeRow,
-    ChallengeStatus, Clock, DnsName, Jwk, Kind, Listed, Meta, OrderRow, OrderStatus, Policy,
-    Sequence, Signed, Target, Text,
+    ChallengeStatus, Clock, Counters, DnsName, Jwk, Kind, Listed, Meta, OrderRow, OrderStatus,
+    Policy, Sequence, Signed, Target, Text,
 };
 use std::alloc::Global;
 use std::process::Abort;
@@ -80,12 +80,14 @@ fn meta(rt: &impl Abort, alloc: Global) -> Result<Meta, Fail> {
     let policy = Policy::new(alloc, "https://ca.example", 3600, 604800, 2592000)?;
     Ok(Meta {
         policy: policy.expect(rt, "a policy"),
-        clock: Clock::at(0),
-        nonces: 0,
-        accounts: 1,
-        orders: ORDERS,
-        authorizations: ORDERS,
-        challenges: 2000,
+        counters: Counters {
+            clock: Clock::at(0),
+            nonces: 0,
+            accounts: 1,
+            orders: ORDERS,
+            authorizations: ORDERS,
+            challenges: 2000,
+        },
     })
 }
 

@@ -9,12 +9,13 @@ use Rattle.desk_model.specs.Order.{ordered_by}
 use Rattle.desk_model.specs.Tables.{Tables, picture}
 use Rattle.desk_model.specs.Derived.{numbers_of, restated_authorization, restated_order}
 use Rattle.desk_model.specs.Effect.{noted_account, noted_order, touches_account, touches_order, moved_account, moved_authorization, moved_order, fresh_account, fresh_authorization, fresh_order, not_spent, new_authorizations, authorizations_after, effect, effects, swept}
-use Rattle.desk_model.specs.Change.{all_changes, sweep_changes, applied}
+use Rattle.desk_model.specs.Change.{all_changes, recorded_changes, applied}
 use Rattle.desk_model.specs.Kept.{Kept, restricted, EachOf, IsClosed, CoversSweep}
 use Rattle.desk_model.specs.declared.entry.Entry.{Entry}
 use Rattle.desk_model.specs.declared.objects.Nonce.{Nonce}
 use Rattle.desk_model.specs.declared.rows.AccountRow.{AccountRow}
 use Rattle.desk_model.specs.declared.rows.AuthorizationRow.{AuthorizationRow}
+use Rattle.desk_model.specs.declared.rows.Change.TheVariants.{PutMeta}
 use Rattle.desk_model.specs.declared.rows.OrderRow.{OrderRow}
 use Rattle.desk_laws.specs.Ordered.{Ascends}
 use Rattle.desk_laws.specs.Parts.{FreshKept, CoversAll}
@@ -74,40 +75,40 @@ effect_part k T m e closed fresh =
       nonces = nonces_part i;
       accounts =
           part_on (λ (a : AccountRow). a.number) k.accounts (moved_account e m) (moved_account e m) T.accounts _
-          (map fresh_account (opened_by e m (T.meta.accounts + 1))) (account_number e m) (each_all _ T.accounts (λ a yes. refl)) refl
-          (up_kept (λ (a : AccountRow). a.number) k.accounts T.meta.accounts closed.new_accounts (T.meta.accounts + 1) (omega arith) _
-          (opened_up e m (T.meta.accounts + 1))) i;
+          (map fresh_account (opened_by e m (T.meta.counters.accounts + 1))) (account_number e m) (each_all _ T.accounts (λ a yes. refl)) refl
+          (up_kept (λ (a : AccountRow). a.number) k.accounts T.meta.counters.accounts closed.new_accounts (T.meta.counters.accounts + 1) (omega arith) _
+          (opened_up e m (T.meta.counters.accounts + 1))) i;
       authorizations =
           part_on (λ (a : AuthorizationRow). a.number) k.authorizations (moved_authorization e m) (moved_authorization e m) T.authorizations _
           (map (λ a. restated_authorization m (fresh_authorization a)) (new_authorizations T e m)) (moved_number e m)
           (each_all _ T.authorizations (λ a yes. refl)) refl
-          (up_kept (λ (a : AuthorizationRow). a.number) k.authorizations T.meta.authorizations closed.new_authorizations (T.meta.authorizations + 1)
-          (omega arith) _ (made_up e m T.meta.policy.authz_life (T.meta.authorizations + 1) (T.meta.challenges + 1))) i;
+          (up_kept (λ (a : AuthorizationRow). a.number) k.authorizations T.meta.counters.authorizations closed.new_authorizations (T.meta.counters.authorizations + 1)
+          (omega arith) _ (made_up e m T.meta.policy.authz_life (T.meta.counters.authorizations + 1) (T.meta.counters.challenges + 1))) i;
       orders =
           part_on (λ (o : OrderRow). o.number) k.orders (moved_order e m (restricted k T).authorizations (authorizations_after (restricted k T) e m))
           (moved_order e m T.authorizations (authorizations_after T e m)) T.orders
           (map (λ o. restated_order m (authorizations_after (restricted k T) e m) (fresh_order o))
-          (ordered_by e m T.meta.policy (new_authorizations T e m) (T.meta.orders + 1)))
+          (ordered_by e m T.meta.policy (new_authorizations T e m) (T.meta.counters.orders + 1)))
           (map (λ o. restated_order m (authorizations_after T e m) (fresh_order o))
-          (ordered_by e m T.meta.policy (new_authorizations T e m) (T.meta.orders + 1)))
+          (ordered_by e m T.meta.policy (new_authorizations T e m) (T.meta.counters.orders + 1)))
           (order_number e m T.authorizations (authorizations_after T e m))
           (each _ _ T.orders (λ o all yes.
           (λ j. cond (touches_same k T e o (all yes) j)
           (restated_same m (authorizations_after (restricted k T) e m) (authorizations_after T e m) (noted_order e m o)
           (kept_after k T e m (numbers_of o.listed) (all yes)) j) o)) closed.listed)
           (fresh_orders k T m e _ fresh)
-          (up_kept (λ (o : OrderRow). o.number) k.orders T.meta.orders closed.new_orders (T.meta.orders + 1) (omega arith) _
-          (ordered_up e m T.meta.policy (new_authorizations T e m) (T.meta.orders + 1) (authorizations_after T e m))) i;
+          (up_kept (λ (o : OrderRow). o.number) k.orders T.meta.counters.orders closed.new_orders (T.meta.counters.orders + 1) (omega arith) _
+          (ordered_up e m T.meta.policy (new_authorizations T e m) (T.meta.counters.orders + 1) (authorizations_after T e m))) i;
     }
   where
-    nonces_part : filter (not_spent e) (filter (λ n. k.nonces n.serial) T.nonces) ++ issued_by e m (T.meta.nonces + 1)
-        ≡ filter (λ n. k.nonces n.serial) (filter (not_spent e) T.nonces ++ issued_by e m (T.meta.nonces + 1))
+    nonces_part : filter (not_spent e) (filter (λ n. k.nonces n.serial) T.nonces) ++ issued_by e m (T.meta.counters.nonces + 1)
+        ≡ filter (λ n. k.nonces n.serial) (filter (not_spent e) T.nonces ++ issued_by e m (T.meta.counters.nonces + 1))
     nonces_part =
         (λ i. filters_swap (not_spent e) (λ n. k.nonces n.serial) T.nonces i
-        ++ sym (filter_all (λ n. k.nonces n.serial) (issued_by e m (T.meta.nonces + 1))
-        (up_kept (λ (n : Nonce). n.serial) k.nonces T.meta.nonces closed.new_nonces (T.meta.nonces + 1) (omega arith) _
-        (issued_up e m (T.meta.nonces + 1)))) i)
-        ∙ sym (filter-append (λ n. k.nonces n.serial) (filter (not_spent e) T.nonces) (issued_by e m (T.meta.nonces + 1)))
+        ++ sym (filter_all (λ n. k.nonces n.serial) (issued_by e m (T.meta.counters.nonces + 1))
+        (up_kept (λ (n : Nonce). n.serial) k.nonces T.meta.counters.nonces closed.new_nonces (T.meta.counters.nonces + 1) (omega arith) _
+        (issued_up e m (T.meta.counters.nonces + 1)))) i)
+        ∙ sym (filter-append (λ n. k.nonces n.serial) (filter (not_spent e) T.nonces) (issued_by e m (T.meta.counters.nonces + 1)))
 
 -- the part changes as the whole by entries in a row
 pub all_changes_local : (k : Kept) (m : ℕ) (T : Tables) (es : List Entry) → CoversAll k m T es →
@@ -123,13 +124,22 @@ pub effects_part : (k : Kept) (m : ℕ) (T : Tables) (es : List Entry) → Cover
 effects_part k m T [] h = refl
 effects_part k m T (e ∷ es) h = ap (λ P. effects m P es) (effect_part k T m e h.0 h.2) ∙ effects_part k m (effect m T e) es h.3
 
+-- a part records of some entries what the whole does
+pub recorded_local : (k : Kept) (T : Tables) (m : ℕ) (es : List Entry) → IsClosed k T → CoversSweep k T m →
+    CoversAll k m (swept m T) es → recorded_changes m (restricted k T) es ≡ recorded_changes m T es
+recorded_local k T m [] closed covers_sweep covers = refl
+recorded_local k T m (e ∷ es) closed covers_sweep covers =
+    let now = swept_part k T m closed in
+    let meta = ap (λ (P : Tables). P.meta) (ap (λ P. effects m P (e ∷ es)) now ∙ effects_part k m (swept m T) (e ∷ es) covers) in
+    λ i. sweep_changes_local k T m closed covers_sweep i
+    ++ ((ap (λ P. all_changes m P (e ∷ es)) now ∙ all_changes_local k m (swept m T) (e ∷ es) covers) i ++ PutMeta (meta i) ∷ [])
+
 -- what a part records makes, in the whole tables, those of the longer history
 pub part_recorded : (F : History) (k : Kept) (e : Entry) (es : List Entry) (m : ℕ) → clock F ≤ m → EachFollows (record_all m (e ∷ es) F) →
     IsClosed k (picture F) → CoversSweep k (picture F) m → CoversAll k m (swept m (picture F)) (e ∷ es) →
     (let P : Tables = restricted k (picture F) in
-    applied (sweep_changes m P ++ all_changes m (swept m P) (e ∷ es)) (picture F) ≡ picture (record_all m (e ∷ es) F))
+    applied (recorded_changes m P (e ∷ es)) (picture F) ≡ picture (record_all m (e ∷ es) F))
 part_recorded F k e es m le follows closed covers_sweep covers =
     let T : Tables = picture F in
-    (λ i. applied (sweep_changes_local k T m closed covers_sweep i
-    ++ (ap (λ P. all_changes m P (e ∷ es)) (swept_part k T m closed) ∙ all_changes_local k m (swept m T) (e ∷ es) covers) i) T)
+    ap (λ cs. applied cs T) (recorded_local k T m (e ∷ es) closed covers_sweep covers)
     ∙ recorded F e es m le follows

@@ -1,5 +1,5 @@
 -- What every legal history keeps.
-use Rattle.std.proofs.Common.{◌≡◌, ◌≢◌, ◌≤◌, ℕ, ◌+◌, ◌^◌, List, [], ◌∷◌, length, map, filter, Option, Some, None, refl, ap, ◌∙◌, subst, true, false, Bool, cond, arith}
+use Rattle.std.proofs.Common.{◌≡◌, ◌≢◌, ◌≤◌, ℕ, ◌+◌, List, [], ◌∷◌, length, map, filter, Option, Some, None, refl, ap, ◌∙◌, subst, true, false, Bool, cond, arith}
 use Rattle.std.specs.Prelude.{◌==◌, ◌&&◌, nat_le, IsTrue, find, is_none, is_some, bytes_eq}
 use Rattle.std.specs.List.{list_all}
 use Rattle.std.proofs.lemmas.Bool.{leb-true, le-leb, eqb-true, and_parts, and_from}
@@ -104,7 +104,7 @@ row_keys_differ F h t = distinct-map (λ a. a.key) (account_row F) (accounts F) 
 -- ---- counters
 
 -- where the numbers fit, so do the counters
-pub counters_fit : (F : History) → IsTrue (numbers_fit F) → (t : ℕ) → CountersFit (tables_at F t).meta
+pub counters_fit : (F : History) → IsTrue (numbers_fit F) → (t : ℕ) → CountersFit (tables_at F t).meta.counters
 counters_fit F h t =
     let limit : ℕ = last_number in
     let p = and_parts (nat_le (length (nonces F)) limit) _ h in
@@ -120,7 +120,7 @@ counters_fit F h t =
     }
 
 -- where the counters fit, so do the numbers
-pub numbers_fit_counters : (F : History) (t : ℕ) → CountersFit (tables_at F t).meta → IsTrue (numbers_fit F)
+pub numbers_fit_counters : (F : History) (t : ℕ) → CountersFit (tables_at F t).meta.counters → IsTrue (numbers_fit F)
 numbers_fit_counters F t h =
     let limit : ℕ = last_number in
     and_from _ _ (le-leb (length (nonces F)) limit h.nonces)

@@ -9,7 +9,7 @@ use Rattle.desk_model.specs.Authorization.{is_over, is_valid}
 use Rattle.desk_model.specs.Order.{ordered_by, order_status_by}
 use Rattle.desk_model.specs.Tables.{Tables}
 use Rattle.desk_model.specs.Derived.{numbers_of, authorization_numbered, stored_statuses, and_status, restated_authorization, restated_order}
-use Rattle.desk_model.specs.Effect.{noted_account, noted_authorization, noted_order, touches_account, touches_authorization, touches_order, names_order, lists_one, moved_authorization, fresh_account, fresh_authorization, fresh_order, new_authorizations, authorizations_after, effect, lasts, swept, swept_authorization, swept_order, is_overdue, falls, is_live_order}
+use Rattle.desk_model.specs.Effect.{noted_account, noted_authorization, noted_order, touches_account, touches_authorization, touches_order, names_order, lists_one, moved_authorization, fresh_account, fresh_authorization, fresh_order, new_authorizations, authorizations_after, lasts, swept, swept_authorization, swept_order, is_overdue, falls, is_live_order}
 use Rattle.desk_model.specs.Change.{moved_rows, account_differs, authorization_differs, order_differs, spent_by, nonces_put, accounts_put, authorizations_put, changes, sweep_changes, nonces_gone, authorizations_expired, orders_fallen}
 use Rattle.desk_model.specs.Kept.{Kept, restricted, EachOf, IsClosed, Covers, CoversSweep}
 use Rattle.desk_model.specs.declared.status.AuthzStatus.TheVariants as authz
@@ -19,7 +19,7 @@ use Rattle.desk_model.specs.declared.objects.Nonce.{Nonce}
 use Rattle.desk_model.specs.declared.objects.Order.{Order}
 use Rattle.desk_model.specs.declared.rows.AccountRow.{AccountRow}
 use Rattle.desk_model.specs.declared.rows.AuthorizationRow.{AuthorizationRow}
-use Rattle.desk_model.specs.declared.rows.Change.TheVariants.{PutMeta, PutNonce, RemoveNonce, PutAccount, PutAuthorization, PutOrder}
+use Rattle.desk_model.specs.declared.rows.Change.TheVariants.{PutNonce, RemoveNonce, PutAccount, PutAuthorization, PutOrder}
 use Rattle.desk_model.specs.declared.rows.OrderRow.{OrderRow}
 use Rattle.desk_laws.specs.Parts.{FreshKept}
 use Rattle.desk_laws.proofs.Basics.{each, each_all}
@@ -172,7 +172,7 @@ sweep_changes_local k T m closed covers =
     picked (λ (o : OrderRow). k.orders o.number) (falls m (restricted k T).authorizations) (falls m T.authorizations)
     (λ (r : OrderRow). record r { status = order.Invalid }) (λ (r : OrderRow). record r { status = order.Invalid }) T.orders
     (each _ _ T.orders (λ o all yes. (falls_same k T m o (all yes), refl)) closed.listed) covers.orders in
-    λ i. PutMeta (record T.meta { clock = m }) ∷ (map RemoveNonce (gone i) ++ (map PutAuthorization (expired i) ++ map PutOrder (fallen i)))
+    λ i. map RemoveNonce (gone i) ++ (map PutAuthorization (expired i) ++ map PutOrder (fallen i))
 
 -- ---- an entry
 
@@ -188,7 +188,7 @@ pub changes_local : (k : Kept) (T : Tables) (m : ℕ) (e : Entry) → IsClosed k
     FreshKept k T m e → changes m (restricted k T) e ≡ changes m T e
 changes_local k T m e closed covers fresh_kept =
     let accounts : accounts_put (restricted k T) e m ≡ accounts_put T e m =
-    ap (λ rows. rows ++ map fresh_account (opened_by e m (T.meta.accounts + 1)))
+    ap (λ rows. rows ++ map fresh_account (opened_by e m (T.meta.counters.accounts + 1)))
     (picked (λ (a : AccountRow). k.accounts a.number) (λ r. touches_account e r && account_differs r (noted_account e m r))
     (λ r. touches_account e r && account_differs r (noted_account e m r)) (noted_account e m) (noted_account e m) T.accounts
     (each_all _ T.accounts (λ a yes. (refl, refl)))
@@ -213,11 +213,10 @@ changes_local k T m e closed covers fresh_kept =
     let same = restated_same m after (authorizations_after T e m) (noted_order e m o) (kept_after k T e m (numbers_of o.listed) (all yes)) in
     ((λ i. touches_same k T e o (all yes) i && order_differs o (same i)), same)) closed.listed)
     (each _ _ T.orders (λ o f h. f (and_parts (touches_order e T.authorizations o) _ h).0) covers.orders) in
-    let new = news (ordered_by e m T.meta.policy (new_authorizations T e m) (T.meta.orders + 1)) fresh_kept in
-    λ i. PutMeta (effect m T e).meta
-    ∷ (map RemoveNonce (spent_by e) ++
+    let new = news (ordered_by e m T.meta.policy (new_authorizations T e m) (T.meta.counters.orders + 1)) fresh_kept in
+    λ i. map RemoveNonce (spent_by e) ++
     (map PutNonce (nonces_put T e m) ++
-    (map PutAccount (accounts i) ++ (map PutAuthorization (authorizations i) ++ map PutOrder (old i ++ new i)))))
+    (map PutAccount (accounts i) ++ (map PutAuthorization (authorizations i) ++ map PutOrder (old i ++ new i))))
   where
     news : (os : List Order) → EachOf (λ o. EachOf (λ n. k.authorizations n ≡ true) (numbers_of (fresh_order o).listed)) os →
         map (λ o. restated_order m (authorizations_after (restricted k T) e m) (fresh_order o)) os
@@ -269,7 +268,7 @@ swept_order_number m rows row = by (falls m rows row)
 pub swept_part : (k : Kept) (T : Tables) (m : ℕ) → IsClosed k T → swept m (restricted k T) ≡ restricted k (swept m T)
 swept_part k T m closed =
     λ i. record {
-      meta = record T.meta { clock = m };
+      meta = (swept m T).meta;
       nonces = filters_swap (lasts T.meta.policy m) (λ n. k.nonces n.serial) T.nonces i;
       accounts = filter (λ a. k.accounts a.number) T.accounts;
       authorizations =

@@ -9,8 +9,8 @@ use Rattle.desk_model.specs.Entry.{History}
 use Rattle.desk_model.specs.History.{clock, record_all}
 use Rattle.desk_model.specs.Legal.{EachFollows}
 use Rattle.desk_model.specs.Tables.{Tables, tables_at, picture}
-use Rattle.desk_model.specs.Effect.{has_row, swept}
-use Rattle.desk_model.specs.Change.{put, applied, applied_one, sweep_changes, all_changes}
+use Rattle.desk_model.specs.Effect.{has_row}
+use Rattle.desk_model.specs.Change.{put, applied, applied_one, recorded_changes}
 use Rattle.desk_model.specs.Kept.{EachOf}
 use Rattle.desk_model.specs.Questions.{authorization_on}
 use Rattle.desk_model.specs.declared.entry.Entry.{Entry}
@@ -150,8 +150,8 @@ kept_bring_new (c ∷ cs) T kept h =
 
 -- what a call records brings with each new row children that stand nowhere yet
 pub records_bring_new_children : (F : History) (e : Entry) (es : List Entry) (m : ℕ) → clock F ≤ m → EachFollows (record_all m (e ∷ es) F) →
-    AreNewChildren (picture F) (sweep_changes m (picture F) ++ all_changes m (swept m (picture F)) (e ∷ es))
+    AreNewChildren (picture F) (recorded_changes m (picture F) (e ∷ es))
 records_bring_new_children F e es m le h =
     let G : History = record_all m (e ∷ es) F in
-    (kept_bring_new (sweep_changes m (picture F) ++ all_changes m (swept m (picture F)) (e ∷ es)) (picture F) (records_keep F e es m le h)
+    (kept_bring_new (recorded_changes m (picture F) (e ∷ es)) (picture F) (records_keep F e es m le h)
     (subst ChallengesDiffer (sym (recorded F e es m le h)) (challenges_differ G (clock G)))).1

@@ -7,15 +7,16 @@ use Rattle.desk_model.specs.History.{clock, record_all}
 use Rattle.desk_model.specs.Legal.{EachFollows}
 use Rattle.desk_model.specs.Tables.{Tables, tables_at, picture}
 use Rattle.desk_model.specs.Derived.{restated_authorization, restated_order}
-use Rattle.desk_model.specs.Effect.{noted_account, noted_authorization, noted_order, touches_account, touches_authorization, touches_order, authorizations_after, new_authorizations, effect, swept, is_overdue, falls}
-use Rattle.desk_model.specs.Change.{put, remove, moved_rows, account_differs, authorization_differs, order_differs, applied, applied_one, spent_by, nonces_put, accounts_put, authorizations_put, orders_put, changes, nonces_gone, authorizations_expired, orders_fallen, sweep_changes, all_changes}
+use Rattle.desk_model.specs.Effect.{noted_account, noted_authorization, noted_order, touches_account, touches_authorization, touches_order, authorizations_after, new_authorizations, effect, effects, swept, is_overdue, falls}
+use Rattle.desk_model.specs.Change.{put, remove, moved_rows, account_differs, authorization_differs, order_differs, applied, applied_one, spent_by, nonces_put, accounts_put, authorizations_put, orders_put, changes, nonces_gone, authorizations_expired, orders_fallen, sweep_changes, all_changes, recorded_changes}
 use Rattle.desk_model.specs.Kept.{EachOf}
 use Rattle.desk_model.specs.declared.entry.Entry.{Entry}
 use Rattle.desk_model.specs.declared.objects.Nonce.{Nonce}
 use Rattle.desk_model.specs.declared.rows.AccountRow.{AccountRow}
 use Rattle.desk_model.specs.declared.rows.AuthorizationRow.{AuthorizationRow}
 use Rattle.desk_model.specs.declared.rows.Change.{Change}
-use Rattle.desk_model.specs.declared.rows.Change.TheVariants.{PutNonce, RemoveNonce, PutAccount, PutAuthorization, PutOrder}
+use Rattle.desk_model.specs.declared.rows.Change.TheVariants.{PutMeta, PutNonce, RemoveNonce, PutAccount, PutAuthorization, PutOrder}
+use Rattle.desk_model.specs.declared.rows.Meta.{Meta}
 use Rattle.desk_model.specs.declared.rows.OrderRow.{OrderRow}
 use Rattle.desk_model.specs.declared.status.AuthzStatus.TheVariants as authz
 use Rattle.desk_model.specs.declared.status.OrderStatus.TheVariants as order
@@ -135,62 +136,65 @@ news-append (c ∷ cs) ds T h k = (h.0, news-append cs ds (applied_one c T) h.1 
 
 -- ---- a sweep, an entry, and all of a record
 
--- the changes of a sweep
-sweep_news : (T : Tables) (m : ℕ) → IsOrdered T → AreNews T (sweep_changes m T)
-sweep_news T m h = (
-  tt,
-  removing (nonces_gone m T) _ (record T { meta = record T.meta { clock = m } })
-      (putting_authorizations 1 (authorizations_expired m T) _ _
-      (ascends_map (λ a. a.number) (λ a. a.number) (λ (r : AuthorizationRow). record r { status = authz.Expired }) (λ a. refl) 1 _
-      (ascends_filter (λ a. a.number) (is_overdue m) 1 T.authorizations h.authorizations.0))
-      (expired_differ T m h)
-      (putting_orders 1 (orders_fallen m T) _
-      (ascends_map (λ o. o.number) (λ o. o.number) (λ (r : OrderRow). record r { status = order.Invalid }) (λ o. refl) 1 _
-      (ascends_filter (λ o. o.number) (falls m T.authorizations) 1 T.orders h.orders.0))
-      (fallen_differ T m h))),
-)
+-- the changes of a sweep, beside any meta row
+sweep_news : (T : Tables) (m : ℕ) (M : Meta) → IsOrdered T → AreNews (record T { meta = M }) (sweep_changes m T)
+sweep_news T m M h =
+    removing (nonces_gone m T) _ (record T { meta = M })
+    (putting_authorizations 1 (authorizations_expired m T) _ _
+    (ascends_map (λ a. a.number) (λ a. a.number) (λ (r : AuthorizationRow). record r { status = authz.Expired }) (λ a. refl) 1 _
+    (ascends_filter (λ a. a.number) (is_overdue m) 1 T.authorizations h.authorizations.0))
+    (expired_differ T m h)
+    (putting_orders 1 (orders_fallen m T) _
+    (ascends_map (λ o. o.number) (λ o. o.number) (λ (r : OrderRow). record r { status = order.Invalid }) (λ o. refl) 1 _
+    (ascends_filter (λ o. o.number) (falls m T.authorizations) 1 T.orders h.orders.0))
+    (fallen_differ T m h)))
 
--- the changes of an entry
-entry_news : (T : Tables) (m : ℕ) (e : Entry) → IsOrdered T → AreNews T (changes m T e)
-entry_news T m e h = (
-  tt,
-  removing (spent_by e) _ (record T { meta = (effect m T e).meta })
-      (putting_nonces (T.meta.nonces + 1) (nonces_put T e m) _ _ (issued_up e m (T.meta.nonces + 1))
-      (nonces_differ T m e _ (below_removes (λ n. n.serial) (T.meta.nonces + 1) (spent_by e) T.nonces h.nonces.1))
-      (putting_accounts 1 (accounts_put T e m) _ _
-      (put_up (λ a. a.number) (touches_account e) account_differs (noted_account e m) (λ a. refl) T.meta.accounts T.accounts _ h.accounts
-      (opened_up e m (T.meta.accounts + 1)))
-      (accounts_differ T m e h)
-      (putting_authorizations 1 (authorizations_put T e m) _ _
-      (put_up (λ a. a.number) (touches_authorization e) authorization_differs (λ r. restated_authorization m (noted_authorization e m r)) (λ a. refl)
-      T.meta.authorizations T.authorizations _ h.authorizations
-      (made_up e m T.meta.policy.authz_life (T.meta.authorizations + 1) (T.meta.challenges + 1)))
-      (authorizations_differ T m e h)
-      (putting_orders 1 (orders_put T e m) _
-      (put_up (λ o. o.number) (touches_order e T.authorizations) order_differs
-      (λ r. restated_order m (authorizations_after T e m) (noted_order e m r)) (λ o. refl) T.meta.orders T.orders _ h.orders
-      (ordered_up e m T.meta.policy (new_authorizations T e m) (T.meta.orders + 1) (authorizations_after T e m)))
-      (orders_differ T m e h))))),
-)
+-- the changes of an entry, beside any meta row
+entry_news : (T : Tables) (m : ℕ) (e : Entry) (M : Meta) → IsOrdered T → AreNews (record T { meta = M }) (changes m T e)
+entry_news T m e M h =
+    removing (spent_by e) _ (record T { meta = M })
+    (putting_nonces (T.meta.counters.nonces + 1) (nonces_put T e m) _ _ (issued_up e m (T.meta.counters.nonces + 1))
+    (nonces_differ T m e _ (below_removes (λ n. n.serial) (T.meta.counters.nonces + 1) (spent_by e) T.nonces h.nonces.1))
+    (putting_accounts 1 (accounts_put T e m) _ _
+    (put_up (λ a. a.number) (touches_account e) account_differs (noted_account e m) (λ a. refl) T.meta.counters.accounts T.accounts _ h.accounts
+    (opened_up e m (T.meta.counters.accounts + 1)))
+    (accounts_differ T m e h)
+    (putting_authorizations 1 (authorizations_put T e m) _ _
+    (put_up (λ a. a.number) (touches_authorization e) authorization_differs (λ r. restated_authorization m (noted_authorization e m r)) (λ a. refl)
+    T.meta.counters.authorizations T.authorizations _ h.authorizations
+    (made_up e m T.meta.policy.authz_life (T.meta.counters.authorizations + 1) (T.meta.counters.challenges + 1)))
+    (authorizations_differ T m e h)
+    (putting_orders 1 (orders_put T e m) _
+    (put_up (λ o. o.number) (touches_order e T.authorizations) order_differs
+    (λ r. restated_order m (authorizations_after T e m) (noted_order e m r)) (λ o. refl) T.meta.counters.orders T.orders _ h.orders
+    (ordered_up e m T.meta.policy (new_authorizations T e m) (T.meta.counters.orders + 1) (authorizations_after T e m)))
+    (orders_differ T m e h)))))
 
--- the changes of entries in a row
-entries_news : (F : History) (m : ℕ) (es : List Entry) → EachFollows (record_all m es F) → AreNews (tables_at F m) (all_changes m (tables_at F m) es)
-entries_news F m [] h = tt
-entries_news F m (e ∷ es) h =
+-- the changes of entries in a row, beside any meta row
+entries_news : (F : History) (m : ℕ) (es : List Entry) (M : Meta) → EachFollows (record_all m es F) →
+    AreNews (record (tables_at F m) { meta = M }) (all_changes m (tables_at F m) es)
+entries_news F m [] M h = tt
+entries_news F m (e ∷ es) M h =
     let G : History = record { date = m; entry = e } ∷ F in
     let one : effect m (tables_at F m) e ≡ tables_at G m = sym (step F e m (follows_before m es G h)) in
-    let made : applied (changes m (tables_at F m) e) (tables_at F m) ≡ tables_at G m = changes_make (tables_at F m) m e (tables_ordered F m) ∙ one in
-    news-append (changes m (tables_at F m) e) (all_changes m (effect m (tables_at F m) e) es) (tables_at F m)
-    (entry_news (tables_at F m) m e (tables_ordered F m))
+    let made : applied (changes m (tables_at F m) e) (record (tables_at F m) { meta = M }) ≡ record (tables_at G m) { meta = M } =
+    changes_make (tables_at F m) m e M (tables_ordered F m) ∙ ap (λ (T : Tables). record T { meta = M }) one in
+    news-append (changes m (tables_at F m) e) (all_changes m (effect m (tables_at F m) e) es) (record (tables_at F m) { meta = M })
+    (entry_news (tables_at F m) m e M (tables_ordered F m))
     (subst (λ T. AreNews T (all_changes m (effect m (tables_at F m) e) es)) (sym made)
-    (subst (λ T. AreNews (tables_at G m) (all_changes m T es)) (sym one) (entries_news G m es h)))
+    (subst (λ T. AreNews (record (tables_at G m) { meta = M }) (all_changes m T es)) (sym one) (entries_news G m es M h)))
 
 -- what a call records puts news alone
 pub records_put_news : (F : History) (e : Entry) (es : List Entry) (m : ℕ) → clock F ≤ m → EachFollows (record_all m (e ∷ es) F) →
-    AreNews (picture F) (sweep_changes m (picture F) ++ all_changes m (swept m (picture F)) (e ∷ es))
+    AreNews (picture F) (recorded_changes m (picture F) (e ∷ es))
 records_put_news F e es m le h =
-    let now : swept m (picture F) ≡ tables_at F m = sym (sweep F (clock F) m le) in
-    news-append (sweep_changes m (picture F)) (all_changes m (swept m (picture F)) (e ∷ es)) (picture F)
-    (sweep_news (picture F) m (tables_ordered F (clock F)))
-    (subst (λ T. AreNews T (all_changes m (swept m (picture F)) (e ∷ es))) (sym (sweep_makes (picture F) m (tables_ordered F (clock F)) ∙ now))
-    (subst (λ T. AreNews (tables_at F m) (all_changes m T (e ∷ es))) (sym now) (entries_news F m (e ∷ es) h)))
+    let P : Tables = picture F in
+    let meta : Meta = (effects m (swept m P) (e ∷ es)).meta in
+    let now : swept m P ≡ tables_at F m = sym (sweep F (clock F) m le) in
+    let made : applied (sweep_changes m P) P ≡ record (tables_at F m) { meta = P.meta } =
+    sweep_makes P m P.meta (tables_ordered F (clock F)) ∙ ap (λ (T : Tables). record T { meta = P.meta }) now in
+    news-append (sweep_changes m P) (all_changes m (swept m P) (e ∷ es) ++ PutMeta meta ∷ []) P
+    (sweep_news P m P.meta (tables_ordered F (clock F)))
+    (subst (λ T. AreNews T (all_changes m (swept m P) (e ∷ es) ++ PutMeta meta ∷ [])) (sym made)
+    (news-append (all_changes m (swept m P) (e ∷ es)) (PutMeta meta ∷ []) (record (tables_at F m) { meta = P.meta })
+    (subst (λ T. AreNews (record (tables_at F m) { meta = P.meta }) (all_changes m T (e ∷ es))) (sym now) (entries_news F m (e ∷ es) P.meta h)) (tt, tt)))

@@ -6,12 +6,12 @@ use Rattle.std.specs.Option.{option_map}
 use Rattle.desk_model.specs.Entry.{History}
 use Rattle.desk_model.specs.History.{clock, terms, earlier}
 use Rattle.desk_model.specs.Lookup.{holds}
-use Rattle.desk_model.specs.Authorization.{authorizations, authorization, made_by, made_for, count_challenges, authorization_status, is_over, is_valid}
+use Rattle.desk_model.specs.Authorization.{authorizations, authorization, made_by, made_for, count_challenges, authorization_status, is_over, is_valid, is_live}
 use Rattle.desk_model.specs.Order.{orders, ordered_by, order_status, order_status_by, csr, certificate, failure, finalizing, certifying, failing, has_lost, all_valid}
 use Rattle.desk_model.specs.Legal.{EachFollows}
 use Rattle.desk_model.specs.Tables.{authorization_row, order_row, listed_from}
 use Rattle.desk_model.specs.Derived.{stored_statuses, and_status, authorization_numbered, numbers_of, restated_order}
-use Rattle.desk_model.specs.Effect.{noted_order, touches_authorization, names_order, lists_one, touches_order, moved_order, is_overdue, is_live, is_live_order, falls, swept_order}
+use Rattle.desk_model.specs.Effect.{noted_order, touches_authorization, names_order, lists_one, touches_order, moved_order, is_overdue, is_live_order, falls, swept_order}
 use Rattle.desk_model.specs.declared.status.AuthzStatus.{AuthzStatus}
 use Rattle.desk_model.specs.declared.status.AuthzStatus.TheVariants as authz
 use Rattle.desk_model.specs.declared.status.OrderStatus.{OrderStatus}

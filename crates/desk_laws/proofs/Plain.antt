@@ -123,10 +123,10 @@ fresh_kept k T m (ordered account ws) h =
     let made : List Authorization = new_authorizations T (ordered account ws) m in (
       subst (EachOf (λ n. k.authorizations n ≡ true)) (sym (numbers_listed 1 made))
           (each-map _ (λ (a : Authorization). a.number) made
-          (up_kept (λ (a : Authorization). a.number) k.authorizations T.meta.authorizations h.new_authorizations (T.meta.authorizations + 1)
+          (up_kept (λ (a : Authorization). a.number) k.authorizations T.meta.counters.authorizations h.new_authorizations (T.meta.counters.authorizations + 1)
           (omega arith) made
-          (numbered_ascends (λ a. a.number) (T.meta.authorizations + 1) made
-          (made_by_numbered (ordered account ws) m T.meta.policy.authz_life (T.meta.authorizations + 1) (T.meta.challenges + 1))))),
+          (numbered_ascends (λ a. a.number) (T.meta.counters.authorizations + 1) made
+          (made_by_numbered (ordered account ws) m T.meta.policy.authz_life (T.meta.counters.authorizations + 1) (T.meta.counters.challenges + 1))))),
       tt,
     )
 fresh_kept k T m _ h = tt

@@ -4,14 +4,15 @@ use Rattle.std.specs.Prelude.{IfSome, ◌==◌, ◌&&◌, find, unwrap_or}
 use Rattle.std.proofs.lemmas.Bool.{and_parts}
 use Rattle.desk_model.specs.Tables.{Tables}
 use Rattle.desk_model.specs.Derived.{restated_authorization, restated_order}
-use Rattle.desk_model.specs.Effect.{noted_challenge, answered_challenge, reported_challenge, effect, swept, noted_account, noted_authorization, noted_order, touches_account, touches_authorization, touches_order, new_authorizations, authorizations_after, is_live, is_live_order, is_overdue, falls}
+use Rattle.desk_model.specs.Authorization.{is_live}
+use Rattle.desk_model.specs.Effect.{noted_challenge, answered_challenge, reported_challenge, noted_account, noted_authorization, noted_order, touches_account, touches_authorization, touches_order, new_authorizations, authorizations_after, is_live_order, is_overdue, falls}
 use Rattle.desk_model.specs.Change.{moved_rows, account_differs, authorization_differs, order_differs, spent_by, nonces_put, accounts_put, authorizations_put, orders_put, changes, nonces_gone, authorizations_expired, orders_fallen, sweep_changes}
 use Rattle.desk_model.specs.Kept.{EachOf}
 use Rattle.desk_model.specs.declared.entry.Entry.{Entry}
 use Rattle.desk_model.specs.declared.entry.Entry.TheVariants.{Answered as answered, Reported as reported}
 use Rattle.desk_model.specs.declared.objects.Nonce.{Nonce}
 use Rattle.desk_model.specs.declared.rows.AuthorizationRow.{AuthorizationRow}
-use Rattle.desk_model.specs.declared.rows.Change.TheVariants.{PutMeta, PutNonce, RemoveNonce, PutAccount, PutAuthorization, PutOrder}
+use Rattle.desk_model.specs.declared.rows.Change.TheVariants.{PutNonce, RemoveNonce, PutAccount, PutAuthorization, PutOrder}
 use Rattle.desk_model.specs.declared.rows.OrderRow.{OrderRow}
 use Rattle.desk_model.specs.declared.status.AuthzStatus.TheVariants as authz
 use Rattle.desk_model.specs.declared.status.OrderStatus.TheVariants as order
@@ -117,92 +118,88 @@ challenge_numbers e m (c ∷ cs) = λ i. challenge_number e m c i ∷ challenge_
 -- ---- the changes of an entry
 
 -- what holds of each change of an entry
-pub each_change : (P : Change → Type 0) (T : Tables) (m : ℕ) (e : Entry) → P (PutMeta (effect m T e).meta) → EachOf (λ n. P (RemoveNonce n)) (spent_by e) →
+pub each_change : (P : Change → Type 0) (T : Tables) (m : ℕ) (e : Entry) → EachOf (λ n. P (RemoveNonce n)) (spent_by e) →
     EachOf (λ x. P (PutNonce x)) (nonces_put T e m) → EachOf (λ x. P (PutAccount x)) (accounts_put T e m) →
     EachOf (λ x. P (PutAuthorization x)) (authorizations_put T e m) → EachOf (λ x. P (PutOrder x)) (orders_put T e m) → EachOf P (changes m T e)
-each_change P T m e meta removed nonces accounts authorizations orders = (
-  meta,
-  each-append P (map RemoveNonce (spent_by e)) _ (each-map P RemoveNonce (spent_by e) removed)
-      (each-append P (map PutNonce (nonces_put T e m)) _ (each-map P PutNonce (nonces_put T e m) nonces)
-      (each-append P (map PutAccount (accounts_put T e m)) _ (each-map P PutAccount (accounts_put T e m) accounts)
-      (each-append P (map PutAuthorization (authorizations_put T e m)) _ (each-map P PutAuthorization (authorizations_put T e m) authorizations)
-      (each-map P PutOrder (orders_put T e m) orders)))),
-)
+each_change P T m e removed nonces accounts authorizations orders =
+    each-append P (map RemoveNonce (spent_by e)) _ (each-map P RemoveNonce (spent_by e) removed)
+    (each-append P (map PutNonce (nonces_put T e m)) _ (each-map P PutNonce (nonces_put T e m) nonces)
+    (each-append P (map PutAccount (accounts_put T e m)) _ (each-map P PutAccount (accounts_put T e m) accounts)
+    (each-append P (map PutAuthorization (authorizations_put T e m)) _ (each-map P PutAuthorization (authorizations_put T e m) authorizations)
+    (each-map P PutOrder (orders_put T e m) orders))))
 
 -- the nonces that an entry puts stand in no row yet
-pub nonces_differ : (T : Tables) (m : ℕ) (e : Entry) (rows : List Nonce) → Below (λ n. n.serial) (T.meta.nonces + 1) rows →
+pub nonces_differ : (T : Tables) (m : ℕ) (e : Entry) (rows : List Nonce) → Below (λ n. n.serial) (T.meta.counters.nonces + 1) rows →
     EachOf (λ x. find (λ n. n.serial == x.serial) rows ≢ Some x) (nonces_put T e m)
 nonces_differ T m e rows below =
-    each_fresh (λ n. n.serial) T.meta.nonces (T.meta.nonces + 1) rows _ (nowhere (λ n. n.serial) rows) (omega arith) below
-    (nonces_put T e m) (issued_up e m (T.meta.nonces + 1))
+    each_fresh (λ n. n.serial) T.meta.counters.nonces (T.meta.counters.nonces + 1) rows _ (nowhere (λ n. n.serial) rows) (omega arith) below
+    (nonces_put T e m) (issued_up e m (T.meta.counters.nonces + 1))
 
 -- the accounts that it puts are others than those that stand there
 pub accounts_differ : (T : Tables) (m : ℕ) (e : Entry) → IsOrdered T →
     EachOf (λ x. find (λ a. a.number == x.number) T.accounts ≢ Some x) (accounts_put T e m)
 accounts_differ T m e h =
-    each_put (λ a. a.number) (touches_account e) account_differs (noted_account e m) T.meta.accounts T.accounts _ _
+    each_put (λ a. a.number) (touches_account e) account_differs (noted_account e m) T.meta.counters.accounts T.accounts _ _
     (λ x d. another (λ a. a.number) T.accounts x (noted_account e m x) refl (others account_differs account_differs_not x (noted_account e m x) d))
-    (nowhere (λ a. a.number) T.accounts) h.accounts (opened_up e m (T.meta.accounts + 1))
+    (nowhere (λ a. a.number) T.accounts) h.accounts (opened_up e m (T.meta.counters.accounts + 1))
 
 -- and so the authorizations
 pub authorizations_differ : (T : Tables) (m : ℕ) (e : Entry) → IsOrdered T →
     EachOf (λ x. find (λ a. a.number == x.number) T.authorizations ≢ Some x) (authorizations_put T e m)
 authorizations_differ T m e h =
     each_put (λ a. a.number) (touches_authorization e) authorization_differs
-    (λ r. restated_authorization m (noted_authorization e m r)) T.meta.authorizations T.authorizations _ _
+    (λ r. restated_authorization m (noted_authorization e m r)) T.meta.counters.authorizations T.authorizations _ _
     (λ x d.
     let y : AuthorizationRow = restated_authorization m (noted_authorization e m x) in
     another (λ a. a.number) T.authorizations x y refl (others authorization_differs authorization_differs_not x y d))
     (nowhere (λ a. a.number) T.authorizations) h.authorizations
-    (made_up e m T.meta.policy.authz_life (T.meta.authorizations + 1) (T.meta.challenges + 1))
+    (made_up e m T.meta.policy.authz_life (T.meta.counters.authorizations + 1) (T.meta.counters.challenges + 1))
 
 -- and the orders
 pub orders_differ : (T : Tables) (m : ℕ) (e : Entry) → IsOrdered T →
     EachOf (λ x. find (λ o. o.number == x.number) T.orders ≢ Some x) (orders_put T e m)
 orders_differ T m e h =
     each_put (λ o. o.number) (touches_order e T.authorizations) order_differs
-    (λ r. restated_order m (authorizations_after T e m) (noted_order e m r)) T.meta.orders T.orders _ _
+    (λ r. restated_order m (authorizations_after T e m) (noted_order e m r)) T.meta.counters.orders T.orders _ _
     (λ x d.
     let y : OrderRow = restated_order m (authorizations_after T e m) (noted_order e m x) in
     another (λ o. o.number) T.orders x y refl (others order_differs order_differs_not x y d))
     (nowhere (λ o. o.number) T.orders) h.orders
-    (ordered_up e m T.meta.policy (new_authorizations T e m) (T.meta.orders + 1) (authorizations_after T e m))
+    (ordered_up e m T.meta.policy (new_authorizations T e m) (T.meta.counters.orders + 1) (authorizations_after T e m))
 
 -- what an entry puts differs from what stands there
 pub puts_differ : (T : Tables) (m : ℕ) (e : Entry) → IsOrdered T → EachOf (IsNews T) (changes m T e)
 puts_differ T m e h =
-    each_change (IsNews T) T m e tt (each_all _ (spent_by e) (λ n. tt)) (nonces_differ T m e T.nonces h.nonces.1) (accounts_differ T m e h) (authorizations_differ T m e h)
+    each_change (IsNews T) T m e (each_all _ (spent_by e) (λ n. tt)) (nonces_differ T m e T.nonces h.nonces.1) (accounts_differ T m e h) (authorizations_differ T m e h)
     (orders_differ T m e h)
 
 -- what an entry puts keeps the children of what stands there
 pub puts_keep_children : (T : Tables) (m : ℕ) (e : Entry) → IsOrdered T → EachOf (KeepsChildren T) (changes m T e)
 puts_keep_children T m e h =
-    each_change (KeepsChildren T) T m e tt (each_all _ (spent_by e) (λ n. tt)) (each_all _ (nonces_put T e m) (λ x. tt)) (each_all _ (accounts_put T e m) (λ x. tt))
+    each_change (KeepsChildren T) T m e (each_all _ (spent_by e) (λ n. tt)) (each_all _ (nonces_put T e m) (λ x. tt)) (each_all _ (accounts_put T e m) (λ x. tt))
     (each_put (λ a. a.number) (touches_authorization e) authorization_differs
-    (λ r. restated_authorization m (noted_authorization e m r)) T.meta.authorizations T.authorizations _ _
+    (λ r. restated_authorization m (noted_authorization e m r)) T.meta.counters.authorizations T.authorizations _ _
     (λ x d.
     let y : AuthorizationRow = restated_authorization m (noted_authorization e m x) in
     of_standing (λ a. a.number) T.authorizations x y _ refl (challenge_numbers e m x.challenges))
     (λ x. of_none (λ a. a.number) T.authorizations x _) h.authorizations
-    (made_up e m T.meta.policy.authz_life (T.meta.authorizations + 1) (T.meta.challenges + 1)))
+    (made_up e m T.meta.policy.authz_life (T.meta.counters.authorizations + 1) (T.meta.counters.challenges + 1)))
     (each_put (λ o. o.number) (touches_order e T.authorizations) order_differs
-    (λ r. restated_order m (authorizations_after T e m) (noted_order e m r)) T.meta.orders T.orders _ _
+    (λ r. restated_order m (authorizations_after T e m) (noted_order e m r)) T.meta.counters.orders T.orders _ _
     (λ x d. of_standing (λ o. o.number) T.orders x (restated_order m (authorizations_after T e m) (noted_order e m x)) _ refl refl)
     (λ x. of_none (λ o. o.number) T.orders x _) h.orders
-    (ordered_up e m T.meta.policy (new_authorizations T e m) (T.meta.orders + 1) (authorizations_after T e m)))
+    (ordered_up e m T.meta.policy (new_authorizations T e m) (T.meta.counters.orders + 1) (authorizations_after T e m)))
 
 -- ---- the changes of a sweep
 
 -- what holds of each change of a sweep
-pub each_sweep : (P : Change → Type 0) (T : Tables) (m : ℕ) → P (PutMeta (swept m T).meta) → EachOf (λ n. P (RemoveNonce n)) (nonces_gone m T) →
+pub each_sweep : (P : Change → Type 0) (T : Tables) (m : ℕ) → EachOf (λ n. P (RemoveNonce n)) (nonces_gone m T) →
     EachOf (λ x. P (PutAuthorization x)) (authorizations_expired m T) → EachOf (λ x. P (PutOrder x)) (orders_fallen m T) →
     EachOf P (sweep_changes m T)
-each_sweep P T m meta removed authorizations orders = (
-  meta,
-  each-append P (map RemoveNonce (nonces_gone m T)) _ (each-map P RemoveNonce (nonces_gone m T) removed)
-      (each-append P (map PutAuthorization (authorizations_expired m T)) _ (each-map P PutAuthorization (authorizations_expired m T) authorizations)
-      (each-map P PutOrder (orders_fallen m T) orders)),
-)
+each_sweep P T m removed authorizations orders =
+    each-append P (map RemoveNonce (nonces_gone m T)) _ (each-map P RemoveNonce (nonces_gone m T) removed)
+    (each-append P (map PutAuthorization (authorizations_expired m T)) _ (each-map P PutAuthorization (authorizations_expired m T) authorizations)
+    (each-map P PutOrder (orders_fallen m T) orders))
 
 -- an authorization that expires is another row
 expires : (m : ℕ) (row : AuthorizationRow) → is_overdue m row ≡ true → row ≢ record row { status = authz.Expired }
@@ -235,12 +232,12 @@ fallen_differ T m h =
 
 -- what a sweep puts differs from what stands there
 pub swept_puts_differ : (T : Tables) (m : ℕ) → IsOrdered T → EachOf (IsNews T) (sweep_changes m T)
-swept_puts_differ T m h = each_sweep (IsNews T) T m tt (each_all _ (nonces_gone m T) (λ n. tt)) (expired_differ T m h) (fallen_differ T m h)
+swept_puts_differ T m h = each_sweep (IsNews T) T m (each_all _ (nonces_gone m T) (λ n. tt)) (expired_differ T m h) (fallen_differ T m h)
 
 -- what a sweep puts keeps the children of what stands there
 pub swept_puts_keep_children : (T : Tables) (m : ℕ) → IsOrdered T → EachOf (KeepsChildren T) (sweep_changes m T)
 swept_puts_keep_children T m h =
-    each_sweep (KeepsChildren T) T m tt (each_all _ (nonces_gone m T) (λ n. tt))
+    each_sweep (KeepsChildren T) T m (each_all _ (nonces_gone m T) (λ n. tt))
     (each_moved (λ a. a.number) (is_overdue m) (λ (r : AuthorizationRow). record r { status = authz.Expired }) T.authorizations _
     (λ x picked. of_standing (λ a. a.number) T.authorizations x (record x { status = authz.Expired }) _ refl refl)
     T.authorizations (ascends_found (λ a. a.number) 1 T.authorizations h.authorizations.0))

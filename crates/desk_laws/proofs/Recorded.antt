@@ -12,8 +12,8 @@ use Rattle.desk_model.specs.Terms.{Terms}
 use Rattle.desk_model.specs.Legal.{EachFollows}
 use Rattle.desk_model.specs.Tables.{challenge_row, Tables, account_row, authorization_row, order_row, tables_at, picture}
 use Rattle.desk_model.specs.Derived.{restated_authorization, restated_order}
-use Rattle.desk_model.specs.Effect.{noted_account, noted_authorization, noted_order, touches_account, touches_authorization, touches_order, fresh_account, fresh_authorization, fresh_order, not_spent, new_authorizations, authorizations_after, effect, lasts, swept, is_overdue, falls}
-use Rattle.desk_model.specs.Change.{moved_rows, account_differs, authorization_differs, order_differs, applied_one, applied, spent_by, nonces_put, accounts_put, authorizations_put, orders_put, changes, sweep_changes, all_changes, nonces_gone, authorizations_expired, orders_fallen}
+use Rattle.desk_model.specs.Effect.{noted_account, noted_authorization, noted_order, touches_account, touches_authorization, touches_order, fresh_account, fresh_authorization, fresh_order, not_spent, new_authorizations, authorizations_after, effect, effects, lasts, swept, is_overdue, falls}
+use Rattle.desk_model.specs.Change.{moved_rows, account_differs, authorization_differs, order_differs, applied_one, applied, spent_by, nonces_put, accounts_put, authorizations_put, orders_put, changes, sweep_changes, all_changes, recorded_changes, nonces_gone, authorizations_expired, orders_fallen}
 use Rattle.desk_model.specs.declared.status.OrderStatus.TheVariants as order
 use Rattle.desk_model.specs.declared.status.AuthzStatus.TheVariants as authz
 use Rattle.desk_model.specs.declared.entry.Entry.{Entry}
@@ -23,7 +23,8 @@ use Rattle.desk_model.specs.declared.objects.Nonce.{Nonce}
 use Rattle.desk_model.specs.declared.rows.AccountRow.{AccountRow}
 use Rattle.desk_model.specs.declared.rows.AuthorizationRow.{AuthorizationRow}
 use Rattle.desk_model.specs.declared.rows.Change.{Change}
-use Rattle.desk_model.specs.declared.rows.Change.TheVariants.{PutNonce, RemoveNonce, PutAccount, PutAuthorization, PutOrder}
+use Rattle.desk_model.specs.declared.rows.Change.TheVariants.{PutMeta, PutNonce, RemoveNonce, PutAccount, PutAuthorization, PutOrder}
+use Rattle.desk_model.specs.declared.rows.Meta.{Meta}
 use Rattle.desk_model.specs.declared.rows.OrderRow.{OrderRow}
 use Rattle.desk_laws.proofs.Basics.{numbered-append, IsNumbered}
 use Rattle.desk_laws.specs.Ordered.{Ascends, Below, IsTable, IsOrdered}
@@ -31,7 +32,7 @@ use Rattle.desk_laws.proofs.RowLists.{puts, removes, numbered_ascends, ascends_m
 use Rattle.desk_laws.proofs.OrderFacts.{authorizations_numbered, made_by_numbered}
 use Rattle.desk_laws.proofs.Numbers.{AreNumbered, challenges_count, nonces_numbered, accounts_numbered, orders_numbered}
 use Rattle.desk_laws.proofs.Differing.{account_unmoved, authorization_unmoved, order_unmoved}
-use Rattle.desk_laws.proofs.Step.{clock_after, follows_before, step, sweep}
+use Rattle.desk_laws.proofs.Step.{clock_after, follows_before, picture_more, step, sweep}
 
 -- ---- changes of one table in a row
 
@@ -199,54 +200,54 @@ spent_removed _ rows = all_kept rows
 
 -- ---- the changes of an entry make its effect
 
--- the changes of an entry make its effect
-pub changes_make : (T : Tables) (m : ℕ) (e : Entry) → IsOrdered T → applied (changes m T e) T ≡ effect m T e
-changes_make T m e h =
-    removing (spent_by e) _ (record T { meta = (effect m T e).meta })
+-- the changes of an entry make its effect, beside any meta row
+pub changes_make : (T : Tables) (m : ℕ) (e : Entry) (M : Meta) → IsOrdered T → applied (changes m T e) (record T { meta = M }) ≡ record (effect m T e) { meta = M }
+changes_make T m e M h =
+    removing (spent_by e) _ (record T { meta = M })
     ∙ putting_nonces (nonces_put T e m) _ _
     ∙ putting_accounts (accounts_put T e m) _ _
     ∙ putting_authorizations (authorizations_put T e m) _ _
     ∙ putting_orders (orders_put T e m) (record {
-      meta = (effect m T e).meta;
+      meta = M;
       nonces = puts (λ n. n.serial) (nonces_put T e m) (removes (λ n. n.serial) (spent_by e) T.nonces);
       accounts = puts (λ n. n.number) (accounts_put T e m) T.accounts;
       authorizations = puts (λ n. n.number) (authorizations_put T e m) T.authorizations;
       orders = T.orders;
     })
     ∙ (λ i. record {
-      meta = (effect m T e).meta;
+      meta = M;
       nonces = nonces_all i;
       accounts =
           puts_all (λ a. a.number) (touches_account e) account_differs (noted_account e m) (λ a. refl)
-          (account_unmoved e m) T.meta.accounts T.accounts _ h.accounts (opened_up e m (T.meta.accounts + 1)) i;
+          (account_unmoved e m) T.meta.counters.accounts T.accounts _ h.accounts (opened_up e m (T.meta.counters.accounts + 1)) i;
       authorizations =
           puts_all (λ a. a.number) (touches_authorization e) authorization_differs (λ r. restated_authorization m (noted_authorization e m r))
-          (λ a. refl) (authorization_unmoved e m) T.meta.authorizations T.authorizations _ h.authorizations
-          (made_up e m T.meta.policy.authz_life (T.meta.authorizations + 1) (T.meta.challenges + 1)) i;
+          (λ a. refl) (authorization_unmoved e m) T.meta.counters.authorizations T.authorizations _ h.authorizations
+          (made_up e m T.meta.policy.authz_life (T.meta.counters.authorizations + 1) (T.meta.counters.challenges + 1)) i;
       orders =
           puts_all (λ o. o.number) (touches_order e T.authorizations) order_differs
           (λ r. restated_order m (authorizations_after T e m) (noted_order e m r)) (λ o. refl)
-          (order_unmoved e m (authorizations_after T e m)) T.meta.orders T.orders _ h.orders
-          (ordered_up e m T.meta.policy (new_authorizations T e m) (T.meta.orders + 1) (authorizations_after T e m)) i;
+          (order_unmoved e m (authorizations_after T e m)) T.meta.counters.orders T.orders _ h.orders
+          (ordered_up e m T.meta.policy (new_authorizations T e m) (T.meta.counters.orders + 1) (authorizations_after T e m)) i;
     })
   where
     nonces_all : puts (λ n. n.serial) (nonces_put T e m) (removes (λ n. n.serial) (spent_by e) T.nonces) ≡ filter (not_spent e) T.nonces
         ++ nonces_put T e m
     nonces_all =
         ap (puts (λ n. n.serial) (nonces_put T e m)) (spent_removed e T.nonces)
-        ∙ puts_last (λ n. n.serial) (T.meta.nonces + 1) (nonces_put T e m) (filter (not_spent e) T.nonces) (issued_up e m (T.meta.nonces + 1))
-        (below_filter (λ n. n.serial) (not_spent e) (T.meta.nonces + 1) T.nonces h.nonces.1)
+        ∙ puts_last (λ n. n.serial) (T.meta.counters.nonces + 1) (nonces_put T e m) (filter (not_spent e) T.nonces) (issued_up e m (T.meta.counters.nonces + 1))
+        (below_filter (λ n. n.serial) (not_spent e) (T.meta.counters.nonces + 1) T.nonces h.nonces.1)
 
--- the changes of a sweep make the swept tables
-pub sweep_makes : (T : Tables) (m : ℕ) → IsOrdered T → applied (sweep_changes m T) T ≡ swept m T
-sweep_makes T m h =
+-- the changes of a sweep make the swept tables, beside any meta row
+pub sweep_makes : (T : Tables) (m : ℕ) (M : Meta) → IsOrdered T → applied (sweep_changes m T) (record T { meta = M }) ≡ record (swept m T) { meta = M }
+sweep_makes T m M h =
     removing (nonces_gone m T) (map PutAuthorization (authorizations_expired m T) ++ map PutOrder (orders_fallen m T))
-    (record T { meta = record T.meta { clock = m } })
+    (record T { meta = M })
     ∙ putting_authorizations (authorizations_expired m T) (map PutOrder (orders_fallen m T))
-    (record T { meta = record T.meta { clock = m }; nonces = removes (λ n. n.serial) (nonces_gone m T) T.nonces })
+    (record T { meta = M; nonces = removes (λ n. n.serial) (nonces_gone m T) T.nonces })
     ∙ putting_orders (orders_fallen m T) _
     ∙ (λ i. record {
-      meta = record T.meta { clock = m };
+      meta = M;
       nonces = removes_filter (λ n. n.serial) (lasts T.meta.policy m) 1 T.nonces h.nonces.0 i;
       accounts = T.accounts;
       authorizations =
@@ -259,24 +260,31 @@ sweep_makes T m h =
 
 -- ---- the whole: from the picture of a history, what is recorded makes the picture of the longer one
 
--- the changes of entries in a row make the tables after them
-pub entries_make : (F : History) (m : ℕ) (es : List Entry) → EachFollows (record_all m es F) →
-    applied (all_changes m (tables_at F m) es) (tables_at F m) ≡ tables_at (record_all m es F) m
-entries_make F m [] h = refl
-entries_make F m (e ∷ es) h =
+-- the changes of entries in a row make the tables after them, beside any meta row
+pub entries_make : (F : History) (m : ℕ) (es : List Entry) (M : Meta) → EachFollows (record_all m es F) →
+    applied (all_changes m (tables_at F m) es) (record (tables_at F m) { meta = M }) ≡ record (tables_at (record_all m es F) m) { meta = M }
+entries_make F m [] M h = refl
+entries_make F m (e ∷ es) M h =
     let G : History = record { date = m; entry = e } ∷ F in
     let one : effect m (tables_at F m) e ≡ tables_at G m = sym (step F e m (follows_before m es G h)) in
-    applied-append (changes m (tables_at F m) e) (all_changes m (effect m (tables_at F m) e) es) (tables_at F m)
-    ∙ ap (applied (all_changes m (effect m (tables_at F m) e) es)) (changes_make (tables_at F m) m e (tables_ordered F m))
-    ∙ (λ i. applied (all_changes m (one i) es) (one i))
-    ∙ entries_make G m es h
+    applied-append (changes m (tables_at F m) e) (all_changes m (effect m (tables_at F m) e) es) (record (tables_at F m) { meta = M })
+    ∙ ap (applied (all_changes m (effect m (tables_at F m) e) es)) (changes_make (tables_at F m) m e M (tables_ordered F m))
+    ∙ (λ i. applied (all_changes m (one i) es) (record (one i) { meta = M }))
+    ∙ entries_make G m es M h
 
 -- what is recorded makes the picture of the longer history
 pub recorded : (F : History) (e : Entry) (es : List Entry) (m : ℕ) → clock F ≤ m → EachFollows (record_all m (e ∷ es) F) →
-    applied (sweep_changes m (picture F) ++ all_changes m (swept m (picture F)) (e ∷ es)) (picture F) ≡ picture (record_all m (e ∷ es) F)
+    applied (recorded_changes m (picture F) (e ∷ es)) (picture F) ≡ picture (record_all m (e ∷ es) F)
 recorded F e es m le h =
-    applied-append (sweep_changes m (picture F)) _ (picture F)
-    ∙ ap (applied (all_changes m (swept m (picture F)) (e ∷ es))) (sweep_makes (picture F) m (tables_ordered F (clock F)))
-    ∙ (λ i. applied (all_changes m (sym (sweep F (clock F) m le) i) (e ∷ es)) (sym (sweep F (clock F) m le) i))
-    ∙ entries_make F m (e ∷ es) h
-    ∙ ap (λ t. tables_at (record_all m (e ∷ es) F) t) (sym (clock_after m es (record { date = m; entry = e } ∷ F) (omega arith)))
+    let P : Tables = picture F in
+    let G : History = record_all m (e ∷ es) F in
+    let M : Meta = (effects m (swept m P) (e ∷ es)).meta in
+    let now : swept m P ≡ tables_at F m = sym (sweep F (clock F) m le) in
+    let grown : picture G ≡ effects m (swept m P) (e ∷ es) = picture_more F e es m le h in
+    let here : tables_at G m ≡ picture G = ap (tables_at G) (sym (clock_after m es (record { date = m; entry = e } ∷ F) (omega arith))) in
+    applied-append (sweep_changes m P) _ P
+    ∙ ap (applied (all_changes m (swept m P) (e ∷ es) ++ PutMeta M ∷ [])) (sweep_makes P m P.meta (tables_ordered F (clock F)))
+    ∙ applied-append (all_changes m (swept m P) (e ∷ es)) (PutMeta M ∷ []) (record (swept m P) { meta = P.meta })
+    ∙ (λ i. record (applied (all_changes m (now i) (e ∷ es)) (record (now i) { meta = P.meta })) { meta = M })
+    ∙ ap (λ (T : Tables). record T { meta = M }) (entries_make F m (e ∷ es) P.meta h)
+    ∙ (λ i. record (here i) { meta = sym (ap (λ (T : Tables). T.meta) grown) i })

@@ -6,11 +6,11 @@ use Rattle.std.proofs.lemmas.Bool.{leb-true, le-leb, ltb-true, lt-ltb, eqb-true,
 use Rattle.desk_model.specs.Entry.{History}
 use Rattle.desk_model.specs.History.{clock, first, earlier}
 use Rattle.desk_model.specs.Lookup.{holds}
-use Rattle.desk_model.specs.Authorization.{ends, in_time, authorization_end, authorization_status, authorization_status_by, when_proved, proving, reporting, when_answered, report, challenge_status, challenge_status_by, is_good, has_challenge, status_of, kind_of}
+use Rattle.desk_model.specs.Authorization.{ends, in_time, authorization_end, authorization_status, authorization_status_by, when_proved, proving, reporting, when_answered, report, challenge_status, challenge_status_by, is_good, has_challenge, status_of, kind_of, is_live}
 use Rattle.desk_model.specs.Legal.{may_follow, is_processing_challenge, EachFollows}
 use Rattle.desk_model.specs.Tables.{challenge_row, authorization_row}
 use Rattle.desk_model.specs.Derived.{is_proved, restated_authorization}
-use Rattle.desk_model.specs.Effect.{noted_challenge, answered_challenge, reported_challenge, noted_authorization, row_ends, has_row, touches_authorization, moved_authorization, is_live, is_overdue, swept_authorization}
+use Rattle.desk_model.specs.Effect.{noted_challenge, answered_challenge, reported_challenge, noted_authorization, row_ends, has_row, touches_authorization, moved_authorization, is_overdue, swept_authorization}
 use Rattle.desk_model.specs.declared.objects.EndKind.TheVariants as kind
 use Rattle.desk_model.specs.declared.status.AuthzStatus.TheVariants as authz
 use Rattle.desk_model.specs.declared.status.ChallengeStatus.TheVariants as chall

@@ -186,12 +186,14 @@ step F e m h =
     λ i. record {
       meta = record {
         policy = terms G;
-        clock = m;
-        nonces = length-append (nonces F) (issued_by e m (length (nonces F) + 1)) i;
-        accounts = length-append (accounts F) (opened_by e m (length (accounts F) + 1)) i;
-        orders = length-append (orders F) (ordered_now d F) i;
-        authorizations = length-append (authorizations F) (made_now d F) i;
-        challenges = count-append (authorizations F) (made_now d F) i;
+        counters = record {
+          clock = m;
+          nonces = length-append (nonces F) (issued_by e m (length (nonces F) + 1)) i;
+          accounts = length-append (accounts F) (opened_by e m (length (accounts F) + 1)) i;
+          orders = length-append (orders F) (ordered_now d F) i;
+          authorizations = length-append (authorizations F) (made_now d F) i;
+          challenges = count-append (authorizations F) (made_now d F) i;
+        };
       };
       nonces = nonces_on F e m h i;
       accounts = account_rows i;
@@ -223,12 +225,14 @@ sweep F t m le =
     λ i. record {
       meta = record {
         policy = terms F;
-        clock = m;
-        nonces = length (nonces F);
-        accounts = length (accounts F);
-        orders = length (orders F);
-        authorizations = length (authorizations F);
-        challenges = count_challenges (authorizations F);
+        counters = record {
+          clock = m;
+          nonces = length (nonces F);
+          accounts = length (accounts F);
+          orders = length (orders F);
+          authorizations = length (authorizations F);
+          challenges = count_challenges (authorizations F);
+        };
       };
       nonces = filter_twice (is_open F m) (is_open F t) (lasts (terms F) m) (nonces F) (later_open F t m le) i;
       accounts = map (account_row F) (accounts F);

@@ -1,15 +1,13 @@
 -- A part after the sweep: closed, and covering what it covered.
-use Rattle.std.proofs.Common.{◌≡◌, ℕ, List, [], ◌∷◌, map, Option, Some, None, refl, sym, ap, ◌∙◌, subst, true, false, Bool, cond, not}
-use Rattle.std.specs.Prelude.{nat_lt, ◌==◌, ◌&&◌, ◌||◌}
-use Rattle.std.specs.List.{list_any}
-use Rattle.std.proofs.lemmas.Bool.{eq-eqb, lt-ltb, and_from}
+use Rattle.std.proofs.Common.{◌≡◌, ℕ, List, [], ◌∷◌, map, Some, refl, sym, ap, ◌∙◌, subst, true, false, Bool, cond}
+use Rattle.std.specs.Prelude.{◌==◌, ◌||◌}
 use Rattle.desk_model.specs.declared.status.AuthzStatus.TheVariants as authz
 use Rattle.desk_model.specs.declared.status.OrderStatus.TheVariants as order
 use Rattle.desk_model.specs.Lookup.{holds}
 use Rattle.desk_model.specs.Tables.{Tables}
 use Rattle.desk_model.specs.Derived.{numbers_of, authorization_numbered}
-use Rattle.desk_model.specs.Effect.{touches_authorization, touches_order, names_order, lists_one, is_overdue, is_live_order, falls, lasts, swept, swept_authorization, swept_order}
-use Rattle.desk_model.specs.Kept.{Kept, EachOf, IsClosed, Covers, CoversSweep}
+use Rattle.desk_model.specs.Effect.{touches_authorization, touches_order, names_order, lists_one, is_overdue, falls, swept, swept_authorization, swept_order}
+use Rattle.desk_model.specs.Kept.{Kept, EachOf, IsClosed, Covers}
 use Rattle.desk_model.specs.declared.entry.Entry.{Entry}
 use Rattle.desk_model.specs.declared.entry.Entry.TheVariants.{Answered as answered, Reported as reported, AuthorizationEnded as authorization_ended, AccountEnded as account_ended}
 use Rattle.desk_model.specs.declared.rows.AuthorizationRow.{AuthorizationRow}

@@ -1,5 +1,5 @@
 -- What every legal history keeps.
-use Rattle.std.specs.Prelude.{ℕ, ◌+◌, ◌^◌, ◌≤◌, ◌≡◌, Bool, IsTrue, length, is_some}
+use Rattle.std.specs.Prelude.{ℕ, ◌+◌, ◌≤◌, ◌≡◌, Bool, IsTrue, length, is_some}
 use Rattle.std.specs.List.{filter, list_any}
 use Rattle.desk_model.specs.Authorization.{is_good, report, reporting, when_proved}
 use Rattle.desk_model.specs.BaseName.{is_base_name}
@@ -15,7 +15,7 @@ use Rattle.desk_model.specs.Texts.{HoldTexts}
 use Rattle.desk_model.specs.Kept.{EachOf}
 use Rattle.desk_model.specs.declared.entry.Dated.{Dated}
 use Rattle.desk_model.specs.declared.objects.Authorization.{Authorization}
-use Rattle.desk_model.specs.declared.rows.Meta.{Meta}
+use Rattle.desk_model.specs.declared.rows.Counters.{Counters}
 use Rattle.desk_laws.specs.Distinct.{Distinct}
 use Rattle.desk_laws.specs.Given.{counts, NamesGiven}
 
@@ -42,20 +42,20 @@ abbrev pub KeysDiffer : Type 0
 KeysDiffer = (F : History) → EachFollows F → (t : ℕ) → Distinct (λ a. a.key) (tables_at F t).accounts
 
 -- no counter is above the greatest number that may be given
-pub record CountersFit (M : Meta) : Type 0 where
-  pub nonces : M.nonces ≤ last_number
-  pub accounts : M.accounts ≤ last_number
-  pub orders : M.orders ≤ last_number
-  pub authorizations : M.authorizations ≤ last_number
-  pub challenges : M.challenges ≤ last_number
+pub record CountersFit (C : Counters) : Type 0 where
+  pub nonces : C.nonces ≤ last_number
+  pub accounts : C.accounts ≤ last_number
+  pub orders : C.orders ≤ last_number
+  pub authorizations : C.authorizations ≤ last_number
+  pub challenges : C.challenges ≤ last_number
 
 -- where the numbers fit, so do the counters
 abbrev pub NumbersFitCounters : Type 0
-NumbersFitCounters = (F : History) → IsTrue (numbers_fit F) → (t : ℕ) → CountersFit (tables_at F t).meta
+NumbersFitCounters = (F : History) → IsTrue (numbers_fit F) → (t : ℕ) → CountersFit (tables_at F t).meta.counters
 
 -- where the counters fit, so do the numbers
 abbrev pub CountersFitNumbers : Type 0
-CountersFitNumbers = (F : History) (t : ℕ) → CountersFit (tables_at F t).meta → IsTrue (numbers_fit F)
+CountersFitNumbers = (F : History) (t : ℕ) → CountersFit (tables_at F t).meta.counters → IsTrue (numbers_fit F)
 
 -- a desk is made with terms within their limits
 abbrev pub TermsAreInLimits : Type 0

@@ -18,7 +18,7 @@ IsTable number last rows = Ascends number 1 rows × Below number (last + 1) rows
 
 -- each table stands by number
 pub record IsOrdered (T : Tables) : Type 0 where
-  pub nonces : IsTable (λ n. n.serial) T.meta.nonces T.nonces
-  pub accounts : IsTable (λ a. a.number) T.meta.accounts T.accounts
-  pub authorizations : IsTable (λ a. a.number) T.meta.authorizations T.authorizations
-  pub orders : IsTable (λ o. o.number) T.meta.orders T.orders
+  pub nonces : IsTable (λ n. n.serial) T.meta.counters.nonces T.nonces
+  pub accounts : IsTable (λ a. a.number) T.meta.counters.accounts T.accounts
+  pub authorizations : IsTable (λ a. a.number) T.meta.counters.authorizations T.authorizations
+  pub orders : IsTable (λ o. o.number) T.meta.counters.orders T.orders

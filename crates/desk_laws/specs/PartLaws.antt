@@ -1,8 +1,8 @@
 -- How a part of the tables answers and changes as the whole.
-use Rattle.std.specs.Prelude.{ℕ, ◌≤◌, ◌≡◌, Bool, true, List, [], ◌∷◌, ◌++◌, find}
+use Rattle.std.specs.Prelude.{ℕ, ◌≤◌, ◌≡◌, Bool, true, List, ◌∷◌, find}
 use Rattle.std.specs.List.{filter}
 use Rattle.desk_model.specs.Allowed.{may_on}
-use Rattle.desk_model.specs.Change.{applied, changes, all_changes, sweep_changes}
+use Rattle.desk_model.specs.Change.{applied, changes, recorded_changes, sweep_changes}
 use Rattle.desk_model.specs.Effect.{effect, effects, swept}
 use Rattle.desk_model.specs.Entry.{History}
 use Rattle.desk_model.specs.History.{clock, record_all}
@@ -75,7 +75,7 @@ ChangesAreLocal =
 
 -- what these entries record from this part of a picture makes the picture of the longer history
 abbrev pub RecordsFrom : Tables → History → ℕ → List Entry → Type 0
-RecordsFrom P F m es = applied (sweep_changes m P ++ all_changes m (swept m P) es) (picture F) ≡ picture (record_all m es F)
+RecordsFrom P F m es = applied (recorded_changes m P es) (picture F) ≡ picture (record_all m es F)
 
 -- from a part that covers the entries
 abbrev pub PartsRecord : Type 0

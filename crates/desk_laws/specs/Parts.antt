@@ -27,7 +27,7 @@ ReadsKept k T _ = Unit {0}
 abbrev pub FreshKept : Kept → Tables → ℕ → Entry → Type 0
 FreshKept k T m e =
     EachOf (λ o. EachOf (λ n. k.authorizations n ≡ true) (numbers_of (fresh_order o).listed))
-    (ordered_by e m T.meta.policy (new_authorizations T e m) (T.meta.orders + 1))
+    (ordered_by e m T.meta.policy (new_authorizations T e m) (T.meta.counters.orders + 1))
 
 -- what each of the entries touches in its turn is kept
 abbrev pub CoversAll : Kept → ℕ → Tables → List Entry → Type 0

@@ -1,7 +1,8 @@
 -- What a verdict records may be recorded by the tables that it was given by.
 use Rattle.std.proofs.Common.{◌≡◌, ◌≤◌, ◌*◌, ℕ, List, [], ◌∷◌, length, Option, Some, None, Ok, Err, IsUtf8, IfSome, refl, subst, Bool, true, false, cond, not}
-use Rattle.std.specs.Prelude.{IsTrue, nat_le, ◌==◌, is_some, bytes_eq, option_and_then, Result}
+use Rattle.std.specs.Prelude.{IsTrue, nat_le, ◌&&◌, ◌==◌, is_some, bytes_eq, option_and_then, Result}
 use Rattle.std.proofs.lemmas.Bool.{and_from}
+use Rattle.desk_model.specs.Authorization.{is_live, is_pending}
 use Rattle.desk_model.specs.declared.refusal.Refusal.{Refusal}
 use Rattle.desk_model.specs.declared.refusal.Refusal.TheVariants as refusal
 use Rattle.desk_model.specs.Keys.{IsKeyText}
@@ -23,7 +24,7 @@ use Rattle.desk_model.specs.declared.rows.AccountRow.{AccountRow}
 use Rattle.desk_model.specs.declared.rows.ChallengeRow.{ChallengeRow}
 use Rattle.desk_model.specs.declared.rows.AuthorizationRow.{AuthorizationRow}
 use Rattle.desk_model.specs.declared.rows.OrderRow.{OrderRow}
-use Rattle.desk_model.specs.Questions.{account_on, account_with_key, order_on, authorization_on, owner_on, nonce_on}
+use Rattle.desk_model.specs.Questions.{account_on, account_with_key, challenge_of, order_on, authorization_on, owner_on, nonce_on}
 use Rattle.desk_model.specs.Allowed.{may_on}
 use Rattle.desk_model.specs.declared.payload.NewAccount.{NewAccount}
 use Rattle.desk_model.specs.declared.payload.AccountChange.{AccountChange}
@@ -39,7 +40,7 @@ use Rattle.desk_model.specs.Verdict.{check, given, unless_fault, choose}
 use Rattle.desk_model.specs.declared.verdict.Verdict.TheVariants.{Answers as answers, Opens as opens, Orders as orders, Moves as moves, Refused as refused}
 use Rattle.desk_model.specs.declared.verdict.Verdict.{Verdict}
 use Rattle.desk_model.specs.declared.verdict.Shows.{Shows}
-use Rattle.desk_model.specs.Rules.{open_account, new_account_verdict, account_verdict, order_of, new_order_verdict, subproblems, if_fits, csr_in, finalize_verdict, is_endable, authorization_verdict, stands_open, challenge_verdict, own, target_verdict, holder_verdict, key_verdict, signed_verdict, if_spelled, open_nonce_in, open_nonce, outcome_verdict, report_verdict, certify_verdict, fail_verdict, revoke_authorization, revoke_account, office_verdict}
+use Rattle.desk_model.specs.Rules.{open_account, new_account_verdict, account_verdict, order_of, new_order_verdict, subproblems, if_fits, csr_in, finalize_verdict, authorization_verdict, stands_open, challenge_verdict, own, target_verdict, holder_verdict, key_verdict, signed_verdict, if_spelled, open_nonce_in, open_nonce, outcome_verdict, report_verdict, certify_verdict, fail_verdict, revoke_authorization, revoke_account, office_verdict}
 use Rattle.desk_model.specs.declared.reply.Subproblem.{Subproblem}
 use Rattle.desk_model.specs.declared.call.Ask.{Ask}
 use Rattle.desk_model.specs.declared.call.Ask.TheVariants as ask
@@ -177,7 +178,7 @@ authorization_sound : (r : List ℕ) (T : Tables) (n : ℕ) (a : AuthorizationRo
     IsSound r T (authorization_verdict n a p)
 authorization_sound r T n a authz_change.Read found = none_sound _
 authorization_sound r T n a authz_change.Deactivate found =
-    choose_sound r T (is_endable a) _ _ (λ live. move_sound _ tt tt (rw found live)) (none_sound _)
+    choose_sound r T (is_live a.status) _ _ (λ live. move_sound _ tt tt (rw found live)) (none_sound _)
 
 -- a pending challenge is answered
 challenge_sound : (r : List ℕ) (T : Tables) (n : ℕ) (a : AuthorizationRow) (p : ChallengeChange) → owner_on T n ≡ Some a →
@@ -246,16 +247,16 @@ signed_sound r T s in_order formed = by s.key formed.key
 -- ---- the other asks
 
 -- a report on a challenge that waits for it
-outcome_sound : (r : List ℕ) (T : Tables) (n : ℕ) (a : AuthorizationRow) (c : ChallengeRow) (outcome : Outcome) → owner_on T n ≡ Some a →
-    IsSound r T (outcome_verdict n a c outcome)
-outcome_sound r T n a c outcome found =
+outcome_sound : (r : List ℕ) (T : Tables) (n : ℕ) (a : AuthorizationRow) (c : ChallengeRow) (outcome : Outcome) → owner_on T n ≡ Some a → challenge_of n a ≡ Some c →
+    IsSound r T (outcome_verdict n a.status c outcome)
+outcome_sound r T n a c outcome found own =
     choose_sound r T _ _ _ (λ _. none_sound _)
-    (check_sound r T (stands_open (λ c. is_processing_challenge c.status) a n) refusal.Conflict _ (λ waits. move_sound _ tt tt (rw found waits)))
+    (check_sound r T (is_pending a.status && is_processing_challenge c.status) refusal.Conflict _ (λ waits. move_sound _ tt tt (rw (found, own) waits)))
 
 -- a report
 report_sound : (r : List ℕ) (T : Tables) (n : ℕ) (finding : Finding) → IsSound r T (report_verdict T n finding)
 report_sound r T n finding =
-    given_sound r T _ refusal.NotFound _ (λ a is. given_sound r T _ refusal.NotFound _ (λ c _. given_sound r T _ refusal.Malformed _ (λ o _. outcome_sound r T n a c o is)))
+    given_sound r T _ refusal.NotFound _ (λ a is. given_sound r T _ refusal.NotFound _ (λ c own. given_sound r T _ refusal.Malformed _ (λ o _. outcome_sound r T n a c o is own)))
 
 -- a certificate
 certify_sound : (r : List ℕ) (T : Tables) (n : ℕ) (bytes : List ℕ) (o : OrderRow) → order_on T n ≡ Some o → IsSound r T (certify_verdict n bytes o)
@@ -275,7 +276,7 @@ fail_sound r T n problem o texts found =
 revoke_authorization_sound : (r : List ℕ) (T : Tables) (n : ℕ) (a : AuthorizationRow) → authorization_on T n ≡ Some a →
     IsSound r T (revoke_authorization n a)
 revoke_authorization_sound r T n a found =
-    choose_sound r T _ _ _ (λ _. none_sound _) (check_sound r T (is_endable a) refusal.Conflict _ (λ live. move_sound _ tt tt (rw found live)))
+    choose_sound r T _ _ _ (λ _. none_sound _) (check_sound r T (is_live a.status) refusal.Conflict _ (λ live. move_sound _ tt tt (rw found live)))
 
 -- the operator ends an account
 revoke_account_sound : (r : List ℕ) (T : Tables) (n : ℕ) (a : AccountRow) → account_on T n ≡ Some a → IsSound r T (revoke_account n a)

@@ -137,11 +137,11 @@ rows_book T m a b =
       };
       sound = record {
         counters = record {
-          nonces = below_filter (λ n. n.serial) (is_touched_nonce T m a) (T.meta.nonces + 1) T.nonces b.sound.counters.nonces;
-          accounts = below_filter (λ a. a.number) (is_touched_account T m a) (T.meta.accounts + 1) T.accounts b.sound.counters.accounts;
-          authorizations = below_filter (λ a. a.number) (is_touched_authorization T m a) (T.meta.authorizations + 1) T.authorizations b.sound.counters.authorizations;
+          nonces = below_filter (λ n. n.serial) (is_touched_nonce T m a) (T.meta.counters.nonces + 1) T.nonces b.sound.counters.nonces;
+          accounts = below_filter (λ a. a.number) (is_touched_account T m a) (T.meta.counters.accounts + 1) T.accounts b.sound.counters.accounts;
+          authorizations = below_filter (λ a. a.number) (is_touched_authorization T m a) (T.meta.counters.authorizations + 1) T.authorizations b.sound.counters.authorizations;
           challenges = filtered_each _ (is_touched_authorization T m a) T.authorizations (each _ _ T.authorizations (λ r f yes. f) b.sound.counters.challenges);
-          orders = below_filter (λ o. o.number) (is_touched_order T m a) (T.meta.orders + 1) T.orders b.sound.counters.orders;
+          orders = below_filter (λ o. o.number) (is_touched_order T m a) (T.meta.counters.orders + 1) T.orders b.sound.counters.orders;
         };
         references = rows_refer T m a b.sound.references;
         distinct = record {
@@ -167,15 +167,15 @@ meta_book T =
 pub touched_book : (T : Tables) (call : Call) → IsBook T → IsBook (touched T call)
 touched_book T call b = by call.ask
   where
-    by : (a : Ask) → IsBook (touched_at T (max call.at T.meta.clock) a)
+    by : (a : Ask) → IsBook (touched_at T (max call.at T.meta.counters.clock) a)
     by ask.Directory = meta_book T
     by ask.ChallengeWork = b
     by ask.OrderWork = b
-    by (ask.NewNonce head) = rows_book T (max call.at T.meta.clock) (ask.NewNonce head) b
-    by (ask.Signed s) = rows_book T (max call.at T.meta.clock) (ask.Signed s) b
-    by (ask.Report n finding) = rows_book T (max call.at T.meta.clock) (ask.Report n finding) b
-    by (ask.Certify n bytes) = rows_book T (max call.at T.meta.clock) (ask.Certify n bytes) b
-    by (ask.FailOrder n problem) = rows_book T (max call.at T.meta.clock) (ask.FailOrder n problem) b
-    by (ask.RevokeAuthz n) = rows_book T (max call.at T.meta.clock) (ask.RevokeAuthz n) b
-    by (ask.RevokeAccount n) = rows_book T (max call.at T.meta.clock) (ask.RevokeAccount n) b
-    by (ask.KeyOf n) = rows_book T (max call.at T.meta.clock) (ask.KeyOf n) b
+    by (ask.NewNonce head) = rows_book T (max call.at T.meta.counters.clock) (ask.NewNonce head) b
+    by (ask.Signed s) = rows_book T (max call.at T.meta.counters.clock) (ask.Signed s) b
+    by (ask.Report n finding) = rows_book T (max call.at T.meta.counters.clock) (ask.Report n finding) b
+    by (ask.Certify n bytes) = rows_book T (max call.at T.meta.counters.clock) (ask.Certify n bytes) b
+    by (ask.FailOrder n problem) = rows_book T (max call.at T.meta.counters.clock) (ask.FailOrder n problem) b
+    by (ask.RevokeAuthz n) = rows_book T (max call.at T.meta.counters.clock) (ask.RevokeAuthz n) b
+    by (ask.RevokeAccount n) = rows_book T (max call.at T.meta.counters.clock) (ask.RevokeAccount n) b
+    by (ask.KeyOf n) = rows_book T (max call.at T.meta.counters.clock) (ask.KeyOf n) b

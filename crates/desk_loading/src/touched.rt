@@ -12,7 +12,7 @@ use crate::look_ups::LookUps;
 use crate::named::serials;
 use crate::objects::{Objects, all_objects, objects_touched};
 use desk_book::{Book, Table};
-use desk_model::{Ask, Call, Meta, Nonce};
+use desk_model::{Ask, Call, Meta, Nonce, Policy};
 use desk_storage::StorageFault;
 use std::alloc::Global;
 
@@ -23,18 +23,18 @@ use std::alloc::Global;
 fn nonces_touched<S: LookUps>(
     alloc: Global,
     source: &mut S,
-    nonce_life: u64,
+    policy: &Policy,
     moment: u64,
     ask: &Ask,
 ) -> Result<Table<Nonce>, StorageFault>
     ensures reads { Reads S.sight source.old source.new result }
-    ensures found { ForTables S.sight source.old source.new (λ T. nonce_life ≡ T.meta.policy.nonce_life
+    ensures found { ForTables S.sight source.old source.new (λ T. policy.now ≡ T.meta.policy
         → IfOk result (λ t. t ≡ (loaded_rows T moment ask.now).nonces)) }
 {
     let mut nonces = Table::new(alloc);
     let numbers = serials(alloc, ask)?;
     put_nonces(alloc, source, &mut nonces, numbers)?;
-    let past = source.nonces_before(alloc, moment.saturating_sub(nonce_life))?;
+    let past = source.nonces_before(alloc, policy.first_lasting(moment))?;
     put_all(&mut nonces, past)?;
     Ok(nonces)
 }
@@ -66,7 +66,7 @@ fn rows_touched<S: LookUps>(
     ensures found { ForTables S.sight source.old source.new (λ T.
         meta ≡ T.meta → IfOk result (λ book. book ≡ loaded_rows T moment ask.now)) }
 {
-    let nonces = nonces_touched(alloc, source, meta.policy.nonce_life(), moment, ask)?;
+    let nonces = nonces_touched(alloc, source, &meta.policy, moment, ask)?;
     let objects = objects_touched(alloc, source, moment, ask)?;
     Ok(book_of(meta, nonces, objects))
 }
@@ -132,7 +132,8 @@ pub fn touched_book<S: LookUps>(
     ensures touched { ForTables S.sight source.old source.new (λ T. IsOrdered T → IfOk result (λ book. book ≡ touched T call.now)) }
 {
     let meta = source.meta_row(alloc)?;
-    let moment = call.at.max(meta.clock.moment());
+    let counters = meta.counters;
+    let moment = call.at.max(counters.clock.moment());
     rows_at(alloc, source, meta, moment, &call.ask)
 }
 

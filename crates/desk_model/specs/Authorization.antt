@@ -1,5 +1,5 @@
 -- Authorizations and their challenges (RFC 8555, 7.1.4, 7.1.5, 7.1.6, 7.5).
-use Rattle.std.specs.Prelude.{ℕ, ◌+◌, List, [], ◌∷◌, ◌++◌, length, Bool, false, true, ◌==◌, nat_lt, nat_le, Option, Some, None, find, if◌then◌else◌, is_some}
+use Rattle.std.specs.Prelude.{ℕ, ◌+◌, List, [], ◌∷◌, ◌++◌, length, Bool, false, true, not, ◌||◌, ◌==◌, nat_lt, nat_le, Option, Some, None, find, if◌then◌else◌, is_some}
 use Rattle.std.specs.List.{list_any}
 use Rattle.desk_model.specs.Name.{Name}
 use Rattle.desk_model.specs.Entry.{Entry, ordered, answered, reported, authorization_ended, account_ended, Wanted, new, Ending, deactivated, revoked, Outcome, good, History}
@@ -147,8 +147,10 @@ abbrev pub is_valid : AuthzStatus → Bool
 is_valid authz.Valid = true
 is_valid _ = false
 
+-- it can still be ended, by its client, the operator or the passing of time
+abbrev pub is_live : AuthzStatus → Bool
+is_live s = is_pending s || is_valid s
+
 -- it can prove nothing any more
 abbrev pub is_over : AuthzStatus → Bool
-is_over authz.Pending = false
-is_over authz.Valid = false
-is_over _ = true
+is_over s = not (is_live s)

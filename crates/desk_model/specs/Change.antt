@@ -11,7 +11,7 @@ use Rattle.desk_model.specs.Tables.{AccountRow, AuthorizationRow, ChallengeRow, 
 use Rattle.desk_model.specs.Derived.{account_code, chall_code, authz_code, order_code, restated_authorization, restated_order}
 pub use Rattle.desk_model.specs.declared.rows.Change.{Change}
 pub use Rattle.desk_model.specs.declared.rows.Change.TheVariants.{PutMeta, PutNonce, RemoveNonce, PutAccount, PutAuthorization, PutOrder}
-use Rattle.desk_model.specs.Effect.{noted_account, noted_authorization, noted_order, touches_account, touches_authorization, touches_order, fresh_account, fresh_authorization, fresh_order, new_authorizations, authorizations_after, lasts, is_overdue, falls, effect}
+use Rattle.desk_model.specs.Effect.{noted_account, noted_authorization, noted_order, touches_account, touches_authorization, touches_order, fresh_account, fresh_authorization, fresh_order, new_authorizations, authorizations_after, lasts, is_overdue, falls, effect, effects, swept}
 use Rattle.desk_model.specs.declared.status.OrderStatus.TheVariants as order
 use Rattle.desk_model.specs.declared.status.AuthzStatus.TheVariants as authz
 
@@ -79,12 +79,12 @@ moved_rows touched differs move rows = map move (filter (λ r. touched r && diff
 
 -- each table gets the rows that are moved, then the new ones
 abbrev pub nonces_put : Tables → Entry → ℕ → List Nonce
-nonces_put T e m = issued_by e m (T.meta.nonces + 1)
+nonces_put T e m = issued_by e m (T.meta.counters.nonces + 1)
 
 abbrev pub accounts_put : Tables → Entry → ℕ → List AccountRow
 accounts_put T e m =
     moved_rows (touches_account e) account_differs (noted_account e m) T.accounts
-    ++ map fresh_account (opened_by e m (T.meta.accounts + 1))
+    ++ map fresh_account (opened_by e m (T.meta.counters.accounts + 1))
 
 abbrev pub authorizations_put : Tables → Entry → ℕ → List AuthorizationRow
 authorizations_put T e m =
@@ -94,16 +94,16 @@ authorizations_put T e m =
 abbrev pub orders_put : Tables → Entry → ℕ → List OrderRow
 orders_put T e m =
     moved_rows (touches_order e T.authorizations) order_differs (λ r. restated_order m (authorizations_after T e m) (noted_order e m r)) T.orders
-    ++ map (λ o. restated_order m (authorizations_after T e m) (fresh_order o)) (ordered_by e m T.meta.policy (new_authorizations T e m) (T.meta.orders + 1))
+    ++ map (λ o. restated_order m (authorizations_after T e m) (fresh_order o)) (ordered_by e m T.meta.policy (new_authorizations T e m) (T.meta.counters.orders + 1))
 
+-- all of them, and the nonce that is removed
 abbrev pub changes : ℕ → Tables → Entry → List Change
 changes m T e =
-    PutMeta (effect m T e).meta
-    ∷ (map RemoveNonce (spent_by e)
+    map RemoveNonce (spent_by e)
     ++ (map PutNonce (nonces_put T e m)
     ++ (map PutAccount (accounts_put T e m)
     ++ (map PutAuthorization (authorizations_put T e m)
-    ++ map PutOrder (orders_put T e m)))))
+    ++ map PutOrder (orders_put T e m))))
 
 -- what the passing of time changes
 abbrev pub nonces_gone : ℕ → Tables → List ℕ
@@ -117,9 +117,15 @@ orders_fallen m T = map (λ (r : OrderRow). record r { status = order.Invalid })
 
 abbrev pub sweep_changes : ℕ → Tables → List Change
 sweep_changes m T =
-    PutMeta (record T.meta { clock = m })
-    ∷ (map RemoveNonce (nonces_gone m T) ++ (map PutAuthorization (authorizations_expired m T) ++ map PutOrder (orders_fallen m T)))
+    map RemoveNonce (nonces_gone m T) ++ (map PutAuthorization (authorizations_expired m T) ++ map PutOrder (orders_fallen m T))
 
 abbrev pub all_changes : ℕ → Tables → List Entry → List Change
 all_changes m T [] = []
 all_changes m T (e ∷ es) = changes m T e ++ all_changes m (effect m T e) es
+
+-- what a call records, nothing without an entry: what the passing of time changes, then entry by entry, and at the end the meta
+-- row after all of them
+abbrev pub recorded_changes : ℕ → Tables → List Entry → List Change
+recorded_changes m T [] = []
+recorded_changes m T (e ∷ es) =
+    sweep_changes m T ++ (all_changes m (swept m T) (e ∷ es) ++ PutMeta (effects m (swept m T) (e ∷ es)).meta ∷ [])

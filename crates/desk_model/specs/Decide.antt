@@ -1,6 +1,6 @@
 -- What the desk decides on a call: a reply, and the entries to record, all at the moment at which the call acts.
 use Rattle.std.specs.Prelude.{ℕ, List, [], ◌∷◌, ◌++◌, take, drop, Bool, false, true, Option, Some, None}
-use Rattle.desk_model.specs.Entry.{Entry, Move, entry_of, issued, spent, opened, ordered, History}
+use Rattle.desk_model.specs.Entry.{Entry, entry_of, issued, spent, opened, ordered, History}
 use Rattle.desk_model.specs.History.{moment_of, record_all}
 use Rattle.desk_model.specs.Tables.{Tables, tables_at}
 use Rattle.desk_model.specs.Verdict.{Verdict, refused, answers, opens, orders, moves}

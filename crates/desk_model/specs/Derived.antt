@@ -118,6 +118,6 @@ sorted_challenges (c ∷ cs) = insert_challenge c (sorted_challenges cs)
 abbrev pub status_faults : Tables → List StatusFault
 status_faults T =
     flat_map account_faults T.accounts
-    ++ (flat_map (order_faults T.meta.clock T.authorizations) T.orders
-    ++ (flat_map (authorization_faults T.meta.clock) T.authorizations
+    ++ (flat_map (order_faults T.meta.counters.clock T.authorizations) T.orders
+    ++ (flat_map (authorization_faults T.meta.counters.clock) T.authorizations
     ++ flat_map challenge_faults (sorted_challenges (flat_map (λ a. a.challenges) T.authorizations))))

@@ -4,6 +4,7 @@ use Rattle.std.specs.List.{filter, flat_map, slice_split}
 use Rattle.serde_json.specs.Data.{unsigned, Data, boolean, number, string}
 use Rattle.desk_model.specs.Json.{document, list, when}
 use Rattle.desk_model.specs.Terms.{Terms}
+use Rattle.desk_model.specs.Name.{Name}
 use Rattle.desk_model.specs.Names.{shown_name}
 use Rattle.desk_model.specs.Moment.{moment_text}
 use Rattle.desk_model.specs.Tokens.{base64url, token_text, authorization_of, dns_value_of}
@@ -140,19 +141,23 @@ rows_of rows (n ∷ ns) = and_row (authorization_numbered n rows) (rows_of rows 
 abbrev pub listed_rows : Tables → OrderRow → List AuthorizationRow
 listed_rows T o = rows_of T.authorizations (numbers_of o.listed)
 
--- an order (7.1.3)
-abbrev pub order_document : Tables → OrderRow → Data
-order_document T o =
+-- an order whose listed authorizations have these names (7.1.3)
+abbrev pub order_with_names : Terms → List Name → OrderRow → Data
+order_with_names t names o =
     document (
-    (codes "authorizations", list (map (λ n. string (authorization_url T.meta.policy n)) (numbers_of o.listed)))
-    ∷ (when (is_some o.certified) (codes "certificate", string (certificate_url T.meta.policy o.number))
+    (codes "authorizations", list (map (λ n. string (authorization_url t n)) (numbers_of o.listed)))
+    ∷ (when (is_some o.certified) (codes "certificate", string (certificate_url t o.number))
     ++ (order_error o.failed
     ++ (codes "expires", string (moment_text o.expires))
-    ∷ (codes "finalize", string (finalize_url T.meta.policy o.number))
-    ∷ (codes "identifiers", list (map (λ a. identifier (shown_name a.name)) (listed_rows T o)))
+    ∷ (codes "finalize", string (finalize_url t o.number))
+    ∷ (codes "identifiers", list (map (λ n. identifier (shown_name n)) names))
     ∷ (codes "status", string (order_status_text o.status))
     ∷ []))
     )
+
+-- an order of these tables
+abbrev pub order_document : Tables → OrderRow → Data
+order_document T o = order_with_names T.meta.policy (map (λ a. a.name) (listed_rows T o)) o
 
 -- the orders of an account that are not invalid (7.1.2.1)
 abbrev pub is_listed : ℕ → OrderRow → Bool

@@ -7,7 +7,7 @@ use Rattle.desk_model.specs.Entry.{Entry, spent, contacts_changed, account_ended
 use Rattle.desk_model.specs.History.{terms_after, earlier}
 use Rattle.desk_model.specs.Nonce.{Nonce, issued_by}
 use Rattle.desk_model.specs.Account.{Account, opened_by, AccountEnd, changing, ends as account_ends, status_of as account_status_of}
-use Rattle.desk_model.specs.Authorization.{Authorization, Challenge, AuthorizationEnd, Report, made_by, count_challenges, in_time, is_good, kind_of, challenge_status_by}
+use Rattle.desk_model.specs.Authorization.{Authorization, Challenge, AuthorizationEnd, Report, made_by, count_challenges, in_time, is_good, is_live, kind_of, challenge_status_by}
 use Rattle.desk_model.specs.Order.{Order, ordered_by, finalizing, certifying, failing}
 use Rattle.desk_model.specs.Tables.{AccountRow, ChallengeRow, AuthorizationRow, OrderRow, Tables, listed_from}
 use Rattle.desk_model.specs.Derived.{authorization_numbered, numbers_of, restated_authorization, restated_order}
@@ -15,7 +15,6 @@ use Rattle.desk_model.specs.declared.objects.EndKind.TheVariants as kind
 use Rattle.desk_model.specs.declared.status.AccountStatus.TheVariants as account
 use Rattle.desk_model.specs.declared.status.OrderStatus.{OrderStatus}
 use Rattle.desk_model.specs.declared.status.OrderStatus.TheVariants as order
-use Rattle.desk_model.specs.declared.status.AuthzStatus.{AuthzStatus}
 use Rattle.desk_model.specs.declared.status.AuthzStatus.TheVariants as authz
 use Rattle.desk_model.specs.declared.status.ChallengeStatus.TheVariants as chall
 
@@ -142,7 +141,7 @@ not_spent _ n = true
 
 -- the authorizations that the entry makes
 abbrev pub new_authorizations : Tables → Entry → ℕ → List Authorization
-new_authorizations T e m = made_by e m T.meta.policy.authz_life (T.meta.authorizations + 1) (T.meta.challenges + 1)
+new_authorizations T e m = made_by e m T.meta.policy.authz_life (T.meta.counters.authorizations + 1) (T.meta.counters.challenges + 1)
 
 abbrev pub authorizations_after : Tables → Entry → ℕ → List AuthorizationRow
 authorizations_after T e m =
@@ -154,18 +153,20 @@ abbrev pub effect : ℕ → Tables → Entry → Tables
 effect m T e =
     let more : List Authorization = new_authorizations T e m in
     let after : List AuthorizationRow = authorizations_after T e m in
-    let more_orders : List Order = ordered_by e m T.meta.policy more (T.meta.orders + 1) in
-    let more_accounts : List Account = opened_by e m (T.meta.accounts + 1) in
-    let more_nonces : List Nonce = issued_by e m (T.meta.nonces + 1) in
+    let more_orders : List Order = ordered_by e m T.meta.policy more (T.meta.counters.orders + 1) in
+    let more_accounts : List Account = opened_by e m (T.meta.counters.accounts + 1) in
+    let more_nonces : List Nonce = issued_by e m (T.meta.counters.nonces + 1) in
     record {
       meta = record {
         policy = terms_after e T.meta.policy;
-        clock = m;
-        nonces = T.meta.nonces + length more_nonces;
-        accounts = T.meta.accounts + length more_accounts;
-        orders = T.meta.orders + length more_orders;
-        authorizations = T.meta.authorizations + length more;
-        challenges = T.meta.challenges + count_challenges more;
+        counters = record {
+          clock = m;
+          nonces = T.meta.counters.nonces + length more_nonces;
+          accounts = T.meta.counters.accounts + length more_accounts;
+          orders = T.meta.counters.orders + length more_orders;
+          authorizations = T.meta.counters.authorizations + length more;
+          challenges = T.meta.counters.challenges + count_challenges more;
+        };
       };
       nonces = filter (not_spent e) T.nonces ++ more_nonces;
       accounts = map (moved_account e m) T.accounts ++ map fresh_account more_accounts;
@@ -178,11 +179,6 @@ effects m T [] = T
 effects m T (e ∷ es) = effects m (effect m T e) es
 
 -- ---- the passing of time
-
-abbrev pub is_live : AuthzStatus → Bool
-is_live authz.Pending = true
-is_live authz.Valid = true
-is_live _ = false
 
 abbrev pub is_live_order : OrderStatus → Bool
 is_live_order order.Valid = false
@@ -208,7 +204,7 @@ lasts t m n = nat_le m (n.issued + t.nonce_life)
 abbrev pub swept : ℕ → Tables → Tables
 swept m T =
     record {
-      meta = record T.meta { clock = m };
+      meta = record T.meta { counters = record T.meta.counters { clock = m } };
       nonces = filter (lasts T.meta.policy m) T.nonces;
       accounts = T.accounts;
       authorizations = map (swept_authorization m) T.authorizations;

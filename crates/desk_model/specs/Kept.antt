@@ -31,10 +31,10 @@ EachOf P (x ∷ xs) = P x × EachOf P xs
 -- with an order its authorizations are kept, and new numbers are kept
 pub record IsClosed (k : Kept) (T : Tables) : Type 0 where
   pub listed : EachOf (λ o. k.orders o.number ≡ true → EachOf (λ n. k.authorizations n ≡ true) (numbers_of o.listed)) T.orders
-  pub new_nonces : (n : ℕ) → T.meta.nonces < n → k.nonces n ≡ true
-  pub new_accounts : (n : ℕ) → T.meta.accounts < n → k.accounts n ≡ true
-  pub new_authorizations : (n : ℕ) → T.meta.authorizations < n → k.authorizations n ≡ true
-  pub new_orders : (n : ℕ) → T.meta.orders < n → k.orders n ≡ true
+  pub new_nonces : (n : ℕ) → T.meta.counters.nonces < n → k.nonces n ≡ true
+  pub new_accounts : (n : ℕ) → T.meta.counters.accounts < n → k.accounts n ≡ true
+  pub new_authorizations : (n : ℕ) → T.meta.counters.authorizations < n → k.authorizations n ≡ true
+  pub new_orders : (n : ℕ) → T.meta.counters.orders < n → k.orders n ≡ true
 
 -- what the entry touches is kept
 pub record Covers (k : Kept) (T : Tables) (e : Entry) : Type 0 where

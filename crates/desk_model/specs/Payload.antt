@@ -3,6 +3,7 @@ use Rattle.std.specs.Prelude.{ℕ, List, [], ◌∷◌, Bool, false, ◌||◌, O
 use Rattle.serde_json.specs.Data.{Data, Items, no_items, item}
 use Rattle.serde_json.specs.Find.{get, as_str, as_object, as_array, as_bool}
 use Rattle.serde_json.specs.Read.{read}
+use Rattle.desk_model.specs.Keys.{text_member}
 pub use Rattle.desk_model.specs.declared.payload.NewAccount.{NewAccount}
 pub use Rattle.desk_model.specs.declared.payload.AccountChange.{AccountChange}
 pub use Rattle.desk_model.specs.declared.payload.AccountChange.TheVariants as account
@@ -60,7 +61,7 @@ is_deactivated_text None = false
 is_deactivated_text (Some s) = bytes_eq s (codes "deactivated")
 
 abbrev pub says_deactivated : Data → Bool
-says_deactivated d = is_deactivated_text (option_and_then as_str (get (codes "status") d))
+says_deactivated d = is_deactivated_text (text_member (codes "status") d)
 
 abbrev pub account_change_in : Data → Option AccountChange
 account_change_in d =
@@ -92,7 +93,7 @@ identifier_by _ _ = None
 
 -- an identifier is an object with two texts
 abbrev pub identifier_in : Data → Option Identifier
-identifier_in d = identifier_by (option_and_then as_str (get (codes "type") d)) (option_and_then as_str (get (codes "value") d))
+identifier_in d = identifier_by (text_member (codes "type") d) (text_member (codes "value") d)
 
 -- an order with dates of its own is malformed, since the desk can't keep them
 abbrev pub new_order_in : Data → Option (List Identifier)
@@ -105,7 +106,7 @@ new_order payload = option_and_then new_order_in (object_in payload)
 
 -- the text of a CSR
 abbrev pub csr_text_in : Data → Option (List ℕ)
-csr_text_in d = option_and_then as_str (get (codes "csr") d)
+csr_text_in d = text_member (codes "csr") d
 
 abbrev pub finalize : List ℕ → Option (List ℕ)
 finalize payload = option_and_then csr_text_in (object_in payload)

@@ -1,5 +1,5 @@
 -- The rules on requests: which are refused, and what the others record and show, by the tables at their moment.
-use Rattle.std.specs.Prelude.{ℕ, suc, zero, ◌+◌, ◌*◌, List, [], ◌∷◌, length, take, drop, filter, Bool, false, true, not, ◌&&◌, ◌||◌, ◌==◌, nat_le, Option, Some, None, Ok, Err, is_none, if◌then◌else◌, bytes_eq, codes, option_and_then}
+use Rattle.std.specs.Prelude.{ℕ, suc, zero, ◌*◌, List, [], ◌∷◌, length, take, drop, filter, Bool, false, true, not, ◌&&◌, ◌==◌, nat_le, Option, Some, None, Ok, Err, is_none, if◌then◌else◌, bytes_eq, codes, option_and_then}
 use Rattle.desk_model.specs.Lookup.{holds}
 use Rattle.desk_model.specs.Name.{Name, same_name}
 use Rattle.desk_model.specs.Names.{name_of}
@@ -7,7 +7,7 @@ use Rattle.desk_model.specs.Tokens.{NonceText, nonce_in, body_matches, records_m
 use Rattle.desk_model.specs.Entry.{Wanted, new, Ending, deactivated, revoked, Outcome, good, incorrect_response, connection, dns, OrderProblem}
 use Rattle.desk_model.specs.Nonce.{Nonce}
 use Rattle.desk_model.specs.Account.{is_valid as is_valid_account}
-use Rattle.desk_model.specs.Authorization.{Kind, http_01, dns_01, is_pending, is_valid, kinds_of}
+use Rattle.desk_model.specs.Authorization.{Kind, http_01, dns_01, is_live, is_pending, kinds_of}
 use Rattle.desk_model.specs.Order.{is_ready, is_processing}
 use Rattle.desk_model.specs.Contact.{contacts_fault}
 use Rattle.desk_model.specs.Legal.{is_problem, has_length, is_pending_challenge, is_processing_challenge}
@@ -127,14 +127,11 @@ certificate_verdict n o = given o.certified refusal.NotFound (λ k. answers (sho
 
 -- ---- authorizations and challenges (RFC 8555, 7.5)
 
-abbrev pub is_endable : AuthorizationRow → Bool
-is_endable a = is_pending a.status || is_valid a.status
-
 -- one that is over already stays as it is (7.5.2)
 abbrev pub authorization_verdict : ℕ → AuthorizationRow → AuthorizationChange → Verdict
 authorization_verdict n a payload.authz.Read = answers (show.Authorization n)
 authorization_verdict n a payload.authz.Deactivate =
-    choose (is_endable a) (moves (move.AuthorizationEnded n deactivated)) (answers (show.Authorization n))
+    choose (is_live a.status) (moves (move.AuthorizationEnded n deactivated)) (answers (show.Authorization n))
 
 -- the challenge passes, and its authorization is pending
 abbrev pub stands_open : (ChallengeRow → Bool) → AuthorizationRow → ℕ → Bool
@@ -221,14 +218,14 @@ same_outcome dns dns = true
 same_outcome _ _ = false
 
 -- the same outcome again records nothing; another is refused where the challenge doesn't wait for one
-abbrev pub outcome_verdict : ℕ → AuthorizationRow → ChallengeRow → Outcome → Verdict
-outcome_verdict n a c outcome =
+abbrev pub outcome_verdict : ℕ → AuthzStatus → ChallengeRow → Outcome → Verdict
+outcome_verdict n status c outcome =
     choose (holds (λ r. same_outcome r.outcome outcome) c.reported)
     (answers (show.Challenge n))
-    (check (stands_open (λ c. is_processing_challenge c.status) a n) refusal.Conflict (moves (move.Reported n outcome)))
+    (check (is_pending status && is_processing_challenge c.status) refusal.Conflict (moves (move.Reported n outcome)))
 
 abbrev pub finding_verdict : Tables → ℕ → Finding → AuthorizationRow → ChallengeRow → Verdict
-finding_verdict T n finding a c = given (outcome_of c.kind (expected T a c) finding) refusal.Malformed (outcome_verdict n a c)
+finding_verdict T n finding a c = given (outcome_of c.kind (expected T a c) finding) refusal.Malformed (outcome_verdict n a.status c)
 
 abbrev pub report_verdict : Tables → ℕ → Finding → Verdict
 report_verdict T n finding = given (owner_on T n) refusal.NotFound (λ a. given (challenge_of n a) refusal.NotFound (finding_verdict T n finding a))
@@ -258,7 +255,7 @@ is_revoked_status _ = false
 abbrev pub revoke_authorization : ℕ → AuthorizationRow → Verdict
 revoke_authorization n a =
     choose (is_revoked_status a.status) (answers (show.Authorization n))
-    (check (is_endable a) refusal.Conflict (moves (move.AuthorizationEnded n revoked)))
+    (check (is_live a.status) refusal.Conflict (moves (move.AuthorizationEnded n revoked)))
 
 abbrev pub is_revoked : Ending → Bool
 is_revoked deactivated = false

@@ -105,11 +105,11 @@ reply_of T (show.Key n) = shown (λ a. ok 200 (key_document a.key)) (account_on 
 
 -- the account that was opened last (7.3)
 abbrev pub made_account : Tables → Reply
-made_account T = shown (located_account 201 T) (account_on T T.meta.accounts)
+made_account T = shown (located_account 201 T) (account_on T T.meta.counters.accounts)
 
 -- the order that was made last (7.4)
 abbrev pub made_order : Tables → Reply
-made_order T = shown (located_order 201 T) (order_on T T.meta.orders)
+made_order T = shown (located_order 201 T) (order_on T T.meta.counters.orders)
 
 -- the object that a move names, by the tables after it; an order that is finalized is shown with its Location (7.4)
 abbrev pub moved_reply : Tables → Move → Reply
@@ -124,4 +124,4 @@ moved_reply T (move.Failed n problem) = reply_of T (show.Order n)
 
 -- the text of the nonce that is issued next
 abbrev pub fresh_nonce : Tables → List ℕ → List ℕ
-fresh_nonce T random = nonce_text (T.meta.nonces + 1) (take 16 random)
+fresh_nonce T random = nonce_text (T.meta.counters.nonces + 1) (take 16 random)

@@ -7,6 +7,7 @@ use Rattle.desk_model.specs.Nonce.{Nonce, nonces, is_open}
 use Rattle.desk_model.specs.Account.{Account, accounts, account_end, account_status, contacts, key_of}
 use Rattle.desk_model.specs.Authorization.{Authorization, Challenge, authorizations, authorization_end, authorization_status, report, when_answered, challenge_status, count_challenges}
 use Rattle.desk_model.specs.Order.{Order, orders, csr, certificate, failure, order_status}
+pub use Rattle.desk_model.specs.declared.rows.Counters.{Counters}
 pub use Rattle.desk_model.specs.declared.rows.Meta.{Meta}
 pub use Rattle.desk_model.specs.declared.rows.AccountRow.{AccountRow}
 pub use Rattle.desk_model.specs.declared.rows.ChallengeRow.{ChallengeRow}
@@ -75,12 +76,14 @@ tables_at F t =
     record {
       meta = record {
         policy = terms F;
-        clock = t;
-        nonces = length (nonces F);
-        accounts = length (accounts F);
-        orders = length (orders F);
-        authorizations = length (authorizations F);
-        challenges = count_challenges (authorizations F);
+        counters = record {
+          clock = t;
+          nonces = length (nonces F);
+          accounts = length (accounts F);
+          orders = length (orders F);
+          authorizations = length (authorizations F);
+          challenges = count_challenges (authorizations F);
+        };
       };
       nonces = filter (is_open F t) (nonces F);
       accounts = map (account_row F) (accounts F);

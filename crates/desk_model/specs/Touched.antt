@@ -88,4 +88,4 @@ touched_at T m a = touched_rows T m a
 
 -- at the moment at which the call acts
 abbrev pub touched : Tables → Call → Tables
-touched T call = touched_at T (max call.at T.meta.clock) call.ask
+touched T call = touched_at T (max call.at T.meta.counters.clock) call.ask

@@ -1,12 +1,16 @@
 //! What is asked of the desk.
 ghost use Rattle.std.specs.Prelude.{◌≡◌};
-ghost use Rattle.desk_model.specs.Legal.{is_problem_kind};
+ghost use Rattle.desk_model.specs.Document.{problem_status};
+ghost use Rattle.desk_model.specs.Legal.{has_length, is_problem, is_problem_kind};
+ghost use Rattle.desk_model.specs.Limits.{longest_detail};
+ghost use Rattle.desk_model.specs.Rules.{same_problem};
 ghost use Rattle.desk_model.specs.Run.{IsFormedCall, IsFormedSigned};
 ghost use Rattle.desk_model.specs.Texts.{IsTextProblem};
 
 use crate::jwk::Jwk;
+use crate::limits::LONGEST_DETAIL;
 use crate::sequence::Sequence;
-use crate::text::Text;
+use crate::text::{Text, is_same_text};
 
 /// One call: when it was made, the random bytes that it may take, and what it asks.
 #[derive(Drop, Debug)]
@@ -115,11 +119,47 @@ pub struct OrderProblem {
     pub detail: Text,
 }
 
-/// Whether the signing office may hand in a problem of this error type.
-pub fn is_problem_kind(kind: &str) -> bool
-    ensures { result ≡ is_problem_kind kind.now }
+impl OrderProblem {
+    /// Whether the signing office may hand in a problem of this error type.
+    pub fn is_kind(kind: &str) -> bool
+        ensures { result ≡ is_problem_kind kind.now }
+    {
+        kind == "badCSR" || kind == "serverInternal"
+    }
+
+    /// Whether it may be recorded: of such an error type, and with a detail that is neither empty nor too long.
+    pub fn is_allowed(&self) -> bool
+        ensures { result ≡ is_problem self.now }
+    {
+        OrderProblem::is_kind(self.kind.as_str()) && has_detail_length(self.detail.as_str())
+    }
+
+    /// Whether it says what another says.
+    pub fn is_same(&self, other: &OrderProblem) -> bool
+        ensures { result ≡ same_problem self.now other.now }
+    {
+        is_same_text(self.kind.as_str(), other.kind.as_str())
+            && is_same_text(self.detail.as_str(), other.detail.as_str())
+    }
+
+    /// The status of its error, as its order shows it (RFC 8555, 7.1.3).
+    pub fn status(&self) -> u16
+        ensures { result ≡ problem_status self.now.kind }
+    {
+        status_of_kind(self.kind.as_str())
+    }
+}
+
+fn has_detail_length(detail: &str) -> bool
+    ensures { result ≡ has_length 1 longest_detail detail.now }
 {
-    kind == "badCSR" || kind == "serverInternal"
+    1 <= detail.len() && detail.len() <= LONGEST_DETAIL
+}
+
+fn status_of_kind(kind: &str) -> u16
+    ensures { result ≡ problem_status kind.now }
+{
+    if kind == "serverInternal" { 500 } else { 400 }
 }
 
 /// What the types of a call keep, as a fact: an accepted key has its canonical text, and texts are UTF-8.

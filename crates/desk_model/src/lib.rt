@@ -20,10 +20,7 @@ mod status;
 mod text;
 mod verdict;
 
-pub use call::{
-    Ask, BadKey, Call, FetchError, Finding, OrderProblem, Signed, Target, is_problem_kind,
-    keep_form,
-};
+pub use call::{Ask, BadKey, Call, FetchError, Finding, OrderProblem, Signed, Target, keep_form};
 pub use clock::Clock;
 pub use dns_name::{DnsName, is_well_formed};
 pub use document::Document;
@@ -43,8 +40,8 @@ pub use policy::Policy;
 pub use refusal::Refusal;
 pub use reply::{Allow, Body, Problem, Reply, Subproblem};
 pub use rows::{
-    AccountRow, AuthorizationRow, ChallengeRow, Change, DatedBytes, DatedProblem, Listed, Meta,
-    OrderRow, StatusFault,
+    AccountRow, AuthorizationRow, ChallengeRow, Change, Counters, DatedBytes, DatedProblem, Listed,
+    Meta, OrderRow, StatusFault,
 };
 pub use sequence::Sequence;
 pub use status::{AccountStatus, AuthzStatus, ChallengeStatus, OrderStatus};

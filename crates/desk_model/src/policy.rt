@@ -2,10 +2,12 @@
 ghost use Rattle.std.specs.Prelude.{◌≡◌, ◌≤◌, ◌==◌, ◌-◌, length, slice_index, true, false, IfOk, IsTrue, MatchOption};
 ghost use Rattle.std.specs.Int.{is_in_range};
 ghost use Rattle.std.specs.List.{list_all};
+ghost use Rattle.desk_model.specs.Effect.{lasts};
 ghost use Rattle.desk_model.specs.Limits.{longest_life};
 ghost use Rattle.desk_model.specs.Terms.{Terms, are_terms, is_base, is_life, has_scheme, is_base_byte};
 
 use crate::limits::LONGEST_LIFE;
+use crate::objects::Nonce;
 use crate::text::Text;
 use std::alloc::{AllocError, Global};
 use std::marker::Model;
@@ -77,6 +79,20 @@ impl Policy {
         ensures limit { result ≤ longest_life }
     {
         self.nonce_life
+    }
+
+    /// Whether a nonce is good at a moment, in seconds since 1970: up to and including the end of its life (RFC 8555, 6.5).
+    pub fn lasts(&self, moment: u64, nonce: &Nonce) -> bool
+        ensures { result ≡ lasts self.now moment nonce.now }
+    {
+        moment <= nonce.issued.saturating_add(self.nonce_life)
+    }
+
+    /// The moment, in seconds since 1970, before which the nonces were issued that are past their life at this one.
+    pub fn first_lasting(&self, moment: u64) -> u64
+        ensures { result ≡ moment - self.now.nonce_life }
+    {
+        moment.saturating_sub(self.nonce_life)
     }
 
     /// How long an order lives, in seconds.

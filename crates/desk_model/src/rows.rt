@@ -12,11 +12,9 @@ use crate::status::{AccountStatus, AuthzStatus, ChallengeStatus, OrderStatus};
 use crate::text::Text;
 use std::alloc::AllocError;
 
-/// The one row of a desk's own: its policy, its clock, and the last number given of each kind.
-#[derive(Drop, Debug)]
-pub struct Meta {
-    /// What the operator fixed when the desk was made; no call changes it.
-    pub policy: Policy,
+/// What calls move of a desk's own row: its clock, and the last number given of each kind.
+#[derive(Clone, Copy, Debug, PartialEq, Eq)]
+pub struct Counters {
     /// The latest recorded moment.
     pub clock: Clock,
     /// How many nonces were issued, which is the last serial, 2^62 at most.
@@ -31,18 +29,22 @@ pub struct Meta {
     pub challenges: u64,
 }
 
+/// The one row of a desk's own.
+#[derive(Drop, Debug)]
+pub struct Meta {
+    /// What the operator fixed when the desk was made; no call changes it.
+    pub policy: Policy,
+    /// As the last call that recorded something left them.
+    pub counters: Counters,
+}
+
 impl Clone for Meta {
     ghost is_clone = { λ row copy. copy ≡ row };
 
     fn clone(&self) -> Result<Meta, AllocError> {
         Ok(Meta {
             policy: self.policy.clone()?,
-            clock: self.clock,
-            nonces: self.nonces,
-            accounts: self.accounts,
-            orders: self.orders,
-            authorizations: self.authorizations,
-            challenges: self.challenges,
+            counters: self.counters,
         })
     }
 }
@@ -128,7 +130,7 @@ pub struct AuthorizationRow {
     pub ended: Option<AuthorizationEnd>,
     /// Its challenges by number, in a table of their own in the file.
     pub challenges: Sequence<ChallengeRow>,
-    /// The stored status, as of the clock of `Meta`: the sweep moves it later.
+    /// The stored status, as of the clock of `Counters`: the sweep moves it later.
     pub status: AuthzStatus,
 }
 
@@ -217,7 +219,7 @@ pub struct OrderRow {
     pub certified: Option<DatedBytes>,
     /// Why the signing office gave it up.
     pub failed: Option<DatedProblem>,
-    /// The stored status, as of the clock of `Meta`: the sweep moves it later.
+    /// The stored status, as of the clock of `Counters`: the sweep moves it later.
     pub status: OrderStatus,
 }
 
@@ -242,7 +244,7 @@ impl Clone for OrderRow {
 /// A row put in the place of the one with its number, or the row of a nonce removed.
 #[derive(Drop, Debug)]
 pub enum Change {
-    /// The desk's own row: its clock and its counts; the policy in it stays.
+    /// The desk's own row, once a call: its counters are those after all entries, its policy stays.
     PutMeta(Meta),
     /// A nonce that was just issued.
     PutNonce(Nonce),

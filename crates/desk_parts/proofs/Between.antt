@@ -1,5 +1,5 @@
 -- A part that holds what a call touches answers as the touched rows do, and so as the whole.
-use Rattle.std.proofs.Common.{◌≡◌, ◌≤◌, ℕ, ◌+◌, max, List, [], ◌∷◌, ◌++◌, map, filter, refl, sym, ap, subst, ◌∙◌, true, false, Bool, cond, Some, None}
+use Rattle.std.proofs.Common.{◌≡◌, ◌≤◌, ℕ, ◌+◌, max, List, [], ◌∷◌, ◌++◌, map, filter, refl, sym, ap, subst, ◌∙◌, true, false, Bool, cond}
 use Rattle.std.specs.Prelude.{◌==◌, ◌&&◌, ◌||◌}
 use Rattle.std.specs.List.{list_any}
 use Rattle.std.proofs.lemmas.Bool.{and_from, and_parts}
@@ -29,7 +29,8 @@ use Rattle.desk_laws.proofs.Basics.{each, each_after, each_all, each_both, each-
 use Rattle.desk_laws.proofs.Chain.{effect_part}
 use Rattle.desk_laws.proofs.Local.{swept_part}
 use Rattle.desk_laws.proofs.SweptParts.{swept_closed}
-use Rattle.desk_parts.specs.AnswersAs.{AnswersAs, CarriesOutAs, IssuesAs, PassesAs, SettlesAs, changes_of}
+use Rattle.desk_model.specs.Change.{recorded_changes}
+use Rattle.desk_parts.specs.AnswersAs.{AnswersAs, CarriesOutAs, IssuesAs, PassesAs, SettlesAs}
 use Rattle.desk_parts.specs.IsPart.{IsPartFor, Keeps}
 use Rattle.desk_model.specs.Asked.{asks_authorizations, asks_orders}
 use Rattle.desk_model.specs.Touched.{is_first_authorization, is_named_account, is_named_authorization, is_named_order, is_own_authorization, is_own_order, is_past_order, is_touched_account, is_touched_authorization, is_touched_nonce, is_touched_order, lists, only_meta, touched_at, touched_rows}
@@ -226,7 +227,7 @@ entry_ends k T m e n h =
     (λ o. moved_end e m P.authorizations (effect m P e).authorizations (swept_order m (restricted k T).authorizations o) ∙ swept_end m (restricted k T).authorizations o)
     (subst (EachOf (EndBy n)) (map_twice (moved_order e m S.authorizations (effect m S e).authorizations) (swept_order m T.authorizations) T.orders)
     (each_front (EndBy n) (map (moved_order e m S.authorizations (effect m S e).authorizations) S.orders) _ h))))
-    (made_ends n m (effect m S e).authorizations (effect m P e).authorizations (ordered_by e m S.meta.policy (new_authorizations S e m) (S.meta.orders + 1))
+    (made_ends n m (effect m S e).authorizations (effect m P e).authorizations (ordered_by e m S.meta.policy (new_authorizations S e m) (S.meta.counters.orders + 1))
     (each_after (EndBy n) (map (moved_order e m S.authorizations (effect m S e).authorizations) S.orders) _ h))
 
 orders_end : (k : Kept) (T : Tables) (m : ℕ) (v : Verdict) (n : ℕ) → EachOf (EndBy n) (effects m (swept m T) (entries_of v)).orders →
@@ -259,7 +260,7 @@ settles_between k T Q m a h low high =
     record {
       judged = judged;
       verdict = carries_between k T Q m (office_verdict (swept m T) a) h low.verdict (subst (CarriesOutAs m (restricted k T) Q) judged high.verdict);
-      records = sym (subst (λ v. changes_of m Q (entries_of v) ≡ changes_of m (restricted k T) (entries_of v)) judged high.records) ∙ low.records;
+      records = sym (subst (λ v. recorded_changes m Q (entries_of v) ≡ recorded_changes m (restricted k T) (entries_of v)) judged high.records) ∙ low.records;
     }
 
 passes_between : (k : Kept) (T Q : Tables) (m : ℕ) (s : Signed) → IsOrdered T → PassesAs m s T Q → PassesAs m s (restricted k T) Q → PassesAs m s T (restricted k T)
@@ -271,7 +272,7 @@ passes_between k T Q m s h low high =
       judged = judged;
       verdict = λ r. carries_between k T Q m (signed_verdict (swept m T) r s) h (low.verdict r) (subst (CarriesOutAs m (restricted k T) Q) (judged r) (high.verdict r));
       records = λ r n fresh.
-          sym (subst (λ v. changes_of m Q (spent n ∷ issued fresh ∷ entries_of v) ≡ changes_of m (restricted k T) (spent n ∷ issued fresh ∷ entries_of v)) (judged r) (high.records r n fresh))
+          sym (subst (λ v. recorded_changes m Q (spent n ∷ issued fresh ∷ entries_of v) ≡ recorded_changes m (restricted k T) (spent n ∷ issued fresh ∷ entries_of v)) (judged r) (high.records r n fresh))
           ∙ low.records r n fresh;
     }
 
@@ -323,6 +324,6 @@ part_answers k T m ask.OrderWork h holds = work_as k T m ask.OrderWork holds
 part_answers k T m (ask.KeyOf n) h holds = rows_answer k T m (ask.KeyOf n) h holds refl refl
 
 -- a part for a call answers it as the whole
-pub parts_answer : (T P : Tables) (call : Call) → IsOrdered T → IsPartFor call T P → AnswersAs (max call.at T.meta.clock) call.ask T P
+pub parts_answer : (T P : Tables) (call : Call) → IsOrdered T → IsPartFor call T P → AnswersAs (max call.at T.meta.counters.clock) call.ask T P
 parts_answer T P call h part =
-    subst (AnswersAs (max call.at T.meta.clock) call.ask T) (sym part.cut) (part_answers part.kept T (max call.at T.meta.clock) call.ask h part.holds)
+    subst (AnswersAs (max call.at T.meta.counters.clock) call.ask T) (sym part.cut) (part_answers part.kept T (max call.at T.meta.counters.clock) call.ask h part.holds)

@@ -125,25 +125,25 @@ no_part T =
 pub touched_part : (T : Tables) (call : Call) → IsOrdered T → IsPartFor call T (touched T call)
 touched_part T call h = by call.ask refl
   where
-    rows : (a : Ask) → touched_at T (max call.at T.meta.clock) a ≡ touched_rows T (max call.at T.meta.clock) a → call.ask ≡ a → IsPartFor call T (touched T call)
+    rows : (a : Ask) → touched_at T (max call.at T.meta.counters.clock) a ≡ touched_rows T (max call.at T.meta.counters.clock) a → call.ask ≡ a → IsPartFor call T (touched T call)
     rows a e is =
-        let same : touched T call ≡ touched_rows T (max call.at T.meta.clock) a = ap (touched_at T (max call.at T.meta.clock)) is ∙ e in
+        let same : touched T call ≡ touched_rows T (max call.at T.meta.counters.clock) a = ap (touched_at T (max call.at T.meta.counters.clock)) is ∙ e in
         record {
-          kept = kept_by T (max call.at T.meta.clock) a;
-          cut = same ∙ touched_cut T (max call.at T.meta.clock) a h;
-          holds = subst (Keeps (kept_by T (max call.at T.meta.clock) a)) (sym same) (touched_kept T (max call.at T.meta.clock) a h);
+          kept = kept_by T (max call.at T.meta.counters.clock) a;
+          cut = same ∙ touched_cut T (max call.at T.meta.counters.clock) a h;
+          holds = subst (Keeps (kept_by T (max call.at T.meta.counters.clock) a)) (sym same) (touched_kept T (max call.at T.meta.counters.clock) a h);
         }
 
     by : (a : Ask) → call.ask ≡ a → IsPartFor call T (touched T call)
     by ask.Directory is =
-        let same : touched T call ≡ only_meta T = ap (touched_at T (max call.at T.meta.clock)) is in
+        let same : touched T call ≡ only_meta T = ap (touched_at T (max call.at T.meta.counters.clock)) is in
         record {
           kept = no_rows;
           cut = same ∙ no_part T;
           holds = subst (Keeps no_rows) (sym same) (record { nonces = tt; accounts = tt; authorizations = tt; orders = tt });
         }
-    by ask.ChallengeWork is = subst (IsPartFor call T) (sym (ap (touched_at T (max call.at T.meta.clock)) is)) (whole_part T call)
-    by ask.OrderWork is = subst (IsPartFor call T) (sym (ap (touched_at T (max call.at T.meta.clock)) is)) (whole_part T call)
+    by ask.ChallengeWork is = subst (IsPartFor call T) (sym (ap (touched_at T (max call.at T.meta.counters.clock)) is)) (whole_part T call)
+    by ask.OrderWork is = subst (IsPartFor call T) (sym (ap (touched_at T (max call.at T.meta.counters.clock)) is)) (whole_part T call)
     by (ask.NewNonce head) is = rows (ask.NewNonce head) refl is
     by (ask.Signed s) is = rows (ask.Signed s) refl is
     by (ask.Report n finding) is = rows (ask.Report n finding) refl is

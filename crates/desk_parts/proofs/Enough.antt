@@ -1,11 +1,10 @@
 -- A part for a call answers it as the whole.
-use Rattle.std.proofs.Common.{◌≡◌, ◌≤◌, ◌+◌, ℕ, List, [], ◌∷◌, ◌++◌, filter, Some, None, refl, sym, ap, subst, ◌∙◌, true, Bool}
-use Rattle.desk_model.specs.Change.{all_changes}
+use Rattle.std.proofs.Common.{◌≡◌, ◌≤◌, ◌+◌, ℕ, List, [], ◌∷◌, filter, refl, sym, ap, subst, ◌∙◌, true, Bool}
 use Rattle.desk_model.specs.Decide.{entries_of, verdict_reply}
 use Rattle.desk_model.specs.Effect.{effect, effects, swept}
 use Rattle.desk_model.specs.Rules.{office_verdict, open_nonce, signed_verdict}
 use Rattle.desk_model.specs.Tables.{Tables}
-use Rattle.desk_model.specs.Kept.{Covers, CoversSweep, EachOf, IsClosed, Kept, restricted}
+use Rattle.desk_model.specs.Kept.{Covers, EachOf, IsClosed, Kept, restricted}
 use Rattle.desk_model.specs.declared.call.Ask.{Ask}
 use Rattle.desk_model.specs.declared.call.Ask.TheVariants as ask
 use Rattle.desk_model.specs.declared.call.Call.{Call}
@@ -22,12 +21,12 @@ use Rattle.desk_model.specs.declared.verdict.Verdict.TheVariants.{Refused as ref
 use Rattle.desk_laws.specs.Ordered.{IsOrdered, IsTable}
 use Rattle.desk_laws.specs.Parts.{CoversAll}
 use Rattle.desk_laws.proofs.Basics.{each, each_all}
-use Rattle.desk_laws.proofs.Chain.{all_changes_local, effects_part}
-use Rattle.desk_laws.proofs.Local.{sweep_changes_local, swept_part}
+use Rattle.desk_laws.proofs.Chain.{effects_part, recorded_local}
+use Rattle.desk_laws.proofs.Local.{swept_part}
 use Rattle.desk_laws.proofs.Recorded.{below_filter}
 use Rattle.desk_laws.proofs.RowLists.{ascends_filter}
 use Rattle.desk_laws.proofs.SweptParts.{swept_closed}
-use Rattle.desk_parts.specs.AnswersAs.{AnswersAs, CarriesOutAs, IssuesAs, PassesAs, SettlesAs, changes_of}
+use Rattle.desk_parts.specs.AnswersAs.{AnswersAs, CarriesOutAs, IssuesAs, PassesAs, SettlesAs}
 use Rattle.desk_parts.specs.IsPart.{IsPartFor, Keeps}
 use Rattle.desk_parts.proofs.Listed.{KeepsListed}
 use Rattle.desk_model.specs.Touched.{touched, touched_at, touched_rows}
@@ -46,10 +45,10 @@ table_part number last p xs h = (ascends_filter number p 1 xs h.0, below_filter 
 pub restricted_ordered : (k : Kept) (T : Tables) → IsOrdered T → IsOrdered (restricted k T)
 restricted_ordered k T h =
     record {
-      nonces = table_part (λ (n : Nonce). n.serial) T.meta.nonces _ T.nonces h.nonces;
-      accounts = table_part (λ (a : AccountRow). a.number) T.meta.accounts _ T.accounts h.accounts;
-      authorizations = table_part (λ (a : AuthorizationRow). a.number) T.meta.authorizations _ T.authorizations h.authorizations;
-      orders = table_part (λ (o : OrderRow). o.number) T.meta.orders _ T.orders h.orders;
+      nonces = table_part (λ (n : Nonce). n.serial) T.meta.counters.nonces _ T.nonces h.nonces;
+      accounts = table_part (λ (a : AccountRow). a.number) T.meta.counters.accounts _ T.accounts h.accounts;
+      authorizations = table_part (λ (a : AuthorizationRow). a.number) T.meta.counters.authorizations _ T.authorizations h.authorizations;
+      orders = table_part (λ (o : OrderRow). o.number) T.meta.counters.orders _ T.orders h.orders;
     }
 
 pub parts_ordered : (T P : Tables) (call : Call) → IsOrdered T → IsPartFor call T P → IsOrdered P
@@ -85,14 +84,6 @@ nonce_covered k m S n r (opens key contacts) closed h = later_covered k m S n r 
 nonce_covered k m S n r (orders account wanted) closed h = later_covered k m S n r (ordering account wanted) closed h.0
 nonce_covered k m S n r (moves move) closed h = later_covered k m S n r (entry_of move) closed h.0
 
--- the changes are the same
-changes_same : (k : Kept) (T : Tables) (m : ℕ) (es : List Entry) → IsClosed k T → CoversSweep k T m → CoversAll k m (swept m T) es →
-    changes_of m (restricted k T) es ≡ changes_of m T es
-changes_same k T m [] closed falling covers = refl
-changes_same k T m (e ∷ es) closed falling covers =
-    λ i. sweep_changes_local k T m closed falling i
-    ++ (ap (λ P. all_changes m P (e ∷ es)) (swept_part k T m closed) ∙ all_changes_local k m (swept m T) (e ∷ es) covers) i
-
 -- the reply is the same
 reply_same : (k : Kept) (m : ℕ) (S : Tables) (v : Verdict) (index : Bool) → IsAnswered k m S v →
     verdict_reply index (restricted k (effects m S (entries_of v))) v ≡ verdict_reply index (effects m S (entries_of v)) v
@@ -120,7 +111,7 @@ carried_out k T m v closed h =
 issues_as : (k : Kept) (T : Tables) (m : ℕ) (a : Ask) → IsReady k T m a → IssuesAs m T (restricted k T)
 issues_as k T m a ready =
     let closed : IsClosed k (swept m T) = swept_closed k T m ready.closed in
-    record { records = λ r. changes_same k T m (issued r ∷ []) ready.closed (keeps_falling k T m a ready.touched) (closed, covers_issued k (swept m T) r, tt, tt) }
+    record { records = λ r. recorded_local k T m (issued r ∷ []) ready.closed (keeps_falling k T m a ready.touched) (closed, covers_issued k (swept m T) r, tt, tt) }
 
 settles_as : (k : Kept) (T : Tables) (m : ℕ) (a : Ask) → IsNoWork a → IsReady k T m a → SettlesAs m a T (restricted k T)
 settles_as k T m a none ready =
@@ -129,7 +120,7 @@ settles_as k T m a none ready =
       judged = ap (λ P. office_verdict P a) (swept_part k T m ready.closed) ∙ office_same k (swept m T) a (swept_names k T m a ready.named);
       verdict = carried_out k T m (office_verdict (swept m T) a) ready.closed answered;
       records =
-          changes_same k T m (entries_of (office_verdict (swept m T) a)) ready.closed (keeps_falling k T m a ready.touched)
+          recorded_local k T m (entries_of (office_verdict (swept m T) a)) ready.closed (keeps_falling k T m a ready.touched)
           (verdict_covered k m (swept m T) (office_verdict (swept m T) a) (swept_closed k T m ready.closed) answered);
     }
 
@@ -142,7 +133,7 @@ passes_as k T m s ready =
       judged = λ r. ap (λ P. signed_verdict P r s) (swept_part k T m ready.closed) ∙ signed_same k (swept m T) r s named;
       verdict = λ r. carried_out k T m (signed_verdict (swept m T) r s) ready.closed (signed_answered k T m r s ready);
       records = λ r n fresh.
-          changes_same k T m (spent n ∷ issued fresh ∷ entries_of (signed_verdict (swept m T) r s)) ready.closed (keeps_falling k T m (ask.Signed s) ready.touched)
+          recorded_local k T m (spent n ∷ issued fresh ∷ entries_of (signed_verdict (swept m T) r s)) ready.closed (keeps_falling k T m (ask.Signed s) ready.touched)
           (nonce_covered k m (swept m T) n fresh (signed_verdict (swept m T) r s) (swept_closed k T m ready.closed) (signed_answered k T m r s ready));
     }
 

@@ -83,10 +83,10 @@ grown_closed k T ordered listed =
           each _ _ T.orders
           (λ o f yes. each _ _ (numbers_of o.listed) (λ n h. or_left _ _ h) (f.1 (sym f.0 ∙ yes)))
           (each_both _ _ T.orders (same_kept (λ (o : OrderRow). o.number) T.orders k.orders) listed);
-      new_nonces = new_kept (λ (n : Nonce). n.serial) T.meta.nonces T.nonces k.nonces ordered.nonces.1;
-      new_accounts = new_kept (λ (a : AccountRow). a.number) T.meta.accounts T.accounts k.accounts ordered.accounts.1;
-      new_authorizations = new_kept (λ (a : AuthorizationRow). a.number) T.meta.authorizations T.authorizations k.authorizations ordered.authorizations.1;
-      new_orders = new_kept (λ (o : OrderRow). o.number) T.meta.orders T.orders k.orders ordered.orders.1;
+      new_nonces = new_kept (λ (n : Nonce). n.serial) T.meta.counters.nonces T.nonces k.nonces ordered.nonces.1;
+      new_accounts = new_kept (λ (a : AccountRow). a.number) T.meta.counters.accounts T.accounts k.accounts ordered.accounts.1;
+      new_authorizations = new_kept (λ (a : AuthorizationRow). a.number) T.meta.counters.authorizations T.authorizations k.authorizations ordered.authorizations.1;
+      new_orders = new_kept (λ (o : OrderRow). o.number) T.meta.counters.orders T.orders k.orders ordered.orders.1;
     }
 
 -- ---- what is kept of the rows that a call touches

@@ -6,7 +6,8 @@ use Rattle.std.proofs.lemmas.Bool.{eqb-true, eq-eqb}
 use Rattle.std.proofs.lemmas.Bool.Decides.{nat_tests}
 use Rattle.std.proofs.lemmas.List.Folds.{list_any-append}
 use Rattle.desk_model.specs.Derived.{authz_code, numbers_of, order_code}
-use Rattle.desk_model.specs.Effect.{has_row, is_live, is_live_order, is_overdue}
+use Rattle.desk_model.specs.Authorization.{is_live}
+use Rattle.desk_model.specs.Effect.{has_row, is_live_order, is_overdue}
 use Rattle.desk_model.specs.Lookup.{holds}
 use Rattle.desk_model.specs.Tables.{Tables}
 use Rattle.desk_model.specs.Tokens.{NonceText, nonce_in}
@@ -384,15 +385,15 @@ rows_loaded T m a h =
 pub loaded_touched : (T : Tables) (call : Call) → IsOrdered T → loaded T call ≡ touched T call
 loaded_touched T call h = by call.ask
   where
-    by : (a : Ask) → loaded_at T (max call.at T.meta.clock) a ≡ touched_at T (max call.at T.meta.clock) a
+    by : (a : Ask) → loaded_at T (max call.at T.meta.counters.clock) a ≡ touched_at T (max call.at T.meta.counters.clock) a
     by ask.Directory = refl
     by ask.ChallengeWork = refl
     by ask.OrderWork = refl
-    by (ask.NewNonce head) = rows_loaded T (max call.at T.meta.clock) (ask.NewNonce head) h
-    by (ask.Signed s) = rows_loaded T (max call.at T.meta.clock) (ask.Signed s) h
-    by (ask.Report n finding) = rows_loaded T (max call.at T.meta.clock) (ask.Report n finding) h
-    by (ask.Certify n bytes) = rows_loaded T (max call.at T.meta.clock) (ask.Certify n bytes) h
-    by (ask.FailOrder n problem) = rows_loaded T (max call.at T.meta.clock) (ask.FailOrder n problem) h
-    by (ask.RevokeAuthz n) = rows_loaded T (max call.at T.meta.clock) (ask.RevokeAuthz n) h
-    by (ask.RevokeAccount n) = rows_loaded T (max call.at T.meta.clock) (ask.RevokeAccount n) h
-    by (ask.KeyOf n) = rows_loaded T (max call.at T.meta.clock) (ask.KeyOf n) h
+    by (ask.NewNonce head) = rows_loaded T (max call.at T.meta.counters.clock) (ask.NewNonce head) h
+    by (ask.Signed s) = rows_loaded T (max call.at T.meta.counters.clock) (ask.Signed s) h
+    by (ask.Report n finding) = rows_loaded T (max call.at T.meta.counters.clock) (ask.Report n finding) h
+    by (ask.Certify n bytes) = rows_loaded T (max call.at T.meta.counters.clock) (ask.Certify n bytes) h
+    by (ask.FailOrder n problem) = rows_loaded T (max call.at T.meta.counters.clock) (ask.FailOrder n problem) h
+    by (ask.RevokeAuthz n) = rows_loaded T (max call.at T.meta.counters.clock) (ask.RevokeAuthz n) h
+    by (ask.RevokeAccount n) = rows_loaded T (max call.at T.meta.counters.clock) (ask.RevokeAccount n) h
+    by (ask.KeyOf n) = rows_loaded T (max call.at T.meta.counters.clock) (ask.KeyOf n) h

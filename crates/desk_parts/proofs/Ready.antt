@@ -1,5 +1,5 @@
 -- A part that is ready for an ask: closed, and with all that the ask touches and names.
-use Rattle.std.proofs.Common.{◌≡◌, ℕ, List, Some, None, refl, sym, ap, ◌∙◌, true, false, Bool, cond}
+use Rattle.std.proofs.Common.{◌≡◌, ℕ, List, refl, sym, ap, ◌∙◌, true, false, Bool, cond}
 use Rattle.std.specs.Prelude.{◌==◌}
 use Rattle.desk_model.specs.Effect.{effect, falls, is_overdue, swept, swept_authorization, swept_order}
 use Rattle.desk_model.specs.Shown.{reply_of, made_account, made_order, moved_reply}

@@ -1,19 +1,16 @@
 -- A part that keeps what is shown gives the same reply.
-use Rattle.std.proofs.Common.{◌≡◌, ℕ, ◌+◌, List, [], ◌∷◌, ◌++◌, map, filter, Option, Some, None, refl, sym, ap, subst, ◌∙◌, true, false, Bool, cond, arith}
-use Rattle.std.specs.Prelude.{◌==◌, is_some, codes}
+use Rattle.std.proofs.Common.{◌≡◌, ℕ, ◌+◌, List, [], ◌∷◌, map, filter, Option, Some, None, refl, sym, ap, subst, ◌∙◌, true, false, Bool, cond, arith}
+use Rattle.std.specs.Prelude.{◌==◌, codes}
 use Rattle.std.proofs.lemmas.Bool.{and_parts, eqb-true}
 use Rattle.serde_json.specs.Data.{Data, string}
-use Rattle.desk_model.specs.Json.{document, list, when}
-use Rattle.desk_model.specs.Moment.{moment_text}
-use Rattle.desk_model.specs.Names.{shown_name}
+use Rattle.desk_model.specs.Json.{document, list}
 use Rattle.desk_model.specs.Derived.{numbers_of, restated_authorization, restated_order}
-use Rattle.desk_model.specs.Document.{and_row, authorization_url, certificate_url, finalize_url, identifier, is_listed, key_document, order_document, order_error, order_status_text, order_url, rows_of}
+use Rattle.desk_model.specs.Document.{and_row, is_listed, key_document, order_document, order_url, order_with_names, rows_of}
 use Rattle.desk_model.specs.Effect.{effect, fresh_authorization, fresh_order, has_row, moved_authorization, moved_order, new_authorizations, noted_order, touches_order}
 use Rattle.desk_model.specs.Order.{ordered_by}
 use Rattle.desk_model.specs.Questions.{order_on}
 use Rattle.desk_model.specs.Shown.{at, account_reply, authorization_reply, certificate_reply, challenge_in, client_challenge_in, located_account, made_account, made_order, moved_reply, ok, reply_of, shown}
 use Rattle.desk_model.specs.Tables.{Tables}
-use Rattle.desk_model.specs.Terms.{Terms}
 use Rattle.desk_model.specs.Kept.{EachOf, IsClosed, Kept, restricted}
 use Rattle.desk_model.specs.declared.entry.Entry.{Entry}
 use Rattle.desk_model.specs.declared.reply.Reply.{Reply}
@@ -51,8 +48,8 @@ listed_after k S m e closed fresh =
     (each _ _ S.orders (λ o f kept.
     subst (EachOf (λ n. k.authorizations n ≡ true)) (sym (moved_listed e m S.authorizations (effect m S e).authorizations o))
     (f (ap k.orders (sym (order_number e m S.authorizations (effect m S e).authorizations o)) ∙ kept))) closed.listed))
-    (each-map _ (λ o. restated_order m (effect m S e).authorizations (fresh_order o)) (ordered_by e m S.meta.policy (new_authorizations S e m) (S.meta.orders + 1))
-    (each _ _ (ordered_by e m S.meta.policy (new_authorizations S e m) (S.meta.orders + 1)) (λ o f kept. f) fresh))
+    (each-map _ (λ o. restated_order m (effect m S e).authorizations (fresh_order o)) (ordered_by e m S.meta.policy (new_authorizations S e m) (S.meta.counters.orders + 1))
+    (each _ _ (ordered_by e m S.meta.policy (new_authorizations S e m) (S.meta.counters.orders + 1)) (λ o f kept. f) fresh))
 
 -- the authorization of a challenge
 pub owner_after : (k : Kept) (S : Tables) (m : ℕ) (e : Entry) (n : ℕ) → IsClosed k S → EachOf (λ r. has_row n r ≡ true → k.authorizations r.number ≡ true) S.authorizations →
@@ -62,8 +59,8 @@ owner_after k S m e n closed h =
     (each-map _ (moved_authorization e m) S.authorizations
     (each _ _ S.authorizations (λ r f has. ap k.authorizations (moved_number e m r) ∙ f (sym (has_row-moved n e m r) ∙ has)) h))
     (each _ _ (map (λ a. restated_authorization m (fresh_authorization a)) (new_authorizations S e m)) (λ r f has. f)
-    (up_kept (λ (a : AuthorizationRow). a.number) k.authorizations S.meta.authorizations closed.new_authorizations (S.meta.authorizations + 1) (omega arith) _
-    (made_up e m S.meta.policy.authz_life (S.meta.authorizations + 1) (S.meta.challenges + 1))))
+    (up_kept (λ (a : AuthorizationRow). a.number) k.authorizations S.meta.counters.authorizations closed.new_authorizations (S.meta.counters.authorizations + 1) (omega arith) _
+    (made_up e m S.meta.policy.authz_life (S.meta.counters.authorizations + 1) (S.meta.counters.challenges + 1))))
 
 -- ---- what is shown
 
@@ -73,8 +70,8 @@ account_shown k E n h = ap (shown (account_reply 200 E)) (account_same k E n h)
 pub known_shown : (k : Kept) (E : Tables) (n : ℕ) → k.accounts n ≡ true → reply_of (restricted k E) (show.KnownAccount n) ≡ reply_of E (show.KnownAccount n)
 known_shown k E n h = ap (shown (located_account 200 E)) (account_same k E n h)
 
-pub opened_shown : (k : Kept) (E : Tables) → k.accounts E.meta.accounts ≡ true → made_account (restricted k E) ≡ made_account E
-opened_shown k E h = ap (shown (located_account 201 E)) (account_same k E E.meta.accounts h)
+pub opened_shown : (k : Kept) (E : Tables) → k.accounts E.meta.counters.accounts ≡ true → made_account (restricted k E) ≡ made_account E
+opened_shown k E h = ap (shown (located_account 201 E)) (account_same k E E.meta.counters.accounts h)
 
 pub key_shown : (k : Kept) (E : Tables) (n : ℕ) → k.accounts n ≡ true → reply_of (restricted k E) (show.Key n) ≡ reply_of E (show.Key n)
 key_shown k E n h = ap (shown (λ (a : AccountRow). ok 200 (key_document a.key))) (account_same k E n h)
@@ -101,20 +98,7 @@ orders_shown k E n h =
     (filter_part (is_listed n) (λ (o : OrderRow). k.orders o.number) E.orders
     (each _ _ E.orders (λ o f l. f (and_parts (o.account == n) _ l).0) h))
 
--- an order, with what it lists
-abbrev order_with_rows : Terms → List AuthorizationRow → OrderRow → Data
-order_with_rows t rows o =
-    document (
-    (codes "authorizations", list (map (λ n. string (authorization_url t n)) (numbers_of o.listed)))
-    ∷ (when (is_some o.certified) (codes "certificate", string (certificate_url t o.number))
-    ++ (order_error o.failed
-    ++ (codes "expires", string (moment_text o.expires))
-    ∷ (codes "finalize", string (finalize_url t o.number))
-    ∷ (codes "identifiers", list (map (λ a. identifier (shown_name a.name)) rows))
-    ∷ (codes "status", string (order_status_text o.status))
-    ∷ []))
-    )
-
+-- what an order lists
 rows_same : (k : Kept) (rows : List AuthorizationRow) (ns : List ℕ) → EachOf (λ n. k.authorizations n ≡ true) ns →
     rows_of (filter (λ a. k.authorizations a.number) rows) ns ≡ rows_of rows ns
 rows_same k rows [] h = refl
@@ -123,7 +107,7 @@ rows_same k rows (n ∷ ns) h =
 
 document_same : (k : Kept) (E : Tables) (o : OrderRow) → EachOf (λ n. k.authorizations n ≡ true) (numbers_of o.listed) →
     order_document (restricted k E) o ≡ order_document E o
-document_same k E o h = ap (λ rows. order_with_rows E.meta.policy rows o) (rows_same k E.authorizations (numbers_of o.listed) h)
+document_same k E o h = ap (λ rows. order_with_names E.meta.policy (map (λ a. a.name) rows) o) (rows_same k E.authorizations (numbers_of o.listed) h)
 
 -- shown by any reply that takes its document
 order_by : (k : Kept) (E : Tables) (n : ℕ) (f : OrderRow → Data → Reply) → k.orders n ≡ true → KeepsListed k E →
@@ -139,8 +123,8 @@ order_by k E n f h listed = ap (shown (λ o. f o (order_document (restricted k E
 pub order_shown : (k : Kept) (E : Tables) (n : ℕ) → k.orders n ≡ true → KeepsListed k E → reply_of (restricted k E) (show.Order n) ≡ reply_of E (show.Order n)
 order_shown k E n h listed = order_by k E n (λ o d. ok 200 d) h listed
 
-pub made_shown : (k : Kept) (E : Tables) → k.orders E.meta.orders ≡ true → KeepsListed k E → made_order (restricted k E) ≡ made_order E
-made_shown k E h listed = order_by k E E.meta.orders (λ o d. at (order_url E.meta.policy o.number) (ok 201 d)) h listed
+pub made_shown : (k : Kept) (E : Tables) → k.orders E.meta.counters.orders ≡ true → KeepsListed k E → made_order (restricted k E) ≡ made_order E
+made_shown k E h listed = order_by k E E.meta.counters.orders (λ o d. at (order_url E.meta.policy o.number) (ok 201 d)) h listed
 
 pub finalized_shown : (k : Kept) (E : Tables) (n : ℕ) (csr : List ℕ) → k.orders n ≡ true → KeepsListed k E →
     moved_reply (restricted k E) (move.Finalized n csr) ≡ moved_reply E (move.Finalized n csr)

@@ -138,7 +138,7 @@ report_same k S n finding h =
     in_row : (a : AuthorizationRow) → k.accounts a.account ≡ true → (c : Option ChallengeRow) →
         given c refusal.NotFound (finding_verdict (restricted k S) n finding a) ≡ given c refusal.NotFound (finding_verdict S n finding a)
     in_row a own None = refl
-    in_row a own (Some c) = ap (λ x. given (outcome_of c.kind x finding) refusal.Malformed (outcome_verdict n a c)) (expected_same k S a c own)
+    in_row a own (Some c) = ap (λ x. given (outcome_of c.kind x finding) refusal.Malformed (outcome_verdict n a.status c)) (expected_same k S a c own)
 
     by : (x : Option AuthorizationRow) → owner_on S n ≡ x →
         given x refusal.NotFound (λ a. given (challenge_of n a) refusal.NotFound (finding_verdict (restricted k S) n finding a))

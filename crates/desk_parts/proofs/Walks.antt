@@ -3,6 +3,7 @@ use Rattle.std.proofs.Common.{◌≡◌, ℕ, ◌+◌, List, [], ◌∷◌, leng
 use Rattle.std.specs.Prelude.{◌==◌, ◌&&◌, nat_le, bytes_eq}
 use Rattle.std.specs.List.{list_any}
 use Rattle.std.proofs.lemmas.Bool.{and_from, eqb-true}
+use Rattle.desk_model.specs.Authorization.{is_live, is_pending}
 use Rattle.desk_model.specs.declared.refusal.Refusal.TheVariants as refusal
 use Rattle.desk_model.specs.declared.refusal.Refusal.{Refusal}
 use Rattle.desk_model.specs.Account.{is_valid as is_valid_account}
@@ -19,7 +20,7 @@ use Rattle.desk_model.specs.Lookup.{holds}
 use Rattle.desk_model.specs.Order.{is_processing, is_ready}
 use Rattle.desk_model.specs.Payload.{account_change, authorization_change, challenge_change, finalize, new_account, new_order}
 use Rattle.desk_model.specs.Questions.{account_on, account_with_key, authorization_on, challenge_of, order_on, owner_on}
-use Rattle.desk_model.specs.Rules.{account_verdict, authorization_verdict, certify_verdict, challenge_verdict, csr_in, fail_verdict, finalize_verdict, holder_verdict, is_endable, is_revoked, is_revoked_status, key_verdict, new_account_verdict, nothing, office_verdict, open_account, order_of, outcome_of, own, report_verdict, revoke_account, revoke_authorization, same_outcome, same_problem, signed_verdict, stands_open, subproblems, target_verdict, wanted, kept, names_in}
+use Rattle.desk_model.specs.Rules.{account_verdict, authorization_verdict, certify_verdict, challenge_verdict, csr_in, fail_verdict, finalize_verdict, holder_verdict, is_revoked, is_revoked_status, key_verdict, new_account_verdict, nothing, office_verdict, open_account, order_of, outcome_of, own, report_verdict, revoke_account, revoke_authorization, same_outcome, same_problem, signed_verdict, stands_open, subproblems, target_verdict, wanted, kept, names_in}
 use Rattle.desk_model.specs.Tables.{Tables}
 use Rattle.desk_model.specs.Kept.{EachOf, IsClosed, Kept}
 use Rattle.desk_model.specs.Verdict.{choose, unless_fault}
@@ -151,7 +152,7 @@ report_answered k T m n finding ready =
     given_keeps (IsAnswered k m S) (challenge_of n a) refusal.NotFound _ tt (λ c there.
     given_keeps (IsAnswered k m S) (outcome_of c.kind (expected S a c) finding) refusal.Malformed _ tt (λ o is.
     either_keeps (IsAnswered k m S) (holds (λ r. same_outcome r.outcome o) c.reported) _ _ (challenge_shown k S n owner)
-    (check_keeps (IsAnswered k m S) (stands_open (λ c. is_processing_challenge c.status) a n) refusal.Conflict _ tt (λ stands. (
+    (check_keeps (IsAnswered k m S) (is_pending a.status && is_processing_challenge c.status) refusal.Conflict _ tt (λ stands. (
       covered k T m (ask.Report n finding) (reported n o) ready (reported_named T m (ask.Report n finding) n o (λ r h. h)),
       challenge_shown k (effect m S (reported n o)) n (owner_after k S m (reported n o) n (swept_closed k T m ready.closed) owner),
     ))))))
@@ -187,7 +188,7 @@ revoke_authorization_answered k T m n ready r =
     let S : Tables = swept m T in
     let kept : k.authorizations n ≡ true = ready.named.authorization n (same_number n) in
     either_keeps (IsAnswered k m S) (is_revoked_status r.status) _ _ (authorization_shown k S n kept)
-    (check_keeps (IsAnswered k m S) (is_endable r) refusal.Conflict _ tt (λ stands. (
+    (check_keeps (IsAnswered k m S) (is_live r.status) refusal.Conflict _ tt (λ stands. (
       covered k T m (ask.RevokeAuthz n) (authorization_ended n revoked) ready (authorization_named T m (ask.RevokeAuthz n) n revoked (same_number n)),
       authorization_shown k (effect m S (authorization_ended n revoked)) n kept,
     )))
@@ -241,7 +242,7 @@ open_answered k T m a key p ready =
     check_keeps (IsAnswered k m S) (not p.only_existing) refusal.AccountDoesNotExist _ tt (λ new_too.
     no_fault_keeps (IsAnswered k m S) (contacts_fault p.contacts) _ (λ n. tt) (
       covered k T m a (opened key p.contacts) ready (opened_named T m a key p.contacts),
-      opened_shown k (effect m S (opened key p.contacts)) (ready.closed.new_accounts (T.meta.accounts + 1) (omega arith)),
+      opened_shown k (effect m S (opened key p.contacts)) (ready.closed.new_accounts (T.meta.counters.accounts + 1) (omega arith)),
     ))
 
 new_account_answered : (k : Kept) (T : Tables) (m : ℕ) (a : Ask) (key : List ℕ) (p : Option NewAccount) → IsReady k T m a →
@@ -276,7 +277,7 @@ new_order_answered k T m a r n ids ready (s ∷ ss) = tt
 new_order_answered k T m a r n ids ready [] =
     let ws = wanted (kept (names_in ids)) r in (
       covered k T m a (ordered n ws) ready (ordered_named T m a n ws),
-      made_shown k (effect m (swept m T) (ordered n ws)) (ready.closed.new_orders (T.meta.orders + 1) (omega arith)) (listed_then k T m a (ordered n ws) ready),
+      made_shown k (effect m (swept m T) (ordered n ws)) (ready.closed.new_orders (T.meta.counters.orders + 1) (omega arith)) (listed_then k T m a (ordered n ws) ready),
     )
 
 finalize_answered : (k : Kept) (T : Tables) (m : ℕ) (s : Signed) (j : ℕ) (o : OrderRow) (text : List ℕ) → IsReady k T m (sent s (to.Finalize j)) →
@@ -292,7 +293,7 @@ authorization_answered : (k : Kept) (T : Tables) (m : ℕ) (s : Signed) (j : ℕ
     IsAnswered k m (swept m T) (authorization_verdict j r p)
 authorization_answered k T m s j r authz_change.Read ready = authorization_shown k (swept m T) j (ready.named.authorization j (same_number j))
 authorization_answered k T m s j r authz_change.Deactivate ready =
-    either_keeps (IsAnswered k m (swept m T)) (is_endable r) _ _ (
+    either_keeps (IsAnswered k m (swept m T)) (is_live r.status) _ _ (
       covered k T m (sent s (to.Authz j)) (authorization_ended j deactivated) ready (authorization_named T m (sent s (to.Authz j)) j deactivated (same_number j)),
       authorization_shown k (effect m (swept m T) (authorization_ended j deactivated)) j (ready.named.authorization j (same_number j)),
     )

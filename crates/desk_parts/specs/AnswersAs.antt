@@ -1,7 +1,7 @@
 -- That a part answers a call as the whole tables do.
-use Rattle.std.specs.Prelude.{ℕ, ◌≤◌, ◌≡◌, List, [], ◌∷◌, ◌++◌, Bool}
+use Rattle.std.specs.Prelude.{ℕ, ◌≤◌, ◌≡◌, List, [], ◌∷◌, Bool}
 use Rattle.std.specs.List.{filter}
-use Rattle.desk_model.specs.Change.{all_changes, sweep_changes}
+use Rattle.desk_model.specs.Change.{recorded_changes}
 use Rattle.desk_model.specs.Decide.{entries_of, verdict_reply}
 use Rattle.desk_model.specs.Effect.{effects, swept}
 use Rattle.desk_model.specs.Rules.{office_verdict, open_nonce, signed_verdict}
@@ -10,20 +10,13 @@ use Rattle.desk_model.specs.Kept.{EachOf}
 use Rattle.desk_model.specs.declared.call.Ask.{Ask}
 use Rattle.desk_model.specs.declared.call.Ask.TheVariants as ask
 use Rattle.desk_model.specs.declared.call.Signed.{Signed}
-use Rattle.desk_model.specs.declared.entry.Entry.{Entry}
 use Rattle.desk_model.specs.declared.entry.Entry.TheVariants.{Issued as issued, Spent as spent}
 use Rattle.desk_model.specs.declared.rows.AuthorizationRow.{AuthorizationRow}
-use Rattle.desk_model.specs.declared.rows.Change.{Change}
 use Rattle.desk_model.specs.declared.verdict.Verdict.{Verdict}
-
--- the changes of these entries, the sweep's first: none where nothing is recorded
-abbrev pub changes_of : ℕ → Tables → List Entry → List Change
-changes_of m B [] = []
-changes_of m B (e ∷ es) = sweep_changes m B ++ all_changes m (swept m B) (e ∷ es)
 
 -- a nonce that is issued changes the same
 pub record IssuesAs (m : ℕ) (whole part : Tables) : Type 0 where
-  pub records : (random : List ℕ) → changes_of m part (issued random ∷ []) ≡ changes_of m whole (issued random ∷ [])
+  pub records : (random : List ℕ) → recorded_changes m part (issued random ∷ []) ≡ recorded_changes m whole (issued random ∷ [])
 
 -- the verdict shows the same, and then the part's authorizations are among the whole's, and its orders end no later
 pub record CarriesOutAs (m : ℕ) (whole part : Tables) (v : Verdict) : Type 0 where
@@ -36,7 +29,7 @@ pub record CarriesOutAs (m : ℕ) (whole part : Tables) (v : Verdict) : Type 0 w
 pub record SettlesAs (m : ℕ) (a : Ask) (whole part : Tables) : Type 0 where
   pub judged : office_verdict (swept m part) a ≡ office_verdict (swept m whole) a
   pub verdict : CarriesOutAs m whole part (office_verdict (swept m whole) a)
-  pub records : changes_of m part (entries_of (office_verdict (swept m whole) a)) ≡ changes_of m whole (entries_of (office_verdict (swept m whole) a))
+  pub records : recorded_changes m part (entries_of (office_verdict (swept m whole) a)) ≡ recorded_changes m whole (entries_of (office_verdict (swept m whole) a))
 
 -- a signed request
 pub record PassesAs (m : ℕ) (s : Signed) (whole part : Tables) : Type 0 where
@@ -45,8 +38,8 @@ pub record PassesAs (m : ℕ) (s : Signed) (whole part : Tables) : Type 0 where
   pub judged : (random : List ℕ) → signed_verdict (swept m part) random s ≡ signed_verdict (swept m whole) random s
   pub verdict : (random : List ℕ) → CarriesOutAs m whole part (signed_verdict (swept m whole) random s)
   pub records : (random : List ℕ) (serial : ℕ) (fresh : List ℕ) →
-      changes_of m part (spent serial ∷ issued fresh ∷ entries_of (signed_verdict (swept m whole) random s))
-      ≡ changes_of m whole (spent serial ∷ issued fresh ∷ entries_of (signed_verdict (swept m whole) random s))
+      recorded_changes m part (spent serial ∷ issued fresh ∷ entries_of (signed_verdict (swept m whole) random s))
+      ≡ recorded_changes m whole (spent serial ∷ issued fresh ∷ entries_of (signed_verdict (swept m whole) random s))
 
 abbrev pub AnswersAs : ℕ → Ask → Tables → Tables → Type 0
 AnswersAs m (ask.NewNonce head) whole part = IssuesAs m whole part

@@ -22,7 +22,7 @@ PartsAreOrdered = (T P : Tables) (call : Call) → IsOrdered T → IsPartFor cal
 
 -- a part for a call answers it as the whole
 abbrev pub PartsAnswer : Type 0
-PartsAnswer = (T P : Tables) (call : Call) → IsOrdered T → IsPartFor call T P → AnswersAs (max call.at T.meta.clock) call.ask T P
+PartsAnswer = (T P : Tables) (call : Call) → IsOrdered T → IsPartFor call T P → AnswersAs (max call.at T.meta.counters.clock) call.ask T P
 
 -- what the look-ups find is what the call touches
 abbrev pub LoadedIsTouched : Type 0

@@ -160,4 +160,4 @@ loaded_at T m ask.OrderWork = T
 loaded_at T m a = loaded_rows T m a
 
 abbrev pub loaded : Tables → Call → Tables
-loaded T call = loaded_at T (max call.at T.meta.clock) call.ask
+loaded T call = loaded_at T (max call.at T.meta.counters.clock) call.ask

@@ -44,21 +44,21 @@ kinds_make_all T h =
     let last : flat_map challenge_faults challenges ++ [] ≡ flat_map challenge_faults (sorted_challenges challenges) =
     append-nil (flat_map challenge_faults challenges) ∙ ap (flat_map challenge_faults) (sym (sorted_ascending 1 challenges h.challenges)) in
     ap (λ l. flat_map account_faults T.accounts
-    ++ (flat_map (order_faults T.meta.clock T.authorizations) T.orders ++ (flat_map (authorization_faults T.meta.clock) T.authorizations ++ l))) last
+    ++ (flat_map (order_faults T.meta.counters.clock T.authorizations) T.orders ++ (flat_map (authorization_faults T.meta.counters.clock) T.authorizations ++ l))) last
 
 -- a pass begins with all orders before it
 pub all_orders : (T : Tables) → IsInOrder T → orders_above T 0 ≡ T.orders
 all_orders T h = all_above (λ (o : OrderRow). o.number) 0 1 T.orders (omega arith) h.tables.orders.0
 
 -- and with all faults of its kind
-pub all_of_kind : (T : Tables) (k : FaultKind) (moment : ℕ) → IsInOrder T → moment ≡ T.meta.clock → faults_above T k moment 0 ≡ faults_of T k
+pub all_of_kind : (T : Tables) (k : FaultKind) (moment : ℕ) → IsInOrder T → moment ≡ T.meta.counters.clock → faults_above T k moment 0 ≡ faults_of T k
 all_of_kind T kind.Account moment h now =
     ap (flat_map account_faults) (all_above (λ (x : AccountRow). x.number) 0 1 T.accounts (omega arith) h.tables.accounts.0)
 all_of_kind T kind.Order moment h now =
-    ap (λ t. faults_above T kind.Order t 0) now ∙ ap (flat_map (order_faults T.meta.clock T.authorizations)) (all_orders T h)
+    ap (λ t. faults_above T kind.Order t 0) now ∙ ap (flat_map (order_faults T.meta.counters.clock T.authorizations)) (all_orders T h)
 all_of_kind T kind.Authorization moment h now =
     ap (λ t. faults_above T kind.Authorization t 0) now
-    ∙ ap (flat_map (authorization_faults T.meta.clock))
+    ∙ ap (flat_map (authorization_faults T.meta.counters.clock))
     (all_above (λ (r : AuthorizationRow). r.number) 0 1 T.authorizations (omega arith) h.tables.authorizations.0)
 all_of_kind T kind.Challenge moment h now =
     ap (flat_map challenge_faults)

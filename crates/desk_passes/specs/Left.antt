@@ -18,8 +18,8 @@ faults_above T kind.Challenge moment n = flat_map challenge_faults (challenges_a
 -- all faults of a kind, at the desk's clock
 abbrev pub faults_of : Tables → FaultKind → List StatusFault
 faults_of T kind.Account = flat_map account_faults T.accounts
-faults_of T kind.Order = flat_map (order_faults T.meta.clock T.authorizations) T.orders
-faults_of T kind.Authorization = flat_map (authorization_faults T.meta.clock) T.authorizations
+faults_of T kind.Order = flat_map (order_faults T.meta.counters.clock T.authorizations) T.orders
+faults_of T kind.Authorization = flat_map (authorization_faults T.meta.counters.clock) T.authorizations
 faults_of T kind.Challenge = flat_map challenge_faults (flat_map (λ r. r.challenges) T.authorizations)
 
 -- what was given is the first of what was left, or nothing was left

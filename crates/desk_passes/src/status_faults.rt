@@ -21,10 +21,10 @@ use std::alloc::Global;
 /// `Memory` where a growth was refused, `Device` or `Reopen` where the row could not be read.
 pub fn moment_of<S: LookUps>(alloc: Global, source: &mut S) -> Result<u64, StorageFault>
     ensures reads { Reads S.sight source.old source.new result }
-    ensures found { ForTables S.sight source.old source.new (λ T. IfOk result (λ moment. moment ≡ T.meta.clock)) }
+    ensures found { ForTables S.sight source.old source.new (λ T. IfOk result (λ moment. moment ≡ T.meta.counters.clock)) }
 {
     let meta = source.meta_row(alloc)?;
-    Ok(meta.clock.moment())
+    Ok(meta.counters.clock.moment())
 }
 
 /// A pass through the status faults of one kind of object, by number, which keeps one object's rows at most: an object has a
@@ -46,7 +46,7 @@ impl<'a, S: RowsAbove> StatusFaults<'a, S> {
         ensures same_source { result.source.ghost_name ≡ source.entry.ghost_name }
         ensures unread { result.source.now ≡ source.old }
         ensures unfailed { result.fault ≡ None }
-        ensures all { (T : Tables) → IsInOrder T → moment ≡ T.meta.clock →
+        ensures all { (T : Tables) → IsInOrder T → moment ≡ T.meta.counters.clock →
             faults_above T result.kind result.moment result.above ≡ faults_of T kind }
     {
         StatusFaults {

@@ -1,5 +1,5 @@
 -- SQL's tests of a column are the model's.
-use Rattle.std.proofs.Common.{◌≡◌, ℕ, ℤ, pos, ◌<◌, ◌≤◌, ◌^◌, ◌&&◌, List, Bool, true, false, Some, refl, sym, ap, ◌∙◌, arith, int_cmp, inl, inr, nat_cmp}
+use Rattle.std.proofs.Common.{◌≡◌, ℕ, ℤ, pos, ◌<◌, ◌≤◌, ◌&&◌, List, Bool, true, false, Some, refl, sym, ap, ◌∙◌, arith, int_cmp, inl, inr, nat_cmp}
 use Rattle.std.specs.Prelude.{◌==◌, nat_lt, nat_le, bytes_eq, if◌then◌else◌}
 use Rattle.std.specs.Ordering.{is_eq, is_gt, is_lt}
 use Rattle.std.specs.Cmp.Lexicographic.{slice_cmp}

@@ -139,8 +139,10 @@ listing_is T n = sym (picked_of (λ (l : Owned Listed). (l.owner, l.row.authoriz
     (places_are T.orders))
 
 -- the authorizations that an order lists
-pub listed_is : (T : Tables) (n : ℕ) → map (λ (l : Owned Listed). l.row.authorization) (filter (λ l. l.owner == n) (listed_rows T.orders)) ≡ listed_by T n
-listed_is T n = sym (picked_of (λ (l : Owned Listed). (l.owner, l.row.authorization)) (λ p. p.0 == n) (λ p. p.1) (listed_rows T.orders) (places T)
+pub listed_is : (T : Tables) (n : ℕ) → map (λ l. l.authorization) (rows_under n (listed_rows T.orders)) ≡ listed_by T n
+listed_is T n =
+    map-map (λ (l : Listed). l.authorization) (λ l. l.row) (filter (λ l. l.owner == n) (listed_rows T.orders))
+    ∙ sym (picked_of (λ (l : Owned Listed). (l.owner, l.row.authorization)) (λ p. p.0 == n) (λ p. p.1) (listed_rows T.orders) (places T)
     (places_are T.orders))
 
 -- the authorization of a challenge

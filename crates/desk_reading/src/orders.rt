@@ -13,13 +13,13 @@ ghost use Rattle.desk_reading.specs.StoredBook.{IsStoredBook};
 ghost use Rattle.desk_reading.specs.Under.{HasItsListed, rows_under};
 
 use crate::fault::ReadFault;
-use crate::owned::{authorizations_of_listed, owners, without_owners};
+use crate::owned::{owners, without_owners};
 use crate::params::{number_param, text_and_number};
 use crate::rows::find_rows;
 use desk_columns::{OrderAuthzColumns, OrderColumns};
 use desk_model::{Listed, OrderRow, OrderStatus, Sequence};
 use sqlite::{Alter, Connection};
-use std::alloc::Global;
+use std::alloc::{AllocError, Global};
 
 // What the order of a number lists. It fails as `find_rows` does.
 fn listed_under<S: Alter>(
@@ -181,6 +181,16 @@ pub fn orders_listing<S: Alter>(
     Ok(owners(alloc, rows)?)
 }
 
+fn authorizations_of(alloc: Global, rows: Vec<Listed>) -> Result<Vec<u64>, AllocError>
+    ensures { IfOk result (λ numbers. numbers.items ≡ map (λ l. l.authorization) rows.items) }
+{
+    let mut numbers = Vec::new(alloc);
+    for row in rows {
+        numbers.push(row.authorization)?;
+    }
+    Ok(numbers)
+}
+
 /// The numbers of the authorizations that an order lists.
 ///
 /// # Errors
@@ -195,14 +205,8 @@ pub fn listed_by<S: Alter>(
     ensures unchanged { HasCleanDisk (state S.Store conn.new) → OnOk result (IsUnchanged (state S.Store conn.old) (state S.Store conn.new)) }
     ensures asks { Asks (state S.Store conn.old) (state S.Store conn.new) }
 {
-    let params = number_param(order);
-    let rows = find_rows::<S, OrderAuthzColumns>(
-        alloc,
-        conn,
-        "SELECT ord, place, authz FROM ord_authz WHERE ord = ?1 ORDER BY ord, place",
-        &params,
-    )?;
-    Ok(authorizations_of_listed(alloc, rows)?)
+    let listed = listed_under(alloc, conn, order)?;
+    Ok(authorizations_of(alloc, listed)?)
 }
 
 /// The order of the least number above this one, if there is one.

@@ -2,7 +2,6 @@
 ghost use Rattle.std.specs.Prelude.{◌≡◌, map, IfOk};
 
 use desk_columns::Owned;
-use desk_model::Listed;
 use std::alloc::{AllocError, Global};
 
 /// The rows without the numbers of their owners.
@@ -26,20 +25,6 @@ pub(crate) fn owners<T: Drop>(alloc: Global, rows: Vec<Owned<T>>) -> Result<Vec<
     let mut numbers = Vec::new(alloc);
     for owned in rows {
         numbers.push(owned.owner)?;
-    }
-    Ok(numbers)
-}
-
-/// The numbers of the authorizations that are listed.
-pub(crate) fn authorizations_of_listed(
-    alloc: Global,
-    rows: Vec<Owned<Listed>>,
-) -> Result<Vec<u64>, AllocError>
-    ensures { IfOk result (λ numbers. numbers.items ≡ map (λ l. l.row.authorization) rows.items) }
-{
-    let mut numbers = Vec::new(alloc);
-    for owned in rows {
-        numbers.push(owned.row.authorization)?;
     }
     Ok(numbers)
 }

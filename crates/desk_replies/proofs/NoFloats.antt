@@ -10,7 +10,7 @@ use Rattle.desk_model.specs.Terms.{Terms}
 use Rattle.desk_model.specs.Moment.{moment_text}
 use Rattle.desk_model.specs.Name.{Name}
 use Rattle.desk_model.specs.Names.{shown_name}
-use Rattle.desk_model.specs.Document.{account_document, identifier, order_error, order_status_text, authorization_url, finalize_url, certificate_url, challenge_url, kind_text, challenge_status_text, authorization_status_text, error_of, report_error, validated, validated_by, challenge_document, shown_challenges, authorization_document, order_url, is_listed, orders_document, work_document, work_of, challenge_work, listed_rows, order_work_document, order_work, key_members, key_document}
+use Rattle.desk_model.specs.Document.{account_document, identifier, order_error, order_status_text, authorization_url, finalize_url, certificate_url, challenge_url, kind_text, challenge_status_text, authorization_status_text, error_of, report_error, validated, validated_by, challenge_document, shown_challenges, authorization_document, order_url, is_listed, orders_document, work_document, work_of, challenge_work, listed_rows, order_work_document, order_work, key_members, key_document, order_with_names}
 use Rattle.desk_model.specs.Authorization.{is_pending}
 use Rattle.desk_model.specs.Order.{is_processing}
 use Rattle.desk_model.specs.Legal.{is_processing_challenge}
@@ -24,7 +24,6 @@ use Rattle.desk_model.specs.declared.rows.ChallengeRow.{ChallengeRow}
 use Rattle.desk_model.specs.declared.rows.AuthorizationRow.{AuthorizationRow}
 use Rattle.desk_model.specs.declared.rows.DatedBytes.{DatedBytes}
 use Rattle.desk_model.specs.declared.rows.DatedProblem.{DatedProblem}
-use Rattle.desk_replies.specs.Shown.{order_with_names}
 use Rattle.desk_model.specs.declared.rows.AccountRow.{AccountRow}
 
 -- nor does a list of texts

@@ -3,18 +3,17 @@ use Rattle.std.proofs.Common.{◌≡◌, ℕ, ◌≤◌, List, [], ◌∷◌, �
 use Rattle.std.specs.Prelude.{is_some, codes}
 use Rattle.serde_json.specs.Data.{Data, string}
 use Rattle.desk_model.specs.Limits.{last_end}
-use Rattle.desk_model.specs.Json.{members, list, document, when}
+use Rattle.desk_model.specs.Json.{members, list, when}
 use Rattle.desk_model.specs.Terms.{Terms}
 use Rattle.desk_model.specs.Name.{Name}
 use Rattle.desk_model.specs.Names.{shown_name}
 use Rattle.desk_model.specs.Moment.{moment_text}
 use Rattle.desk_model.specs.Tables.{Tables}
 use Rattle.desk_model.specs.declared.rows.OrderRow.{OrderRow}
-use Rattle.desk_model.specs.declared.rows.AuthorizationRow.{AuthorizationRow}
 use Rattle.desk_model.specs.declared.rows.DatedBytes.{DatedBytes}
 use Rattle.desk_model.specs.declared.rows.DatedProblem.{DatedProblem}
-use Rattle.desk_model.specs.Document.{order_error, order_status_text, identifier, authorization_url, finalize_url, certificate_url, listed_rows, order_document}
-use Rattle.desk_replies.specs.Shown.{capped, capped_order, order_with_names, with_members}
+use Rattle.desk_model.specs.Document.{order_error, order_status_text, identifier, authorization_url, finalize_url, certificate_url, listed_rows, order_document, order_with_names}
+use Rattle.desk_replies.specs.Shown.{capped, capped_order, with_members}
 
 -- a moment that has a text is shown as it is
 pub capped-same : (m : ℕ) → m ≤ last_end → capped m ≡ m
@@ -71,13 +70,3 @@ order_with_names-is T t names o same named ends =
     ap (λ m. order_with_names t names (record o { expires = m })) (capped-same o.expires ends)
     ∙ ap (λ p. order_with_names p names o) (sym same)
     ∙ ap (λ ns. order_with_names T.meta.policy ns o) (sym named)
-    ∙ ap
-    (λ ids. document ((codes "authorizations", list (map (λ n. string (authorization_url T.meta.policy n)) (map (λ l. l.authorization) o.listed)))
-    ∷ (when (is_some o.certified) (codes "certificate", string (certificate_url T.meta.policy o.number))
-    ++ (order_error o.failed
-    ++ (codes "expires", string (moment_text o.expires))
-    ∷ (codes "finalize", string (finalize_url T.meta.policy o.number))
-    ∷ (codes "identifiers", list ids)
-    ∷ (codes "status", string (order_status_text o.status))
-    ∷ []))))
-    (map-map (λ (n : Name). identifier (shown_name n)) (λ (a : AuthorizationRow). a.name) (listed_rows T o))

@@ -1,13 +1,8 @@
 -- What documents show, where their moments have a text, and members that are put one by one.
-use Rattle.std.specs.Prelude.{ℕ, ◌≤◌, min, List, [], ◌∷◌, ◌++◌, map, Option, Some, None, is_some, codes, if◌then◌else◌}
+use Rattle.std.specs.Prelude.{ℕ, ◌≤◌, min, List, [], ◌∷◌, map, Option, Some, None, if◌then◌else◌}
 use Rattle.std.specs.List.{filter}
-use Rattle.serde_json.specs.Data.{Data, string, Members, put}
+use Rattle.serde_json.specs.Data.{Data, Members, put}
 use Rattle.desk_model.specs.Limits.{last_end}
-use Rattle.desk_model.specs.Json.{document, list, when}
-use Rattle.desk_model.specs.Terms.{Terms}
-use Rattle.desk_model.specs.Name.{Name}
-use Rattle.desk_model.specs.Names.{shown_name}
-use Rattle.desk_model.specs.Moment.{moment_text}
 use Rattle.desk_model.specs.declared.objects.Report.{Report}
 use Rattle.desk_model.specs.declared.rows.ChallengeRow.{ChallengeRow}
 use Rattle.desk_model.specs.declared.rows.AuthorizationRow.{AuthorizationRow}
@@ -16,9 +11,8 @@ use Rattle.desk_model.specs.Tables.{Tables}
 use Rattle.desk_model.specs.Authorization.{is_pending}
 use Rattle.desk_model.specs.Legal.{is_processing_challenge}
 use Rattle.desk_model.specs.Effect.{swept_authorization}
-use Rattle.desk_model.specs.Derived.{numbers_of}
 use Rattle.desk_model.specs.Kept.{EachOf}
-use Rattle.desk_model.specs.Document.{authorization_url, certificate_url, finalize_url, identifier, order_error, order_status_text, work_document}
+use Rattle.desk_model.specs.Document.{work_document}
 
 -- ---- moments: one past the last that has a text is shown as the last
 
@@ -54,20 +48,6 @@ pub record HasMoments (a : AuthorizationRow) : Type 0 where
 abbrev pub with_members : List (List ℕ × Data) → Members → Members
 with_members [] others = others
 with_members (m ∷ ms) others = with_members ms (put m.0 m.1 others)
-
--- the document of an order whose listed authorizations have these names
-abbrev pub order_with_names : Terms → List Name → OrderRow → Data
-order_with_names t names o =
-    document (
-    (codes "authorizations", list (map (λ n. string (authorization_url t n)) (numbers_of o.listed)))
-    ∷ (when (is_some o.certified) (codes "certificate", string (certificate_url t o.number))
-    ++ (order_error o.failed
-    ++ (codes "expires", string (moment_text o.expires))
-    ∷ (codes "finalize", string (finalize_url t o.number))
-    ∷ (codes "identifiers", list (map (λ n. identifier (shown_name n)) names))
-    ∷ (codes "status", string (order_status_text o.status))
-    ∷ []))
-    )
 
 -- ---- work
 

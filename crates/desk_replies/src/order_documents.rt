@@ -10,8 +10,8 @@ ghost use Rattle.desk_model.specs.Names.{shown_name};
 ghost use Rattle.desk_model.specs.Moment.{moment_text};
 ghost use Rattle.desk_model.specs.Tables.{Tables};
 ghost use Rattle.desk_model.specs.Effect.{swept, swept_order};
-ghost use Rattle.desk_model.specs.Document.{order_status_text, problem_status, order_error, identifier, finalize_url, certificate_url, authorization_url, order_url, rows_of, listed_rows, order_document, is_listed, orders_document};
-ghost use Rattle.desk_replies.specs.Shown.{capped, capped_order, order_with_names, with_members};
+ghost use Rattle.desk_model.specs.Document.{order_status_text, order_error, identifier, finalize_url, certificate_url, authorization_url, order_url, rows_of, listed_rows, order_document, is_listed, orders_document, order_with_names};
+ghost use Rattle.desk_replies.specs.Shown.{capped, capped_order, with_members};
 
 use crate::document_values::{error_value, identifier_value, list_value, moment_value, text_value};
 use crate::urls::{authorization_url, certificate_url, finalize_url, order_url};
@@ -97,13 +97,6 @@ fn put_certificate(
     put(members, alloc, "certificate", url)
 }
 
-// The status of an error that the signing office handed in.
-fn problem_status(kind: &str) -> u16
-    ensures { result ≡ problem_status kind.now }
-{
-    if kind == "serverInternal" { 500 } else { 400 }
-}
-
 // Adds why the order failed, where the signing office failed it.
 fn put_error(
     members: &mut Map<String, Value>,
@@ -115,9 +108,9 @@ fn put_error(
     let Some(failed) = failed else {
         return Ok(());
     };
-    let kind = failed.problem.kind.as_str();
-    let detail = failed.problem.detail.as_str();
-    let error = error_value(alloc, kind, detail, problem_status(kind))?;
+    let problem = &failed.problem;
+    let detail = problem.detail.as_str();
+    let error = error_value(alloc, problem.kind.as_str(), detail, problem.status())?;
     put(members, alloc, "error", error)
 }
 

@@ -12,7 +12,7 @@ use Rattle.desk_model.specs.declared.call.Target.{Target}
 use Rattle.desk_model.specs.declared.call.Target.TheVariants as to
 use Rattle.desk_model.specs.declared.payload.NewAccount.{NewAccount}
 use Rattle.desk_model.specs.declared.rows.AccountRow.{AccountRow}
-use Rattle.desk_model.specs.declared.rows.Meta.{Meta}
+use Rattle.desk_model.specs.declared.rows.Counters.{Counters}
 use Rattle.desk_model.specs.declared.verdict.Verdict.{Verdict}
 use Rattle.desk_rules.specs.Needs.{NumbersLeft, BytesLeft, IsNeedFault}
 use Rattle.desk_rules.specs.declared.fault.CoreFault.{CoreFault}
@@ -39,8 +39,8 @@ pub signed-new : (T : Tables) (r : List ℕ) (s : Signed) (key p : List ℕ) →
 signed-new T r s key p is payload target = signed-key T r s key p to.NewAccount is payload target
 
 -- what is said of the judgement of a request
-abbrev pub IsJudged : Meta → List ℕ → Result Verdict CoreFault → Verdict → Type 0
-IsJudged M random r asked = MatchResult r (λ v. (v ≡ asked) × NumbersLeft M v × BytesLeft random v) (λ e. IsNeedFault M random asked e)
+abbrev pub IsJudged : Counters → List ℕ → Result Verdict CoreFault → Verdict → Type 0
+IsJudged C random r asked = MatchResult r (λ v. (v ≡ asked) × NumbersLeft C v × BytesLeft random v) (λ e. IsNeedFault C random asked e)
 
 -- a newAccount request whose key has no account opens one
 pub new-opens : (key : List ℕ) (o : Option AccountRow) (p : Option NewAccount) (asked : NewAccount) → o ≡ None → p ≡ Some asked →

@@ -14,28 +14,28 @@ use Rattle.desk_model.specs.declared.payload.AuthorizationChange.{AuthorizationC
 use Rattle.desk_model.specs.declared.payload.AuthorizationChange.TheVariants as authz
 use Rattle.desk_model.specs.declared.payload.ChallengeChange.{ChallengeChange}
 use Rattle.desk_model.specs.declared.payload.ChallengeChange.TheVariants as chall
-use Rattle.desk_model.specs.declared.rows.Meta.{Meta}
+use Rattle.desk_model.specs.declared.rows.Counters.{Counters}
 use Rattle.desk_model.specs.declared.verdict.Verdict.{Verdict}
 use Rattle.desk_rules.specs.Needs.{NumbersLeft, BytesLeft}
 
 -- whatever numbers were given, and whatever random bytes there are
 abbrev pub Spares : Verdict → Type 0
-Spares v = (M : Meta) (random : List ℕ) → NumbersLeft M v × BytesLeft random v
+Spares v = (C : Counters) (random : List ℕ) → NumbersLeft C v × BytesLeft random v
 
 check-spares : (b : Bool) (number : Refusal) (v : Verdict) → Spares v → Spares (check b number v)
 unfolding check
 check-spares true number v h = h
-check-spares false number v h = λ M random. (tt, tt)
+check-spares false number v h = λ C random. (tt, tt)
 
 given-spares : {X : Type 0} (o : Option X) (number : Refusal) (v : X → Verdict) → ((x : X) → Spares (v x)) → Spares (given o number v)
 unfolding given
-given-spares None number v h = λ M random. (tt, tt)
+given-spares None number v h = λ C random. (tt, tt)
 given-spares (Some x) number v h = h x
 
 unless_fault-spares : (o : Option Refusal) (v : Verdict) → Spares v → Spares (unless_fault o v)
 unfolding unless_fault
 unless_fault-spares None v h = h
-unless_fault-spares (Some number) v h = λ M random. (tt, tt)
+unless_fault-spares (Some number) v h = λ C random. (tt, tt)
 
 choose-spares : (b : Bool) (v w : Verdict) → Spares v → Spares w → Spares (choose b v w)
 unfolding choose
@@ -43,24 +43,24 @@ choose-spares true v w h k = h
 choose-spares false v w h k = k
 
 account-spares : (n : ℕ) (change : AccountChange) → Spares (account_verdict n change)
-account-spares n account.Read = λ M random. (tt, tt)
-account-spares n account.Deactivate = λ M random. (tt, tt)
-account-spares n (account.Update None) = λ M random. (tt, tt)
-account-spares n (account.Update (Some contacts)) = unless_fault-spares _ _ (λ M random. (tt, tt))
+account-spares n account.Read = λ C random. (tt, tt)
+account-spares n account.Deactivate = λ C random. (tt, tt)
+account-spares n (account.Update None) = λ C random. (tt, tt)
+account-spares n (account.Update (Some contacts)) = unless_fault-spares _ _ (λ C random. (tt, tt))
 
 authorization-spares : (n : ℕ) (a : AuthorizationRow) (change : AuthorizationChange) → Spares (authorization_verdict n a change)
-authorization-spares n a authz.Read = λ M random. (tt, tt)
-authorization-spares n a authz.Deactivate = choose-spares _ _ _ (λ M random. (tt, tt)) (λ M random. (tt, tt))
+authorization-spares n a authz.Read = λ C random. (tt, tt)
+authorization-spares n a authz.Deactivate = choose-spares _ _ _ (λ C random. (tt, tt)) (λ C random. (tt, tt))
 
 challenge-spares : (n : ℕ) (a : AuthorizationRow) (change : ChallengeChange) → Spares (challenge_verdict n a change)
-challenge-spares n a chall.Read = λ M random. (tt, tt)
-challenge-spares n a chall.Answer = choose-spares _ _ _ (λ M random. (tt, tt)) (λ M random. (tt, tt))
+challenge-spares n a chall.Read = λ C random. (tt, tt)
+challenge-spares n a chall.Answer = choose-spares _ _ _ (λ C random. (tt, tt)) (λ C random. (tt, tt))
 
 finalize-spares : (n : ℕ) (o : OrderRow) (text : List ℕ) → Spares (finalize_verdict n o text)
-finalize-spares n o text = check-spares _ _ _ (given-spares _ _ _ (λ csr M random. (tt, tt)))
+finalize-spares n o text = check-spares _ _ _ (given-spares _ _ _ (λ csr C random. (tt, tt)))
 
 certificate-spares : (n : ℕ) (o : OrderRow) → Spares (certificate_verdict n o)
-certificate-spares n o = given-spares _ _ _ (λ k M random. (tt, tt))
+certificate-spares n o = given-spares _ _ _ (λ k C random. (tt, tt))
 
 -- ---- by target, for account n
 
@@ -68,10 +68,10 @@ pub account_target-spares : (T : Tables) (r : List ℕ) (n : ℕ) (p : List ℕ)
 account_target-spares T r n p k = check-spares _ _ _ (given-spares _ _ _ (account-spares n))
 
 pub orders_target-spares : (T : Tables) (r : List ℕ) (n : ℕ) (p : List ℕ) (k : ℕ) → Spares (target_verdict T r n p (to.Orders k))
-orders_target-spares T r n p k = check-spares _ _ _ (check-spares _ _ _ (λ M random. (tt, tt)))
+orders_target-spares T r n p k = check-spares _ _ _ (check-spares _ _ _ (λ C random. (tt, tt)))
 
 pub order_target-spares : (T : Tables) (r : List ℕ) (n : ℕ) (p : List ℕ) (k : ℕ) → Spares (target_verdict T r n p (to.Order k))
-order_target-spares T r n p k = given-spares _ _ _ (λ o. check-spares _ _ _ (λ M random. (tt, tt)))
+order_target-spares T r n p k = given-spares _ _ _ (λ o. check-spares _ _ _ (λ C random. (tt, tt)))
 
 pub finalize_target-spares : (T : Tables) (r : List ℕ) (n : ℕ) (p : List ℕ) (k : ℕ) → Spares (target_verdict T r n p (to.Finalize k))
 finalize_target-spares T r n p k = given-spares _ _ _ (λ o. given-spares _ _ _ (finalize-spares k o))
@@ -86,9 +86,9 @@ pub challenge_target-spares : (T : Tables) (r : List ℕ) (n : ℕ) (p : List �
 challenge_target-spares T r n p k = given-spares _ _ _ (λ a. given-spares _ _ _ (challenge-spares k a))
 
 -- the verdict of a target that is one of these
-pub target-spared : (M : Meta) (T : Tables) (random : List ℕ) (n : ℕ) (p : List ℕ) (target reading : Target) (v : Verdict) →
+pub target-spared : (C : Counters) (T : Tables) (random : List ℕ) (n : ℕ) (p : List ℕ) (target reading : Target) (v : Verdict) →
     target ≡ reading → v ≡ target_verdict T (drop 16 random) n p reading → Spares (target_verdict T (drop 16 random) n p reading) →
-    (v ≡ target_verdict T (drop 16 random) n p target) × NumbersLeft M v × BytesLeft random v
-target-spared M T random n p target reading v is e h =
-    let left = subst Spares (sym e) h M random in
+    (v ≡ target_verdict T (drop 16 random) n p target) × NumbersLeft C v × BytesLeft random v
+target-spared C T random n p target reading v is e h =
+    let left = subst Spares (sym e) h C random in
     (e ∙ ap (target_verdict T (drop 16 random) n p) (sym is), left.0, left.1)

@@ -5,7 +5,7 @@ use Rattle.desk_model.specs.Limits.{last_number}
 use Rattle.desk_model.specs.Run.{count_tokens, count_pieces}
 use Rattle.desk_model.specs.Kept.{EachOf}
 use Rattle.desk_model.specs.Decide.{entries_of}
-use Rattle.desk_model.specs.declared.rows.Meta.{Meta}
+use Rattle.desk_model.specs.declared.rows.Counters.{Counters}
 use Rattle.desk_model.specs.declared.verdict.Verdict.{Verdict}
 use Rattle.desk_model.specs.declared.verdict.Verdict.TheVariants.{Opens as opens, Orders as orders}
 use Rattle.desk_model.specs.declared.entry.Wanted.{Wanted}
@@ -14,18 +14,18 @@ use Rattle.desk_rules.specs.declared.fault.CoreFault.{CoreFault}
 use Rattle.desk_rules.specs.declared.fault.CoreFault.TheVariants as fault
 
 -- the numbers of what it makes can be given
-abbrev pub NumbersLeft : Meta → Verdict → Type 0
-NumbersLeft M (opens key contacts) = M.accounts < last_number
-NumbersLeft M (orders account wanted) =
-    (M.orders < last_number) × (M.authorizations + length wanted ≤ last_number) × (M.challenges + count_tokens wanted ≤ last_number)
-NumbersLeft M _ = Unit {0}
+abbrev pub NumbersLeft : Counters → Verdict → Type 0
+NumbersLeft C (opens key contacts) = C.accounts < last_number
+NumbersLeft C (orders account wanted) =
+    (C.orders < last_number) × (C.authorizations + length wanted ≤ last_number) × (C.challenges + count_tokens wanted ≤ last_number)
+NumbersLeft C _ = Unit {0}
 
 -- one of them can't
-abbrev pub NumbersSpent : Meta → Verdict → Type 0
-NumbersSpent M (opens key contacts) = last_number ≤ M.accounts
-NumbersSpent M (orders account wanted) =
-    (last_number ≤ M.orders) ⊎ ((last_number < M.authorizations + length wanted) ⊎ (last_number < M.challenges + count_tokens wanted))
-NumbersSpent M _ = ⊥
+abbrev pub NumbersSpent : Counters → Verdict → Type 0
+NumbersSpent C (opens key contacts) = last_number ≤ C.accounts
+NumbersSpent C (orders account wanted) =
+    (last_number ≤ C.orders) ⊎ ((last_number < C.authorizations + length wanted) ⊎ (last_number < C.challenges + count_tokens wanted))
+NumbersSpent C _ = ⊥
 
 -- there are random bytes for the tokens of a new order, behind the 16 of the fresh nonce
 abbrev pub BytesLeft : List ℕ → Verdict → Type 0
@@ -33,11 +33,11 @@ BytesLeft random (orders account wanted) = 16 * (1 + count_pieces (entries_of (o
 BytesLeft random _ = Unit {0}
 
 -- why a verdict is not given: want of memory, of numbers, or of random bytes where there are numbers
-abbrev pub IsNeedFault : Meta → List ℕ → Verdict → CoreFault → Type 0
-IsNeedFault M random v fault.Memory = Unit {0}
-IsNeedFault M random v fault.Full = NumbersSpent M v
-IsNeedFault M random v fault.ShortRandom = NumbersLeft M v × (length random < 16 * (1 + count_pieces (entries_of v)))
-IsNeedFault M random v fault.Moment = ⊥
+abbrev pub IsNeedFault : Counters → List ℕ → Verdict → CoreFault → Type 0
+IsNeedFault C random v fault.Memory = Unit {0}
+IsNeedFault C random v fault.Full = NumbersSpent C v
+IsNeedFault C random v fault.ShortRandom = NumbersLeft C v × (length random < 16 * (1 + count_pieces (entries_of v)))
+IsNeedFault C random v fault.Moment = ⊥
 
 -- a wanted name has a token for each of its challenges
 abbrev pub HasTokens : Wanted → Type 0

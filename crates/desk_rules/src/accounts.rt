@@ -1,7 +1,7 @@
 //! The rules on accounts (RFC 8555, 7.3).
 ghost use Rattle.std.specs.Prelude.{◌≡◌, ℕ, List, IfOk, MatchResult};
 ghost use Rattle.desk_rules.specs.Needs.{NumbersLeft, BytesLeft, IsNeedFault};
-ghost use Rattle.desk_model.specs.declared.rows.Meta.{Meta as MetaRow};
+ghost use Rattle.desk_model.specs.declared.rows.Counters.{Counters};
 ghost use Rattle.desk_model.specs.Payload.{new_account};
 ghost use Rattle.desk_model.specs.Questions.{account_with_key};
 ghost use Rattle.desk_model.specs.declared.payload.AccountChange.TheVariants.{Update};
@@ -28,7 +28,7 @@ pub(crate) fn new_account_verdict(
     payload: &str,
 ) -> Result<Verdict, CoreFault>
     ensures { (random : List ℕ) → (let wanted = new_account_verdict key.now (account_with_key at.now key.now) (new_account payload.now) in
-        MatchResult result (λ v. (v ≡ wanted) × NumbersLeft at.now.meta v × BytesLeft random v) (λ e. IsNeedFault at.now.meta random wanted e)) }
+        MatchResult result (λ v. (v ≡ wanted) × NumbersLeft at.now.meta.counters v × BytesLeft random v) (λ e. IsNeedFault at.now.meta.counters random wanted e)) }
 {
     match at.account_with_key(key.canonical()) {
         Some(row) => Ok(known_account_verdict(alloc, row, payload)?),
@@ -46,7 +46,7 @@ fn known_account_verdict(
     row: &AccountRow,
     payload: &str,
 ) -> Result<Verdict, AllocError>
-    ensures { IfOk result (λ v. (v ≡ known_account_verdict row.now (new_account payload.now)) × ((meta : MetaRow) (random : List ℕ) → NumbersLeft meta v × BytesLeft random v)) }
+    ensures { IfOk result (λ v. (v ≡ known_account_verdict row.now (new_account payload.now)) × ((counters : Counters) (random : List ℕ) → NumbersLeft counters v × BytesLeft random v)) }
 {
     if row.status != AccountStatus::Valid {
         return Ok(refused(alloc, Refusal::Unauthorized));
@@ -61,8 +61,8 @@ fn known_account_verdict(
 #[tactic(auto, unfolding(desk_model::specs::Verdict::check, desk_model::specs::Verdict::unless_fault))]
 fn open_account(alloc: Global, at: &At, key: &Jwk, asked: NewAccount) -> Result<Verdict, CoreFault>
     ensures { (random : List ℕ) → MatchResult result
-        (λ v. (v ≡ open_account key.now asked) × NumbersLeft at.now.meta v × BytesLeft random v)
-        (λ e. IsNeedFault at.now.meta random (open_account key.now asked) e) }
+        (λ v. (v ≡ open_account key.now asked) × NumbersLeft at.now.meta.counters v × BytesLeft random v)
+        (λ e. IsNeedFault at.now.meta.counters random (open_account key.now asked) e) }
 {
     if asked.only_existing {
         return Ok(refused(alloc, Refusal::AccountDoesNotExist));
@@ -70,7 +70,7 @@ fn open_account(alloc: Global, at: &At, key: &Jwk, asked: NewAccount) -> Result<
     if let Some(refusal) = contacts_refusal(asked.contacts.as_slice()) {
         return Ok(refused(alloc, refusal));
     }
-    has_room(at.meta().accounts)?;
+    has_room(at.counters().accounts)?;
     Ok(Verdict::Opens(key.clone()?, asked.contacts))
 }
 

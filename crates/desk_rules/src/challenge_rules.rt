@@ -1,7 +1,7 @@
 //! The rules on challenges (RFC 8555, 7.5.1, 8).
 ghost use Rattle.std.specs.Prelude.{◌≡◌, IfOk, string_bytes};
 ghost use Rattle.desk_model.specs.Document.{expected};
-ghost use Rattle.desk_model.specs.Legal.{is_pending_challenge, is_processing_challenge};
+ghost use Rattle.desk_model.specs.Legal.{is_pending_challenge};
 ghost use Rattle.desk_model.specs.Lookup.{holds};
 ghost use Rattle.desk_model.specs.Questions.{challenge_of};
 ghost use Rattle.desk_model.specs.Rules.{challenge_verdict, outcome_of, outcome_verdict, same_outcome, judged};
@@ -21,16 +21,6 @@ fn has_pending(row: &AuthorizationRow, number: u64) -> bool
 {
     match challenge_of(row, number) {
         Some(challenge) => challenge.status.is_pending(),
-        None => false,
-    }
-}
-
-// Whether a challenge of the authorization waits for a report.
-fn has_processing(row: &AuthorizationRow, number: u64) -> bool
-    ensures { result ≡ holds (λ c. is_processing_challenge c.status) (challenge_of number row.now) }
-{
-    match challenge_of(row, number) {
-        Some(challenge) => challenge.status.is_processing(),
         None => false,
     }
 }
@@ -120,17 +110,16 @@ fn has_outcome(challenge: &ChallengeRow, outcome: Outcome) -> bool
 pub(crate) fn outcome_verdict(
     alloc: Global,
     number: u64,
-    row: &AuthorizationRow,
     status: AuthzStatus,
     challenge: &ChallengeRow,
     outcome: Outcome,
 ) -> Verdict
-    ensures { result ≡ outcome_verdict number (record row.now { status = status }) challenge.now outcome }
+    ensures { result ≡ outcome_verdict number status challenge.now outcome }
 {
     if has_outcome(challenge, outcome) {
         return Verdict::Answers(Shows::Challenge(number));
     }
-    if status.is_pending() && has_processing(row, number) {
+    if status.is_pending() && challenge.status.is_processing() {
         return Verdict::Moves(Move::Reported(number, outcome));
     }
     refused(alloc, Refusal::Conflict)

@@ -13,7 +13,9 @@ use crate::fault::CoreFault;
 use crate::identified::{Identified, identify};
 use crate::limits::{first_piece, has_room, has_room_for, has_tokens, later_random};
 use crate::verdicts::refused;
-use desk_model::{DnsName, Identifier, Kind, MOST_NAMES, Meta, Refusal, Sequence, Verdict, Wanted};
+use desk_model::{
+    Counters, DnsName, Identifier, Kind, MOST_NAMES, Refusal, Sequence, Verdict, Wanted,
+};
 use std::alloc::{AllocError, Global};
 use swept_rows::At;
 
@@ -102,14 +104,18 @@ fn wanted(alloc: Global, names: Vec<DnsName>, random: &[u8]) -> Result<Vec<Wante
 }
 
 // Whether an order may be made with this many authorizations and challenges.
-fn has_numbers(meta: &Meta, authorizations: usize, challenges: usize) -> Result<(), CoreFault>
+fn has_numbers(
+    counters: Counters,
+    authorizations: usize,
+    challenges: usize,
+) -> Result<(), CoreFault>
     ensures { MatchResult result
-        (λ _. (meta.now.orders < last_number) × (meta.now.authorizations + authorizations ≤ last_number) × (meta.now.challenges + challenges ≤ last_number))
-        (λ e. (e ≡ CoreFault.Full) × ((last_number ≤ meta.now.orders) ⊎ ((last_number < meta.now.authorizations + authorizations) ⊎ (last_number < meta.now.challenges + challenges)))) }
+        (λ _. (counters.orders < last_number) × (counters.authorizations + authorizations ≤ last_number) × (counters.challenges + challenges ≤ last_number))
+        (λ e. (e ≡ CoreFault.Full) × ((last_number ≤ counters.orders) ⊎ ((last_number < counters.authorizations + authorizations) ⊎ (last_number < counters.challenges + challenges)))) }
 {
-    has_room(meta.orders)?;
-    has_room_for(meta.authorizations, authorizations)?;
-    has_room_for(meta.challenges, challenges)
+    has_room(counters.orders)?;
+    has_room_for(counters.authorizations, authorizations)?;
+    has_room_for(counters.challenges, challenges)
 }
 
 // An order for these names, with a new authorization for each.
@@ -121,11 +127,11 @@ fn order_for(
     names: Vec<DnsName>,
 ) -> Result<Verdict, CoreFault>
     ensures { let asked = orders account (wanted names.items (drop 16 random.now)) in
-        MatchResult result (λ v. (v ≡ asked) × NumbersLeft at.now.meta v × BytesLeft random.now v) (λ e. IsNeedFault at.now.meta random.now asked e) }
+        MatchResult result (λ v. (v ≡ asked) × NumbersLeft at.now.meta.counters v × BytesLeft random.now v) (λ e. IsNeedFault at.now.meta.counters random.now asked e) }
 {
-    let meta = at.meta();
+    let counters = at.counters();
     let count = count_tokens(names.as_slice());
-    has_numbers(meta, names.len(), count)?;
+    has_numbers(counters, names.len(), count)?;
     has_tokens(random, count)?;
     let wanted = wanted(alloc, names, later_random(random))?;
     Ok(Verdict::Orders(account, Sequence::new(wanted)))
@@ -141,7 +147,7 @@ pub(crate) fn new_order_verdict(
     identifiers: &[Identifier],
 ) -> Result<Verdict, CoreFault>
     ensures { let asked = new_order_verdict (drop 16 random.now) account identifiers.now in
-        MatchResult result (λ v. (v ≡ asked) × NumbersLeft at.now.meta v × BytesLeft random.now v) (λ e. IsNeedFault at.now.meta random.now asked e) }
+        MatchResult result (λ v. (v ≡ asked) × NumbersLeft at.now.meta.counters v × BytesLeft random.now v) (λ e. IsNeedFault at.now.meta.counters random.now asked e) }
 {
     if identifiers.is_empty() || identifiers.len() > MOST_NAMES {
         return Ok(refused(alloc, Refusal::Malformed));

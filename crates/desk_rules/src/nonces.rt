@@ -10,7 +10,6 @@ ghost use Rattle.desk_laws.specs.Ordered.{IsOrdered};
 use desk_book::Book;
 use desk_model::{Nonce, Text};
 use keys::read_nonce;
-use swept_rows::lasts;
 
 // A nonce, unless it is past its life.
 fn if_lasting<'a>(book: &Book, moment: u64, nonce: Option<&'a Nonce>) -> Option<&'a Nonce>
@@ -18,7 +17,7 @@ fn if_lasting<'a>(book: &Book, moment: u64, nonce: Option<&'a Nonce>) -> Option<
 {
     match nonce {
         Some(nonce) => {
-            if lasts(&book.meta().policy, moment, nonce) {
+            if book.meta().policy.lasts(moment, nonce) {
                 return Some(nonce);
             }
             None

@@ -1,7 +1,5 @@
 //! The rules on what the validator, the signing office and the operator ask (RFC 8555, 7.1.6, 7.4, 8).
 ghost use Rattle.std.specs.Prelude.{◌≡◌, ◌&&◌, IfOk, bytes_eq};
-ghost use Rattle.desk_model.specs.Legal.{is_problem, has_length};
-ghost use Rattle.desk_model.specs.Limits.{longest_detail};
 ghost use Rattle.desk_model.specs.Lookup.{holds};
 ghost use Rattle.desk_model.specs.Questions.{account_on, authorization_on, order_on};
 ghost use Rattle.desk_model.specs.Rules.{certify_verdict, fail_verdict, is_revoked, is_revoked_status, office_verdict, report_verdict, revoke_account, revoke_authorization, same_problem};
@@ -12,8 +10,8 @@ use crate::challenge_rules::{expected, outcome_of, outcome_verdict};
 use crate::verdicts::refused;
 use desk_model::{
     AccountRow, AccountStatus, Ask, AuthorizationRow, AuthzStatus, Ending, Finding,
-    LONGEST_CERTIFICATE, LONGEST_DETAIL, Listing, Move, OrderProblem, OrderRow, OrderStatus,
-    Refusal, Sequence, Shows, Verdict, is_problem_kind, is_same_bytes, is_same_text,
+    LONGEST_CERTIFICATE, Listing, Move, OrderProblem, OrderRow, OrderStatus, Refusal, Sequence,
+    Shows, Verdict, is_same_bytes,
 };
 use std::alloc::{AllocError, Global};
 use swept_rows::{At, challenge_of};
@@ -36,7 +34,7 @@ fn report_verdict(
     };
     let wanted = expected(alloc, at, row, challenge)?;
     match outcome_of(challenge.kind, wanted.as_str(), finding) {
-        Some(outcome) => Ok(outcome_verdict(alloc, number, row, status, challenge, outcome)),
+        Some(outcome) => Ok(outcome_verdict(alloc, number, status, challenge, outcome)),
         None => Ok(refused(alloc, Refusal::Malformed)),
     }
 }
@@ -79,33 +77,12 @@ fn certify_verdict(
     Ok(Verdict::Moves(Move::Certified(number, bytes.clone()?)))
 }
 
-// Whether a problem has an error type that the signing office may hand in, and a detail that is neither empty nor too long.
-fn is_problem(problem: &OrderProblem) -> bool
-    ensures { result ≡ is_problem problem.now }
-{
-    is_problem_kind(problem.kind.as_str()) && has_detail(problem)
-}
-
-fn has_detail(problem: &OrderProblem) -> bool
-    ensures { result ≡ has_length 1 longest_detail problem.now.detail }
-{
-    let count = problem.detail.as_str().len();
-    1 <= count && count <= LONGEST_DETAIL
-}
-
-fn is_same_problem(problem: &OrderProblem, other: &OrderProblem) -> bool
-    ensures { result ≡ same_problem problem.now other.now }
-{
-    is_same_text(problem.kind.as_str(), other.kind.as_str())
-        && is_same_text(problem.detail.as_str(), other.detail.as_str())
-}
-
 // Whether an order failed for this problem.
 fn has_failed_for(row: &OrderRow, problem: &OrderProblem) -> bool
     ensures { result ≡ holds (λ f. same_problem f.problem problem.now) row.now.failed }
 {
     match &row.failed {
-        Some(failed) => is_same_problem(&failed.problem, problem),
+        Some(failed) => failed.problem.is_same(problem),
         None => false,
     }
 }
@@ -121,7 +98,7 @@ fn fail_verdict(
 ) -> Result<Verdict, AllocError>
     ensures { IfOk result (λ v. v ≡ fail_verdict number problem.now (record row.now { status = status })) }
 {
-    if !is_problem(problem) {
+    if !problem.is_allowed() {
         return Ok(refused(alloc, Refusal::Malformed));
     }
     if has_failed_for(row, problem) {

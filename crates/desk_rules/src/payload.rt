@@ -7,7 +7,7 @@ ghost use Rattle.serde_json.specs.Find.{get, as_bool, as_str};
 use desk_model::{
     AccountChange, AuthorizationChange, ChallengeChange, Identifier, NewAccount, Sequence, Text,
 };
-use json_values::{texts_in, value_of};
+use json_values::{text_of, texts_in, value_of};
 use serde_json::Value;
 use std::alloc::{AllocError, Global};
 
@@ -163,13 +163,6 @@ pub(crate) fn challenge_change(
         Some(_) => Ok(Some(ChallengeChange::Answer)),
         None => Ok(None),
     }
-}
-
-// The text of a member of an object.
-fn text_of<'v>(value: &'v Value, name: &str) -> Option<&'v str>
-    ensures { option_map (λ s. s.now) result ≡ option_and_then as_str (get name.now (view value.now)) }
-{
-    value.get(name).and_then(Value::as_str)
 }
 
 fn identifier_in(alloc: Global, value: &Value) -> Result<Option<Identifier>, AllocError>

@@ -1,12 +1,12 @@
 //! A request, from the bytes of its reader to what it asks.
-ghost use Rattle.std.specs.Prelude.{◌≡◌, ◌≤◌, ◌++◌, All, IfOk, IfSome, IsUtf8, length, map, take, drop, true, false};
+ghost use Rattle.std.specs.Prelude.{◌≡◌, ◌≤◌, ◌+◌, ◌++◌, All, IfOk, IfSome, IsUtf8, length, map, take, drop, true, false};
 ghost use Rattle.httparse.specs.Grammar.{IsToken};
 ghost use Rattle.httparse.specs.Spans.{IsHeaderWithin, IsRequestWithin, header_bytes, span_bytes};
 ghost use Rattle.requests.specs.Request.{refused_request};
 ghost use Rattle.http_requests.specs.Spelled.{IsRequestWith, manner_by};
 ghost use Rattle.http_requests.specs.Head.{TakesAtMost};
 ghost use Rattle.http_requests.specs.Heard.{Hears, IsRequestAt};
-ghost use Rattle.desk_model.specs.Limits.{longest_body};
+ghost use Rattle.desk_model.specs.Limits.{longest_body, longest_head};
 
 use crate::body::{answer_to, read_body};
 use crate::head::{HeadRead, ReadFailed, read_head};
@@ -44,7 +44,7 @@ pub struct Heard {
 /// Where the reader fails.
 pub fn read_call<R: Read>(alloc: Global, reader: &mut R) -> Result<Heard, ReadFailed>
     ensures heard { IfOk result (λ heard. IfSome (R.remaining reader.old) (λ input. Hears input heard)) }
-    ensures taken { TakesAtMost (R.remaining reader.old) (R.remaining reader.new) 147456 }
+    ensures taken { TakesAtMost (R.remaining reader.old) (R.remaining reader.new) (longest_head + longest_body) }
 {
     let mut buffer = [0u8; LONGEST_HEAD];
     let mut headers = [EMPTY_HEADER_SPAN; 64];

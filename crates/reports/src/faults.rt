@@ -81,7 +81,7 @@ fn write_kind<K: RowsAbove, W: Write>(
     moment: u64,
 ) -> Result<bool, ReportFault>
     ensures reads { Reports K.sight source.old source.new result }
-    ensures found { ForTables K.sight source.old source.new (λ T. IsInOrder T → moment ≡ T.meta.clock →
+    ensures found { ForTables K.sight source.old source.new (λ T. IsInOrder T → moment ≡ T.meta.counters.clock →
         IfOk result (λ found. IsTrue found ↔ faults_of T kind ≢ [])) }
 {
     let mut found = false;
@@ -102,7 +102,7 @@ fn write_kinds<K: RowsAbove, W: Write>(
     moment: u64,
 ) -> Result<bool, ReportFault>
     ensures reads { Reports K.sight source.old source.new result }
-    ensures found { ForTables K.sight source.old source.new (λ T. IsInOrder T → moment ≡ T.meta.clock →
+    ensures found { ForTables K.sight source.old source.new (λ T. IsInOrder T → moment ≡ T.meta.counters.clock →
         IfOk result (λ found. IsTrue found ↔ status_faults T ≢ [])) }
 {
     let mut found = false;

@@ -2,17 +2,17 @@
 use Rattle.std.proofs.Common.{◌≡◌, ◌≤◌, ℕ, List, [], ◌∷◌, ◌++◌, map, filter, refl, subst, true, false, Bool, cond, not}
 use Rattle.std.specs.Prelude.{◌&&◌}
 use Rattle.std.proofs.lemmas.Bool.{and_parts}
-use Rattle.desk_columns.specs.Limits.{IsNumber, IsStoredAccount, IsStoredNonce}
+use Rattle.desk_columns.specs.Limits.{IsNumber, IsStoredAccount, IsStoredMeta, IsStoredNonce}
 use Rattle.desk_laws.proofs.Basics.{each, each-append, each-map, each_after}
 use Rattle.desk_laws.proofs.Beginnings.{legal_between}
 use Rattle.desk_laws.proofs.Dates.{clock_in_time}
 use Rattle.desk_laws.proofs.Keeps.{each-filter}
 use Rattle.desk_laws.proofs.KeptInOrder.{each_parts}
 use Rattle.desk_laws.proofs.PutsDiffer.{each_change, each_sweep}
-use Rattle.desk_laws.proofs.Step.{step, sweep}
-use Rattle.desk_model.specs.Change.{account_differs, all_changes, authorization_differs, changes, moved_rows, order_differs, spent_by, sweep_changes}
+use Rattle.desk_laws.proofs.Step.{picture_more, step, sweep}
+use Rattle.desk_model.specs.Change.{account_differs, all_changes, authorization_differs, changes, moved_rows, order_differs, recorded_changes, spent_by, sweep_changes}
 use Rattle.desk_model.specs.Derived.{restated_authorization, restated_order}
-use Rattle.desk_model.specs.Effect.{authorizations_after, effect, falls, is_overdue, lasts, not_spent, noted_account, noted_authorization, noted_order, swept, touches_account, touches_authorization, touches_order}
+use Rattle.desk_model.specs.Effect.{authorizations_after, effect, effects, falls, is_overdue, lasts, not_spent, noted_account, noted_authorization, noted_order, swept, touches_account, touches_authorization, touches_order}
 use Rattle.desk_model.specs.Entry.{History}
 use Rattle.desk_model.specs.History.{clock, record_all}
 use Rattle.desk_model.specs.Kept.{EachOf}
@@ -54,7 +54,7 @@ differing_among P touched differs move rows fresh h =
 -- the changes of a sweep, where the rows before and after it are in their limits
 sweep_in_limits : (T : Tables) (m : ℕ) → EachOf IsStoredNonce T.nonces → AreInLimits (swept m T) → EachOf IsPutInLimits (sweep_changes m T)
 sweep_in_limits T m nonces after =
-    each_sweep IsPutInLimits T m after.meta
+    each_sweep IsPutInLimits T m
     (each-map IsNumber (λ n. n.serial) (filter (λ n. not (lasts T.meta.policy m n)) T.nonces)
     (each-filter _ (λ n. not (lasts T.meta.policy m n)) T.nonces (each _ _ T.nonces (λ n k. k.serial) nonces)))
     (put_among IsAuthorizationInLimits (is_overdue m) (is_overdue m) (λ (r : AuthorizationRow). record r { status = authz.Expired }) (λ x p. p)
@@ -65,7 +65,7 @@ sweep_in_limits T m nonces after =
 -- the changes of an entry, where the rows after it are in their limits
 entry_in_limits : (T : Tables) (m : ℕ) (e : Entry) → EachOf IsNumber (spent_by e) → AreInLimits (effect m T e) → EachOf IsPutInLimits (changes m T e)
 entry_in_limits T m e spent_numbers after =
-    each_change IsPutInLimits T m e after.meta spent_numbers
+    each_change IsPutInLimits T m e spent_numbers
     (each_after IsStoredNonce (filter (not_spent e) T.nonces) _ after.nonces)
     (differing_among IsStoredAccount (touches_account e) account_differs (noted_account e m) T.accounts _ after.accounts)
     (differing_among IsAuthorizationInLimits (touches_authorization e) authorization_differs (λ r. restated_authorization m (noted_authorization e m r))
@@ -88,11 +88,16 @@ entries_in_limits F m (e ∷ es) h k =
 
 -- what a call records puts rows in their limits alone
 pub records_in_limits : (F : History) (e : Entry) (es : List Entry) (m : ℕ) → clock F ≤ m → Legal F → Legal (record_all m (e ∷ es) F) →
-    EachOf IsPutInLimits (sweep_changes m (picture F) ++ all_changes m (swept m (picture F)) (e ∷ es))
+    EachOf IsPutInLimits (recorded_changes m (picture F) (e ∷ es))
 records_in_limits F e es m le h k =
     let now : tables_at F m ≡ swept m (picture F) = sweep F (clock F) m le in
     let in_time : m ≤ last_moment = (legal_between F e es m h k).each.0.in_time in
     let before : AreInLimits (picture F) = tables_in_limits F h (clock F) (clock_in_time F h.each) in
-    each-append IsPutInLimits (sweep_changes m (picture F)) (all_changes m (swept m (picture F)) (e ∷ es))
+    let grown : picture (record_all m (e ∷ es) F) ≡ effects m (swept m (picture F)) (e ∷ es) = picture_more F e es m le k.each in
+    let longer : AreInLimits (picture (record_all m (e ∷ es) F)) =
+    tables_in_limits (record_all m (e ∷ es) F) k (clock (record_all m (e ∷ es) F)) (clock_in_time (record_all m (e ∷ es) F) k.each) in
+    each-append IsPutInLimits (sweep_changes m (picture F)) _
     (sweep_in_limits (picture F) m before.nonces (subst AreInLimits now (tables_in_limits F h m in_time)))
+    (each-append IsPutInLimits (all_changes m (swept m (picture F)) (e ∷ es)) _
     (subst (λ T. EachOf IsPutInLimits (all_changes m T (e ∷ es))) now (entries_in_limits F m (e ∷ es) h k))
+    (subst (λ (T : Tables). IsStoredMeta T.meta) grown longer.meta, tt))

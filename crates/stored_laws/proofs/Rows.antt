@@ -1,5 +1,5 @@
 -- The rows of a legal history are in the limits of their columns.
-use Rattle.std.proofs.Common.{◌≡◌, ◌≤◌, ◌<◌, ◌^◌, ℕ, ◌+◌, List, [], ◌∷◌, length, Option, Some, None, refl, true, false, Bool, cond, arith}
+use Rattle.std.proofs.Common.{◌≡◌, ◌≤◌, ◌<◌, ℕ, ◌+◌, List, [], ◌∷◌, length, Option, Some, None, refl, true, false, Bool, cond, arith}
 use Rattle.std.specs.Prelude.{◌==◌, IfSome, IsSome, IsTrue, find}
 use Rattle.std.specs.List.{flat_map}
 use Rattle.std.proofs.lemmas.Bool.{and_parts, eqb-true}
@@ -102,7 +102,7 @@ nonces_stored F h t =
     let book = tables_book F h.each t in
     each _ _ T.nonces (λ n p. record { serial = p.0; random = p.1.0; issued = moment_of F h n.issued p.1.1 })
     (each_both _ _ T.nonces
-    (numbers_in_limits (λ n. n.serial) T.meta.nonces T.nonces book.in_order.nonces book.sound.counters.nonces (counters_fit F h.numbered t).nonces)
+    (numbers_in_limits (λ n. n.serial) T.meta.counters.nonces T.nonces book.in_order.nonces book.sound.counters.nonces (counters_fit F h.numbered t).nonces)
     (each_both _ _ T.nonces (each-filter _ (is_open F t) (nonces F) (nonces_drawn F h.each)) (no_date_later F t).nonces))
 
 -- the nonce that an entry spends has a serial in its limits
@@ -123,7 +123,7 @@ account_numbers : (F : History) → Legal F → (t : ℕ) → EachOf (λ a. IsNu
 account_numbers F h t =
     let T = tables_at F t in
     let book = tables_book F h.each t in
-    numbers_in_limits (λ a. a.number) T.meta.accounts T.accounts book.in_order.accounts book.sound.counters.accounts
+    numbers_in_limits (λ a. a.number) T.meta.counters.accounts T.accounts book.in_order.accounts book.sound.counters.accounts
     (counters_fit F h.numbered t).accounts
 
 -- each account
@@ -145,7 +145,7 @@ authorization_numbers : (F : History) → Legal F → (t : ℕ) → EachOf (λ a
 authorization_numbers F h t =
     let T = tables_at F t in
     let book = tables_book F h.each t in
-    numbers_in_limits (λ a. a.number) T.meta.authorizations T.authorizations book.in_order.authorizations book.sound.counters.authorizations
+    numbers_in_limits (λ a. a.number) T.meta.counters.authorizations T.authorizations book.in_order.authorizations book.sound.counters.authorizations
     (counters_fit F h.numbered t).authorizations
 
 -- challenges of an authorization whose number is in its limits
@@ -203,7 +203,7 @@ authorizations_stored F h t =
     let book = tables_book F h.each t in
     let rows : List AuthorizationRow = T.authorizations in
     let both : (P Q : AuthorizationRow → Type 0) → EachOf P rows → EachOf Q rows → EachOf (λ a. P a × Q a) rows = λ P Q. each_both P Q rows in
-    each _ _ T.authorizations (λ a p. authorization_stored F h T.meta.challenges (counters_fit F h.numbered t).challenges a (record {
+    each _ _ T.authorizations (λ a p. authorization_stored F h T.meta.counters.challenges (counters_fit F h.numbered t).challenges a (record {
       number = p.0;
       account = found_in_limits (λ b. b.number) a.account T.accounts (account_numbers F h t) p.1.0;
       name = p.1.1.0;
@@ -275,7 +275,7 @@ order_numbers : (F : History) → Legal F → (t : ℕ) → EachOf (λ o. IsNumb
 order_numbers F h t =
     let T = tables_at F t in
     let book = tables_book F h.each t in
-    numbers_in_limits (λ o. o.number) T.meta.orders T.orders book.in_order.orders book.sound.counters.orders (counters_fit F h.numbered t).orders
+    numbers_in_limits (λ o. o.number) T.meta.counters.orders T.orders book.in_order.orders book.sound.counters.orders (counters_fit F h.numbered t).orders
 
 -- each failure is by a problem that the signing office may hand in, row by row
 row_problems : (F : History) → Legal F → (t : ℕ) → EachOf (λ o. IfSome o.failed (λ f. is_problem f.problem ≡ true)) (tables_at F t).orders

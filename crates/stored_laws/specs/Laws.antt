@@ -1,11 +1,10 @@
 -- What the tables of a history are to a file that keeps them.
-use Rattle.std.specs.Prelude.{ℕ, ◌≤◌, List, ◌∷◌, ◌++◌}
+use Rattle.std.specs.Prelude.{ℕ, ◌≤◌, List, ◌∷◌}
 use Rattle.desk_columns.specs.Columns.{rows_columns}
 use Rattle.desk_columns.specs.Limits.{AreStored}
 use Rattle.desk_columns.specs.TextColumns.{ColumnsAreTexts}
 use Rattle.desk_columns.specs.declared.columns.StoredRows.{StoredRows}
-use Rattle.desk_model.specs.Change.{all_changes, sweep_changes}
-use Rattle.desk_model.specs.Effect.{swept}
+use Rattle.desk_model.specs.Change.{recorded_changes}
 use Rattle.desk_model.specs.Entry.{History}
 use Rattle.desk_model.specs.History.{clock, record_all}
 use Rattle.desk_model.specs.Kept.{EachOf, Kept, restricted}
@@ -42,7 +41,7 @@ PicturesAreStored = (F : History) → Legal F → AreStored (flat (picture F))
 abbrev pub RecordsAreInLimits : Type 0
 RecordsAreInLimits =
     (F : History) (e : Entry) (es : List Entry) (m : ℕ) → clock F ≤ m → Legal F → Legal (record_all m (e ∷ es) F) →
-    EachOf IsPutInLimits (sweep_changes m (picture F) ++ all_changes m (swept m (picture F)) (e ∷ es))
+    EachOf IsPutInLimits (recorded_changes m (picture F) (e ∷ es))
 
 -- the columns of a book's rows, in any order, tell the book, where the rows are in their limits
 abbrev pub BooksAreTold : Type 0

@@ -48,25 +48,25 @@ counters-from_test T h =
     let fourth = both _ _ third.1 in
     let fifth = both _ _ fourth.1 in
     record {
-      nonces = Below-from_test _ T.meta.nonces T.nonces first.0;
-      accounts = Below-from_test _ T.meta.accounts T.accounts second.0;
-      authorizations = Below-from_test _ T.meta.authorizations T.authorizations third.0;
+      nonces = Below-from_test _ T.meta.counters.nonces T.nonces first.0;
+      accounts = Below-from_test _ T.meta.counters.accounts T.accounts second.0;
+      authorizations = Below-from_test _ T.meta.counters.authorizations T.authorizations third.0;
       challenges =
-          EachOf-from_test (λ (a : AuthorizationRow). are_given (λ (c : ChallengeRow). c.number) T.meta.challenges a.challenges) (λ a. Below (λ c. c.number) (T.meta.challenges + 1) a.challenges)
-          (λ a. Below-from_test (λ c. c.number) T.meta.challenges a.challenges) T.authorizations fourth.0;
-      orders = Below-from_test _ T.meta.orders T.orders fifth.0;
+          EachOf-from_test (λ (a : AuthorizationRow). are_given (λ (c : ChallengeRow). c.number) T.meta.counters.challenges a.challenges) (λ a. Below (λ c. c.number) (T.meta.counters.challenges + 1) a.challenges)
+          (λ a. Below-from_test (λ c. c.number) T.meta.counters.challenges a.challenges) T.authorizations fourth.0;
+      orders = Below-from_test _ T.meta.counters.orders T.orders fifth.0;
     }
 
 -- and tables that do pass it
 counters-true : (T : Tables) → KeepCounters T → keep_counters T ≡ true
 counters-true T h =
     λ i. list_all (λ b. b)
-    (given-true (λ n. n.serial) T.meta.nonces T.nonces h.nonces i
-    ∷ given-true (λ a. a.number) T.meta.accounts T.accounts h.accounts i
-    ∷ given-true (λ a. a.number) T.meta.authorizations T.authorizations h.authorizations i
-    ∷ list_all-true (λ (a : AuthorizationRow). are_given (λ (c : ChallengeRow). c.number) T.meta.challenges a.challenges) (λ a. Below (λ c. c.number) (T.meta.challenges + 1) a.challenges)
-    (λ a. given-true (λ c. c.number) T.meta.challenges a.challenges) T.authorizations h.challenges i
-    ∷ given-true (λ o. o.number) T.meta.orders T.orders h.orders i
+    (given-true (λ n. n.serial) T.meta.counters.nonces T.nonces h.nonces i
+    ∷ given-true (λ a. a.number) T.meta.counters.accounts T.accounts h.accounts i
+    ∷ given-true (λ a. a.number) T.meta.counters.authorizations T.authorizations h.authorizations i
+    ∷ list_all-true (λ (a : AuthorizationRow). are_given (λ (c : ChallengeRow). c.number) T.meta.counters.challenges a.challenges) (λ a. Below (λ c. c.number) (T.meta.counters.challenges + 1) a.challenges)
+    (λ a. given-true (λ c. c.number) T.meta.counters.challenges a.challenges) T.authorizations h.challenges i
+    ∷ given-true (λ o. o.number) T.meta.counters.orders T.orders h.orders i
     ∷ [])
 
 -- tables that pass the test have what they refer to

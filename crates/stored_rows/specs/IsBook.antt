@@ -24,11 +24,11 @@ pub record AreInOrder (T : Tables) : Type 0 where
 
 -- no number is above the last one given
 pub record KeepCounters (T : Tables) : Type 0 where
-  pub nonces : Below (λ n. n.serial) (T.meta.nonces + 1) T.nonces
-  pub accounts : Below (λ a. a.number) (T.meta.accounts + 1) T.accounts
-  pub authorizations : Below (λ a. a.number) (T.meta.authorizations + 1) T.authorizations
-  pub challenges : EachOf (λ a. Below (λ c. c.number) (T.meta.challenges + 1) a.challenges) T.authorizations
-  pub orders : Below (λ o. o.number) (T.meta.orders + 1) T.orders
+  pub nonces : Below (λ n. n.serial) (T.meta.counters.nonces + 1) T.nonces
+  pub accounts : Below (λ a. a.number) (T.meta.counters.accounts + 1) T.accounts
+  pub authorizations : Below (λ a. a.number) (T.meta.counters.authorizations + 1) T.authorizations
+  pub challenges : EachOf (λ a. Below (λ c. c.number) (T.meta.counters.challenges + 1) a.challenges) T.authorizations
+  pub orders : Below (λ o. o.number) (T.meta.counters.orders + 1) T.orders
 
 -- what an order lists is there
 abbrev pub ListsFound : Tables → OrderRow → Type 0

@@ -11,11 +11,11 @@ are_given number last rows = list_all (λ r. nat_le (number r) last) rows
 abbrev pub keep_counters : Tables → Bool
 keep_counters T =
     list_all (λ b. b)
-    (are_given (λ n. n.serial) T.meta.nonces T.nonces
-    ∷ are_given (λ a. a.number) T.meta.accounts T.accounts
-    ∷ are_given (λ a. a.number) T.meta.authorizations T.authorizations
-    ∷ list_all (λ a. are_given (λ c. c.number) T.meta.challenges a.challenges) T.authorizations
-    ∷ are_given (λ o. o.number) T.meta.orders T.orders
+    (are_given (λ n. n.serial) T.meta.counters.nonces T.nonces
+    ∷ are_given (λ a. a.number) T.meta.counters.accounts T.accounts
+    ∷ are_given (λ a. a.number) T.meta.counters.authorizations T.authorizations
+    ∷ list_all (λ a. are_given (λ c. c.number) T.meta.counters.challenges a.challenges) T.authorizations
+    ∷ are_given (λ o. o.number) T.meta.counters.orders T.orders
     ∷ [])
 
 -- whether there is a row of this number

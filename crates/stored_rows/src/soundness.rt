@@ -41,7 +41,7 @@ fn are_all_challenges_given(rows: &Table<AuthorizationRow>, last: u64) -> bool
 fn keeps_counters(book: &Book) -> bool
     ensures { result ≡ keep_counters book.now }
 {
-    let last = book.meta();
+    let last = book.meta().counters;
     let given = [
         are_given(book.nonces(), last.nonces),
         are_given(book.accounts(), last.accounts),

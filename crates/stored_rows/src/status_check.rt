@@ -39,7 +39,7 @@ fn faults_by_kind(alloc: Global, book: &Book) -> Result<Vec<StatusFault>, AllocE
     push_orders(&mut faults, alloc, book)?;
     push_authorizations(
         &mut faults,
-        book.meta().clock.moment(),
+        book.meta().counters.clock.moment(),
         book.authorizations(),
     )?;
     let mut challenges = challenges_by_number(alloc, book.authorizations())?;
@@ -109,16 +109,16 @@ fn push_order(
     book: &Book,
     row: &OrderRow,
 ) -> Result<(), AllocError>
-    ensures { OnOk result (faults.new.items ≡ faults.old.items ++ order_faults book.now.meta.clock book.now.authorizations row.now) }
+    ensures { OnOk result (faults.new.items ≡ faults.old.items ++ order_faults book.now.meta.counters.clock book.now.authorizations row.now) }
 {
     let statuses = listed_statuses(alloc, book, row.listed.as_slice())?;
-    let found = order_fault(book.meta().clock.moment(), row, &statuses);
+    let found = order_fault(book.meta().counters.clock.moment(), row, &statuses);
     push_fault(faults, found)
 }
 
 fn push_orders(faults: &mut Vec<StatusFault>, alloc: Global, book: &Book) -> Result<(), AllocError>
     ensures { OnOk result (faults.new.items ≡ faults.old.items
-        ++ flat_map (order_faults book.now.meta.clock book.now.authorizations) book.now.orders) }
+        ++ flat_map (order_faults book.now.meta.counters.clock book.now.authorizations) book.now.orders) }
 {
     for row in book.orders().iter() {
         push_order(faults, alloc, book, row)?;

@@ -5,7 +5,9 @@ ghost use Rattle.desk_model.specs.Questions.{account_on, account_with_key, autho
 
 use crate::standing::{authorization_status, order_status};
 use desk_book::Book;
-use desk_model::{AccountRow, AuthorizationRow, AuthzStatus, Meta, OrderRow, OrderStatus, Policy};
+use desk_model::{
+    AccountRow, AuthorizationRow, AuthzStatus, Counters, OrderRow, OrderStatus, Policy,
+};
 use std::marker::Model;
 
 /// A book at a moment; contracts see the tables that stand then, rows with the statuses that the passing of time leaves.
@@ -46,11 +48,11 @@ impl<'a> At<'a> {
         &self.book.meta().policy
     }
 
-    /// The policy and the counters; the clock that it has is the book's.
-    pub fn meta(&self) -> &Meta
-        ensures { record result.now { clock = self.now.meta.clock } ≡ self.now.meta }
+    /// The last number given of each kind; the clock beside them is the book's.
+    pub fn counters(&self) -> Counters
+        ensures { record result { clock = self.now.meta.counters.clock } ≡ self.now.meta.counters }
     {
-        self.book.meta()
+        self.book.meta().counters
     }
 
     /// The account of a number.

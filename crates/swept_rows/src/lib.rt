@@ -7,4 +7,4 @@ mod sweep;
 
 pub use at::At;
 pub use standing::{authorization_status, challenge_of, order_status};
-pub use sweep::{lasts, sweep_changes};
+pub use sweep::sweep_changes;

@@ -1,25 +1,15 @@
 //! The passing of time: what is past its end at a moment (RFC 8555, 7.1.6).
-ghost use Rattle.std.specs.Prelude.{◌≡◌, ◌≤◌, ◌++◌, map, IfOk, OnOk};
+ghost use Rattle.std.specs.Prelude.{◌≡◌, ◌++◌, map, IfOk, OnOk};
 ghost use Rattle.std.specs.List.{list_any};
-ghost use Rattle.desk_model.specs.Limits.{last_moment};
 ghost use Rattle.desk_model.specs.Lookup.{holds};
 ghost use Rattle.desk_model.specs.Derived.{authorization_numbered, numbers_of};
 ghost use Rattle.desk_model.specs.Change.{sweep_changes, nonces_gone, authorizations_expired, orders_fallen};
 ghost use Rattle.desk_model.specs.declared.rows.Change.TheVariants.{RemoveNonce, PutAuthorization, PutOrder};
-ghost use Rattle.desk_model.specs.Effect.{is_overdue, falls, lasts, lists_one};
+ghost use Rattle.desk_model.specs.Effect.{is_overdue, falls, lists_one};
 
 use desk_book::{Book, Table};
-use desk_model::{
-    AuthorizationRow, AuthzStatus, Change, Clock, Listed, Nonce, OrderRow, OrderStatus, Policy,
-};
+use desk_model::{AuthorizationRow, AuthzStatus, Change, Listed, OrderRow, OrderStatus};
 use std::alloc::{AllocError, Global};
-
-/// Whether a nonce is good at a moment: up to and including the end of its life.
-pub fn lasts(policy: &Policy, moment: u64, nonce: &Nonce) -> bool
-    ensures { result ≡ lasts policy.now moment nonce.now }
-{
-    moment <= nonce.issued.saturating_add(policy.nonce_life())
-}
 
 /// Whether an authorization that can still serve is past its end.
 pub(crate) fn is_overdue(moment: u64, row: &AuthorizationRow) -> bool
@@ -56,19 +46,15 @@ pub(crate) fn falls(moment: u64, rows: &Table<AuthorizationRow>, row: &OrderRow)
     row.status.is_live() && (row.expires < moment || lists_overdue(moment, rows, row))
 }
 
-/// The changes that the passing of time makes, up to a moment.
+/// The changes of rows that the passing of time makes, up to a moment.
 ///
 /// # Errors
 ///
 /// Where there is no memory for them.
 pub fn sweep_changes(alloc: Global, book: &Book, moment: u64) -> Result<Vec<Change>, AllocError>
-    requires { moment ≤ last_moment }
     ensures { IfOk result (λ v. v.items ≡ sweep_changes moment book.now) }
 {
     let mut changes = Vec::new(alloc);
-    let mut meta = book.meta().clone()?;
-    meta.clock = Clock::at(moment);
-    changes.push(Change::PutMeta(meta))?;
     remove_gone(&mut changes, book, moment)?;
     put_expired(&mut changes, book, moment)?;
     put_fallen(&mut changes, book, moment)?;
@@ -79,7 +65,7 @@ fn remove_gone(changes: &mut Vec<Change>, book: &Book, moment: u64) -> Result<()
     ensures { OnOk result (changes.new.items ≡ changes.old.items ++ map RemoveNonce (nonces_gone moment book.now)) }
 {
     for nonce in book.nonces().iter() {
-        if !lasts(&book.meta().policy, moment, nonce) {
+        if !book.meta().policy.lasts(moment, nonce) {
             changes.push(Change::RemoveNonce(nonce.serial))?;
         }
     }

@@ -19,12 +19,12 @@ pub record FitsMeta (row : Meta) : Type 0 where
   pub nonce_life : Fits row.policy.nonce_life
   pub order_life : Fits row.policy.order_life
   pub authz_life : Fits row.policy.authz_life
-  pub clock : Fits row.clock
-  pub nonces : Fits row.nonces
-  pub accounts : Fits row.accounts
-  pub orders : Fits row.orders
-  pub authorizations : Fits row.authorizations
-  pub challenges : Fits row.challenges
+  pub clock : Fits row.counters.clock
+  pub nonces : Fits row.counters.nonces
+  pub accounts : Fits row.counters.accounts
+  pub orders : Fits row.counters.orders
+  pub authorizations : Fits row.counters.authorizations
+  pub challenges : Fits row.counters.challenges
 
 -- a row of `nonce`
 pub record FitsNonce (row : Nonce) : Type 0 where

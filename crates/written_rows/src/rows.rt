@@ -35,12 +35,12 @@ pub fn meta_columns(alloc: Global, row: &Meta) -> Result<MetaColumns, WriteFault
         nonce_life: number_column(row.policy.nonce_life())?,
         order_life: number_column(row.policy.order_life())?,
         authz_life: number_column(row.policy.authz_life())?,
-        clock: number_column(row.clock.moment())?,
-        nonces: number_column(row.nonces)?,
-        accounts: number_column(row.accounts)?,
-        orders: number_column(row.orders)?,
-        authzs: number_column(row.authorizations)?,
-        challs: number_column(row.challenges)?,
+        clock: number_column(row.counters.clock.moment())?,
+        nonces: number_column(row.counters.nonces)?,
+        accounts: number_column(row.counters.accounts)?,
+        orders: number_column(row.counters.orders)?,
+        authzs: number_column(row.counters.authorizations)?,
+        challs: number_column(row.counters.challenges)?,
     })
 }
 

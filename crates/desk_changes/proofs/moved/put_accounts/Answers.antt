@@ -1,14 +1,17 @@
-use Rattle.std.proofs.Common.{◌++◌, map, ap, sym, ◌∙◌}
+use Rattle.std.proofs.Common.{◌++◌, map, filter, ap, sym, ◌∙◌}
 use Rattle.desk_model.specs.Entry.{entry_of}
 use Rattle.desk_model.specs.Change.{account_differs, moved_rows}
 use Rattle.desk_model.specs.Effect.{noted_account, touches_account}
 use Rattle.desk_model.specs.declared.rows.Change.TheVariants.{PutAccount}
-use Rattle.desk_changes.proofs.MovedRows.{puts-step}
+use Rattle.desk_changes.proofs.RowMoves.{puts-step, touches-step}
 use Rattle.desk_changes.proofs.moved.put_accounts.Goals as goal
 
 pub loop-row-preserved : goal.loop-row-preserved
-loop-row-preserved c =
-    puts-step PutAccount (touches_account (entry_of c.args.moved.now)) account_differs (noted_account (entry_of c.args.moved.now) c.args.moment) c.in-Some.row.now c.next.new.self
-    c.loop-row.changes.items c.put_account.new.changes.items _ c.in_ok-put_account.ensures
-    (ap (λ rows. c.loop-row.changes.items ++ map PutAccount (moved_rows (touches_account (entry_of c.args.moved.now)) account_differs (noted_account (entry_of c.args.moved.now) c.args.moment) rows)) (sym c.in-Some.ensures.steps)
-    ∙ c.loop-row.invariant)
+loop-row-preserved c = (
+  puts-step PutAccount (touches_account (entry_of c.args.moved.now)) account_differs (noted_account (entry_of c.args.moved.now) c.args.moment)
+      c.in-Some.row.now c.next.new.self c.loop-row.changes.items c.move_account.new.changes.items _ c.in_ok-next.ensures.changes
+      (ap (λ rows. c.loop-row.changes.items ++ map PutAccount (moved_rows (touches_account (entry_of c.args.moved.now)) account_differs (noted_account (entry_of c.args.moved.now) c.args.moment) rows)) (sym c.in-Some.ensures.steps) ∙ c.loop-row.invariant.0),
+  touches-step (touches_account (entry_of c.args.moved.now)) (noted_account (entry_of c.args.moved.now) c.args.moment)
+      c.in-Some.row.now c.next.new.self c.loop-row.rows.items c.push_row.new.rows.items _ c.in_ok-next.next c.in_ok-push_row.ensures c.in_ok-next.ensures.row
+      (ap (λ rows. c.loop-row.rows.items ++ map (noted_account (entry_of c.args.moved.now) c.args.moment) (filter (touches_account (entry_of c.args.moved.now)) rows)) (sym c.in-Some.ensures.steps) ∙ c.loop-row.invariant.1),
+)

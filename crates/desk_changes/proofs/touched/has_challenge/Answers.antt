@@ -1,6 +1,6 @@
 use Rattle.std.proofs.Common.{◌∙◌, ap, sym}
 use Rattle.std.specs.Prelude.{◌==◌, is_some, option_copied}
-use Rattle.desk_changes.proofs.MovedRows.{found-any}
+use Rattle.desk_changes.proofs.RowMoves.{found-any}
 use Rattle.desk_changes.proofs.touched.has_challenge.Goals as goal
 
 pub returns-in-Some : goal.returns-in-Some

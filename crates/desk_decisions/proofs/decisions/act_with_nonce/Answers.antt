@@ -10,4 +10,4 @@ pub returns-clause-reply : goal.returns-clause-reply
 returns-clause-reply c =
     λ m at ordered texts.
     c.in_ok-reply-2.ensures
-    ∙ (λ i. with_nonce (nonce_text ((c.meta.ensures i).nonces + 1) c.args.random) (c.in_ok-reply.ensures.reply m at ordered texts i))
+    ∙ (λ i. with_nonce (nonce_text ((c.meta.ensures i).counters.nonces + 1) c.args.random) (c.in_ok-reply.ensures.reply m at ordered texts i))

@@ -1,6 +1,6 @@
 use Rattle.std.proofs.Common.{◌+◌, ◌∷◌, [], ap, ◌∙◌}
 use Rattle.desk_model.specs.declared.entry.Entry.TheVariants.{Spent as spent}
-use Rattle.desk_model.specs.declared.rows.Meta.{Meta}
+use Rattle.desk_model.specs.declared.rows.Counters.{Counters}
 use Rattle.desk_decisions.proofs.decisions.begin_signed.Goals as goal
 
 pub returns-clause-recorded : goal.returns-clause-recorded
@@ -8,7 +8,7 @@ returns-clause-recorded c =
     c.in_ok-issue.ensures.recorded c.args.moment c.args.book.now (spent c.args.serial ∷ [])
     (c.in_ok-spend.ensures.recorded c.args.moment c.args.book.now [] c.in_ok-recording.ensures.recorded)
 
-pub returns-clause-meta : goal.returns-clause-meta
-returns-clause-meta c =
-    c.in_ok-issue.ensures.meta
-    ∙ ap (λ (x : Meta). record x { nonces = x.nonces + 1 }) (c.in_ok-spend.ensures.meta ∙ c.in_ok-recording.ensures.meta)
+pub returns-clause-counters : goal.returns-clause-counters
+returns-clause-counters c =
+    c.in_ok-issue.ensures.counters
+    ∙ ap (λ (x : Counters). record x { nonces = x.nonces + 1 }) (c.in_ok-spend.ensures.counters ∙ c.in_ok-recording.ensures.counters)

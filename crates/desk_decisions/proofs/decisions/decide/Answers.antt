@@ -14,8 +14,8 @@ returns-clause-late c = late_only c.decide_at.result c.args.call.now.at c.decide
 
 pub returns-clause-decided : goal.returns-clause-decided
 returns-clause-decided c =
-    let acts : c.max-moment.result ≡ max c.args.call.now.at c.args.book.now.meta.clock =
-    c.max-moment.ensures ∙ ap (max c.args.call.now.at) (c.moment.ensures.same ∙ ap (λ (x : Meta). x.clock) c.meta.ensures) in
+    let acts : c.max-moment.result ≡ max c.args.call.now.at c.args.book.now.meta.counters.clock =
+    c.max-moment.ensures ∙ ap (max c.args.call.now.at) (c.moment.ensures.same ∙ ap (λ (x : Meta). x.counters.clock) c.meta.ensures) in
     ok_part (λ o. MeetsAsk c.max-moment.result c.args.book.now c.as_slice.result.now c.args.call.now.ask o.changes.items o.reply) (λ e. IsAskFault c.max-moment.result c.args.book.now c.as_slice.result.now c.args.call.now.ask e)
     c.decide_at.result c.decide_at.ensures.meets
     (λ o meets F legal part.
@@ -24,8 +24,8 @@ returns-clause-decided c =
 
 pub returns-clause-faulty : goal.returns-clause-faulty
 returns-clause-faulty c =
-    let acts : c.max-moment.result ≡ max c.args.call.now.at c.args.book.now.meta.clock =
-    c.max-moment.ensures ∙ ap (max c.args.call.now.at) (c.moment.ensures.same ∙ ap (λ (x : Meta). x.clock) c.meta.ensures) in
+    let acts : c.max-moment.result ≡ max c.args.call.now.at c.args.book.now.meta.counters.clock =
+    c.max-moment.ensures ∙ ap (max c.args.call.now.at) (c.moment.ensures.same ∙ ap (λ (x : Meta). x.counters.clock) c.meta.ensures) in
     err_part (λ o. MeetsAsk c.max-moment.result c.args.book.now c.as_slice.result.now c.args.call.now.ask o.changes.items o.reply) (λ e. IsAskFault c.max-moment.result c.args.book.now c.as_slice.result.now c.args.call.now.ask e)
     c.decide_at.result c.decide_at.ensures.meets
     (λ e fails F legal part.

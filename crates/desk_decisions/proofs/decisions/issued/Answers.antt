@@ -1,6 +1,6 @@
 use Rattle.std.proofs.Common.{◌∷◌, [], ap, ◌∙◌}
+use Rattle.desk_model.specs.Change.{recorded_changes}
 use Rattle.desk_model.specs.declared.entry.Entry.TheVariants.{Issued as issued}
-use Rattle.desk_changes.specs.Recorded.{recorded_changes}
 use Rattle.desk_decisions.proofs.decisions.issued.Goals as goal
 
 pub returns-clause-changes : goal.returns-clause-changes

@@ -1,18 +1,23 @@
-use Rattle.std.proofs.Common.{[]}
-use Rattle.desk_changes.specs.Acting.{IsAt}
-use Rattle.desk_decisions.proofs.ActingRows.{at_begun}
+use Rattle.std.proofs.Common.{[], ap, sym, ◌∙◌}
+use Rattle.desk_model.specs.Change.{recorded_changes}
+use Rattle.desk_model.specs.declared.rows.Meta.{Meta}
+use Rattle.desk_changes.specs.Recorded.{IsAt}
+use Rattle.desk_decisions.proofs.ActingRows.{at_begun, same_entries}
 use Rattle.desk_changes.proofs.Moving.{untouched_none}
 use Rattle.desk_decisions.proofs.decisions.recorded.Goals as goal
-use Rattle.desk_decisions.proofs.decisions.recorded.Goals.{After-drop-recording-2}
+use Rattle.desk_decisions.proofs.decisions.recorded.Goals.{In_ok-changes}
 
--- the meta row when the verdict is carried out
-begun_at : (c : After-drop-recording-2) → IsAt c.args.moment c.args.book.now c.in_ok-recording.recording.meta
-begun_at c = at_begun c.args.moment c.args.book.now c.in_ok-recording.recording.meta c.in_ok-recording.ensures.meta
+-- the counters when the verdict is carried out
+begun_at : (c : In_ok-changes) → IsAt c.args.moment c.args.book.now c.in_ok-recording.recording.counters
+begun_at c = at_begun c.args.moment c.args.book.now c.in_ok-recording.recording.counters c.in_ok-recording.ensures.counters
 
 pub returns-clause-changes : goal.returns-clause-changes
 returns-clause-changes c =
-    λ ordered.
-    (c.in_ok-reply.ensures.recorded c.args.moment [] ordered (untouched_none c.args.moment c.args.book.now) c.in_ok-recording.ensures.recorded).changes
+    λ ordered e es is.
+    c.in_ok-changes.ensures.recorded c.args.moment c.args.book.now e es (ap (λ (x : Meta). x.policy) (sym c.meta.ensures))
+    (same_entries c.args.moment c.args.book.now is
+    (c.in_ok-reply.ensures.recorded c.args.moment [] ordered (untouched_none c.args.moment c.args.book.now) c.in_ok-recording.ensures.recorded))
+    ∙ ap (recorded_changes c.args.moment c.args.book.now) (sym is)
 
 pub returns-clause-reply : goal.returns-clause-reply
 returns-clause-reply c =

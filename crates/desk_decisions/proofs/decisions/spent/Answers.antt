@@ -10,7 +10,7 @@ returns c =
     (record {
       recorded = c.in_ok-outcome.ensures.changes;
       replies = c.in_ok-outcome.ensures.reply;
-      nonces = subst (λ (x : Meta). x.nonces < last_number) c.meta.ensures c.in_ok-has_room.ensures;
+      nonces = subst (λ (x : Meta). x.counters.nonces < last_number) c.meta.ensures c.in_ok-has_room.ensures;
       numbers = c.in_ok-verdict.ensures.1;
       tokens = c.in_ok-verdict.ensures.2;
       bytes = c.in_ok-outcome.ensures.bytes;

@@ -1,16 +1,7 @@
 use Rattle.std.proofs.Common.{map, ap, ◌∙◌}
-use Rattle.sqlite.specs.Held.{state}
-use Rattle.desk_reading.proofs.ListedOrder.{listed_by_found}
-use Rattle.desk_reading.proofs.LookUpReadings.{listed_by_reading}
 use Rattle.desk_reading.proofs.UnderLemmas.{listed_is}
 use Rattle.desk_reading.proofs.orders.listed_by.Goals as goal
 
-pub find_rows-requires : goal.find_rows-requires
-find_rows-requires g c = listed_by_reading.selecting
-
 pub returns-clause-found : goal.returns-clause-found
 returns-clause-found g c clean T has book =
-    let it = c.in_ok-rows.ensures.read clean in
-    let found = listed_by_found (state g.S.Store c.args.conn.now) (state g.S.Store c.find_rows.new.conn) T it.0 _ has book c.in_ok-rows.rows.items it.2 it.3
-    c.args.order c.number_param-params.ensures it.1 in
-    c.in_ok-authorizations_of_listed.ensures ∙ ap (map (λ l. l.row.authorization)) found ∙ listed_is T c.args.order
+    c.in_ok-authorizations_of.ensures ∙ ap (map (λ l. l.authorization)) (c.in_ok-listed.ensures.found clean T has book) ∙ listed_is T c.args.order

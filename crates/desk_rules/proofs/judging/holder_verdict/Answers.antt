@@ -6,7 +6,7 @@ use Rattle.desk_rules.proofs.judging.holder_verdict.Goals as goal
 
 pub returns : goal.returns
 returns c =
-    subst (IsJudged c.args.at.now.meta c.args.random.now c.target_verdict.result)
+    subst (IsJudged c.args.at.now.meta.counters c.args.random.now c.target_verdict.result)
     (sym (holder-found c.args.at.now (drop 16 c.args.random.now) c.args.payload.now c.args.target c.in-Some.row.now
     (account_with_key c.args.at.now c.args.key.now)
     (ap (account_with_key c.args.at.now) (sym c.canonical.ensures.canonical) ∙ sym c.account_with_key.ensures ∙ ap option_copied c.in-Some.is)

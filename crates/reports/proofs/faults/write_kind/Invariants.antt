@@ -9,7 +9,7 @@ abbrev pub invariant-loop-fault : goal.invariant-loop-fault
 invariant-loop-fault g l = record {
   name : l.faults.source.ghost_name ≡ l.initial.faults.source.ghost_name;
   stands : Stands g.K.LookUps.sight l.fn.source l.faults.source.now;
-  found : ForTables g.K.LookUps.sight l.fn.source l.faults.source.now (λ T. IsInOrder T → l.moment ≡ T.meta.clock
+  found : ForTables g.K.LookUps.sight l.fn.source l.faults.source.now (λ T. IsInOrder T → l.moment ≡ T.meta.counters.clock
       → Searches l.found (faults_of T l.fn.kind) (faults_above T l.faults.kind l.faults.moment l.faults.above));
 }
 

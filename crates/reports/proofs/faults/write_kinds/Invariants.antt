@@ -9,6 +9,6 @@ use Rattle.reports.proofs.faults.write_kinds.Given as goal
 abbrev pub invariant-loop-kind : goal.invariant-loop-kind
 invariant-loop-kind g l = record {
   stands : Stands g.K.LookUps.sight l.fn.source l.source;
-  found : ForTables g.K.LookUps.sight l.fn.source l.source (λ T. IsInOrder T → l.moment ≡ T.meta.clock
+  found : ForTables g.K.LookUps.sight l.fn.source l.source (λ T. IsInOrder T → l.moment ≡ T.meta.counters.clock
       → Searches l.found (flat_map (faults_of T) l.kind-items) (flat_map (faults_of T) (drop l.kind-index l.kind-items)));
 }

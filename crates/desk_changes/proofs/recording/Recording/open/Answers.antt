@@ -5,6 +5,6 @@ use Rattle.desk_changes.proofs.recording.Recording.open.Goals as goal
 
 pub returns-clause-recorded : goal.returns-clause-recorded
 returns-clause-recorded c =
-    both_ok c.push_account.result c.push_account.ensures.changes c.push_account.ensures.meta
+    both_ok c.push_account.result c.push_account.ensures.changes c.push_account.ensures.counters
     (λ made same m B es h. recorded_as m B (es ++ opened c.args.key c.args.contacts ∷ []) _ _ _ _ made same
-    (and_opened m B es c.args.key c.args.contacts c.args.self.now.changes.items c.args.self.now.meta h))
+    (and_opened m B es c.args.key c.args.contacts c.args.self.now.changes.items c.args.self.now.counters h))

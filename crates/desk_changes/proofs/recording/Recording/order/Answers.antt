@@ -6,6 +6,6 @@ use Rattle.desk_changes.proofs.recording.Recording.order.Goals as goal
 
 pub returns-clause-recorded : goal.returns-clause-recorded
 returns-clause-recorded c =
-    both_ok c.push_order.result c.push_order.ensures.changes c.push_order.ensures.meta
-    (λ made same m B es is untouched h. recorded_as m B (es ++ ordered c.args.account c.args.wanted.now ∷ []) _ _ _ _ made same
-    (and_ordered m B es c.args.account c.args.wanted.now c.args.self.now.changes.items c.args.self.now.meta is untouched h))
+    both_ok c.push_order.result c.push_order.ensures.changes c.push_order.ensures.counters
+    (λ made same m B es policy is untouched h. recorded_as m B (es ++ ordered c.args.account c.args.wanted.now ∷ []) _ _ _ _ made same
+    (and_ordered m B es c.args.policy.now c.args.account c.args.wanted.now c.args.self.now.changes.items c.args.self.now.counters policy is untouched h))
