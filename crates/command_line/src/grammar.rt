@@ -56,16 +56,16 @@ fn word_on_file<'a>(
     word(alloc, name, about, after).arg(file)
 }
 
+fn base<'a>(alloc: Global) -> Arg<'a> {
+    let help =
+        "what each URL begins with, as https://ca.example: http:// or https://, 8 to 256 bytes, no / at its end";
+    option(alloc, "base", "URL", help).required(true)
+}
+
 fn make<'a>(alloc: Global) -> Result<Command<'a>, AllocError> {
-    let base = option(
-        alloc,
-        "base",
-        "URL",
-        "what each URL begins with, as https://ca.example: http:// or https://, 8 to 256 bytes, no / at its end",
-    );
     word(alloc, "make", "Makes a desk in a new file", help::MAKE)
         .arg(required(alloc, "FILE", "the new file that will hold the desk"))?
-        .arg(base.required(true))?
+        .arg(base(alloc))?
         .arg(seconds(
             alloc,
             "nonce-life",
@@ -86,27 +86,23 @@ fn make<'a>(alloc: Global) -> Result<Command<'a>, AllocError> {
         ))
 }
 
+fn port<'a>(alloc: Global) -> Arg<'a> {
+    let help = "the port of 127.0.0.1, 0 to 65535; 0 for one that the machine chooses";
+    option(alloc, "port", "N", help)
+        .required(true)
+        .value_parser(clap::value_parser!(u16))
+}
+
+fn count<'a>(alloc: Global) -> Arg<'a> {
+    let help = "how many connections to serve, 0 to 2^64 - 1; without it 2^64 - 1";
+    option(alloc, "count", "N", help).value_parser(clap::value_parser!(u64))
+}
+
 fn serve<'a>(alloc: Global) -> Result<Command<'a>, AllocError> {
-    let port = option(
-        alloc,
-        "port",
-        "N",
-        "the port of 127.0.0.1, 0 to 65535; 0 for one that the machine chooses",
-    );
-    let count = option(
-        alloc,
-        "count",
-        "N",
-        "how many connections to serve, 0 to 2^64 - 1; without it 2^64 - 1",
-    );
-    word_on_file(
-        alloc,
-        "serve",
-        "Serves HTTP, one request a connection",
-        help::SERVE,
-    )?
-    .arg(port.required(true).value_parser(clap::value_parser!(u16)))?
-    .arg(count.value_parser(clap::value_parser!(u64)))
+    let about = "Serves HTTP, one request a connection";
+    word_on_file(alloc, "serve", about, help::SERVE)?
+        .arg(port(alloc))?
+        .arg(count(alloc))
 }
 
 fn batch<'a>(alloc: Global) -> Result<Command<'a>, AllocError> {
@@ -125,31 +121,25 @@ fn batch<'a>(alloc: Global) -> Result<Command<'a>, AllocError> {
     .arg(file)
 }
 
+fn account<'a>(alloc: Global) -> Arg<'a> {
+    let help = "only orders of the account of this number, 1 to 2^62; without it of all accounts";
+    option(alloc, "account", "N", help).value_parser(ValueParser::unsigned(1, LAST_NUMBER))
+}
+
+fn order_status<'a>(alloc: Global) -> Arg<'a> {
+    let help = "only orders of this status; without it of every status";
+    option(alloc, "status", "WORD", help).value_parser(ORDER_STATUSES)
+}
+
 fn status<'a>(alloc: Global) -> Result<Command<'a>, AllocError> {
-    let account = option(
-        alloc,
-        "account",
-        "N",
-        "only orders of the account of this number, 1 to 2^62; without it of all accounts",
-    );
-    let status = option(
-        alloc,
-        "status",
-        "WORD",
-        "only orders of this status; without it of every status",
-    );
-    word_on_file(
-        alloc,
-        "status",
-        "Lists the orders: number, account, status, end; last how many these are",
-        help::STATUS,
-    )?
-    .arg(account.value_parser(ValueParser::unsigned(1, LAST_NUMBER)))?
-    .arg(status.value_parser(ORDER_STATUSES))?
-    .arg(json(
-        alloc,
-        "one JSON document a line, an order each, and no count",
-    ))
+    let about = "Lists the orders: number, account, status, end; last how many these are";
+    word_on_file(alloc, "status", about, help::STATUS)?
+        .arg(account(alloc))?
+        .arg(order_status(alloc))?
+        .arg(json(
+            alloc,
+            "one JSON document a line, an order each, and no count",
+        ))
 }
 
 fn check<'a>(alloc: Global) -> Result<Command<'a>, AllocError> {
@@ -179,6 +169,24 @@ fn revoke<'a>(
     )))
 }
 
+fn revoke_authorization<'a>(alloc: Global) -> Result<Command<'a>, AllocError> {
+    let about = "Revokes an authorization";
+    revoke(alloc, "revoke-authz", about, help::REVOKE_AUTHZ)
+}
+
+fn revoke_account<'a>(alloc: Global) -> Result<Command<'a>, AllocError> {
+    let about = "Revokes an account";
+    revoke(alloc, "revoke-account", about, help::REVOKE_ACCOUNT)
+}
+
+// The command with one word more.
+fn with<'a>(
+    command: Command<'a>,
+    word: Result<Command<'a>, AllocError>,
+) -> Result<Command<'a>, AllocError> {
+    command.subcommand(word?)
+}
+
 /// The program's words, each with its arguments and its help.
 ///
 /// # Errors
@@ -186,24 +194,14 @@ fn revoke<'a>(
 /// Where a growth was refused.
 pub(crate) fn desk<'a>(alloc: Global) -> Result<Command<'a>, AllocError> {
     let about = "The order desk of an ACME certificate authority (RFC 8555)";
-    word(alloc, "desk", about, help::DESK)
+    let desk = word(alloc, "desk", about, help::DESK)
         .version(help::VERSION)
-        .subcommand_required(true)
-        .subcommand(make(alloc)?)?
-        .subcommand(serve(alloc)?)?
-        .subcommand(batch(alloc)?)?
-        .subcommand(status(alloc)?)?
-        .subcommand(check(alloc)?)?
-        .subcommand(revoke(
-            alloc,
-            "revoke-authz",
-            "Revokes an authorization",
-            help::REVOKE_AUTHZ,
-        )?)?
-        .subcommand(revoke(
-            alloc,
-            "revoke-account",
-            "Revokes an account",
-            help::REVOKE_ACCOUNT,
-        )?)
+        .subcommand_required(true);
+    let desk = with(desk, make(alloc))?;
+    let desk = with(desk, serve(alloc))?;
+    let desk = with(desk, batch(alloc))?;
+    let desk = with(desk, status(alloc))?;
+    let desk = with(desk, check(alloc))?;
+    let desk = with(desk, revoke_authorization(alloc))?;
+    with(desk, revoke_account(alloc))
 }

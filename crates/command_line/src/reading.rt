@@ -2,19 +2,12 @@
 use crate::fault::WordsFault;
 use crate::grammar::desk;
 use crate::order::{Listing, Order, Target, Terms};
-use clap::ArgMatches;
 use clap::error::ErrorKind;
+use clap::{ArgMatches, Command};
 use std::alloc::Global;
 
-// What the matches ask for.
-fn order<'a>(matches: &ArgMatches<'a>) -> Option<Order<'a>> {
-    let (name, given) = matches.subcommand()?;
-    if name == "batch" {
-        return Some(Order::Batch {
-            file: given.get_str("file"),
-        });
-    }
-    let file = given.get_str("FILE")?;
+// What a word asks for on a file.
+fn order_on_file<'a>(name: &str, file: &'a str, given: &ArgMatches<'a>) -> Option<Order<'a>> {
     match name {
         "make" => Some(Order::Make {
             file,
@@ -38,6 +31,17 @@ fn order<'a>(matches: &ArgMatches<'a>) -> Option<Order<'a>> {
             target: target(name, given)?,
         }),
     }
+}
+
+// What the matches ask for.
+fn order<'a>(matches: &ArgMatches<'a>) -> Option<Order<'a>> {
+    let (name, given) = matches.subcommand()?;
+    if name == "batch" {
+        return Some(Order::Batch {
+            file: given.get_str("file"),
+        });
+    }
+    order_on_file(name, given.get_str("FILE")?, given)
 }
 
 // The terms among them.
@@ -69,6 +73,21 @@ fn target(name: &str, given: &ArgMatches<'_>) -> Option<Target> {
     }
 }
 
+// What the matches of a command ask for, or that they ask for nothing.
+fn asked<'a>(
+    alloc: Global,
+    command: &mut Command<'a>,
+    matches: &ArgMatches<'a>,
+) -> Result<Order<'a>, WordsFault> {
+    match order(matches) {
+        Some(order) => Ok(order),
+        None => {
+            let error = command.error(ErrorKind::MissingSubcommand, "no command")?;
+            Err(WordsFault::of(alloc, &error))
+        }
+    }
+}
+
 /// What the words of a command line ask for, of which the first is the program's name.
 ///
 /// # Errors
@@ -78,13 +97,7 @@ fn target(name: &str, given: &ArgMatches<'_>) -> Option<Target> {
 pub fn read_words<'a>(alloc: Global, words: &'a [String]) -> Result<Order<'a>, WordsFault> {
     let mut command = desk(alloc)?;
     match command.try_get_matches_from_mut(words) {
-        Ok(matches) => match order(&matches) {
-            Some(order) => Ok(order),
-            None => {
-                let error = command.error(ErrorKind::MissingSubcommand, "no command")?;
-                Err(WordsFault::of(alloc, &error))
-            }
-        },
+        Ok(matches) => asked(alloc, &mut command, &matches),
         Err(error) => Err(WordsFault::of(alloc, &error)),
     }
 }

@@ -4,7 +4,7 @@ use crate::fault::Fault;
 use command_line::Target;
 use connections::moment;
 use desk_calls::Desk;
-use desk_model::{Ask, Body, Call, Sequence};
+use desk_model::{Ask, Body, Call, Reply, Sequence};
 use desk_storage::Storage;
 use file_tasks::{Tables, Task};
 use std::io::{self, Write};
@@ -18,18 +18,30 @@ pub(crate) struct Revoke<'a, W: Write> {
 }
 
 impl<'a, W: Write> Revoke<'a, W> {
+    fn ask(&self) -> Ask {
+        match self.target {
+            Target::Authorization(number) => Ask::RevokeAuthz(number),
+            Target::Account(number) => Ask::RevokeAccount(number),
+        }
+    }
+
+    // The call that asks so, at the machine's clock.
+    fn call(&self) -> Result<Call, Fault> {
+        Ok(Call {
+            at: moment(self.rt)?,
+            random: Sequence::new(Vec::new(self.rt.alloc())),
+            ask: self.ask(),
+        })
+    }
+
+    fn answer<K: Storage + Drop>(&self, desk: &mut Desk<K>) -> Result<Reply, Fault> {
+        let call = self.call()?;
+        Ok(desk.answer(self.rt.alloc(), &call)?)
+    }
+
     // Revokes it by a desk.
     fn revoke<K: Storage + Drop>(&self, desk: &mut Desk<K>) -> Result<(), Fault> {
-        let alloc = self.rt.alloc();
-        let call = Call {
-            at: moment(self.rt)?,
-            random: Sequence::new(Vec::new(alloc)),
-            ask: match self.target {
-                Target::Authorization(number) => Ask::RevokeAuthz(number),
-                Target::Account(number) => Ask::RevokeAccount(number),
-            },
-        };
-        let reply = desk.answer(alloc, &call)?;
+        let reply = self.answer(desk)?;
         match &reply.body {
             Body::Problem(problem) => Err(Fault::Refused(problem.refusal)),
             _ => Ok(()),

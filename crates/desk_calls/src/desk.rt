@@ -46,8 +46,11 @@ fn attempt<K: Storage + Drop>(alloc: Global, store: &mut K, call: &Call) -> Resu
     ensures exit { Answers K.Storage.sight call.now store.old store.new result }
 {
     keep_form(call);
-    let book = store.load_part(alloc, call)?;
-    let outcome = decide(alloc, &book, call)?;
+    let decided = {
+        let book = store.load_part(alloc, call)?;
+        decide(alloc, &book, call)
+    };
+    let outcome = decided?;
     let changes = outcome.changes.as_slice();
     if changes.is_empty() {
         return Ok(outcome.reply);
