@@ -4,7 +4,7 @@ use crate::fault::Fault;
 use command_line::Target;
 use connections::moment;
 use desk_calls::Desk;
-use desk_model::{Ask, Body, Call, Reply, Sequence};
+use desk_model::{Ask, Body, Call, OfficeAsk, Reply, Sequence};
 use desk_storage::Storage;
 use file_tasks::{Tables, Task};
 use std::io::{self, Write};
@@ -18,10 +18,10 @@ pub(crate) struct Revoke<'a, W: Write> {
 }
 
 impl<'a, W: Write> Revoke<'a, W> {
-    fn ask(&self) -> Ask {
+    fn ask(&self) -> OfficeAsk {
         match self.target {
-            Target::Authorization(number) => Ask::RevokeAuthz(number),
-            Target::Account(number) => Ask::RevokeAccount(number),
+            Target::Authorization(number) => OfficeAsk::RevokeAuthz(number),
+            Target::Account(number) => OfficeAsk::RevokeAccount(number),
         }
     }
 
@@ -30,7 +30,7 @@ impl<'a, W: Write> Revoke<'a, W> {
         Ok(Call {
             at: moment(self.rt)?,
             random: Sequence::new(Vec::new(self.rt.alloc())),
-            ask: self.ask(),
+            ask: Ask::Office(self.ask()),
         })
     }
 

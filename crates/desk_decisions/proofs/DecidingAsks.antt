@@ -16,6 +16,7 @@ use Rattle.desk_model.specs.Run.{count_pieces, IsFormedCall}
 use Rattle.desk_model.specs.declared.call.Call.{Call}
 use Rattle.desk_model.specs.declared.call.Ask.{Ask}
 use Rattle.desk_model.specs.declared.call.Ask.TheVariants as ask
+use Rattle.desk_model.specs.declared.call.OfficeAsk.{OfficeAsk}
 use Rattle.desk_model.specs.declared.call.Signed.{Signed}
 use Rattle.desk_model.specs.declared.reply.Reply.{Reply}
 use Rattle.desk_model.specs.declared.verdict.Verdict.{Verdict}
@@ -59,11 +60,11 @@ issues F call answer changes reply legal formed at entries said h =
 -- ---- requests without a nonce
 
 -- the verdict on one, by the picture
-abbrev settled : History → Call → Ask → Verdict
+abbrev settled : History → Call → OfficeAsk → Verdict
 settled F call a = office_verdict (swept (moment_of call.at F) (picture F)) a
 
 -- its reply is the model's
-settles_reply : (F : History) (call : Call) (a : Ask) (changes : List Change) (reply : Reply) → Legal F →
+settles_reply : (F : History) (call : Call) (a : OfficeAsk) (changes : List Change) (reply : Reply) → Legal F →
     decide F call ≡ office_decision F (moment_of call.at F) (settled F call a) →
     Settles (moment_of call.at F) (picture F) (settled F call a) changes reply →
     EachFollows (record_all (moment_of call.at F) (entries_of (settled F call a)) F) → reply ≡ (decide F call).reply
@@ -74,7 +75,7 @@ settles_reply F call a changes reply legal is h follows =
     ∙ ap (λ T. verdict_reply false T (settled F call a)) (sym grown)
     ∙ sym (ap (λ (d : Decision). d.reply) is)
 
-settles : (F : History) (call : Call) (a : Ask) (changes : List Change) (reply : Reply) → Legal F → IsFormedCall call → call.at ≤ last_moment →
+settles : (F : History) (call : Call) (a : OfficeAsk) (changes : List Change) (reply : Reply) → Legal F → IsFormedCall call → call.at ≤ last_moment →
     decide F call ≡ office_decision F (moment_of call.at F) (settled F call a) →
     Settles (moment_of call.at F) (picture F) (settled F call a) changes reply → IsDecision F call changes reply
 settles F call a changes reply legal formed at is h =
@@ -177,9 +178,9 @@ pub asks_decide : (F : History) (call : Call) (changes : List Change) (reply : R
     MeetsAsk (moment_of call.at F) (picture F) call.random call.ask changes reply → IsDecision F call changes reply
 asks_decide F call changes reply legal formed at h = by call.ask refl h
   where
-    office : (a : Ask) → decide F call ≡ office_decision F (moment_of call.at F) (office_verdict (tables_at F (moment_of call.at F)) a) →
+    settled_is : (a : OfficeAsk) → decide F call ≡ office_decision F (moment_of call.at F) (office_verdict (tables_at F (moment_of call.at F)) a) →
         decide F call ≡ office_decision F (moment_of call.at F) (settled F call a)
-    office a is = is ∙ ap (λ T. office_decision F (moment_of call.at F) (office_verdict T a)) (now_is F call)
+    settled_is a is = is ∙ ap (λ T. office_decision F (moment_of call.at F) (office_verdict T a)) (now_is F call)
 
     at_ask : (a : Ask) → call.ask ≡ a → decide F call ≡ decide_at F (moment_of call.at F) call.random a
     at_ask a e = ap (λ x. decide_at F (moment_of call.at F) call.random x) e
@@ -189,15 +190,7 @@ asks_decide F call changes reply legal formed at h = by call.ask refl h
         issues F call (nonce_reply head) changes reply legal formed at
         (ap (λ (d : Decision). d.entries) (at_ask (ask.NewNonce head) e)) (ap (λ (d : Decision). d.reply) (at_ask (ask.NewNonce head) e)) m
     by (ask.Signed s) e m = signed_decides F call s changes reply legal formed at e m
-    by ask.Directory e m = settles F call ask.Directory changes reply legal formed at (office ask.Directory (at_ask ask.Directory e)) m
-    by (ask.Report n finding) e m = settles F call (ask.Report n finding) changes reply legal formed at (office (ask.Report n finding) (at_ask (ask.Report n finding) e)) m
-    by (ask.Certify n bytes) e m = settles F call (ask.Certify n bytes) changes reply legal formed at (office (ask.Certify n bytes) (at_ask (ask.Certify n bytes) e)) m
-    by (ask.FailOrder n problem) e m = settles F call (ask.FailOrder n problem) changes reply legal formed at (office (ask.FailOrder n problem) (at_ask (ask.FailOrder n problem) e)) m
-    by (ask.RevokeAuthz n) e m = settles F call (ask.RevokeAuthz n) changes reply legal formed at (office (ask.RevokeAuthz n) (at_ask (ask.RevokeAuthz n) e)) m
-    by (ask.RevokeAccount n) e m = settles F call (ask.RevokeAccount n) changes reply legal formed at (office (ask.RevokeAccount n) (at_ask (ask.RevokeAccount n) e)) m
-    by ask.ChallengeWork e m = settles F call ask.ChallengeWork changes reply legal formed at (office ask.ChallengeWork (at_ask ask.ChallengeWork e)) m
-    by ask.OrderWork e m = settles F call ask.OrderWork changes reply legal formed at (office ask.OrderWork (at_ask ask.OrderWork e)) m
-    by (ask.KeyOf n) e m = settles F call (ask.KeyOf n) changes reply legal formed at (office (ask.KeyOf n) (at_ask (ask.KeyOf n) e)) m
+    by (ask.Office a) e m = settles F call a changes reply legal formed at (settled_is a (at_ask (ask.Office a) e)) m
 
 -- the same, as the code has its parts
 pub code_decides : (F : History) (call : Call) (B : Tables) (m : ℕ) (random : List ℕ) (changes : List Change) (reply : Reply) → Legal F → IsPartFor call (picture F) B → IsFormedCall call →

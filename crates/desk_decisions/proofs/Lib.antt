@@ -4,11 +4,14 @@ pub mod DecidingAsks
 pub mod DecidingFaults
 pub mod Faults
 pub mod MovedReplies
+pub mod MovedThere
+pub mod NamedRows
 pub mod NumbersAfter
 pub mod Parts
 pub mod QuietRows
 pub mod SameReplies
 pub mod SameVerdicts
+pub mod ShownChallenges
 pub mod ShownTexts
 pub mod Spaced
 pub mod Texts

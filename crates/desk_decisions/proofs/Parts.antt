@@ -9,6 +9,7 @@ use Rattle.desk_model.specs.Tables.{Tables}
 use Rattle.desk_model.specs.Kept.{EachOf, Kept, restricted}
 use Rattle.desk_model.specs.declared.call.Ask.{Ask}
 use Rattle.desk_model.specs.declared.call.Ask.TheVariants as ask
+use Rattle.desk_model.specs.declared.call.OfficeAsk.{OfficeAsk}
 use Rattle.desk_model.specs.declared.call.Signed.{Signed}
 use Rattle.desk_model.specs.declared.reply.Reply.{Reply}
 use Rattle.desk_model.specs.declared.rows.Change.{Change}
@@ -43,7 +44,7 @@ issues_whole : (m : ℕ) (k : Kept) (T : Tables) (random : List ℕ) (answer : R
 issues_whole m k T random answer changes reply alike h =
     record { recorded = h.recorded ∙ alike.records (take 16 random); replies = h.replies; nonces = h.nonces; bytes = h.bytes }
 
-settles_whole : (m : ℕ) (k : Kept) (T : Tables) (a : Ask) (changes : List Change) (reply : Reply) → IsOrdered (restricted k T) → SettlesAs m a T (restricted k T) →
+settles_whole : (m : ℕ) (k : Kept) (T : Tables) (a : OfficeAsk) (changes : List Change) (reply : Reply) → IsOrdered (restricted k T) → SettlesAs m a T (restricted k T) →
     Settles m (restricted k T) (office_verdict (swept m (restricted k T)) a) changes reply → Settles m T (office_verdict (swept m T) a) changes reply
 settles_whole m k T a changes reply ordered alike met =
     let v : Verdict = office_verdict (swept m T) a in
@@ -84,15 +85,7 @@ asks_whole m k T random (ask.NewNonce head) changes reply ordered alike met = is
 asks_whole m k T random (ask.Signed s) changes reply ordered alike met =
     signed_whole m k T random s changes reply ordered alike (open_nonce (swept m T) s.nonce)
     (subst (λ o. MeetsSigned m (restricted k T) random s o changes reply) alike.nonce met)
-asks_whole m k T random ask.Directory changes reply ordered alike met = settles_whole m k T ask.Directory changes reply ordered alike met
-asks_whole m k T random (ask.Report n finding) changes reply ordered alike met = settles_whole m k T (ask.Report n finding) changes reply ordered alike met
-asks_whole m k T random (ask.Certify n bytes) changes reply ordered alike met = settles_whole m k T (ask.Certify n bytes) changes reply ordered alike met
-asks_whole m k T random (ask.FailOrder n problem) changes reply ordered alike met = settles_whole m k T (ask.FailOrder n problem) changes reply ordered alike met
-asks_whole m k T random (ask.RevokeAuthz n) changes reply ordered alike met = settles_whole m k T (ask.RevokeAuthz n) changes reply ordered alike met
-asks_whole m k T random (ask.RevokeAccount n) changes reply ordered alike met = settles_whole m k T (ask.RevokeAccount n) changes reply ordered alike met
-asks_whole m k T random ask.ChallengeWork changes reply ordered alike met = settles_whole m k T ask.ChallengeWork changes reply ordered alike met
-asks_whole m k T random ask.OrderWork changes reply ordered alike met = settles_whole m k T ask.OrderWork changes reply ordered alike met
-asks_whole m k T random (ask.KeyOf n) changes reply ordered alike met = settles_whole m k T (ask.KeyOf n) changes reply ordered alike met
+asks_whole m k T random (ask.Office a) changes reply ordered alike met = settles_whole m k T a changes reply ordered alike met
 
 -- ---- faults
 

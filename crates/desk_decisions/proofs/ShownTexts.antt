@@ -1,6 +1,7 @@
 -- The moments of rows that are found have texts.
 use Rattle.std.proofs.Common.{◌≡◌, ℕ, ◌≤◌, List, Option, Some, None, IfSome, Result, Ok, Err, IfOk, ◌∙◌, ap, refl, subst, sym}
-use Rattle.std.specs.Prelude.{◌==◌, find, Bool}
+use Rattle.std.specs.Prelude.{◌==◌, find, is_some, Bool}
+use Rattle.std.specs.Option.{option_map}
 use Rattle.desk_laws.proofs.Finds.{each_found}
 use Rattle.desk_model.specs.Kept.{EachOf}
 use Rattle.desk_model.specs.Limits.{last_end}
@@ -40,3 +41,8 @@ ok_so (Err e) f h = tt
 -- what is shown of one that is found is shown of what was looked for
 pub shown_found : {X : Type 0} (f : X → Reply) (P : X → Type 0) (found on : Option X) (r : Reply) → found ≡ on → IfSome on P → (IfSome found P → r ≡ shown f found) → r ≡ shown f on
 shown_found f P found on r is h said = said (subst (λ o. IfSome o P) (sym is) h) ∙ ap (shown f) is
+
+-- a copy is there where the value is
+pub mapped_some : {X Y : Type 0} (f : X → Y) (o : Option X) → is_some (option_map f o) ≡ is_some o
+mapped_some f None = refl
+mapped_some f (Some x) = refl

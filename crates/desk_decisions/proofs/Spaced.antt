@@ -17,8 +17,8 @@ use Rattle.desk_model.specs.Tables.{Tables}
 use Rattle.desk_model.specs.Kept.{EachOf}
 use Rattle.desk_model.specs.Verdict.{check, given, unless_fault, choose}
 use Rattle.desk_model.specs.Rules.{open_account, new_account_verdict, account_verdict, kept, names_in, wanted, order_of, new_order_verdict, subproblems, csr_in, finalize_verdict, authorization_verdict, stands_open, challenge_verdict, target_verdict, holder_verdict, key_verdict, signed_verdict, outcome_verdict, report_verdict, certify_verdict, fail_verdict, revoke_authorization, revoke_account, office_verdict}
-use Rattle.desk_model.specs.declared.call.Ask.{Ask}
-use Rattle.desk_model.specs.declared.call.Ask.TheVariants as ask
+use Rattle.desk_model.specs.declared.call.OfficeAsk.{OfficeAsk}
+use Rattle.desk_model.specs.declared.call.OfficeAsk.TheVariants as office
 use Rattle.desk_model.specs.declared.call.BadKey.{BadKey}
 use Rattle.desk_model.specs.declared.call.Finding.{Finding}
 use Rattle.desk_model.specs.declared.call.OrderProblem.{OrderProblem}
@@ -179,19 +179,17 @@ revoke_authorization_quiet n a = choose_keeps IsQuiet _ _ _ tt (check_keeps IsQu
 revoke_account_quiet : (n : ℕ) (a : AccountRow) → IsQuiet (revoke_account n a)
 revoke_account_quiet n a = choose_keeps IsQuiet _ _ _ tt (check_keeps IsQuiet (is_valid_account a.status) refusal.Conflict _ tt tt)
 
--- an ask that carries no nonce
-pub office_quiet : (T : Tables) (a : Ask) → IsQuiet (office_verdict T a)
-office_quiet T ask.Directory = tt
-office_quiet T (ask.NewNonce head) = tt
-office_quiet T (ask.Signed s) = tt
-office_quiet T (ask.Report n finding) = report_quiet T n finding
-office_quiet T (ask.Certify n bytes) = given_keeps IsQuiet _ refusal.NotFound _ tt (certify_quiet n bytes)
-office_quiet T (ask.FailOrder n problem) = given_keeps IsQuiet _ refusal.NotFound _ tt (fail_quiet n problem)
-office_quiet T (ask.RevokeAuthz n) = given_keeps IsQuiet _ refusal.NotFound _ tt (revoke_authorization_quiet n)
-office_quiet T (ask.RevokeAccount n) = given_keeps IsQuiet _ refusal.NotFound _ tt (revoke_account_quiet n)
-office_quiet T ask.ChallengeWork = tt
-office_quiet T ask.OrderWork = tt
-office_quiet T (ask.KeyOf n) = given_keeps IsQuiet _ refusal.NotFound _ tt (λ _. tt)
+-- what carries no nonce
+pub office_quiet : (T : Tables) (a : OfficeAsk) → IsQuiet (office_verdict T a)
+office_quiet T office.Directory = tt
+office_quiet T (office.Report n finding) = report_quiet T n finding
+office_quiet T (office.Certify n bytes) = given_keeps IsQuiet _ refusal.NotFound _ tt (certify_quiet n bytes)
+office_quiet T (office.FailOrder n problem) = given_keeps IsQuiet _ refusal.NotFound _ tt (fail_quiet n problem)
+office_quiet T (office.RevokeAuthz n) = given_keeps IsQuiet _ refusal.NotFound _ tt (revoke_authorization_quiet n)
+office_quiet T (office.RevokeAccount n) = given_keeps IsQuiet _ refusal.NotFound _ tt (revoke_account_quiet n)
+office_quiet T office.ChallengeWork = tt
+office_quiet T office.OrderWork = tt
+office_quiet T (office.KeyOf n) = given_keeps IsQuiet _ refusal.NotFound _ tt (λ _. tt)
 
 -- such a verdict takes no tokens
 quiet_spaced : (v : Verdict) → IsQuiet v → IsSpaced v
@@ -228,16 +226,16 @@ quiet_bytes (opens key contacts) h = absurd h
 quiet_bytes (orders account wanted) h = absurd h
 quiet_bytes (moves move) h = no_pieces move
 
--- so it is for an ask that carries no nonce: no tokens,
-pub office_spaced : (T : Tables) (a : Ask) → IsSpaced (office_verdict T a)
+-- so it is for what carries no nonce: no tokens,
+pub office_spaced : (T : Tables) (a : OfficeAsk) → IsSpaced (office_verdict T a)
 office_spaced T a = quiet_spaced (office_verdict T a) (office_quiet T a)
 
 -- no numbers
-pub no_numbers : (C : Counters) (a : Ask) (T : Tables) → NumbersLeft C (office_verdict T a)
+pub no_numbers : (C : Counters) (a : OfficeAsk) (T : Tables) → NumbersLeft C (office_verdict T a)
 no_numbers C a T = quiet_numbers C (office_verdict T a) (office_quiet T a)
 
 -- and no random bytes
-pub no_bytes : (a : Ask) (T : Tables) → count_pieces (entries_of (office_verdict T a)) ≡ 0
+pub no_bytes : (a : OfficeAsk) (T : Tables) → count_pieces (entries_of (office_verdict T a)) ≡ 0
 no_bytes a T = quiet_bytes (office_verdict T a) (office_quiet T a)
 
 -- ---- random bytes

@@ -4,3 +4,4 @@ pub mod Named
 pub mod Outcomes
 pub mod Room
 pub mod SameRows
+pub mod There

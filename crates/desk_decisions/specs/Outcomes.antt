@@ -52,7 +52,7 @@ MeetsSigned m B random s (Some serial) changes reply = Passes m B random serial 
 abbrev pub MeetsAsk : ℕ → Tables → List ℕ → Ask → List Change → Reply → Type 0
 MeetsAsk m B random (ask.NewNonce head) changes reply = Issues m B random (nonce_reply head) changes reply
 MeetsAsk m B random (ask.Signed s) changes reply = MeetsSigned m B random s (open_nonce (swept m B) s.nonce) changes reply
-MeetsAsk m B random other changes reply = Settles m B (office_verdict (swept m B) other) changes reply
+MeetsAsk m B random (ask.Office a) changes reply = Settles m B (office_verdict (swept m B) a) changes reply
 
 -- any fault but that of the call's moment
 abbrev pub IsLater : CoreFault → Type 0
@@ -79,4 +79,4 @@ IsSignedFault m B random s (Some serial) e = IsPassedFault B random (signed_verd
 abbrev pub IsAskFault : ℕ → Tables → List ℕ → Ask → CoreFault → Type 0
 IsAskFault m B random (ask.NewNonce head) e = IsIssueFault B random e
 IsAskFault m B random (ask.Signed s) e = IsSignedFault m B random s (open_nonce (swept m B) s.nonce) e
-IsAskFault m B random other e = e ≡ fault.Memory
+IsAskFault m B random (ask.Office a) e = e ≡ fault.Memory

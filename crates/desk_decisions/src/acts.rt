@@ -12,7 +12,9 @@ ghost use Rattle.desk_model.specs.Shown.{located_order, made_account, made_order
 ghost use Rattle.desk_model.specs.Tables.{Tables};
 ghost use Rattle.desk_model.specs.declared.entry.Entry.{Entry as EntryOf};
 ghost use Rattle.desk_model.specs.declared.entry.Entry.TheVariants.{Opened as opened, Ordered as ordered};
+ghost use Rattle.desk_model.specs.declared.verdict.Verdict.TheVariants.{Moves as moves};
 ghost use Rattle.desk_decisions.specs.HasTexts.{HasTexts};
+ghost use Rattle.desk_decisions.specs.There.{NamesRows};
 ghost use Rattle.desk_rules.specs.Needs.{NumbersLeft};
 ghost use Rattle.desk_changes.specs.Recorded.{IsAt, IsRecorded, IsUntouched};
 
@@ -30,6 +32,7 @@ fn act_on_rows(
     recording: &mut Recording,
     moved: &Move,
 ) -> Result<Reply, AllocError>
+    requires there { NamesRows (swept recording.old.counters.clock book.now) (moves moved.now) }
     ensures recorded { OnOk result ((m : ℕ) (es : List EntryOf) → IsUntouched m book.now es
         → IsRecorded m book.now es recording.old.changes.items recording.old.counters
         → IsRecorded m book.now (es ++ entry_of moved.now ∷ []) recording.new.changes.items recording.new.counters) }
@@ -121,6 +124,7 @@ pub(crate) fn act(
     index: bool,
 ) -> Result<Reply, AllocError>
     requires numbers { NumbersLeft recording.old.counters verdict }
+    requires there { NamesRows (swept recording.old.counters.clock book.now) verdict }
     ensures recorded { OnOk result ((m : ℕ) (es : List EntryOf) → IsOrdered book.now → IsUntouched m book.now es
         → IsRecorded m book.now es recording.old.changes.items recording.old.counters
         → IsRecorded m book.now (es ++ entries_of verdict) recording.new.changes.items recording.new.counters) }

@@ -21,13 +21,14 @@ ghost use Rattle.desk_rules.specs.Needs.{BytesLeft, IsNeedFault, NumbersLeft};
 ghost use Rattle.desk_decisions.specs.Outcomes.{IsAskFault, IsLater, IsPassedFault, IsShort, IsSignedFault, MeetsAsk, MeetsSigned, Passes, Settles};
 ghost use Rattle.desk_changes.specs.Recorded.{IsAt, IsRecorded, IsUntouched};
 ghost use Rattle.desk_decisions.specs.Room.{IsIssueFault};
+ghost use Rattle.desk_decisions.specs.There.{NamesRows};
 
 use crate::acts::act;
 use crate::showing::show;
 use desk_book::Book;
 use desk_changes::Recording;
 use desk_model::{
-    Ask, Call, Change, LAST_MOMENT, Refusal, Reply, Sequence, Signed, Verdict, keep_form,
+    Ask, Call, Change, LAST_MOMENT, OfficeAsk, Refusal, Reply, Sequence, Signed, Verdict, keep_form,
 };
 use desk_replies::{nonce_reply, refusal_reply, with_nonce};
 use desk_rules::{CoreFault, first_random, has_room, judge_office, judge_signed, open_nonce};
@@ -119,6 +120,7 @@ fn act_with_nonce(
 ) -> Result<Reply, AllocError>
     requires nonces { book.now.meta.counters.nonces < last_number }
     requires numbers { NumbersLeft recording.old.counters verdict }
+    requires there { NamesRows (swept recording.old.counters.clock book.now) verdict }
     ensures recorded { OnOk result ((m : ℕ) (es : List EntryOf) → IsOrdered book.now → IsUntouched m book.now es
         → IsRecorded m book.now es recording.old.changes.items recording.old.counters
         → IsRecorded m book.now (es ++ entries_of verdict) recording.new.changes.items recording.new.counters) }
@@ -143,6 +145,7 @@ fn passed(
     requires moment { moment ≤ last_moment }
     requires nonces { book.now.meta.counters.nonces < last_number }
     requires numbers { NumbersLeft book.now.meta.counters verdict }
+    requires there { NamesRows (swept moment book.now) verdict }
     ensures changes { IfOk result (λ o. IsOrdered book.now
         → o.changes.items ≡ recorded_changes moment book.now (nonce_entries serial random.now ++ entries_of verdict)) }
     ensures reply { IfOk result (λ o. IsOrdered book.now → HasTexts (effects moment (swept moment book.now) (entries_of verdict))
@@ -165,8 +168,9 @@ fn signed_verdict(
     random: &[u8],
     signed: &Signed,
 ) -> Result<Verdict, CoreFault>
-    ensures { let asked = verdict_of (swept moment book.now) (drop 16 random.now) signed.now in
+    ensures judged { let asked = verdict_of (swept moment book.now) (drop 16 random.now) signed.now in
         MatchResult result (λ v. (v ≡ asked) × NumbersLeft book.now.meta.counters v × BytesLeft random.now v) (λ e. IsNeedFault book.now.meta.counters random.now asked e) }
+    ensures there { IfOk result (λ v. NamesRows (swept moment book.now) v) }
 {
     judge_signed(alloc, &At::new(book, moment), random, signed)
 }
@@ -225,6 +229,7 @@ fn recorded(
 ) -> Result<Outcome, AllocError>
     requires moment { moment ≤ last_moment }
     requires numbers { NumbersLeft book.now.meta.counters verdict }
+    requires there { NamesRows (swept moment book.now) verdict }
     ensures changes { IfOk result (λ o. IsOrdered book.now → (e : EntryOf) (es : List EntryOf) → entries_of verdict ≡ e ∷ es
         → o.changes.items ≡ recorded_changes moment book.now (entries_of verdict)) }
     ensures reply { IfOk result (λ o. IsOrdered book.now → HasTexts (effects moment (swept moment book.now) (entries_of verdict))
@@ -251,6 +256,7 @@ fn unrecorded(alloc: Global, reply: Reply) -> Outcome
 fn settled(alloc: Global, book: &Book, moment: u64, verdict: Verdict) -> Result<Outcome, AllocError>
     requires moment { moment ≤ last_moment }
     requires numbers { NumbersLeft book.now.meta.counters verdict }
+    requires there { NamesRows (swept moment book.now) verdict }
     ensures { IfOk result (λ o. Settles moment book.now verdict o.changes.items o.reply) }
 {
     match verdict {
@@ -270,14 +276,20 @@ fn settled(alloc: Global, book: &Book, moment: u64, verdict: Verdict) -> Result<
 }
 
 // The verdict on a request without a nonce at a moment.
-fn office_verdict(alloc: Global, book: &Book, moment: u64, ask: &Ask) -> Result<Verdict, AllocError>
-    ensures { IfOk result (λ v. v ≡ office_verdict (swept moment book.now) ask.now) }
+fn office_verdict(
+    alloc: Global,
+    book: &Book,
+    moment: u64,
+    ask: &OfficeAsk,
+) -> Result<Verdict, AllocError>
+    ensures judged { IfOk result (λ v. v ≡ office_verdict (swept moment book.now) ask.now) }
+    ensures there { IfOk result (λ v. NamesRows (swept moment book.now) v) }
 {
     judge_office(alloc, &At::new(book, moment), ask)
 }
 
 // A request of the validator, the signing office or the operator, or for the directory.
-fn office(alloc: Global, book: &Book, moment: u64, ask: &Ask) -> Result<Outcome, CoreFault>
+fn office(alloc: Global, book: &Book, moment: u64, ask: &OfficeAsk) -> Result<Outcome, CoreFault>
     requires { moment ≤ last_moment }
     ensures { MatchResult result
         (λ o. Settles moment book.now (office_verdict (swept moment book.now) ask.now) o.changes.items o.reply)
@@ -305,7 +317,7 @@ fn decide_at(
     match ask {
         Ask::NewNonce { head } => issued(alloc, book, moment, random, nonce_reply(*head)),
         Ask::Signed(request) => signed(alloc, book, moment, random, request),
-        _ => office(alloc, book, moment, ask),
+        Ask::Office(ask) => office(alloc, book, moment, ask),
     }
 }
 

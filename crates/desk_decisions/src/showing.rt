@@ -1,240 +1,157 @@
 //! What a verdict names, shown as its rows stand at a moment, or as a move leaves them (RFC 8555, 7).
-ghost use Rattle.std.specs.Prelude.{◌≡◌, ◌≤◌, ◌∷◌, [], ℕ, map, IfOk, IfSome};
-ghost use Rattle.desk_model.specs.Document.{key_document, listed_rows};
-ghost use Rattle.desk_model.specs.Effect.{effects, swept};
+ghost use Rattle.std.specs.Prelude.{◌≡◌, ◌≤◌, ◌∷◌, [], ℕ, true, IfOk, IsSome, IsSomeAnd, Some};
+ghost use Rattle.desk_model.specs.Effect.{effects, has_row, swept};
 ghost use Rattle.desk_model.specs.Entry.{entry_of};
 ghost use Rattle.desk_model.specs.Limits.{last_end};
-ghost use Rattle.desk_model.specs.Questions.{account_on, authorization_on, order_on, owner_on};
-ghost use Rattle.desk_model.specs.Shown.{account_reply, authorization_reply, certificate_reply, challenge_in, client_challenge_in, located_account, located_order, moved_reply, ok, order_reply, reply_of, shown};
+ghost use Rattle.desk_model.specs.Questions.{account_on, authorization_on, challenge_of, order_on, owner_on};
+ghost use Rattle.desk_model.specs.Shown.{certificate_reply, challenge_in, client_challenge_in, located_order, moved_reply, order_reply, reply_of, shown};
 ghost use Rattle.desk_model.specs.Tables.{Tables};
 ghost use Rattle.desk_changes.specs.Moved.{AreMoved};
 ghost use Rattle.desk_decisions.specs.HasTexts.{HasTexts};
 ghost use Rattle.desk_decisions.specs.Named.{IsNamedAs};
+ghost use Rattle.desk_decisions.specs.There.{IsAmong, IsThere};
 ghost use Rattle.desk_replies.specs.Shown.{HasMoments};
 
 use desk_book::Book;
 use desk_changes::MovedRows;
-use desk_model::{AccountRow, AuthorizationRow, Move, OrderRow, Policy, Reply, Shows};
+use desk_model::{
+    AccountRow, AuthorizationRow, ChallengeRow, Move, OrderRow, Policy, Reply, Shows,
+};
 use desk_replies::{
-    account_reply, authorization_reply, certificate_reply, challenge_in, client_challenge_in,
-    key_reply, list_reply, located_account, located_order, not_found, order_names, order_reply,
+    account_reply, authorization_reply, certificate_reply, challenge_reply, client_challenge_reply,
+    key_reply, list_reply, located_account, located_order, order_names, order_reply,
 };
 use std::alloc::{AllocError, Global};
-use swept_rows::At;
+use swept_rows::{At, challenge_of};
 
-// ---- rows at a moment
+// ---- rows that are there at a moment
 
-fn account_at(at: &At, number: u64) -> Result<Option<AccountRow>, AllocError>
-    ensures { IfOk result (λ o. o ≡ account_on at.now number) }
+fn account_at<'a>(at: &'a At, number: u64) -> &'a AccountRow
+    requires { IsSome (account_on at.now number) }
+    ensures { account_on at.now number ≡ Some result.now }
 {
-    match at.account(number) {
-        Some(row) => Ok(Some(row.clone()?)),
-        None => Ok(None),
-    }
+    at.account(number).unwrap()
 }
 
-fn authorization_at(at: &At, number: u64) -> Result<Option<AuthorizationRow>, AllocError>
-    ensures { IfOk result (λ o. o ≡ authorization_on at.now number) }
+fn authorization_at(at: &At, number: u64) -> Result<AuthorizationRow, AllocError>
+    requires { IsSome (authorization_on at.now number) }
+    ensures { IfOk result (λ a. authorization_on at.now number ≡ Some a) }
 {
-    match at.authorization(number) {
-        Some((row, status)) => {
-            let mut row = row.clone()?;
-            row.status = status;
-            Ok(Some(row))
-        }
-        None => Ok(None),
-    }
+    let (row, status) = at.authorization(number).unwrap();
+    let mut row = row.clone()?;
+    row.status = status;
+    Ok(row)
 }
 
-fn owner_at(at: &At, challenge: u64) -> Result<Option<AuthorizationRow>, AllocError>
-    ensures { IfOk result (λ o. o ≡ owner_on at.now challenge) }
+fn order_at(at: &At, number: u64) -> Result<OrderRow, AllocError>
+    requires { IsSome (order_on at.now number) }
+    ensures { IfOk result (λ o. order_on at.now number ≡ Some o) }
 {
-    match at.owner(challenge) {
-        Some((row, status)) => {
-            let mut row = row.clone()?;
-            row.status = status;
-            Ok(Some(row))
-        }
-        None => Ok(None),
-    }
+    let (row, status) = at.order(number).unwrap();
+    let mut row = row.clone()?;
+    row.status = status;
+    Ok(row)
 }
 
-fn order_at(at: &At, number: u64) -> Result<Option<OrderRow>, AllocError>
-    ensures { IfOk result (λ o. o ≡ order_on at.now number) }
+// The challenge of a number, which is one of the authorization's.
+fn challenge_in(row: &AuthorizationRow, number: u64) -> &ChallengeRow
+    requires { has_row number row.now ≡ true }
+    ensures { challenge_of number row.now ≡ Some result.now }
 {
-    match at.order(number) {
-        Some((row, status)) => {
-            let mut row = row.clone()?;
-            row.status = status;
-            Ok(Some(row))
-        }
-        None => Ok(None),
-    }
+    challenge_of(row, number).unwrap()
 }
 
-// ---- an object, if it was found
+// ---- one object
 
-fn show_account(
-    alloc: Global,
-    policy: &Policy,
-    found: Option<AccountRow>,
-) -> Result<Reply, AllocError>
-    ensures { IfOk result (λ r. (T : Tables) → T.meta.policy ≡ policy.now → r ≡ shown (account_reply 200 T) found) }
+fn show_order(alloc: Global, book: &Book, row: &OrderRow) -> Result<Reply, AllocError>
+    ensures { IfOk result (λ r. (T : Tables) → IsNamedAs T book.now → row.now.expires ≤ last_end → r ≡ order_reply 200 T row.now) }
 {
-    match found {
-        Some(row) => {
-            let reply = account_reply(alloc, policy, 200, &row)?;
-            Ok(reply)
-        }
-        None => Ok(not_found(alloc)),
-    }
-}
-
-fn show_known_account(
-    alloc: Global,
-    policy: &Policy,
-    found: Option<AccountRow>,
-) -> Result<Reply, AllocError>
-    ensures { IfOk result (λ r. (T : Tables) → T.meta.policy ≡ policy.now → r ≡ shown (located_account 200 T) found) }
-{
-    match found {
-        Some(row) => {
-            let reply = located_account(alloc, policy, 200, &row)?;
-            Ok(reply)
-        }
-        None => Ok(not_found(alloc)),
-    }
-}
-
-fn show_key(alloc: Global, found: Option<AccountRow>) -> Result<Reply, AllocError>
-    ensures { IfOk result (λ r. r ≡ shown (λ a. ok 200 (key_document a.key)) found) }
-{
-    match found {
-        Some(row) => {
-            let reply = key_reply(alloc, &row)?;
-            Ok(reply)
-        }
-        None => Ok(not_found(alloc)),
-    }
-}
-
-fn show_order(alloc: Global, book: &Book, found: Option<OrderRow>) -> Result<Reply, AllocError>
-    ensures { IfOk result (λ r. (T : Tables) → IsNamedAs T book.now → IfSome found (λ o. o.expires ≤ last_end) → r ≡ shown (order_reply 200 T) found) }
-{
-    match found {
-        Some(row) => {
-            let names = order_names(alloc, book, &row)?;
-            let reply = order_reply(alloc, &book.meta().policy, 200, &row, &names)?;
-            Ok(reply)
-        }
-        None => Ok(not_found(alloc)),
-    }
+    let names = order_names(alloc, book, row)?;
+    let reply = order_reply(alloc, &book.meta().policy, 200, row, &names)?;
+    Ok(reply)
 }
 
 // An order that was finalized has its Location (RFC 8555, 7.4).
-fn show_finalized_order(
-    alloc: Global,
-    book: &Book,
-    found: Option<OrderRow>,
-) -> Result<Reply, AllocError>
-    ensures { IfOk result (λ r. (T : Tables) → IsNamedAs T book.now → IfSome found (λ o. o.expires ≤ last_end) → r ≡ shown (located_order 200 T) found) }
+fn show_finalized_order(alloc: Global, book: &Book, row: &OrderRow) -> Result<Reply, AllocError>
+    ensures { IfOk result (λ r. (T : Tables) → IsNamedAs T book.now → row.now.expires ≤ last_end → r ≡ located_order 200 T row.now) }
 {
-    match found {
-        Some(row) => {
-            let names = order_names(alloc, book, &row)?;
-            let reply = located_order(alloc, &book.meta().policy, 200, &row, &names)?;
-            Ok(reply)
-        }
-        None => Ok(not_found(alloc)),
-    }
+    let names = order_names(alloc, book, row)?;
+    let reply = located_order(alloc, &book.meta().policy, 200, row, &names)?;
+    Ok(reply)
 }
 
-fn show_certificate(alloc: Global, found: Option<OrderRow>) -> Result<Reply, AllocError>
-    ensures { IfOk result (λ r. r ≡ shown (λ o. certificate_reply o.certified) found) }
+// The certificate of an order that has one.
+fn show_certificate(at: &At, number: u64) -> Result<Reply, AllocError>
+    requires { IsSomeAnd (order_on at.now number) (λ o. IsSome o.certified) }
+    ensures { IfOk result (λ r. r ≡ shown (λ o. certificate_reply o.certified) (order_on at.now number)) }
 {
-    match found {
-        Some(row) => {
-            let reply = certificate_reply(alloc, &row)?;
-            Ok(reply)
-        }
-        None => Ok(not_found(alloc)),
-    }
-}
-
-fn show_authorization(
-    alloc: Global,
-    policy: &Policy,
-    found: Option<AuthorizationRow>,
-) -> Result<Reply, AllocError>
-    ensures { IfOk result (λ r. (T : Tables) → T.meta.policy ≡ policy.now → IfSome found HasMoments → r ≡ shown (authorization_reply T) found) }
-{
-    match found {
-        Some(row) => {
-            let reply = authorization_reply(alloc, policy, &row)?;
-            Ok(reply)
-        }
-        None => Ok(not_found(alloc)),
-    }
+    let (row, _status) = at.order(number).unwrap();
+    certificate_reply(row.certified.as_ref().unwrap())
 }
 
 fn show_challenge(
     alloc: Global,
     policy: &Policy,
     number: u64,
-    found: Option<AuthorizationRow>,
+    owner: &AuthorizationRow,
 ) -> Result<Reply, AllocError>
-    ensures { IfOk result (λ r. (T : Tables) → T.meta.policy ≡ policy.now → IfSome found HasMoments → r ≡ shown (challenge_in T number) found) }
+    requires { has_row number owner.now ≡ true }
+    ensures { IfOk result (λ r. (T : Tables) → T.meta.policy ≡ policy.now → HasMoments owner.now → r ≡ challenge_in T number owner.now) }
 {
-    match found {
-        Some(row) => {
-            let reply = challenge_in(alloc, policy, number, &row)?;
-            Ok(reply)
-        }
-        None => Ok(not_found(alloc)),
-    }
+    challenge_reply(alloc, policy, challenge_in(owner, number))
 }
 
 fn show_client_challenge(
     alloc: Global,
     policy: &Policy,
     number: u64,
-    found: Option<AuthorizationRow>,
+    owner: &AuthorizationRow,
 ) -> Result<Reply, AllocError>
-    ensures { IfOk result (λ r. (T : Tables) → T.meta.policy ≡ policy.now → IfSome found HasMoments → r ≡ shown (client_challenge_in T number) found) }
+    requires { has_row number owner.now ≡ true }
+    ensures { IfOk result (λ r. (T : Tables) → T.meta.policy ≡ policy.now → HasMoments owner.now → r ≡ client_challenge_in T number owner.now) }
 {
-    match found {
-        Some(row) => {
-            let reply = client_challenge_in(alloc, policy, number, &row)?;
-            Ok(reply)
-        }
-        None => Ok(not_found(alloc)),
-    }
+    client_challenge_reply(alloc, policy, owner.number, challenge_in(owner, number))
 }
 
 // ---- what a verdict shows
 
+// What is shown of a challenge at a moment.
+fn show_challenge_at(alloc: Global, at: &At, number: u64) -> Result<Reply, AllocError>
+    requires { IsSome (owner_on at.now number) }
+    ensures { IfOk result (λ r. HasTexts at.now → r ≡ shown (challenge_in at.now number) (owner_on at.now number)) }
+{
+    let (row, _status) = at.owner(number).unwrap();
+    show_challenge(alloc, at.policy(), number, row)
+}
+
+// The same, shown to its client.
+fn show_client_challenge_at(alloc: Global, at: &At, number: u64) -> Result<Reply, AllocError>
+    requires { IsSome (owner_on at.now number) }
+    ensures { IfOk result (λ r. HasTexts at.now → r ≡ shown (client_challenge_in at.now number) (owner_on at.now number)) }
+{
+    let (row, _status) = at.owner(number).unwrap();
+    show_client_challenge(alloc, at.policy(), number, row)
+}
+
 // What is shown of a book at a moment, by its rows then.
 fn show_at(alloc: Global, book: &Book, at: &At, shows: Shows) -> Result<Reply, AllocError>
+    requires there { IsThere at.now shows }
     ensures { IfOk result (λ r. (moment : ℕ) → at.now ≡ swept moment book.now → HasTexts at.now → r ≡ reply_of at.now shows) }
 {
     match shows {
         Shows::List(listing) => list_reply(alloc, at, listing),
-        Shows::Account(number) => show_account(alloc, at.policy(), account_at(at, number)?),
+        Shows::Account(number) => account_reply(alloc, at.policy(), 200, account_at(at, number)),
         Shows::KnownAccount(number) => {
-            show_known_account(alloc, at.policy(), account_at(at, number)?)
+            located_account(alloc, at.policy(), 200, account_at(at, number))
         }
-        Shows::Key(number) => show_key(alloc, account_at(at, number)?),
-        Shows::Order(number) => show_order(alloc, book, order_at(at, number)?),
-        Shows::Certificate(number) => show_certificate(alloc, order_at(at, number)?),
+        Shows::Key(number) => key_reply(alloc, account_at(at, number)),
+        Shows::Order(number) => show_order(alloc, book, &order_at(at, number)?),
+        Shows::Certificate(number) => show_certificate(at, number),
         Shows::Authorization(number) => {
-            show_authorization(alloc, at.policy(), authorization_at(at, number)?)
+            authorization_reply(alloc, at.policy(), &authorization_at(at, number)?)
         }
-        Shows::Challenge(number) => {
-            show_challenge(alloc, at.policy(), number, owner_at(at, number)?)
-        }
-        Shows::ClientChallenge(number) => {
-            show_client_challenge(alloc, at.policy(), number, owner_at(at, number)?)
-        }
+        Shows::Challenge(number) => show_challenge_at(alloc, at, number),
+        Shows::ClientChallenge(number) => show_client_challenge_at(alloc, at, number),
     }
 }
 
@@ -245,6 +162,7 @@ pub(crate) fn show(
     moment: u64,
     shows: Shows,
 ) -> Result<Reply, AllocError>
+    requires there { IsThere (swept moment book.now) shows }
     ensures { IfOk result (λ r. HasTexts (swept moment book.now) → r ≡ reply_of (swept moment book.now) shows) }
 {
     show_at(alloc, book, &At::new(book, moment), shows)
@@ -257,22 +175,31 @@ pub(crate) fn show_moved(
     moved: &Move,
     rows: MovedRows,
 ) -> Result<Reply, AllocError>
+    requires among { IsAmong moved.now rows.accounts.items rows.authorizations.items rows.orders.items }
     ensures { IfOk result (λ r. (m : ℕ) → AreMoved m book.now (entry_of moved.now) rows.accounts.items rows.authorizations.items rows.orders.items
         → (let T : Tables = effects m (swept m book.now) (entry_of moved.now ∷ []) in HasTexts T → r ≡ moved_reply T moved.now)) }
 {
     let policy = &book.meta().policy;
     match moved {
-        Move::ContactsChanged(number, _) => show_account(alloc, policy, rows.account(*number)),
-        Move::AccountEnded(number, _) => show_account(alloc, policy, rows.account(*number)),
+        Move::ContactsChanged(number, _) => {
+            account_reply(alloc, policy, 200, &rows.account(*number).unwrap())
+        }
+        Move::AccountEnded(number, _) => {
+            account_reply(alloc, policy, 200, &rows.account(*number).unwrap())
+        }
         Move::Answered(number) => {
-            show_client_challenge(alloc, policy, *number, rows.owner(*number))
+            show_client_challenge(alloc, policy, *number, &rows.owner(*number).unwrap())
         }
-        Move::Reported(number, _) => show_challenge(alloc, policy, *number, rows.owner(*number)),
+        Move::Reported(number, _) => {
+            show_challenge(alloc, policy, *number, &rows.owner(*number).unwrap())
+        }
         Move::AuthorizationEnded(number, _) => {
-            show_authorization(alloc, policy, rows.authorization(*number))
+            authorization_reply(alloc, policy, &rows.authorization(*number).unwrap())
         }
-        Move::Finalized(number, _) => show_finalized_order(alloc, book, rows.order(*number)),
-        Move::Certified(number, _) => show_order(alloc, book, rows.order(*number)),
-        Move::Failed(number, _) => show_order(alloc, book, rows.order(*number)),
+        Move::Finalized(number, _) => {
+            show_finalized_order(alloc, book, &rows.order(*number).unwrap())
+        }
+        Move::Certified(number, _) => show_order(alloc, book, &rows.order(*number).unwrap()),
+        Move::Failed(number, _) => show_order(alloc, book, &rows.order(*number).unwrap()),
     }
 }

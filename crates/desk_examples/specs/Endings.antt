@@ -6,6 +6,7 @@ use Rattle.desk_model.specs.declared.status.OrderStatus.TheVariants as order
 use Rattle.desk_model.specs.declared.status.AuthzStatus.{AuthzStatus}
 use Rattle.desk_model.specs.declared.status.AuthzStatus.TheVariants as authz
 use Rattle.desk_model.specs.declared.call.Ask.TheVariants as ask
+use Rattle.desk_model.specs.declared.call.OfficeAsk.TheVariants as office
 use Rattle.desk_model.specs.declared.call.Target.TheVariants as to
 use Rattle.desk_examples.specs.Computed.{Gives, refuses, plain, renewed, shows, Json, Problem}
 use Rattle.desk_examples.specs.Entries.{Entry, issued, spent, account_ended, ordered, answered, reported, good, incorrect_response, authorization_ended, finalized, certified, deactivated, revoked, History}
@@ -80,7 +81,7 @@ NextNewAccount = Gives deactivated_desk (request to.NewAccount (codes "{}")) (re
 -- the operator revokes an account
 abbrev pub AccountRevoked : Type 0
 AccountRevoked =
-    Gives busy_desk (asked 0 0 (ask.RevokeAccount 1))
+    Gives busy_desk (asked 0 0 (ask.Office (office.RevokeAccount 1)))
     (shows (codes "{\"contact\":[],\"orders\":\"https://ca.example/account/1/orders\",\"status\":\"revoked\"}"))
     (account_ended 1 revoked ∷ [])
 
@@ -95,40 +96,40 @@ AuthorizationsOfRevoked = authorization_statuses revoked_desk ≡ authz.Revoked 
 -- again: nothing changes
 abbrev pub AccountRevokedAgain : Type 0
 AccountRevokedAgain =
-    Gives revoked_desk (asked 0 0 (ask.RevokeAccount 1))
+    Gives revoked_desk (asked 0 0 (ask.Office (office.RevokeAccount 1)))
     (shows (codes "{\"contact\":[],\"orders\":\"https://ca.example/account/1/orders\",\"status\":\"revoked\"}"))
     []
 
 -- an account that its client ended is not revoked
 abbrev pub DeactivatedIsNotRevoked : Type 0
-DeactivatedIsNotRevoked = Gives deactivated_desk (asked 0 0 (ask.RevokeAccount 1)) (plain 409 (Problem false unfit_report)) []
+DeactivatedIsNotRevoked = Gives deactivated_desk (asked 0 0 (ask.Office (office.RevokeAccount 1))) (plain 409 (Problem false unfit_report)) []
 
 -- an account that was never opened
 abbrev pub UnknownAccountRevoked : Type 0
-UnknownAccountRevoked = Gives busy_desk (asked 0 0 (ask.RevokeAccount 2)) (plain 404 (Problem false nothing_here)) []
+UnknownAccountRevoked = Gives busy_desk (asked 0 0 (ask.Office (office.RevokeAccount 2))) (plain 404 (Problem false nothing_here)) []
 
 -- the operator revokes an authorization
 abbrev pub AuthorizationRevoked : Type 0
 AuthorizationRevoked =
-    Gives busy_desk (asked 0 0 (ask.RevokeAuthz 2))
+    Gives busy_desk (asked 0 0 (ask.Office (office.RevokeAuthz 2)))
     (shows (codes "{\"challenges\":[{\"status\":\"valid\",\"token\":\"AAAAAAAAAAAAAAAAAAAAAA\",\"type\":\"http-01\",\"url\":\"https://ca.example/chall/3\",\"validated\":\"1970-01-01T00:00:00Z\"}],\"expires\":\"1970-01-31T00:00:00Z\",\"identifier\":{\"type\":\"dns\",\"value\":\"b.example\"},\"status\":\"revoked\"}"))
     (authorization_ended 2 revoked ∷ [])
 
 -- again: nothing changes
 abbrev pub AuthorizationRevokedAgain : Type 0
 AuthorizationRevokedAgain =
-    Gives (on 0 (authorization_ended 2 revoked) ∷ busy_desk) (asked 0 0 (ask.RevokeAuthz 2))
+    Gives (on 0 (authorization_ended 2 revoked) ∷ busy_desk) (asked 0 0 (ask.Office (office.RevokeAuthz 2)))
     (shows (codes "{\"challenges\":[{\"status\":\"valid\",\"token\":\"AAAAAAAAAAAAAAAAAAAAAA\",\"type\":\"http-01\",\"url\":\"https://ca.example/chall/3\",\"validated\":\"1970-01-01T00:00:00Z\"}],\"expires\":\"1970-01-31T00:00:00Z\",\"identifier\":{\"type\":\"dns\",\"value\":\"b.example\"},\"status\":\"revoked\"}"))
     []
 
 -- one that ended otherwise is not revoked
 abbrev pub InvalidIsNotRevoked : Type 0
-InvalidIsNotRevoked = Gives busy_desk (asked 0 0 (ask.RevokeAuthz 3)) (plain 409 (Problem false unfit_report)) []
+InvalidIsNotRevoked = Gives busy_desk (asked 0 0 (ask.Office (office.RevokeAuthz 3))) (plain 409 (Problem false unfit_report)) []
 
 -- nor one past its moment
 abbrev pub ExpiredIsNotRevoked : Type 0
-ExpiredIsNotRevoked = Gives busy_desk (asked 2592001 0 (ask.RevokeAuthz 1)) (plain 409 (Problem false unfit_report)) []
+ExpiredIsNotRevoked = Gives busy_desk (asked 2592001 0 (ask.Office (office.RevokeAuthz 1))) (plain 409 (Problem false unfit_report)) []
 
 -- an authorization that was never made
 abbrev pub UnknownAuthorizationRevoked : Type 0
-UnknownAuthorizationRevoked = Gives busy_desk (asked 0 0 (ask.RevokeAuthz 6)) (plain 404 (Problem false nothing_here)) []
+UnknownAuthorizationRevoked = Gives busy_desk (asked 0 0 (ask.Office (office.RevokeAuthz 6))) (plain 404 (Problem false nothing_here)) []

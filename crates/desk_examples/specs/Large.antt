@@ -3,6 +3,7 @@ use Rattle.desk_model.specs.Rules.{if_fits}
 use Rattle.std.specs.Prelude.{◌≡◌, ℕ, [], ◌∷◌, false, replicate, codes, Some, None}
 use Rattle.desk_model.specs.declared.call.Call.{Call}
 use Rattle.desk_model.specs.declared.call.Ask.TheVariants as ask
+use Rattle.desk_model.specs.declared.call.OfficeAsk.TheVariants as office
 use Rattle.desk_examples.specs.Computed.{Gives, plain, shows, Problem}
 use Rattle.desk_examples.specs.Entries.{answered, reported, good, finalized, certified, History}
 use Rattle.desk_examples.specs.Calls.{on, order_desk, default_terms, asked}
@@ -14,7 +15,7 @@ processing_desk = on 0 (finalized 1 (1 ∷ [])) ∷ on 0 (reported 1 good) ∷ o
 
 -- a certificate of so many bytes is handed in
 abbrev pub certifying : ℕ → Call
-certifying n = asked 0 0 (ask.Certify 1 (replicate n 65))
+certifying n = asked 0 0 (ask.Office (office.Certify 1 (replicate n 65)))
 
 -- a certificate of 65536 bytes
 abbrev pub LargestCertificate : Type 0

@@ -5,6 +5,7 @@ use Rattle.desk_model.specs.Decide.{after}
 use Rattle.desk_model.specs.Run.{fault}
 use Rattle.desk_model.specs.declared.call.Call.{Call}
 use Rattle.desk_model.specs.declared.call.Ask.TheVariants as ask
+use Rattle.desk_model.specs.declared.call.OfficeAsk.TheVariants as office
 use Rattle.desk_model.specs.declared.call.Target.TheVariants as to
 use Rattle.desk_examples.specs.Computed.{Gives, refuses, plain, renewed, Json, located}
 use Rattle.desk_examples.specs.Entries.{issued, spent, History}
@@ -65,7 +66,7 @@ ShortRefusal = fault new_desk (asked 0 15 (signed first_key nonce_one to.NewAcco
 
 -- a call that records nothing takes none
 abbrev pub DirectoryWithoutRandom : Type 0
-DirectoryWithoutRandom = fault new_desk (asked 0 0 ask.Directory) ≡ None
+DirectoryWithoutRandom = fault new_desk (asked 0 0 (ask.Office office.Directory)) ≡ None
 
 -- ---- texts of moments
 

@@ -1,8 +1,9 @@
 -- The validator and the signing office: what waits for them, and what they hand in (RFC 8555, 7.4, 8).
 use Rattle.std.specs.Prelude.{ℕ, List, [], ◌∷◌, ◌++◌, replicate, false, codes}
 use Rattle.desk_model.specs.declared.call.Call.{Call}
-use Rattle.desk_model.specs.declared.call.Ask.{Ask}
 use Rattle.desk_model.specs.declared.call.Ask.TheVariants as ask
+use Rattle.desk_model.specs.declared.call.OfficeAsk.{OfficeAsk}
+use Rattle.desk_model.specs.declared.call.OfficeAsk.TheVariants as office
 use Rattle.desk_model.specs.declared.call.Finding.{Finding}
 use Rattle.desk_model.specs.declared.call.Finding.TheVariants as found
 use Rattle.desk_model.specs.declared.call.FetchError.TheVariants as fetch
@@ -22,44 +23,44 @@ abbrev pub http_desk : History
 http_desk = on 0 (answered 1) ∷ waiting_desk
 
 -- what an office hands in or asks for, at 0
-abbrev pub handed : Ask → Call
-handed what = asked 0 0 what
+abbrev pub handed : OfficeAsk → Call
+handed what = asked 0 0 (ask.Office what)
 
 -- refused, with nothing recorded
-abbrev pub Turns : History → Ask → ℕ → List ℕ → Type 0
+abbrev pub Turns : History → OfficeAsk → ℕ → List ℕ → Type 0
 Turns F what status text = Gives F (handed what) (plain status (Problem false text)) []
 
 -- answered with this document, with nothing recorded
-abbrev pub Repeats : History → Ask → List ℕ → Type 0
+abbrev pub Repeats : History → OfficeAsk → List ℕ → Type 0
 Repeats F what text = Gives F (handed what) (shows text) []
 
 -- ---- what waits for the validator
 
 -- no challenge was answered
 abbrev pub NoChallengeWork : Type 0
-NoChallengeWork = Repeats waiting_desk ask.ChallengeWork (codes "{\"challenges\":[]}")
+NoChallengeWork = Repeats waiting_desk office.ChallengeWork (codes "{\"challenges\":[]}")
 
 -- an http-01 challenge wants the key authorization
 abbrev pub HttpWork : Type 0
 HttpWork =
-    Repeats http_desk ask.ChallengeWork
+    Repeats http_desk office.ChallengeWork
     (codes "{\"challenges\":[{\"challenge\":1,\"expected\":\"AAAAAAAAAAAAAAAAAAAAAA.NzbLsXh8uDCcd-6MNwXF4W_7noWXFZAfHkxZsRGC9Xs\",\"name\":\"example.org\",\"token\":\"AAAAAAAAAAAAAAAAAAAAAA\",\"type\":\"http-01\"}]}")
 
 -- a dns-01 challenge wants its digest
 abbrev pub BothWork : Type 0
 BothWork =
-    Repeats (on 0 (answered 2) ∷ http_desk) ask.ChallengeWork
+    Repeats (on 0 (answered 2) ∷ http_desk) office.ChallengeWork
     (codes "{\"challenges\":[{\"challenge\":1,\"expected\":\"AAAAAAAAAAAAAAAAAAAAAA.NzbLsXh8uDCcd-6MNwXF4W_7noWXFZAfHkxZsRGC9Xs\",\"name\":\"example.org\",\"token\":\"AAAAAAAAAAAAAAAAAAAAAA\",\"type\":\"http-01\"},{\"challenge\":2,\"expected\":\"6H4FhzYmR97XkCWAT_eXR2sP0qjpSQae4RcMSVuj2EU\",\"name\":\"example.org\",\"token\":\"AAAAAAAAAAAAAAAAAAAAAA\",\"type\":\"dns-01\"}]}")
 
 -- what is past its moment waits no longer
 abbrev pub NoExpiredWork : Type 0
-NoExpiredWork = Gives http_desk (asked 2592001 0 ask.ChallengeWork) (shows (codes "{\"challenges\":[]}")) []
+NoExpiredWork = Gives http_desk (asked 2592001 0 (ask.Office office.ChallengeWork)) (shows (codes "{\"challenges\":[]}")) []
 
 -- ---- reports
 
 -- a report on the first challenge
-abbrev pub report : Finding → Ask
-report finding = ask.Report 1 finding
+abbrev pub report : Finding → OfficeAsk
+report finding = office.Report 1 finding
 
 -- another body than the one expected
 abbrev pub WrongBody : Type 0
@@ -78,7 +79,7 @@ RightBody =
 -- the right record among others
 abbrev pub RightRecord : Type 0
 RightRecord =
-    Gives (on 0 (answered 2) ∷ waiting_desk) (handed (ask.Report 2 (found.Records (codes "x" ∷ codes "6H4FhzYmR97XkCWAT_eXR2sP0qjpSQae4RcMSVuj2EU" ∷ []))))
+    Gives (on 0 (answered 2) ∷ waiting_desk) (handed (office.Report 2 (found.Records (codes "x" ∷ codes "6H4FhzYmR97XkCWAT_eXR2sP0qjpSQae4RcMSVuj2EU" ∷ []))))
     (shows (codes "{\"status\":\"valid\",\"token\":\"AAAAAAAAAAAAAAAAAAAAAA\",\"type\":\"dns-01\",\"url\":\"https://ca.example/chall/2\",\"validated\":\"1970-01-01T00:00:00Z\"}"))
     (reported 2 good ∷ [])
 
@@ -116,25 +117,25 @@ RecordsForHttp = Turns reported_desk (report (found.Records [])) 400 malformed
 
 -- a body for a dns-01 challenge
 abbrev pub BodyForDns : Type 0
-BodyForDns = Turns http_desk (ask.Report 2 (found.Body [])) 400 malformed
+BodyForDns = Turns http_desk (office.Report 2 (found.Body [])) 400 malformed
 
 -- a challenge that was never made
 abbrev pub UnknownChallenge : Type 0
-UnknownChallenge = Turns http_desk (ask.Report 99 (found.Body [])) 404 nothing_here
+UnknownChallenge = Turns http_desk (office.Report 99 (found.Body [])) 404 nothing_here
 
 -- ---- the signing office
 
 -- no order is processing
 abbrev pub NoOrderWork : Type 0
-NoOrderWork = Repeats http_desk ask.OrderWork (codes "{\"orders\":[]}")
+NoOrderWork = Repeats http_desk office.OrderWork (codes "{\"orders\":[]}")
 
 -- the order is processing
 abbrev pub processing_desk : History
 processing_desk = on 0 (finalized 1 (1 ∷ 2 ∷ 3 ∷ [])) ∷ on 0 (reported 1 good) ∷ http_desk
 
 -- for certificates, whose bytes no document shows
-abbrev pub certify : List ℕ → Ask
-certify bytes = ask.Certify 1 bytes
+abbrev pub certify : List ℕ → OfficeAsk
+certify bytes = office.Certify 1 bytes
 
 -- the document of the order with its certificate
 abbrev pub valid_order : List ℕ
@@ -150,7 +151,7 @@ EmptyCertificate = Turns processing_desk (certify []) 400 malformed
 
 -- the form is tested before the status, and behind the number
 abbrev pub EmptyForUnknown : Type 0
-EmptyForUnknown = Turns processing_desk (ask.Certify 2 []) 404 nothing_here
+EmptyForUnknown = Turns processing_desk (office.Certify 2 []) 404 nothing_here
 
 -- the order has its certificate
 abbrev pub certified_desk : History
@@ -169,8 +170,8 @@ abbrev pub UnreadyCertificate : Type 0
 UnreadyCertificate = Turns http_desk (certify (codes "chain")) 409 unfit_report
 
 -- the office fails the order
-abbrev pub fails : (kind detail : List ℕ) → Ask
-fails kind detail = ask.FailOrder 1 (record { kind = kind; detail = detail })
+abbrev pub fails : (kind detail : List ℕ) → OfficeAsk
+fails kind detail = office.FailOrder 1 (record { kind = kind; detail = detail })
 
 -- a problem with the CSR
 abbrev pub short_key : OrderProblem
@@ -217,7 +218,7 @@ FailsWithoutDetail = Turns processing_desk (fails (codes "badCSR") []) 400 malfo
 
 -- an order that was never made
 abbrev pub FailsUnknown : Type 0
-FailsUnknown = Turns processing_desk (ask.FailOrder 2 short_key) 404 nothing_here
+FailsUnknown = Turns processing_desk (office.FailOrder 2 short_key) 404 nothing_here
 
 -- an order that is not processing
 abbrev pub FailsUnready : Type 0
@@ -227,16 +228,16 @@ FailsUnready = Turns http_desk (fails (codes "badCSR") (codes "key too short")) 
 
 -- the canonical text of an account's key
 abbrev pub KeyOfAccount : Type 0
-KeyOfAccount = Repeats waiting_desk (ask.KeyOf 1) rsa_key
+KeyOfAccount = Repeats waiting_desk (office.KeyOf 1) rsa_key
 
 -- an account that was never opened
 abbrev pub KeyOfUnknown : Type 0
-KeyOfUnknown = Turns waiting_desk (ask.KeyOf 2) 404 nothing_here
+KeyOfUnknown = Turns waiting_desk (office.KeyOf 2) 404 nothing_here
 
 -- the directory
 abbrev pub Directory : Type 0
 Directory =
-    Repeats new_desk ask.Directory
+    Repeats new_desk office.Directory
     (codes "{\"newAccount\":\"https://ca.example/new-account\",\"newNonce\":\"https://ca.example/new-nonce\",\"newOrder\":\"https://ca.example/new-order\"}")
 
 -- ---- repeats of failed reports, and keys of several accounts
@@ -260,5 +261,5 @@ DnsAfterConnection = Turns (on 0 (reported 1 connection) ∷ http_desk) (report 
 -- a challenge asks for the key of its own account
 abbrev pub OwnKeyWork : Type 0
 OwnKeyWork =
-    Repeats (on 0 (answered 3) ∷ on 0 (ordered 2 (wants (codes "a.example") ∷ [])) ∷ on 0 (opened second_key []) ∷ waiting_desk) ask.ChallengeWork
+    Repeats (on 0 (answered 3) ∷ on 0 (ordered 2 (wants (codes "a.example") ∷ [])) ∷ on 0 (opened second_key []) ∷ waiting_desk) office.ChallengeWork
     (codes "{\"challenges\":[{\"challenge\":3,\"expected\":\"AAAAAAAAAAAAAAAAAAAAAA.pF1dcf6lIm6B95gxRV0_u2O1e7FkRx6C8-vJxcZYuDw\",\"name\":\"a.example\",\"token\":\"AAAAAAAAAAAAAAAAAAAAAA\",\"type\":\"http-01\"}]}")

@@ -3,6 +3,7 @@ use Rattle.std.specs.Prelude.{ℕ, List, [], ◌∷◌, false, codes}
 use Rattle.desk_model.specs.Terms.{Terms}
 use Rattle.desk_model.specs.declared.call.Call.{Call}
 use Rattle.desk_model.specs.declared.call.Ask.TheVariants as ask
+use Rattle.desk_model.specs.declared.call.OfficeAsk.TheVariants as office
 use Rattle.desk_model.specs.declared.call.Finding.TheVariants as found
 use Rattle.desk_model.specs.declared.call.FetchError.TheVariants as fetch
 use Rattle.desk_model.specs.declared.call.Target.{Target}
@@ -22,7 +23,7 @@ authorization_text = codes "AAAAAAAAAAAAAAAAAAAAAA.CmzeuaSxxfG8gIKRU_AgBzPa16nTt
 
 -- the validator found the right body for the first challenge
 abbrev pub matching : ℕ → Call
-matching at = asked at 0 (ask.Report 1 (found.Body authorization_text))
+matching at = asked at 0 (ask.Office (office.Report 1 (found.Body authorization_text)))
 
 -- a request at a moment that reads an object
 abbrev pub reading : ℕ → Target → Call
@@ -126,7 +127,7 @@ ReportAgain =
 
 -- another finding contradicts it
 abbrev pub ReportContradicts : Type 0
-ReportContradicts = Unfit ready_desk (asked 100 0 (ask.Report 1 (found.Error fetch.Connection)))
+ReportContradicts = Unfit ready_desk (asked 100 0 (ask.Office (office.Report 1 (found.Error fetch.Connection))))
 
 -- a challenge that nobody answered waits for no report
 abbrev pub ReportUnasked : Type 0
@@ -171,7 +172,7 @@ ProcessingFalls =
 
 -- and gets no certificate
 abbrev pub FallenIsNotCertified : Type 0
-FallenIsNotCertified = Unfit fallen_desk (asked 0 0 (ask.Certify 1 (codes "chain")))
+FallenIsNotCertified = Unfit fallen_desk (asked 0 0 (ask.Office (office.Certify 1 (codes "chain"))))
 
 -- an order that is invalid stands in no list of orders (7.1.2.1)
 abbrev pub FallenIsNotListed : Type 0
@@ -254,7 +255,7 @@ FinalizesOnce = Gives finalized_desk (finalizing (codes "{\"csr\":\"AQID\"}")) (
 
 -- the signing office sees its CSR and its names
 abbrev pub OrderWork : Type 0
-OrderWork = Gives finalized_desk (asked 0 0 ask.OrderWork) (shows (codes "{\"orders\":[{\"csr\":\"AQID\",\"names\":[\"a.example\",\"b.example\"],\"order\":1}]}")) []
+OrderWork = Gives finalized_desk (asked 0 0 (ask.Office office.OrderWork)) (shows (codes "{\"orders\":[{\"csr\":\"AQID\",\"names\":[\"a.example\",\"b.example\"],\"order\":1}]}")) []
 
 -- ---- what the client of a proved or pending authorization may do
 

@@ -6,6 +6,7 @@ use Rattle.desk_model.specs.Touched.{touched}
 use Rattle.desk_model.specs.declared.rows.OrderRow.{OrderRow}
 use Rattle.desk_model.specs.declared.call.Call.{Call}
 use Rattle.desk_model.specs.declared.call.Ask.TheVariants as ask
+use Rattle.desk_model.specs.declared.call.OfficeAsk.TheVariants as office
 use Rattle.desk_model.specs.declared.call.FetchError.TheVariants as fetch
 use Rattle.desk_model.specs.declared.call.Finding.TheVariants as found
 use Rattle.desk_model.specs.declared.call.Target.TheVariants as to
@@ -69,7 +70,7 @@ client_rows = picture two_clients
 -- the directory touches the meta row alone, whatever is past its end
 abbrev pub Directory : Type 0
 Directory =
-    touched client_rows (asked 2592001 0 ask.Directory)
+    touched client_rows (asked 2592001 0 (ask.Office office.Directory))
     ≡ (record {
       meta = record {
         policy = default_terms;
@@ -83,11 +84,11 @@ Directory =
 
 -- the list of challenges that wait touches all rows
 abbrev pub ChallengeWork : Type 0
-ChallengeWork = touched client_rows (handed ask.ChallengeWork) ≡ client_rows
+ChallengeWork = touched client_rows (handed office.ChallengeWork) ≡ client_rows
 
 -- and that of orders
 abbrev pub OrderWork : Type 0
-OrderWork = touched client_rows (handed ask.OrderWork) ≡ client_rows
+OrderWork = touched client_rows (handed office.OrderWork) ≡ client_rows
 
 -- newNonce names nothing
 abbrev pub NewNonce : Type 0
@@ -155,7 +156,7 @@ AccountOfAnother = Touches client_rows (request (to.Account 2) []) both_accounts
 -- the operator ends the other: no key, and no nonce
 abbrev pub AccountRevoked : Type 0
 AccountRevoked =
-    Touches client_rows (handed (ask.RevokeAccount 2))
+    Touches client_rows (handed (office.RevokeAccount 2))
     (record { nonces = []; accounts = 2 ∷ []; authorizations = 3 ∷ []; challenges = 5 ∷ 6 ∷ []; orders = 2 ∷ [] })
 
 -- the orders of an account, and what they list
@@ -168,7 +169,7 @@ OrdersOfAnother = Touches client_rows (request (to.Orders 2) []) both_accounts_r
 
 -- the key of an account: its row alone
 abbrev pub KeyOfAccount : Type 0
-KeyOfAccount = Touches client_rows (handed (ask.KeyOf 2)) (record no_rows { accounts = 2 ∷ [] })
+KeyOfAccount = Touches client_rows (handed (office.KeyOf 2)) (record no_rows { accounts = 2 ∷ [] })
 
 -- ---- orders
 
@@ -216,12 +217,12 @@ Certificate = Touches client_rows (request (to.Cert 1) []) first_order_rows
 
 -- and what the signing office hands in, without a nonce
 abbrev pub Certifies : Type 0
-Certifies = Touches client_rows (handed (ask.Certify 1 (codes "chain"))) (record first_order_rows { nonces = [] })
+Certifies = Touches client_rows (handed (office.Certify 1 (codes "chain"))) (record first_order_rows { nonces = [] })
 
 -- which may be why it makes no certificate
 abbrev pub Fails : Type 0
 Fails =
-    Touches client_rows (handed (ask.FailOrder 2 (record { kind = codes "badCSR"; detail = codes "key too short" })))
+    Touches client_rows (handed (office.FailOrder 2 (record { kind = codes "badCSR"; detail = codes "key too short" })))
     (record { nonces = []; accounts = 2 ∷ []; authorizations = 3 ∷ []; challenges = 5 ∷ 6 ∷ []; orders = 2 ∷ [] })
 
 -- ---- authorizations and challenges
@@ -237,12 +238,12 @@ OneChallenge = Touches client_rows (request (to.Chall 3) (codes "{}")) first_ord
 -- the operator revokes an authorization
 abbrev pub AuthorizationRevoked : Type 0
 AuthorizationRevoked =
-    Touches client_rows (handed (ask.RevokeAuthz 4))
+    Touches client_rows (handed (office.RevokeAuthz 4))
     (record { nonces = []; accounts = 1 ∷ []; authorizations = 4 ∷ []; challenges = 7 ∷ 8 ∷ []; orders = 3 ∷ [] })
 
 -- a report of the validator on a challenge
 abbrev pub report_on : ℕ → Call
-report_on challenge = handed (ask.Report challenge (found.Error fetch.Dns))
+report_on challenge = handed (office.Report challenge (found.Error fetch.Dns))
 
 -- the authorization of the challenge, the order that lists it, what this order lists, and the account
 abbrev pub Report : Type 0
@@ -273,7 +274,7 @@ SharedReport =
 -- an order takes what it lists, and not the orders that list that; its account counts beside theirs
 abbrev pub SharedOrder : Type 0
 SharedOrder =
-    Touches shared_rows (handed (ask.Certify 1 (codes "chain")))
+    Touches shared_rows (handed (office.Certify 1 (codes "chain")))
     (record { nonces = []; accounts = 1 ∷ 2 ∷ []; authorizations = 1 ∷ 2 ∷ []; challenges = 1 ∷ 2 ∷ 3 ∷ 4 ∷ []; orders = 1 ∷ [] })
 
 -- an account that may end takes the orders that list its authorizations, and not all of its own

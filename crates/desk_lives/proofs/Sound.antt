@@ -34,7 +34,7 @@ use Rattle.desk_model.specs.declared.payload.Identifier.{Identifier}
 use Rattle.desk_model.specs.declared.payload.AccountChange.TheVariants as change
 use Rattle.desk_model.specs.declared.payload.AuthorizationChange.TheVariants as authz_change
 use Rattle.desk_model.specs.declared.payload.ChallengeChange.TheVariants as chall_change
-use Rattle.desk_model.specs.Run.{pieces_of, IsFormedAsk, IsFormedKey, IsFormedSigned}
+use Rattle.desk_model.specs.Run.{pieces_of, IsFormedKey, IsFormedOfficeAsk, IsFormedSigned}
 use Rattle.desk_model.specs.Texts.{IsTextProblem}
 use Rattle.desk_model.specs.Verdict.{check, given, unless_fault, choose}
 use Rattle.desk_model.specs.declared.verdict.Verdict.TheVariants.{Answers as answers, Opens as opens, Orders as orders, Moves as moves, Refused as refused}
@@ -42,8 +42,8 @@ use Rattle.desk_model.specs.declared.verdict.Verdict.{Verdict}
 use Rattle.desk_model.specs.declared.verdict.Shows.{Shows}
 use Rattle.desk_model.specs.Rules.{open_account, new_account_verdict, account_verdict, order_of, new_order_verdict, subproblems, if_fits, csr_in, finalize_verdict, authorization_verdict, stands_open, challenge_verdict, own, target_verdict, holder_verdict, key_verdict, signed_verdict, if_spelled, open_nonce_in, open_nonce, outcome_verdict, report_verdict, certify_verdict, fail_verdict, revoke_authorization, revoke_account, office_verdict}
 use Rattle.desk_model.specs.declared.reply.Subproblem.{Subproblem}
-use Rattle.desk_model.specs.declared.call.Ask.{Ask}
-use Rattle.desk_model.specs.declared.call.Ask.TheVariants as ask
+use Rattle.desk_model.specs.declared.call.OfficeAsk.{OfficeAsk}
+use Rattle.desk_model.specs.declared.call.OfficeAsk.TheVariants as office
 use Rattle.desk_model.specs.declared.call.BadKey.{BadKey}
 use Rattle.desk_model.specs.declared.call.Finding.{Finding}
 use Rattle.desk_model.specs.declared.call.Signed.{Signed}
@@ -190,7 +190,7 @@ challenge_sound r T n a chall_change.Answer found =
 -- ---- signed requests
 
 -- the account's own object is found
-own_found : {X : Type 0} (account : X → ℕ) (n : ℕ) (o : Option X) (x : X) → own account n o ≡ Some x → o ≡ Some x
+pub own_found : {X : Type 0} (account : X → ℕ) (n : ℕ) (o : Option X) (x : X) → own account n o ≡ Some x → o ≡ Some x
 own_found account n None x h = cc
 own_found account n (Some y) x h = by (account y == n) h
   where
@@ -284,19 +284,17 @@ revoke_account_sound r T n a found =
     choose_sound r T _ _ _ (λ _. none_sound _)
     (check_sound r T (is_valid_account a.status) refusal.Conflict _ (λ valid. move_sound _ tt tt (rw found valid)))
 
--- an ask that carries no nonce
-pub office_sound : (r : List ℕ) (T : Tables) (a : Ask) → IsFormedAsk a → IsSound r T (office_verdict T a)
-office_sound r T ask.Directory formed = none_sound _
-office_sound r T (ask.NewNonce head) formed = refused_sound refusal.NotFound []
-office_sound r T (ask.Signed s) formed = refused_sound refusal.NotFound []
-office_sound r T (ask.Report n finding) formed = report_sound r T n finding
-office_sound r T (ask.Certify n bytes) formed = given_sound r T _ refusal.NotFound _ (λ o is. certify_sound r T n bytes o is)
-office_sound r T (ask.FailOrder n problem) formed = given_sound r T _ refusal.NotFound _ (λ o is. fail_sound r T n problem o formed is)
-office_sound r T (ask.RevokeAuthz n) formed = given_sound r T _ refusal.NotFound _ (λ a is. revoke_authorization_sound r T n a is)
-office_sound r T (ask.RevokeAccount n) formed = given_sound r T _ refusal.NotFound _ (λ a is. revoke_account_sound r T n a is)
-office_sound r T ask.ChallengeWork formed = none_sound _
-office_sound r T ask.OrderWork formed = none_sound _
-office_sound r T (ask.KeyOf n) formed = given_sound r T _ refusal.NotFound _ (λ _ _. none_sound _)
+-- what carries no nonce
+pub office_sound : (r : List ℕ) (T : Tables) (a : OfficeAsk) → IsFormedOfficeAsk a → IsSound r T (office_verdict T a)
+office_sound r T office.Directory formed = none_sound _
+office_sound r T (office.Report n finding) formed = report_sound r T n finding
+office_sound r T (office.Certify n bytes) formed = given_sound r T _ refusal.NotFound _ (λ o is. certify_sound r T n bytes o is)
+office_sound r T (office.FailOrder n problem) formed = given_sound r T _ refusal.NotFound _ (λ o is. fail_sound r T n problem o formed is)
+office_sound r T (office.RevokeAuthz n) formed = given_sound r T _ refusal.NotFound _ (λ a is. revoke_authorization_sound r T n a is)
+office_sound r T (office.RevokeAccount n) formed = given_sound r T _ refusal.NotFound _ (λ a is. revoke_account_sound r T n a is)
+office_sound r T office.ChallengeWork formed = none_sound _
+office_sound r T office.OrderWork formed = none_sound _
+office_sound r T (office.KeyOf n) formed = given_sound r T _ refusal.NotFound _ (λ _ _. none_sound _)
 
 -- ---- nonces
 

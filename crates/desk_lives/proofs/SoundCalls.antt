@@ -14,10 +14,11 @@ use Rattle.desk_model.specs.declared.verdict.Verdict.{Verdict}
 use Rattle.desk_model.specs.declared.verdict.Verdict.TheVariants.{Refused as refused, Answers as answers, Opens as opens, Orders as orders, Moves as moves}
 use Rattle.desk_model.specs.Rules.{office_verdict, open_nonce}
 use Rattle.desk_model.specs.Decide.{Decision, entries_of, nonce_entries, signed_decision, office_decision, passed_decision, tables_after, decide, decide_at, after}
-use Rattle.desk_model.specs.Run.{fault, count_pieces, IsFormedAsk, IsFormedCall, IsFormedSigned}
+use Rattle.desk_model.specs.Run.{fault, count_pieces, IsFormedAsk, IsFormedOfficeAsk, IsFormedCall, IsFormedSigned}
 use Rattle.desk_model.specs.declared.call.Call.{Call}
 use Rattle.desk_model.specs.declared.call.Ask.{Ask}
 use Rattle.desk_model.specs.declared.call.Ask.TheVariants as ask
+use Rattle.desk_model.specs.declared.call.OfficeAsk.{OfficeAsk}
 use Rattle.desk_model.specs.declared.call.Signed.{Signed}
 use Rattle.desk_laws.proofs.AllowedFacts.{legal_grows}
 use Rattle.desk_laws.proofs.Recorded.{tables_ordered}
@@ -103,8 +104,8 @@ signed_follows F m random s (Some serial) now formed is enough =
     (signed_sound (drop 16 random) (tables_after m (nonce_entries serial random) F) s
     (tables_ordered (record_all m (nonce_entries serial random) F) m) formed) enough
 
--- an ask that carries no nonce
-office_follows : (F : History) (m : ℕ) (random : List ℕ) (a : Ask) → IsMoment F m → IsFormedAsk a →
+-- what carries no nonce
+office_follows : (F : History) (m : ℕ) (random : List ℕ) (a : OfficeAsk) → IsMoment F m → IsFormedOfficeAsk a →
     DecisionFollows F m random (office_decision F m (office_verdict (tables_at F m) a))
 office_follows F m random a now formed enough = verdict_follows F m random _ now (office_sound random (tables_at F m) a formed) enough
 
@@ -112,15 +113,7 @@ office_follows F m random a now formed enough = verdict_follows F m random _ now
 ask_follows : (F : History) (m : ℕ) (random : List ℕ) (a : Ask) → IsMoment F m → IsFormedAsk a → DecisionFollows F m random (decide_at F m random a)
 ask_follows F m random (ask.NewNonce head) now formed enough = issued_follows F m random now (omega arith)
 ask_follows F m random (ask.Signed s) now formed enough = signed_follows F m random s (open_nonce (tables_at F m) s.nonce) now formed refl enough
-ask_follows F m random ask.Directory now formed enough = office_follows F m random ask.Directory now formed enough
-ask_follows F m random (ask.Report n finding) now formed enough = office_follows F m random (ask.Report n finding) now formed enough
-ask_follows F m random (ask.Certify n bytes) now formed enough = office_follows F m random (ask.Certify n bytes) now formed enough
-ask_follows F m random (ask.FailOrder n problem) now formed enough = office_follows F m random (ask.FailOrder n problem) now formed enough
-ask_follows F m random (ask.RevokeAuthz n) now formed enough = office_follows F m random (ask.RevokeAuthz n) now formed enough
-ask_follows F m random (ask.RevokeAccount n) now formed enough = office_follows F m random (ask.RevokeAccount n) now formed enough
-ask_follows F m random ask.ChallengeWork now formed enough = office_follows F m random ask.ChallengeWork now formed enough
-ask_follows F m random ask.OrderWork now formed enough = office_follows F m random ask.OrderWork now formed enough
-ask_follows F m random (ask.KeyOf n) now formed enough = office_follows F m random (ask.KeyOf n) now formed enough
+ask_follows F m random (ask.Office a) now formed enough = office_follows F m random a now formed enough
 
 -- each entry of a call may follow those before it, whatever numbers it gives
 pub call_follows : (F : History) (call : Call) → Legal F → IsFormedCall call → call.at ≤ last_moment →

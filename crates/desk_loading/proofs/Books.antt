@@ -9,6 +9,7 @@ use Rattle.desk_model.specs.Tables.{Tables}
 use Rattle.desk_model.specs.Kept.{EachOf}
 use Rattle.desk_model.specs.declared.call.Ask.{Ask}
 use Rattle.desk_model.specs.declared.call.Ask.TheVariants as ask
+use Rattle.desk_model.specs.declared.call.OfficeAsk.TheVariants as office
 use Rattle.desk_model.specs.declared.call.Call.{Call}
 use Rattle.desk_model.specs.declared.rows.AccountRow.{AccountRow}
 use Rattle.desk_model.specs.declared.rows.Listed.{Listed}
@@ -168,14 +169,14 @@ pub touched_book : (T : Tables) (call : Call) → IsBook T → IsBook (touched T
 touched_book T call b = by call.ask
   where
     by : (a : Ask) → IsBook (touched_at T (max call.at T.meta.counters.clock) a)
-    by ask.Directory = meta_book T
-    by ask.ChallengeWork = b
-    by ask.OrderWork = b
+    by (ask.Office office.Directory) = meta_book T
+    by (ask.Office office.ChallengeWork) = b
+    by (ask.Office office.OrderWork) = b
     by (ask.NewNonce head) = rows_book T (max call.at T.meta.counters.clock) (ask.NewNonce head) b
     by (ask.Signed s) = rows_book T (max call.at T.meta.counters.clock) (ask.Signed s) b
-    by (ask.Report n finding) = rows_book T (max call.at T.meta.counters.clock) (ask.Report n finding) b
-    by (ask.Certify n bytes) = rows_book T (max call.at T.meta.counters.clock) (ask.Certify n bytes) b
-    by (ask.FailOrder n problem) = rows_book T (max call.at T.meta.counters.clock) (ask.FailOrder n problem) b
-    by (ask.RevokeAuthz n) = rows_book T (max call.at T.meta.counters.clock) (ask.RevokeAuthz n) b
-    by (ask.RevokeAccount n) = rows_book T (max call.at T.meta.counters.clock) (ask.RevokeAccount n) b
-    by (ask.KeyOf n) = rows_book T (max call.at T.meta.counters.clock) (ask.KeyOf n) b
+    by (ask.Office (office.Report n finding)) = rows_book T (max call.at T.meta.counters.clock) (ask.Office (office.Report n finding)) b
+    by (ask.Office (office.Certify n bytes)) = rows_book T (max call.at T.meta.counters.clock) (ask.Office (office.Certify n bytes)) b
+    by (ask.Office (office.FailOrder n problem)) = rows_book T (max call.at T.meta.counters.clock) (ask.Office (office.FailOrder n problem)) b
+    by (ask.Office (office.RevokeAuthz n)) = rows_book T (max call.at T.meta.counters.clock) (ask.Office (office.RevokeAuthz n)) b
+    by (ask.Office (office.RevokeAccount n)) = rows_book T (max call.at T.meta.counters.clock) (ask.Office (office.RevokeAccount n)) b
+    by (ask.Office (office.KeyOf n)) = rows_book T (max call.at T.meta.counters.clock) (ask.Office (office.KeyOf n)) b

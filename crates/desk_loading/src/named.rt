@@ -4,7 +4,7 @@ ghost use Rattle.desk_model.specs.Tokens.{nonce_in};
 ghost use Rattle.desk_parts.specs.Loaded.{account_numbers as account_numbers_of, authorization_numbers as authorization_numbers_of, challenge_numbers as challenge_numbers_of, of_text, order_numbers as order_numbers_of, serials as serials_of, target_accounts, target_authorization_numbers, target_challenge_numbers, target_order_numbers};
 ghost use Rattle.desk_model.specs.Asked.{asks_authorizations as asks_authorizations_of, asks_orders as asks_orders_of};
 
-use desk_model::{Ask, Target};
+use desk_model::{Ask, OfficeAsk, Target};
 use keys::read_nonce;
 use std::alloc::{AllocError, Global};
 
@@ -57,8 +57,8 @@ pub(crate) fn account_numbers(alloc: Global, ask: &Ask) -> Result<Vec<u64>, Allo
 {
     match ask {
         Ask::Signed(request) => accounts_at(alloc, &request.target),
-        Ask::RevokeAccount(number) => one(alloc, *number),
-        Ask::KeyOf(number) => one(alloc, *number),
+        Ask::Office(OfficeAsk::RevokeAccount(number)) => one(alloc, *number),
+        Ask::Office(OfficeAsk::KeyOf(number)) => one(alloc, *number),
         _ => Ok(Vec::new(alloc)),
     }
 }
@@ -81,8 +81,8 @@ pub(crate) fn order_numbers(alloc: Global, ask: &Ask) -> Result<Vec<u64>, AllocE
 {
     match ask {
         Ask::Signed(request) => orders_at(alloc, &request.target),
-        Ask::Certify { order, .. } => one(alloc, *order),
-        Ask::FailOrder { order, .. } => one(alloc, *order),
+        Ask::Office(OfficeAsk::Certify { order, .. }) => one(alloc, *order),
+        Ask::Office(OfficeAsk::FailOrder { order, .. }) => one(alloc, *order),
         _ => Ok(Vec::new(alloc)),
     }
 }
@@ -103,7 +103,7 @@ pub(crate) fn authorization_numbers(alloc: Global, ask: &Ask) -> Result<Vec<u64>
 {
     match ask {
         Ask::Signed(request) => authorizations_at(alloc, &request.target),
-        Ask::RevokeAuthz(number) => one(alloc, *number),
+        Ask::Office(OfficeAsk::RevokeAuthz(number)) => one(alloc, *number),
         _ => Ok(Vec::new(alloc)),
     }
 }
@@ -124,7 +124,7 @@ pub(crate) fn challenge_numbers(alloc: Global, ask: &Ask) -> Result<Vec<u64>, Al
 {
     match ask {
         Ask::Signed(request) => challenges_at(alloc, &request.target),
-        Ask::Report { challenge, .. } => one(alloc, *challenge),
+        Ask::Office(OfficeAsk::Report { challenge, .. }) => one(alloc, *challenge),
         _ => Ok(Vec::new(alloc)),
     }
 }
@@ -145,7 +145,7 @@ pub(crate) fn asks_authorizations(ask: &Ask) -> bool
 {
     match ask {
         Ask::Signed(request) => matches!(&request.target, Target::Account(_)),
-        Ask::RevokeAccount(_) => true,
+        Ask::Office(OfficeAsk::RevokeAccount(_)) => true,
         _ => false,
     }
 }

@@ -12,7 +12,7 @@ use crate::look_ups::LookUps;
 use crate::named::serials;
 use crate::objects::{Objects, all_objects, objects_touched};
 use desk_book::{Book, Table};
-use desk_model::{Ask, Call, Meta, Nonce, Policy};
+use desk_model::{Ask, Call, Meta, Nonce, OfficeAsk, Policy};
 use desk_storage::StorageFault;
 use std::alloc::Global;
 
@@ -108,9 +108,9 @@ fn rows_at<S: LookUps>(
         meta ≡ T.meta → IsOrdered T → IfOk result (λ book. book ≡ loaded_at T moment ask.now)) }
 {
     match ask {
-        Ask::Directory => Ok(meta_alone(alloc, meta)),
-        Ask::ChallengeWork => all_rows(alloc, source, meta),
-        Ask::OrderWork => all_rows(alloc, source, meta),
+        Ask::Office(OfficeAsk::Directory) => Ok(meta_alone(alloc, meta)),
+        Ask::Office(OfficeAsk::ChallengeWork) => all_rows(alloc, source, meta),
+        Ask::Office(OfficeAsk::OrderWork) => all_rows(alloc, source, meta),
         _ => rows_touched(alloc, source, meta, moment, ask),
     }
 }

@@ -63,7 +63,7 @@ abbrev pub decide_at : History → ℕ → List ℕ → Ask → Decision
 decide_at F m random (ask.NewNonce head) =
     record { reply = with_nonce (fresh_nonce (tables_at F m) random) (nonce_reply head); entries = issued (take 16 random) ∷ [] }
 decide_at F m random (ask.Signed s) = signed_decision F m random s (open_nonce (tables_at F m) s.nonce)
-decide_at F m random other = office_decision F m (office_verdict (tables_at F m) other)
+decide_at F m random (ask.Office a) = office_decision F m (office_verdict (tables_at F m) a)
 
 abbrev pub decide : History → Call → Decision
 decide F call = decide_at F (moment_of call.at F) call.random call.ask

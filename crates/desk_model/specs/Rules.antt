@@ -26,8 +26,8 @@ use Rattle.desk_model.specs.declared.moves.Move.TheVariants as move
 use Rattle.desk_model.specs.declared.reply.Subproblem.{Subproblem}
 use Rattle.desk_model.specs.declared.status.AuthzStatus.{AuthzStatus}
 use Rattle.desk_model.specs.declared.status.AuthzStatus.TheVariants as authz
-use Rattle.desk_model.specs.declared.call.Ask.{Ask}
-use Rattle.desk_model.specs.declared.call.Ask.TheVariants as ask
+use Rattle.desk_model.specs.declared.call.OfficeAsk.{OfficeAsk}
+use Rattle.desk_model.specs.declared.call.OfficeAsk.TheVariants as office
 use Rattle.desk_model.specs.declared.call.Signed.{Signed}
 use Rattle.desk_model.specs.declared.call.Target.{Target}
 use Rattle.desk_model.specs.declared.call.Target.TheVariants as to
@@ -266,16 +266,14 @@ revoke_account n a =
     choose (holds (λ e. is_revoked e.ending) a.ended) (answers (show.Account n))
     (check (is_valid_account a.status) refusal.Conflict (moves (move.AccountEnded n revoked)))
 
--- the asks that carry no nonce; newNonce and signed requests are not among them
-abbrev pub office_verdict : Tables → Ask → Verdict
-office_verdict T ask.Directory = answers (show.List list.Directory)
-office_verdict T (ask.NewNonce head) = refused refusal.NotFound []
-office_verdict T (ask.Signed s) = refused refusal.NotFound []
-office_verdict T (ask.Report n finding) = report_verdict T n finding
-office_verdict T (ask.Certify n bytes) = given (order_on T n) refusal.NotFound (certify_verdict n bytes)
-office_verdict T (ask.FailOrder n problem) = given (order_on T n) refusal.NotFound (fail_verdict n problem)
-office_verdict T (ask.RevokeAuthz n) = given (authorization_on T n) refusal.NotFound (revoke_authorization n)
-office_verdict T (ask.RevokeAccount n) = given (account_on T n) refusal.NotFound (revoke_account n)
-office_verdict T ask.ChallengeWork = answers (show.List list.ChallengeWork)
-office_verdict T ask.OrderWork = answers (show.List list.OrderWork)
-office_verdict T (ask.KeyOf n) = given (account_on T n) refusal.NotFound (λ a. answers (show.Key n))
+-- what carries no nonce
+abbrev pub office_verdict : Tables → OfficeAsk → Verdict
+office_verdict T office.Directory = answers (show.List list.Directory)
+office_verdict T (office.Report n finding) = report_verdict T n finding
+office_verdict T (office.Certify n bytes) = given (order_on T n) refusal.NotFound (certify_verdict n bytes)
+office_verdict T (office.FailOrder n problem) = given (order_on T n) refusal.NotFound (fail_verdict n problem)
+office_verdict T (office.RevokeAuthz n) = given (authorization_on T n) refusal.NotFound (revoke_authorization n)
+office_verdict T (office.RevokeAccount n) = given (account_on T n) refusal.NotFound (revoke_account n)
+office_verdict T office.ChallengeWork = answers (show.List list.ChallengeWork)
+office_verdict T office.OrderWork = answers (show.List list.OrderWork)
+office_verdict T (office.KeyOf n) = given (account_on T n) refusal.NotFound (λ a. answers (show.Key n))

@@ -10,6 +10,8 @@ use Rattle.desk_model.specs.declared.call.BadKey.{BadKey}
 use Rattle.desk_model.specs.declared.call.Call.{Call}
 use Rattle.desk_model.specs.declared.call.Ask.{Ask}
 use Rattle.desk_model.specs.declared.call.Ask.TheVariants as ask
+use Rattle.desk_model.specs.declared.call.OfficeAsk.{OfficeAsk}
+use Rattle.desk_model.specs.declared.call.OfficeAsk.TheVariants as office
 use Rattle.desk_model.specs.declared.call.Signed.{Signed}
 use Rattle.desk_model.specs.declared.reply.Reply.{Reply}
 
@@ -48,10 +50,14 @@ pub record IsFormedSigned (s : Signed) : Type 0 where
   pub payload : IsUtf8 s.payload
 
 -- what the types of a call's parts keep
+abbrev pub IsFormedOfficeAsk : OfficeAsk → Type 0
+IsFormedOfficeAsk (office.FailOrder order problem) = IsTextProblem problem
+IsFormedOfficeAsk _ = Unit {0}
+
 abbrev pub IsFormedAsk : Ask → Type 0
+IsFormedAsk (ask.NewNonce head) = Unit {0}
 IsFormedAsk (ask.Signed s) = IsFormedSigned s
-IsFormedAsk (ask.FailOrder order problem) = IsTextProblem problem
-IsFormedAsk _ = Unit {0}
+IsFormedAsk (ask.Office a) = IsFormedOfficeAsk a
 
 abbrev pub IsFormedCall : Call → Type 0
 IsFormedCall call = IsFormedAsk call.ask

@@ -9,6 +9,7 @@ use Rattle.desk_model.specs.declared.rows.AuthorizationRow.{AuthorizationRow}
 use Rattle.desk_model.specs.declared.rows.OrderRow.{OrderRow}
 use Rattle.desk_model.specs.declared.call.Ask.{Ask}
 use Rattle.desk_model.specs.declared.call.Ask.TheVariants as ask
+use Rattle.desk_model.specs.declared.call.OfficeAsk.TheVariants as office
 use Rattle.desk_model.specs.declared.call.Call.{Call}
 use Rattle.desk_model.specs.declared.objects.Nonce.{Nonce}
 use Rattle.desk_model.specs.Asked.{carries, has_key, names_account, names_order, names_authorization, names_owner, asks_orders, asks_authorizations}
@@ -81,9 +82,9 @@ only_meta T = record { meta = T.meta; nonces = []; accounts = []; authorizations
 
 -- the directory shows no row, and the work lists may show each
 abbrev pub touched_at : Tables → ℕ → Ask → Tables
-touched_at T m ask.Directory = only_meta T
-touched_at T m ask.ChallengeWork = T
-touched_at T m ask.OrderWork = T
+touched_at T m (ask.Office office.Directory) = only_meta T
+touched_at T m (ask.Office office.ChallengeWork) = T
+touched_at T m (ask.Office office.OrderWork) = T
 touched_at T m a = touched_rows T m a
 
 -- at the moment at which the call acts

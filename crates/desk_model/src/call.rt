@@ -23,15 +23,22 @@ pub struct Call {
     pub ask: Ask,
 }
 
-/// What a call asks; objects are named by their numbers.
+/// What a call asks: the first kind is given a nonce, the second spends one and is given another, the third does neither.
 #[derive(Drop, Debug)]
 pub enum Ask {
-    /// The directory (RFC 8555, 7.1.1).
-    Directory,
     /// A fresh nonce, by GET or HEAD (RFC 8555, 7.2).
     NewNonce { head: bool },
     /// A request of a client, whose signature was checked (RFC 8555, 6.2).
     Signed(Signed),
+    /// The directory, or what an office asks.
+    Office(OfficeAsk),
+}
+
+/// The directory, and what the validator, the signing office and the operator ask; objects are named by their numbers.
+#[derive(Drop, Debug)]
+pub enum OfficeAsk {
+    /// The directory (RFC 8555, 7.1.1).
+    Directory,
     /// What the validator found for a challenge (RFC 8555, 8).
     Report { challenge: u64, finding: Finding },
     /// The certificate of an order, as the signing office made it.
@@ -168,7 +175,7 @@ pub fn keep_form(call: &Call)
 {
     match &call.ask {
         Ask::Signed(request) => keep_request(request),
-        Ask::FailOrder { problem, .. } => keep_problem(problem),
+        Ask::Office(OfficeAsk::FailOrder { problem, .. }) => keep_problem(problem),
         _ => (),
     }
 }

@@ -20,7 +20,9 @@ mod status;
 mod text;
 mod verdict;
 
-pub use call::{Ask, BadKey, Call, FetchError, Finding, OrderProblem, Signed, Target, keep_form};
+pub use call::{
+    Ask, BadKey, Call, FetchError, Finding, OfficeAsk, OrderProblem, Signed, Target, keep_form,
+};
 pub use clock::Clock;
 pub use dns_name::{DnsName, is_well_formed};
 pub use document::Document;

@@ -12,6 +12,8 @@ use Rattle.desk_model.specs.Tables.{Tables}
 use Rattle.desk_model.specs.Kept.{EachOf, IsClosed, Kept, restricted}
 use Rattle.desk_model.specs.declared.call.Ask.{Ask}
 use Rattle.desk_model.specs.declared.call.Ask.TheVariants as ask
+use Rattle.desk_model.specs.declared.call.OfficeAsk.{OfficeAsk}
+use Rattle.desk_model.specs.declared.call.OfficeAsk.TheVariants as office
 use Rattle.desk_model.specs.declared.call.Call.{Call}
 use Rattle.desk_model.specs.declared.call.Signed.{Signed}
 use Rattle.desk_model.specs.Entry.{entry_of}
@@ -254,7 +256,7 @@ carries_between k T Q m v h low high =
 issues_between : (k : Kept) (T Q : Tables) (m : ℕ) → IssuesAs m T Q → IssuesAs m (restricted k T) Q → IssuesAs m T (restricted k T)
 issues_between k T Q m low high = record { records = λ r. sym (high.records r) ∙ low.records r }
 
-settles_between : (k : Kept) (T Q : Tables) (m : ℕ) (a : Ask) → IsOrdered T → SettlesAs m a T Q → SettlesAs m a (restricted k T) Q → SettlesAs m a T (restricted k T)
+settles_between : (k : Kept) (T Q : Tables) (m : ℕ) (a : OfficeAsk) → IsOrdered T → SettlesAs m a T Q → SettlesAs m a (restricted k T) Q → SettlesAs m a T (restricted k T)
 settles_between k T Q m a h low high =
     let judged : office_verdict (swept m (restricted k T)) a ≡ office_verdict (swept m T) a = sym high.judged ∙ low.judged in
     record {
@@ -279,15 +281,7 @@ passes_between k T Q m s h low high =
 answers_between : (k : Kept) (T Q : Tables) (m : ℕ) (a : Ask) → IsOrdered T → AnswersAs m a T Q → AnswersAs m a (restricted k T) Q → AnswersAs m a T (restricted k T)
 answers_between k T Q m (ask.NewNonce head) h low high = issues_between k T Q m low high
 answers_between k T Q m (ask.Signed s) h low high = passes_between k T Q m s h low high
-answers_between k T Q m ask.Directory h low high = settles_between k T Q m ask.Directory h low high
-answers_between k T Q m (ask.Report n finding) h low high = settles_between k T Q m (ask.Report n finding) h low high
-answers_between k T Q m (ask.Certify n bytes) h low high = settles_between k T Q m (ask.Certify n bytes) h low high
-answers_between k T Q m (ask.FailOrder n problem) h low high = settles_between k T Q m (ask.FailOrder n problem) h low high
-answers_between k T Q m (ask.RevokeAuthz n) h low high = settles_between k T Q m (ask.RevokeAuthz n) h low high
-answers_between k T Q m (ask.RevokeAccount n) h low high = settles_between k T Q m (ask.RevokeAccount n) h low high
-answers_between k T Q m ask.ChallengeWork h low high = settles_between k T Q m ask.ChallengeWork h low high
-answers_between k T Q m ask.OrderWork h low high = settles_between k T Q m ask.OrderWork h low high
-answers_between k T Q m (ask.KeyOf n) h low high = settles_between k T Q m (ask.KeyOf n) h low high
+answers_between k T Q m (ask.Office a) h low high = settles_between k T Q m a h low high
 
 -- ---- a part for a call
 
@@ -306,22 +300,22 @@ rows_answer k T m a h holds here there =
     (subst (Keeps (kept_by T m a)) (sym there) (keeps_wider k T m a h))))
 
 part_answers : (k : Kept) (T : Tables) (m : ℕ) (a : Ask) → IsOrdered T → Keeps k (touched_at T m a) → AnswersAs m a T (restricted k T)
-part_answers k T m ask.Directory h holds =
+part_answers k T m (ask.Office office.Directory) h holds =
     let none : Keeps no_rows (only_meta T) = record { nonces = tt; accounts = tt; authorizations = tt; orders = tt } in
-    answers_between k T (restricted no_rows T) m ask.Directory h
-    (answers_at no_rows T m ask.Directory h (none_listed T) none)
-    (subst (SettlesAs m ask.Directory (restricted k T)) (sym (no_part (restricted k T)) ∙ no_part T)
-    (answers_at no_rows (restricted k T) m ask.Directory (restricted_ordered k T h) (none_listed (restricted k T)) none))
+    answers_between k T (restricted no_rows T) m (ask.Office office.Directory) h
+    (answers_at no_rows T m (ask.Office office.Directory) h (none_listed T) none)
+    (subst (SettlesAs m office.Directory (restricted k T)) (sym (no_part (restricted k T)) ∙ no_part T)
+    (answers_at no_rows (restricted k T) m (ask.Office office.Directory) (restricted_ordered k T h) (none_listed (restricted k T)) none))
 part_answers k T m (ask.NewNonce head) h holds = rows_answer k T m (ask.NewNonce head) h holds refl refl
 part_answers k T m (ask.Signed s) h holds = rows_answer k T m (ask.Signed s) h holds refl refl
-part_answers k T m (ask.Report n finding) h holds = rows_answer k T m (ask.Report n finding) h holds refl refl
-part_answers k T m (ask.Certify n bytes) h holds = rows_answer k T m (ask.Certify n bytes) h holds refl refl
-part_answers k T m (ask.FailOrder n problem) h holds = rows_answer k T m (ask.FailOrder n problem) h holds refl refl
-part_answers k T m (ask.RevokeAuthz n) h holds = rows_answer k T m (ask.RevokeAuthz n) h holds refl refl
-part_answers k T m (ask.RevokeAccount n) h holds = rows_answer k T m (ask.RevokeAccount n) h holds refl refl
-part_answers k T m ask.ChallengeWork h holds = work_as k T m ask.ChallengeWork holds
-part_answers k T m ask.OrderWork h holds = work_as k T m ask.OrderWork holds
-part_answers k T m (ask.KeyOf n) h holds = rows_answer k T m (ask.KeyOf n) h holds refl refl
+part_answers k T m (ask.Office (office.Report n finding)) h holds = rows_answer k T m (ask.Office (office.Report n finding)) h holds refl refl
+part_answers k T m (ask.Office (office.Certify n bytes)) h holds = rows_answer k T m (ask.Office (office.Certify n bytes)) h holds refl refl
+part_answers k T m (ask.Office (office.FailOrder n problem)) h holds = rows_answer k T m (ask.Office (office.FailOrder n problem)) h holds refl refl
+part_answers k T m (ask.Office (office.RevokeAuthz n)) h holds = rows_answer k T m (ask.Office (office.RevokeAuthz n)) h holds refl refl
+part_answers k T m (ask.Office (office.RevokeAccount n)) h holds = rows_answer k T m (ask.Office (office.RevokeAccount n)) h holds refl refl
+part_answers k T m (ask.Office office.ChallengeWork) h holds = work_as k T m office.ChallengeWork holds
+part_answers k T m (ask.Office office.OrderWork) h holds = work_as k T m office.OrderWork holds
+part_answers k T m (ask.Office (office.KeyOf n)) h holds = rows_answer k T m (ask.Office (office.KeyOf n)) h holds refl refl
 
 -- a part for a call answers it as the whole
 pub parts_answer : (T P : Tables) (call : Call) → IsOrdered T → IsPartFor call T P → AnswersAs (max call.at T.meta.counters.clock) call.ask T P

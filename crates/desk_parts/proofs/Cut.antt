@@ -8,6 +8,7 @@ use Rattle.desk_model.specs.Tables.{Tables}
 use Rattle.desk_model.specs.Kept.{EachOf, Kept, restricted}
 use Rattle.desk_model.specs.declared.call.Ask.{Ask}
 use Rattle.desk_model.specs.declared.call.Ask.TheVariants as ask
+use Rattle.desk_model.specs.declared.call.OfficeAsk.TheVariants as office
 use Rattle.desk_model.specs.declared.call.Call.{Call}
 use Rattle.desk_model.specs.declared.objects.Nonce.{Nonce}
 use Rattle.desk_model.specs.declared.rows.AccountRow.{AccountRow}
@@ -135,20 +136,20 @@ touched_part T call h = by call.ask refl
         }
 
     by : (a : Ask) → call.ask ≡ a → IsPartFor call T (touched T call)
-    by ask.Directory is =
+    by (ask.Office office.Directory) is =
         let same : touched T call ≡ only_meta T = ap (touched_at T (max call.at T.meta.counters.clock)) is in
         record {
           kept = no_rows;
           cut = same ∙ no_part T;
           holds = subst (Keeps no_rows) (sym same) (record { nonces = tt; accounts = tt; authorizations = tt; orders = tt });
         }
-    by ask.ChallengeWork is = subst (IsPartFor call T) (sym (ap (touched_at T (max call.at T.meta.counters.clock)) is)) (whole_part T call)
-    by ask.OrderWork is = subst (IsPartFor call T) (sym (ap (touched_at T (max call.at T.meta.counters.clock)) is)) (whole_part T call)
+    by (ask.Office office.ChallengeWork) is = subst (IsPartFor call T) (sym (ap (touched_at T (max call.at T.meta.counters.clock)) is)) (whole_part T call)
+    by (ask.Office office.OrderWork) is = subst (IsPartFor call T) (sym (ap (touched_at T (max call.at T.meta.counters.clock)) is)) (whole_part T call)
     by (ask.NewNonce head) is = rows (ask.NewNonce head) refl is
     by (ask.Signed s) is = rows (ask.Signed s) refl is
-    by (ask.Report n finding) is = rows (ask.Report n finding) refl is
-    by (ask.Certify n bytes) is = rows (ask.Certify n bytes) refl is
-    by (ask.FailOrder n problem) is = rows (ask.FailOrder n problem) refl is
-    by (ask.RevokeAuthz n) is = rows (ask.RevokeAuthz n) refl is
-    by (ask.RevokeAccount n) is = rows (ask.RevokeAccount n) refl is
-    by (ask.KeyOf n) is = rows (ask.KeyOf n) refl is
+    by (ask.Office (office.Report n finding)) is = rows (ask.Office (office.Report n finding)) refl is
+    by (ask.Office (office.Certify n bytes)) is = rows (ask.Office (office.Certify n bytes)) refl is
+    by (ask.Office (office.FailOrder n problem)) is = rows (ask.Office (office.FailOrder n problem)) refl is
+    by (ask.Office (office.RevokeAuthz n)) is = rows (ask.Office (office.RevokeAuthz n)) refl is
+    by (ask.Office (office.RevokeAccount n)) is = rows (ask.Office (office.RevokeAccount n)) refl is
+    by (ask.Office (office.KeyOf n)) is = rows (ask.Office (office.KeyOf n)) refl is

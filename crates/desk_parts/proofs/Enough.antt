@@ -7,6 +7,8 @@ use Rattle.desk_model.specs.Tables.{Tables}
 use Rattle.desk_model.specs.Kept.{Covers, EachOf, IsClosed, Kept, restricted}
 use Rattle.desk_model.specs.declared.call.Ask.{Ask}
 use Rattle.desk_model.specs.declared.call.Ask.TheVariants as ask
+use Rattle.desk_model.specs.declared.call.OfficeAsk.{OfficeAsk}
+use Rattle.desk_model.specs.declared.call.OfficeAsk.TheVariants as office
 use Rattle.desk_model.specs.declared.call.Call.{Call}
 use Rattle.desk_model.specs.declared.call.Signed.{Signed}
 use Rattle.desk_model.specs.Entry.{entry_of}
@@ -113,14 +115,14 @@ issues_as k T m a ready =
     let closed : IsClosed k (swept m T) = swept_closed k T m ready.closed in
     record { records = λ r. recorded_local k T m (issued r ∷ []) ready.closed (keeps_falling k T m a ready.touched) (closed, covers_issued k (swept m T) r, tt, tt) }
 
-settles_as : (k : Kept) (T : Tables) (m : ℕ) (a : Ask) → IsNoWork a → IsReady k T m a → SettlesAs m a T (restricted k T)
+settles_as : (k : Kept) (T : Tables) (m : ℕ) (a : OfficeAsk) → IsNoWork a → IsReady k T m (ask.Office a) → SettlesAs m a T (restricted k T)
 settles_as k T m a none ready =
     let answered : IsAnswered k m (swept m T) (office_verdict (swept m T) a) = office_answered k T m a none ready in
     record {
-      judged = ap (λ P. office_verdict P a) (swept_part k T m ready.closed) ∙ office_same k (swept m T) a (swept_names k T m a ready.named);
+      judged = ap (λ P. office_verdict P a) (swept_part k T m ready.closed) ∙ office_same k (swept m T) a (swept_names k T m (ask.Office a) ready.named);
       verdict = carried_out k T m (office_verdict (swept m T) a) ready.closed answered;
       records =
-          recorded_local k T m (entries_of (office_verdict (swept m T) a)) ready.closed (keeps_falling k T m a ready.touched)
+          recorded_local k T m (entries_of (office_verdict (swept m T) a)) ready.closed (keeps_falling k T m (ask.Office a) ready.touched)
           (verdict_covered k m (swept m T) (office_verdict (swept m T) a) (swept_closed k T m ready.closed) answered);
     }
 
@@ -138,8 +140,8 @@ passes_as k T m s ready =
     }
 
 -- the directory needs no row
-directory_as : (k : Kept) (T : Tables) (m : ℕ) → IsClosed k T → SettlesAs m ask.Directory T (restricted k T)
-directory_as k T m closed = record { judged = refl; verdict = carried_out k T m (office_verdict (swept m T) ask.Directory) closed refl; records = refl }
+directory_as : (k : Kept) (T : Tables) (m : ℕ) → IsClosed k T → SettlesAs m office.Directory T (restricted k T)
+directory_as k T m closed = record { judged = refl; verdict = carried_out k T m (office_verdict (swept m T) office.Directory) closed refl; records = refl }
 
 -- all rows are kept
 abbrev pub all_rows : Kept
@@ -163,7 +165,7 @@ keeps_all T =
       orders = each_all _ T.orders (λ n. refl);
     }
 
-whole_settles : (T : Tables) (m : ℕ) (a : Ask) → SettlesAs m a T T
+whole_settles : (T : Tables) (m : ℕ) (a : OfficeAsk) → SettlesAs m a T T
 whole_settles T m a =
     let v : Verdict = office_verdict (swept m T) a in
     record {
@@ -177,7 +179,7 @@ whole_settles T m a =
       records = refl;
     }
 
-pub work_as : (k : Kept) (T : Tables) (m : ℕ) (a : Ask) → Keeps k T → SettlesAs m a T (restricted k T)
+pub work_as : (k : Kept) (T : Tables) (m : ℕ) (a : OfficeAsk) → Keeps k T → SettlesAs m a T (restricted k T)
 work_as k T m a h = subst (SettlesAs m a T) (sym (restricted_all k T h)) (whole_settles T m a)
 
 -- ---- a part for a call
@@ -187,25 +189,26 @@ ready_by k T m a ordered listed h =
     let touched : KeepsTouched (grown k T) T m a = keeps_touched k T m a h in
     record { closed = grown_closed k T ordered listed; touched = touched; named = keeps_named k T m a touched }
 
+-- where rows are touched
+rows_settle : (k : Kept) (T : Tables) (m : ℕ) (a : OfficeAsk) → IsNoWork a → IsOrdered T → KeepsListed k T → Keeps k (touched_rows T m (ask.Office a)) →
+    SettlesAs m a T (restricted k T)
+rows_settle k T m a none ordered listed h =
+    subst (SettlesAs m a T) (grown_part k T) (settles_as (grown k T) T m a none (ready_by k T m (ask.Office a) ordered listed h))
+
 pub answers_at : (k : Kept) (T : Tables) (m : ℕ) (a : Ask) → IsOrdered T → KeepsListed k T → Keeps k (touched_at T m a) → AnswersAs m a T (restricted k T)
-answers_at k T m ask.Directory ordered listed h = subst (SettlesAs m ask.Directory T) (grown_part k T) (directory_as (grown k T) T m (grown_closed k T ordered listed))
 answers_at k T m (ask.NewNonce head) ordered listed h =
     subst (IssuesAs m T) (grown_part k T) (issues_as (grown k T) T m (ask.NewNonce head) (ready_by k T m (ask.NewNonce head) ordered listed h))
 answers_at k T m (ask.Signed s) ordered listed h = subst (PassesAs m s T) (grown_part k T) (passes_as (grown k T) T m s (ready_by k T m (ask.Signed s) ordered listed h))
-answers_at k T m (ask.Report n finding) ordered listed h =
-    subst (SettlesAs m (ask.Report n finding) T) (grown_part k T) (settles_as (grown k T) T m (ask.Report n finding) tt (ready_by k T m (ask.Report n finding) ordered listed h))
-answers_at k T m (ask.Certify n bytes) ordered listed h =
-    subst (SettlesAs m (ask.Certify n bytes) T) (grown_part k T) (settles_as (grown k T) T m (ask.Certify n bytes) tt (ready_by k T m (ask.Certify n bytes) ordered listed h))
-answers_at k T m (ask.FailOrder n problem) ordered listed h =
-    subst (SettlesAs m (ask.FailOrder n problem) T) (grown_part k T) (settles_as (grown k T) T m (ask.FailOrder n problem) tt (ready_by k T m (ask.FailOrder n problem) ordered listed h))
-answers_at k T m (ask.RevokeAuthz n) ordered listed h =
-    subst (SettlesAs m (ask.RevokeAuthz n) T) (grown_part k T) (settles_as (grown k T) T m (ask.RevokeAuthz n) tt (ready_by k T m (ask.RevokeAuthz n) ordered listed h))
-answers_at k T m (ask.RevokeAccount n) ordered listed h =
-    subst (SettlesAs m (ask.RevokeAccount n) T) (grown_part k T) (settles_as (grown k T) T m (ask.RevokeAccount n) tt (ready_by k T m (ask.RevokeAccount n) ordered listed h))
-answers_at k T m ask.ChallengeWork ordered listed h = work_as k T m ask.ChallengeWork h
-answers_at k T m ask.OrderWork ordered listed h = work_as k T m ask.OrderWork h
-answers_at k T m (ask.KeyOf n) ordered listed h =
-    subst (SettlesAs m (ask.KeyOf n) T) (grown_part k T) (settles_as (grown k T) T m (ask.KeyOf n) tt (ready_by k T m (ask.KeyOf n) ordered listed h))
+answers_at k T m (ask.Office office.Directory) ordered listed h =
+    subst (SettlesAs m office.Directory T) (grown_part k T) (directory_as (grown k T) T m (grown_closed k T ordered listed))
+answers_at k T m (ask.Office office.ChallengeWork) ordered listed h = work_as k T m office.ChallengeWork h
+answers_at k T m (ask.Office office.OrderWork) ordered listed h = work_as k T m office.OrderWork h
+answers_at k T m (ask.Office (office.Report n finding)) ordered listed h = rows_settle k T m (office.Report n finding) tt ordered listed h
+answers_at k T m (ask.Office (office.Certify n bytes)) ordered listed h = rows_settle k T m (office.Certify n bytes) tt ordered listed h
+answers_at k T m (ask.Office (office.FailOrder n problem)) ordered listed h = rows_settle k T m (office.FailOrder n problem) tt ordered listed h
+answers_at k T m (ask.Office (office.RevokeAuthz n)) ordered listed h = rows_settle k T m (office.RevokeAuthz n) tt ordered listed h
+answers_at k T m (ask.Office (office.RevokeAccount n)) ordered listed h = rows_settle k T m (office.RevokeAccount n) tt ordered listed h
+answers_at k T m (ask.Office (office.KeyOf n)) ordered listed h = rows_settle k T m (office.KeyOf n) tt ordered listed h
 
 -- all rows are a part for each call
 pub whole_part : (T : Tables) (call : Call) → IsPartFor call T T

@@ -14,6 +14,7 @@ use Rattle.desk_model.specs.Tokens.{NonceText, nonce_in}
 use Rattle.desk_model.specs.Kept.{EachOf}
 use Rattle.desk_model.specs.declared.call.Ask.{Ask}
 use Rattle.desk_model.specs.declared.call.Ask.TheVariants as ask
+use Rattle.desk_model.specs.declared.call.OfficeAsk.TheVariants as office
 use Rattle.desk_model.specs.declared.call.BadKey.{BadKey}
 use Rattle.desk_model.specs.declared.call.Call.{Call}
 use Rattle.desk_model.specs.declared.call.Target.{Target}
@@ -82,16 +83,8 @@ carried (ask.Signed s) n = by (option_and_then nonce_in s.nonce)
     by : (t : Option NonceText) → list_any (λ k. n == k) (of_text t) ≡ holds (λ (x : NonceText). n == x.serial) t
     by None = refl
     by (Some t) = or_none (n == t.serial)
-carried ask.Directory n = refl
 carried (ask.NewNonce head) n = refl
-carried (ask.Report k finding) n = refl
-carried (ask.Certify k bytes) n = refl
-carried (ask.FailOrder k problem) n = refl
-carried (ask.RevokeAuthz k) n = refl
-carried (ask.RevokeAccount k) n = refl
-carried ask.ChallengeWork n = refl
-carried ask.OrderWork n = refl
-carried (ask.KeyOf k) n = refl
+carried (ask.Office a) n = refl
 
 abbrev key_list : Result (List ℕ) BadKey → List (List ℕ)
 key_list key = elim key [ Err e ↦ [] | Ok mine ↦ mine ∷ [] ]
@@ -105,16 +98,8 @@ keyed (ask.Signed s) text = by s.key
     by : (key : Result (List ℕ) BadKey) → list_any (λ k. bytes_eq text k) (key_list key) ≡ has_this key text
     by (Err e) = refl
     by (Ok key) = or_none (bytes_eq text key)
-keyed ask.Directory text = refl
 keyed (ask.NewNonce head) text = refl
-keyed (ask.Report k finding) text = refl
-keyed (ask.Certify k bytes) text = refl
-keyed (ask.FailOrder k problem) text = refl
-keyed (ask.RevokeAuthz k) text = refl
-keyed (ask.RevokeAccount k) text = refl
-keyed ask.ChallengeWork text = refl
-keyed ask.OrderWork text = refl
-keyed (ask.KeyOf k) text = refl
+keyed (ask.Office a) text = refl
 
 account_listed : (a : Ask) (n : ℕ) → list_any (λ k. n == k) (account_numbers a) ≡ names_account a n
 account_listed (ask.Signed s) n = by s.target
@@ -123,8 +108,8 @@ account_listed (ask.Signed s) n = by s.target
     by (to.Account k) = or_none (n == k)
     by (to.Orders k) = or_none (n == k)
     by _ = refl
-account_listed (ask.RevokeAccount k) n = or_none (n == k)
-account_listed (ask.KeyOf k) n = or_none (n == k)
+account_listed (ask.Office (office.RevokeAccount k)) n = or_none (n == k)
+account_listed (ask.Office (office.KeyOf k)) n = or_none (n == k)
 account_listed _ n = refl
 
 order_listed : (a : Ask) (n : ℕ) → list_any (λ k. n == k) (order_numbers a) ≡ names_order a n
@@ -135,8 +120,8 @@ order_listed (ask.Signed s) n = by s.target
     by (to.Finalize k) = or_none (n == k)
     by (to.Cert k) = or_none (n == k)
     by _ = refl
-order_listed (ask.Certify k bytes) n = or_none (n == k)
-order_listed (ask.FailOrder k problem) n = or_none (n == k)
+order_listed (ask.Office (office.Certify k bytes)) n = or_none (n == k)
+order_listed (ask.Office (office.FailOrder k problem)) n = or_none (n == k)
 order_listed _ n = refl
 
 authorization_listed : (a : Ask) (n : ℕ) → list_any (λ k. n == k) (authorization_numbers a) ≡ names_authorization a n
@@ -145,7 +130,7 @@ authorization_listed (ask.Signed s) n = by s.target
     by : (t : Target) → list_any (λ k. n == k) (target_authorization_numbers t) ≡ target_authorization t n
     by (to.Authz k) = or_none (n == k)
     by _ = refl
-authorization_listed (ask.RevokeAuthz k) n = or_none (n == k)
+authorization_listed (ask.Office (office.RevokeAuthz k)) n = or_none (n == k)
 authorization_listed _ n = refl
 
 challenge_listed : (a : Ask) (r : AuthorizationRow) → list_any (λ c. has_row c r) (challenge_numbers a) ≡ names_owner a r
@@ -154,7 +139,7 @@ challenge_listed (ask.Signed s) r = by s.target
     by : (t : Target) → list_any (λ c. has_row c r) (target_challenge_numbers t) ≡ target_owner t r
     by (to.Chall k) = or_none (has_row k r)
     by _ = refl
-challenge_listed (ask.Report k finding) r = or_none (has_row k r)
+challenge_listed (ask.Office (office.Report k finding)) r = or_none (has_row k r)
 challenge_listed _ r = refl
 
 -- ---- rows that belong to others
@@ -386,14 +371,14 @@ pub loaded_touched : (T : Tables) (call : Call) → IsOrdered T → loaded T cal
 loaded_touched T call h = by call.ask
   where
     by : (a : Ask) → loaded_at T (max call.at T.meta.counters.clock) a ≡ touched_at T (max call.at T.meta.counters.clock) a
-    by ask.Directory = refl
-    by ask.ChallengeWork = refl
-    by ask.OrderWork = refl
+    by (ask.Office office.Directory) = refl
+    by (ask.Office office.ChallengeWork) = refl
+    by (ask.Office office.OrderWork) = refl
     by (ask.NewNonce head) = rows_loaded T (max call.at T.meta.counters.clock) (ask.NewNonce head) h
     by (ask.Signed s) = rows_loaded T (max call.at T.meta.counters.clock) (ask.Signed s) h
-    by (ask.Report n finding) = rows_loaded T (max call.at T.meta.counters.clock) (ask.Report n finding) h
-    by (ask.Certify n bytes) = rows_loaded T (max call.at T.meta.counters.clock) (ask.Certify n bytes) h
-    by (ask.FailOrder n problem) = rows_loaded T (max call.at T.meta.counters.clock) (ask.FailOrder n problem) h
-    by (ask.RevokeAuthz n) = rows_loaded T (max call.at T.meta.counters.clock) (ask.RevokeAuthz n) h
-    by (ask.RevokeAccount n) = rows_loaded T (max call.at T.meta.counters.clock) (ask.RevokeAccount n) h
-    by (ask.KeyOf n) = rows_loaded T (max call.at T.meta.counters.clock) (ask.KeyOf n) h
+    by (ask.Office (office.Report n finding)) = rows_loaded T (max call.at T.meta.counters.clock) (ask.Office (office.Report n finding)) h
+    by (ask.Office (office.Certify n bytes)) = rows_loaded T (max call.at T.meta.counters.clock) (ask.Office (office.Certify n bytes)) h
+    by (ask.Office (office.FailOrder n problem)) = rows_loaded T (max call.at T.meta.counters.clock) (ask.Office (office.FailOrder n problem)) h
+    by (ask.Office (office.RevokeAuthz n)) = rows_loaded T (max call.at T.meta.counters.clock) (ask.Office (office.RevokeAuthz n)) h
+    by (ask.Office (office.RevokeAccount n)) = rows_loaded T (max call.at T.meta.counters.clock) (ask.Office (office.RevokeAccount n)) h
+    by (ask.Office (office.KeyOf n)) = rows_loaded T (max call.at T.meta.counters.clock) (ask.Office (office.KeyOf n)) h

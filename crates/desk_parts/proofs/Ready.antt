@@ -8,6 +8,7 @@ use Rattle.desk_model.specs.Tables.{Tables}
 use Rattle.desk_model.specs.Kept.{Covers, IsClosed, Kept, restricted}
 use Rattle.desk_model.specs.declared.call.Ask.{Ask}
 use Rattle.desk_model.specs.declared.call.Ask.TheVariants as ask
+use Rattle.desk_model.specs.declared.call.OfficeAsk.TheVariants as office
 use Rattle.desk_model.specs.declared.call.Signed.{Signed}
 use Rattle.desk_model.specs.declared.call.Target.{Target}
 use Rattle.desk_model.specs.declared.call.Target.TheVariants as to
@@ -42,7 +43,7 @@ swept_named a m r = by (is_overdue m r)
 
     by_ask : (x : Ask) → names_owner x (record r { status = authz.Expired }) ≡ names_owner x r
     by_ask (ask.Signed s) = by_target s.target s
-    by_ask (ask.Report n finding) = refl
+    by_ask (ask.Office (office.Report n finding)) = refl
     by_ask _ = refl
 
     by : (b : Bool) → names_owner a (cond b (record r { status = authz.Expired }) r) ≡ names_owner a r

@@ -18,6 +18,8 @@ use Rattle.desk_model.specs.declared.verdict.Verdict.TheVariants.{Answers as ans
 use Rattle.desk_model.specs.declared.verdict.Verdict.{Verdict}
 use Rattle.desk_model.specs.declared.call.Ask.{Ask}
 use Rattle.desk_model.specs.declared.call.Ask.TheVariants as ask
+use Rattle.desk_model.specs.declared.call.OfficeAsk.{OfficeAsk}
+use Rattle.desk_model.specs.declared.call.OfficeAsk.TheVariants as office
 use Rattle.desk_model.specs.declared.call.BadKey.{BadKey}
 use Rattle.desk_model.specs.declared.call.Finding.{Finding}
 use Rattle.desk_model.specs.declared.call.Signed.{Signed}
@@ -128,7 +130,7 @@ expected_same : (k : Kept) (S : Tables) (a : AuthorizationRow) (c : ChallengeRow
 expected_same k S a c h =
     ap (λ x. expected_by c.kind (authorization_of (token_text c.token) (sha256 (elim x [ None ↦ [] | Some y ↦ y.key ])))) (account_same k S a.account h)
 
-pub report_same : (k : Kept) (S : Tables) (n : ℕ) (finding : Finding) → KeepsNamed k S (ask.Report n finding) →
+pub report_same : (k : Kept) (S : Tables) (n : ℕ) (finding : Finding) → KeepsNamed k S (ask.Office (office.Report n finding)) →
     report_verdict (restricted k S) n finding ≡ report_verdict S n finding
 unfolding given
 report_same k S n finding h =
@@ -146,15 +148,13 @@ report_same k S n finding h =
     by None e = refl
     by (Some a) e = in_row a (found_each _ (has_row n) S.authorizations a h.holder e (found_passes (has_row n) S.authorizations a e)) (challenge_of n a)
 
-pub office_same : (k : Kept) (S : Tables) (a : Ask) → KeepsNamed k S a → office_verdict (restricted k S) a ≡ office_verdict S a
-office_same k S ask.Directory h = refl
-office_same k S (ask.NewNonce head) h = refl
-office_same k S (ask.Signed s) h = refl
-office_same k S (ask.Report n finding) h = report_same k S n finding h
-office_same k S (ask.Certify n bytes) h = ap (λ x. given x refusal.NotFound (certify_verdict n bytes)) (order_same k S n (h.order n (same_number n)))
-office_same k S (ask.FailOrder n problem) h = ap (λ x. given x refusal.NotFound (fail_verdict n problem)) (order_same k S n (h.order n (same_number n)))
-office_same k S (ask.RevokeAuthz n) h = ap (λ x. given x refusal.NotFound (revoke_authorization n)) (authorization_same k S n (h.authorization n (same_number n)))
-office_same k S (ask.RevokeAccount n) h = ap (λ x. given x refusal.NotFound (revoke_account n)) (account_same k S n (h.account n (same_number n)))
-office_same k S ask.ChallengeWork h = refl
-office_same k S ask.OrderWork h = refl
-office_same k S (ask.KeyOf n) h = ap (λ x. given x refusal.NotFound (λ (y : AccountRow). answers (show.Key n))) (account_same k S n (h.account n (same_number n)))
+pub office_same : (k : Kept) (S : Tables) (a : OfficeAsk) → KeepsNamed k S (ask.Office a) → office_verdict (restricted k S) a ≡ office_verdict S a
+office_same k S office.Directory h = refl
+office_same k S (office.Report n finding) h = report_same k S n finding h
+office_same k S (office.Certify n bytes) h = ap (λ x. given x refusal.NotFound (certify_verdict n bytes)) (order_same k S n (h.order n (same_number n)))
+office_same k S (office.FailOrder n problem) h = ap (λ x. given x refusal.NotFound (fail_verdict n problem)) (order_same k S n (h.order n (same_number n)))
+office_same k S (office.RevokeAuthz n) h = ap (λ x. given x refusal.NotFound (revoke_authorization n)) (authorization_same k S n (h.authorization n (same_number n)))
+office_same k S (office.RevokeAccount n) h = ap (λ x. given x refusal.NotFound (revoke_account n)) (account_same k S n (h.account n (same_number n)))
+office_same k S office.ChallengeWork h = refl
+office_same k S office.OrderWork h = refl
+office_same k S (office.KeyOf n) h = ap (λ x. given x refusal.NotFound (λ (y : AccountRow). answers (show.Key n))) (account_same k S n (h.account n (same_number n)))

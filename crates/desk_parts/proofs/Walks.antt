@@ -26,6 +26,8 @@ use Rattle.desk_model.specs.Kept.{EachOf, IsClosed, Kept}
 use Rattle.desk_model.specs.Verdict.{choose, unless_fault}
 use Rattle.desk_model.specs.declared.call.Ask.{Ask}
 use Rattle.desk_model.specs.declared.call.Ask.TheVariants as ask
+use Rattle.desk_model.specs.declared.call.OfficeAsk.{OfficeAsk}
+use Rattle.desk_model.specs.declared.call.OfficeAsk.TheVariants as office
 use Rattle.desk_model.specs.declared.call.BadKey.{BadKey}
 use Rattle.desk_model.specs.declared.call.Finding.{Finding}
 use Rattle.desk_model.specs.declared.call.Signed.{Signed}
@@ -143,21 +145,21 @@ owned_by : (T : Tables) (a : Ask) (x : AccountRow) → asks_authorizations a ≡
 owned_by T a x asked named member r h =
     and_from _ _ asked (member (λ y. is_named_account a y && (r.account == y.number)) (and_from _ _ named (turned x.number r.account h)))
 
-report_answered : (k : Kept) (T : Tables) (m : ℕ) (n : ℕ) (finding : Finding) → IsReady k T m (ask.Report n finding) →
+report_answered : (k : Kept) (T : Tables) (m : ℕ) (n : ℕ) (finding : Finding) → IsReady k T m (ask.Office (office.Report n finding)) →
     IsAnswered k m (swept m T) (report_verdict (swept m T) n finding)
 report_answered k T m n finding ready =
     let S : Tables = swept m T in
-    let owner = (swept_names k T m (ask.Report n finding) ready.named).owner in
+    let owner = (swept_names k T m (ask.Office (office.Report n finding)) ready.named).owner in
     given_keeps (IsAnswered k m S) (owner_on S n) refusal.NotFound _ tt (λ a found.
     given_keeps (IsAnswered k m S) (challenge_of n a) refusal.NotFound _ tt (λ c there.
     given_keeps (IsAnswered k m S) (outcome_of c.kind (expected S a c) finding) refusal.Malformed _ tt (λ o is.
     either_keeps (IsAnswered k m S) (holds (λ r. same_outcome r.outcome o) c.reported) _ _ (challenge_shown k S n owner)
     (check_keeps (IsAnswered k m S) (is_pending a.status && is_processing_challenge c.status) refusal.Conflict _ tt (λ stands. (
-      covered k T m (ask.Report n finding) (reported n o) ready (reported_named T m (ask.Report n finding) n o (λ r h. h)),
+      covered k T m (ask.Office (office.Report n finding)) (reported n o) ready (reported_named T m (ask.Office (office.Report n finding)) n o (λ r h. h)),
       challenge_shown k (effect m S (reported n o)) n (owner_after k S m (reported n o) n (swept_closed k T m ready.closed) owner),
     ))))))
 
-certify_answered : (k : Kept) (T : Tables) (m : ℕ) (n : ℕ) (bytes : List ℕ) → IsReady k T m (ask.Certify n bytes) → (o : OrderRow) →
+certify_answered : (k : Kept) (T : Tables) (m : ℕ) (n : ℕ) (bytes : List ℕ) → IsReady k T m (ask.Office (office.Certify n bytes)) → (o : OrderRow) →
     IsAnswered k m (swept m T) (certify_verdict n bytes o)
 certify_answered k T m n bytes ready o =
     let S : Tables = swept m T in
@@ -166,11 +168,11 @@ certify_answered k T m n bytes ready o =
     check_keeps (IsAnswered k m S) (nat_le (length bytes) longest_certificate) refusal.TooLarge _ tt (λ few.
     either_keeps (IsAnswered k m S) (holds (λ x. bytes_eq x.bytes bytes) o.certified) _ _ (order_shown k S n kept (swept_closed k T m ready.closed).listed)
     (check_keeps (IsAnswered k m S) (is_processing o.status) refusal.Conflict _ tt (λ ready_for. (
-      covered k T m (ask.Certify n bytes) (certified n bytes) ready (certified_named T m (ask.Certify n bytes) n bytes (same_number n)),
-      order_shown k (effect m S (certified n bytes)) n kept (listed_then k T m (ask.Certify n bytes) (certified n bytes) ready),
+      covered k T m (ask.Office (office.Certify n bytes)) (certified n bytes) ready (certified_named T m (ask.Office (office.Certify n bytes)) n bytes (same_number n)),
+      order_shown k (effect m S (certified n bytes)) n kept (listed_then k T m (ask.Office (office.Certify n bytes)) (certified n bytes) ready),
     )))))
 
-fail_answered : (k : Kept) (T : Tables) (m : ℕ) (n : ℕ) (problem : OrderProblem) → IsReady k T m (ask.FailOrder n problem) → (o : OrderRow) →
+fail_answered : (k : Kept) (T : Tables) (m : ℕ) (n : ℕ) (problem : OrderProblem) → IsReady k T m (ask.Office (office.FailOrder n problem)) → (o : OrderRow) →
     IsAnswered k m (swept m T) (fail_verdict n problem o)
 fail_answered k T m n problem ready o =
     let S : Tables = swept m T in
@@ -178,56 +180,54 @@ fail_answered k T m n problem ready o =
     check_keeps (IsAnswered k m S) (is_problem problem) refusal.Malformed _ tt (λ formed.
     either_keeps (IsAnswered k m S) (holds (λ f. same_problem f.problem problem) o.failed) _ _ (order_shown k S n kept (swept_closed k T m ready.closed).listed)
     (check_keeps (IsAnswered k m S) (is_processing o.status) refusal.Conflict _ tt (λ ready_for. (
-      covered k T m (ask.FailOrder n problem) (failed n problem) ready (failed_named T m (ask.FailOrder n problem) n problem (same_number n)),
-      order_shown k (effect m S (failed n problem)) n kept (listed_then k T m (ask.FailOrder n problem) (failed n problem) ready),
+      covered k T m (ask.Office (office.FailOrder n problem)) (failed n problem) ready (failed_named T m (ask.Office (office.FailOrder n problem)) n problem (same_number n)),
+      order_shown k (effect m S (failed n problem)) n kept (listed_then k T m (ask.Office (office.FailOrder n problem)) (failed n problem) ready),
     ))))
 
-revoke_authorization_answered : (k : Kept) (T : Tables) (m : ℕ) (n : ℕ) → IsReady k T m (ask.RevokeAuthz n) → (r : AuthorizationRow) →
+revoke_authorization_answered : (k : Kept) (T : Tables) (m : ℕ) (n : ℕ) → IsReady k T m (ask.Office (office.RevokeAuthz n)) → (r : AuthorizationRow) →
     IsAnswered k m (swept m T) (revoke_authorization n r)
 revoke_authorization_answered k T m n ready r =
     let S : Tables = swept m T in
     let kept : k.authorizations n ≡ true = ready.named.authorization n (same_number n) in
     either_keeps (IsAnswered k m S) (is_revoked_status r.status) _ _ (authorization_shown k S n kept)
     (check_keeps (IsAnswered k m S) (is_live r.status) refusal.Conflict _ tt (λ stands. (
-      covered k T m (ask.RevokeAuthz n) (authorization_ended n revoked) ready (authorization_named T m (ask.RevokeAuthz n) n revoked (same_number n)),
+      covered k T m (ask.Office (office.RevokeAuthz n)) (authorization_ended n revoked) ready (authorization_named T m (ask.Office (office.RevokeAuthz n)) n revoked (same_number n)),
       authorization_shown k (effect m S (authorization_ended n revoked)) n kept,
     )))
 
-revoke_account_answered : (k : Kept) (T : Tables) (m : ℕ) (n : ℕ) → IsReady k T m (ask.RevokeAccount n) → (x : AccountRow) → account_on T n ≡ Some x →
+revoke_account_answered : (k : Kept) (T : Tables) (m : ℕ) (n : ℕ) → IsReady k T m (ask.Office (office.RevokeAccount n)) → (x : AccountRow) → account_on T n ≡ Some x →
     IsAnswered k m (swept m T) (revoke_account n x)
 revoke_account_answered k T m n ready x found =
     let S : Tables = swept m T in
-    let a : Ask = ask.RevokeAccount n in
+    let a : Ask = (ask.Office (office.RevokeAccount n)) in
     let kept : k.accounts n ≡ true = ready.named.account n (same_number n) in
     let here : (x.number == n) ≡ true = found_passes (λ y. y.number == n) T.accounts x found in
     let number : x.number ≡ n = eqb-true x.number n here in
     either_keeps (IsAnswered k m S) (holds (λ e. is_revoked e.ending) x.ended) _ _ (account_shown k S n kept)
     (check_keeps (IsAnswered k m S) (is_valid_account x.status) refusal.Conflict _ tt (λ stands. (
-      covered k T m (ask.RevokeAccount n) (account_ended n revoked) ready (ended_named T m (ask.RevokeAccount n) n revoked (same_number n)
-          (λ r h. owned_by T (ask.RevokeAccount n) x refl here
+      covered k T m (ask.Office (office.RevokeAccount n)) (account_ended n revoked) ready (ended_named T m (ask.Office (office.RevokeAccount n)) n revoked (same_number n)
+          (λ r h. owned_by T (ask.Office (office.RevokeAccount n)) x refl here
           (found_each (λ y. (p : AccountRow → Bool) → p y ≡ true → list_any p T.accounts ≡ true) (λ y. y.number == n) T.accounts x (each_member T.accounts) found)
           r (ap (λ j. j == r.account) number ∙ h))),
       account_shown k (effect m S (account_ended n revoked)) n kept,
     )))
 
--- an ask that carries no nonce, the work lists apart
-abbrev pub IsNoWork : Ask → Type 0
-IsNoWork ask.ChallengeWork = ⊥
-IsNoWork ask.OrderWork = ⊥
+-- what carries no nonce, the work lists apart
+abbrev pub IsNoWork : OfficeAsk → Type 0
+IsNoWork office.ChallengeWork = ⊥
+IsNoWork office.OrderWork = ⊥
 IsNoWork _ = Unit {0}
 
-pub office_answered : (k : Kept) (T : Tables) (m : ℕ) (a : Ask) → IsNoWork a → IsReady k T m a → IsAnswered k m (swept m T) (office_verdict (swept m T) a)
-office_answered k T m ask.Directory w ready = refl
-office_answered k T m (ask.NewNonce head) w ready = tt
-office_answered k T m (ask.Signed s) w ready = tt
-office_answered k T m (ask.Report n finding) w ready = report_answered k T m n finding ready
-office_answered k T m (ask.Certify n bytes) w ready = given_keeps (IsAnswered k m (swept m T)) (order_on (swept m T) n) refusal.NotFound _ tt (λ o found. certify_answered k T m n bytes ready o)
-office_answered k T m (ask.FailOrder n problem) w ready = given_keeps (IsAnswered k m (swept m T)) (order_on (swept m T) n) refusal.NotFound _ tt (λ o found. fail_answered k T m n problem ready o)
-office_answered k T m (ask.RevokeAuthz n) w ready = given_keeps (IsAnswered k m (swept m T)) (authorization_on (swept m T) n) refusal.NotFound _ tt (λ r found. revoke_authorization_answered k T m n ready r)
-office_answered k T m (ask.RevokeAccount n) w ready = given_keeps (IsAnswered k m (swept m T)) (account_on (swept m T) n) refusal.NotFound _ tt (λ x found. revoke_account_answered k T m n ready x found)
-office_answered k T m ask.ChallengeWork w ready = absurd w
-office_answered k T m ask.OrderWork w ready = absurd w
-office_answered k T m (ask.KeyOf n) w ready =
+pub office_answered : (k : Kept) (T : Tables) (m : ℕ) (a : OfficeAsk) → IsNoWork a → IsReady k T m (ask.Office a) → IsAnswered k m (swept m T) (office_verdict (swept m T) a)
+office_answered k T m office.Directory w ready = refl
+office_answered k T m (office.Report n finding) w ready = report_answered k T m n finding ready
+office_answered k T m (office.Certify n bytes) w ready = given_keeps (IsAnswered k m (swept m T)) (order_on (swept m T) n) refusal.NotFound _ tt (λ o found. certify_answered k T m n bytes ready o)
+office_answered k T m (office.FailOrder n problem) w ready = given_keeps (IsAnswered k m (swept m T)) (order_on (swept m T) n) refusal.NotFound _ tt (λ o found. fail_answered k T m n problem ready o)
+office_answered k T m (office.RevokeAuthz n) w ready = given_keeps (IsAnswered k m (swept m T)) (authorization_on (swept m T) n) refusal.NotFound _ tt (λ r found. revoke_authorization_answered k T m n ready r)
+office_answered k T m (office.RevokeAccount n) w ready = given_keeps (IsAnswered k m (swept m T)) (account_on (swept m T) n) refusal.NotFound _ tt (λ x found. revoke_account_answered k T m n ready x found)
+office_answered k T m office.ChallengeWork w ready = absurd w
+office_answered k T m office.OrderWork w ready = absurd w
+office_answered k T m (office.KeyOf n) w ready =
     given_keeps (IsAnswered k m (swept m T)) (account_on (swept m T) n) refusal.NotFound _ tt (λ x found. key_shown k (swept m T) n (ready.named.account n (same_number n)))
 
 -- ---- signed requests

@@ -9,6 +9,7 @@ use Rattle.desk_model.specs.Tables.{Tables}
 use Rattle.desk_model.specs.Kept.{EachOf}
 use Rattle.desk_model.specs.declared.call.Ask.{Ask}
 use Rattle.desk_model.specs.declared.call.Ask.TheVariants as ask
+use Rattle.desk_model.specs.declared.call.OfficeAsk.{OfficeAsk}
 use Rattle.desk_model.specs.declared.call.Signed.{Signed}
 use Rattle.desk_model.specs.declared.entry.Entry.TheVariants.{Issued as issued, Spent as spent}
 use Rattle.desk_model.specs.declared.rows.AuthorizationRow.{AuthorizationRow}
@@ -26,7 +27,7 @@ pub record CarriesOutAs (m : ℕ) (whole part : Tables) (v : Verdict) : Type 0 w
   pub shows : (index : Bool) → verdict_reply index (effects m (swept m part) (entries_of v)) v ≡ verdict_reply index (effects m (swept m whole) (entries_of v)) v
 
 -- a request without a nonce
-pub record SettlesAs (m : ℕ) (a : Ask) (whole part : Tables) : Type 0 where
+pub record SettlesAs (m : ℕ) (a : OfficeAsk) (whole part : Tables) : Type 0 where
   pub judged : office_verdict (swept m part) a ≡ office_verdict (swept m whole) a
   pub verdict : CarriesOutAs m whole part (office_verdict (swept m whole) a)
   pub records : recorded_changes m part (entries_of (office_verdict (swept m whole) a)) ≡ recorded_changes m whole (entries_of (office_verdict (swept m whole) a))
@@ -44,4 +45,4 @@ pub record PassesAs (m : ℕ) (s : Signed) (whole part : Tables) : Type 0 where
 abbrev pub AnswersAs : ℕ → Ask → Tables → Tables → Type 0
 AnswersAs m (ask.NewNonce head) whole part = IssuesAs m whole part
 AnswersAs m (ask.Signed s) whole part = PassesAs m s whole part
-AnswersAs m a whole part = SettlesAs m a whole part
+AnswersAs m (ask.Office a) whole part = SettlesAs m a whole part

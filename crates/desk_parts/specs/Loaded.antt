@@ -6,6 +6,7 @@ use Rattle.desk_model.specs.Tables.{Tables}
 use Rattle.desk_model.specs.Tokens.{NonceText, nonce_in}
 use Rattle.desk_model.specs.declared.call.Ask.{Ask}
 use Rattle.desk_model.specs.declared.call.Ask.TheVariants as ask
+use Rattle.desk_model.specs.declared.call.OfficeAsk.TheVariants as office
 use Rattle.desk_model.specs.declared.call.Call.{Call}
 use Rattle.desk_model.specs.declared.call.Target.{Target}
 use Rattle.desk_model.specs.declared.call.Target.TheVariants as to
@@ -40,8 +41,8 @@ target_accounts _ = []
 
 abbrev pub account_numbers : Ask → List ℕ
 account_numbers (ask.Signed s) = target_accounts s.target
-account_numbers (ask.RevokeAccount k) = k ∷ []
-account_numbers (ask.KeyOf k) = k ∷ []
+account_numbers (ask.Office (office.RevokeAccount k)) = k ∷ []
+account_numbers (ask.Office (office.KeyOf k)) = k ∷ []
 account_numbers _ = []
 
 abbrev pub target_order_numbers : Target → List ℕ
@@ -52,8 +53,8 @@ target_order_numbers _ = []
 
 abbrev pub order_numbers : Ask → List ℕ
 order_numbers (ask.Signed s) = target_order_numbers s.target
-order_numbers (ask.Certify k bytes) = k ∷ []
-order_numbers (ask.FailOrder k problem) = k ∷ []
+order_numbers (ask.Office (office.Certify k bytes)) = k ∷ []
+order_numbers (ask.Office (office.FailOrder k problem)) = k ∷ []
 order_numbers _ = []
 
 abbrev pub target_authorization_numbers : Target → List ℕ
@@ -62,7 +63,7 @@ target_authorization_numbers _ = []
 
 abbrev pub authorization_numbers : Ask → List ℕ
 authorization_numbers (ask.Signed s) = target_authorization_numbers s.target
-authorization_numbers (ask.RevokeAuthz k) = k ∷ []
+authorization_numbers (ask.Office (office.RevokeAuthz k)) = k ∷ []
 authorization_numbers _ = []
 
 abbrev pub target_challenge_numbers : Target → List ℕ
@@ -71,7 +72,7 @@ target_challenge_numbers _ = []
 
 abbrev pub challenge_numbers : Ask → List ℕ
 challenge_numbers (ask.Signed s) = target_challenge_numbers s.target
-challenge_numbers (ask.Report k finding) = k ∷ []
+challenge_numbers (ask.Office (office.Report k finding)) = k ∷ []
 challenge_numbers _ = []
 
 -- ---- rows that are found, each once
@@ -154,9 +155,9 @@ loaded_rows T m a =
     }
 
 abbrev pub loaded_at : Tables → ℕ → Ask → Tables
-loaded_at T m ask.Directory = only_meta T
-loaded_at T m ask.ChallengeWork = T
-loaded_at T m ask.OrderWork = T
+loaded_at T m (ask.Office office.Directory) = only_meta T
+loaded_at T m (ask.Office office.ChallengeWork) = T
+loaded_at T m (ask.Office office.OrderWork) = T
 loaded_at T m a = loaded_rows T m a
 
 abbrev pub loaded : Tables → Call → Tables

@@ -3,4 +3,3 @@ pub mod NoFloats
 pub mod ShownAuthorizations
 pub mod ShownOrders
 pub mod ShownWork
-pub mod ShownChallenges

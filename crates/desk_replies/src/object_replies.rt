@@ -1,9 +1,8 @@
 //! Replies with one object, by its row (RFC 8555, 7).
-ghost use Rattle.std.specs.Prelude.{◌≡◌, ◌≤◌, map, IfOk};
+ghost use Rattle.std.specs.Prelude.{◌≡◌, ◌≤◌, map, IfOk, Some};
 ghost use Rattle.desk_model.specs.Limits.{last_end};
-ghost use Rattle.desk_model.specs.Document.{key_document, listed_rows};
-ghost use Rattle.desk_model.specs.Questions.{challenge_of};
-ghost use Rattle.desk_model.specs.Shown.{account_reply, certificate_reply, challenge_reply, challenge_in, client_challenge_in, authorization_reply, located_order, ok, order_reply};
+ghost use Rattle.desk_model.specs.Document.{authorization_url, key_document, listed_rows};
+ghost use Rattle.desk_model.specs.Shown.{account_reply, authorization_reply, below, certificate_reply, challenge_reply, located_order, ok, order_reply};
 ghost use Rattle.desk_model.specs.Tables.{Tables};
 ghost use Rattle.desk_replies.specs.Shown.{HasDatedReport, HasMoments};
 
@@ -11,14 +10,12 @@ use crate::authorization_documents::{authorization_document, challenge_document}
 use crate::documents::account_document;
 use crate::key_documents::key_document;
 use crate::order_documents::order_document;
-use crate::replies::not_found;
 use crate::urls::{authorization_url, order_url};
 use desk_model::{
-    AccountRow, AuthorizationRow, Body, ChallengeRow, DnsName, Document, OrderRow, Policy, Reply,
-    Text,
+    AccountRow, AuthorizationRow, Body, ChallengeRow, DatedBytes, DnsName, Document, OrderRow,
+    Policy, Reply, Text,
 };
 use std::alloc::{AllocError, Global};
-use swept_rows::challenge_of;
 
 /// A reply with a document.
 pub(crate) fn json_reply(status: u16, document: Document) -> Reply
@@ -92,27 +89,22 @@ pub fn located_order(
     })
 }
 
-/// The reply with the certificate of an order (RFC 8555, 7.4.2).
+/// The reply with a certificate (RFC 8555, 7.4.2).
 ///
 /// # Errors
 ///
 /// Where there is no memory for a copy of the certificate.
-pub fn certificate_reply(alloc: Global, row: &OrderRow) -> Result<Reply, AllocError>
-    ensures { IfOk result (λ r. r ≡ certificate_reply row.now.certified) }
+pub fn certificate_reply(certificate: &DatedBytes) -> Result<Reply, AllocError>
+    ensures { IfOk result (λ r. r ≡ certificate_reply (Some certificate.now)) }
 {
-    match &row.certified {
-        Some(certified) => {
-            let bytes = certified.bytes.clone()?;
-            Ok(Reply {
-                status: 200,
-                location: None,
-                up: None,
-                nonce: None,
-                body: Body::Certificate(bytes),
-            })
-        }
-        None => Ok(not_found(alloc)),
-    }
+    let bytes = certificate.bytes.clone()?;
+    Ok(Reply {
+        status: 200,
+        location: None,
+        up: None,
+        nonce: None,
+        body: Body::Certificate(bytes),
+    })
 }
 
 /// The reply with an authorization (RFC 8555, 7.1.4).
@@ -131,51 +123,38 @@ pub fn authorization_reply(
     Ok(json_reply(200, document))
 }
 
-// The reply with a challenge.
-fn challenge_reply(alloc: Global, policy: &Policy, row: &ChallengeRow) -> Result<Reply, AllocError>
+/// The reply with a challenge (RFC 8555, 8).
+///
+/// # Errors
+///
+/// Where there is no memory for the document.
+pub fn challenge_reply(
+    alloc: Global,
+    policy: &Policy,
+    row: &ChallengeRow,
+) -> Result<Reply, AllocError>
     ensures { IfOk result (λ r. (T : Tables) → T.meta.policy ≡ policy.now → HasDatedReport row.now.reported → r ≡ challenge_reply T row.now) }
 {
     let document = challenge_document(alloc, policy, row)?;
     Ok(json_reply(200, document))
 }
 
-/// The reply with the challenge of a number in its authorization (RFC 8555, 8).
-///
-/// # Errors
-///
-/// Where there is no memory for the document.
-pub fn challenge_in(
-    alloc: Global,
-    policy: &Policy,
-    number: u64,
-    owner: &AuthorizationRow,
-) -> Result<Reply, AllocError>
-    ensures { IfOk result (λ r. (T : Tables) → T.meta.policy ≡ policy.now → HasMoments owner.now → r ≡ challenge_in T number owner.now) }
-{
-    match challenge_of(owner, number) {
-        Some(row) => {
-            let reply = challenge_reply(alloc, policy, row)?;
-            Ok(reply)
-        }
-        None => Ok(not_found(alloc)),
-    }
-}
-
-/// The reply with a challenge to its client, which names its authorization (RFC 8555, 7.5.1).
+/// The reply with a challenge to its client, which names the authorization of this number (RFC 8555, 7.5.1).
 ///
 /// # Errors
 ///
 /// Where there is no memory for the document or the URL.
-pub fn client_challenge_in(
+pub fn client_challenge_reply(
     alloc: Global,
     policy: &Policy,
-    number: u64,
-    owner: &AuthorizationRow,
+    authorization: u64,
+    row: &ChallengeRow,
 ) -> Result<Reply, AllocError>
-    ensures { IfOk result (λ r. (T : Tables) → T.meta.policy ≡ policy.now → HasMoments owner.now → r ≡ client_challenge_in T number owner.now) }
+    ensures { IfOk result (λ r. (T : Tables) → T.meta.policy ≡ policy.now → HasDatedReport row.now.reported
+        → r ≡ below (authorization_url T.meta.policy authorization) (challenge_reply T row.now)) }
 {
-    let up = authorization_url(alloc, policy, owner.number)?;
-    let reply = challenge_in(alloc, policy, number, owner)?;
+    let up = authorization_url(alloc, policy, authorization)?;
+    let reply = challenge_reply(alloc, policy, row)?;
     Ok(Reply {
         up: Some(Text::new(up)),
         ..reply

@@ -1,7 +1,7 @@
 //! Replies (RFC 8555, 6.5, 6.7, 7).
 ghost use Rattle.std.specs.Prelude.{◌≡◌, ◌<◌, IfOk};
 ghost use Rattle.desk_model.specs.Tokens.{nonce_text};
-ghost use Rattle.desk_model.specs.Shown.{refusal_reply, nonce_reply, not_found, with_nonce, located_account, plain};
+ghost use Rattle.desk_model.specs.Shown.{refusal_reply, nonce_reply, with_nonce, located_account, plain};
 ghost use Rattle.desk_model.specs.declared.reply.Body.TheVariants.{Empty};
 ghost use Rattle.desk_model.specs.Tables.{Tables};
 
@@ -14,13 +14,6 @@ pub fn refusal_reply(refusal: Refusal, subproblems: Sequence<Subproblem>, index:
     ensures { result ≡ refusal_reply index refusal subproblems }
 {
     refusals::refusal_reply(refusal, subproblems, Allow::No, index)
-}
-
-/// The reply with an object that is not there.
-pub fn not_found(alloc: Global) -> Reply
-    ensures { result ≡ not_found }
-{
-    refusal_reply(Refusal::NotFound, Sequence::new(Vec::new(alloc)), false)
 }
 
 /// The reply to newNonce (RFC 8555, 7.2).

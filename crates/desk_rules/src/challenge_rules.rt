@@ -1,7 +1,6 @@
 //! The rules on challenges (RFC 8555, 7.5.1, 8).
-ghost use Rattle.std.specs.Prelude.{◌≡◌, IfOk, string_bytes};
+ghost use Rattle.std.specs.Prelude.{◌≡◌, IfOk, Some, string_bytes};
 ghost use Rattle.desk_model.specs.Document.{expected};
-ghost use Rattle.desk_model.specs.Legal.{is_pending_challenge};
 ghost use Rattle.desk_model.specs.Lookup.{holds};
 ghost use Rattle.desk_model.specs.Questions.{challenge_of};
 ghost use Rattle.desk_model.specs.Rules.{challenge_verdict, outcome_of, outcome_verdict, same_outcome, judged};
@@ -13,32 +12,22 @@ use desk_model::{
 };
 use keys::{dns_matches, expected_text, http_matches};
 use std::alloc::{AllocError, Global};
-use swept_rows::{At, challenge_of};
-
-// Whether a challenge of the authorization waits for its client's answer.
-fn has_pending(row: &AuthorizationRow, number: u64) -> bool
-    ensures { result ≡ holds (λ c. is_pending_challenge c.status) (challenge_of number row.now) }
-{
-    match challenge_of(row, number) {
-        Some(challenge) => challenge.status.is_pending(),
-        None => false,
-    }
-}
+use swept_rows::At;
 
 /// A request to a challenge: an answer that comes when nothing is pending changes nothing (RFC 8555, 7.5.1).
 #[tactic(auto, unfolding(desk_model::specs::Verdict::choose))]
 pub(crate) fn challenge_verdict(
     number: u64,
-    row: &AuthorizationRow,
     status: AuthzStatus,
+    challenge: &ChallengeRow,
     change: ChallengeChange,
 ) -> Verdict
-    ensures { result ≡ challenge_verdict number (record row.now { status = status }) change }
+    ensures { (a : AuthorizationRow) → a.status ≡ status → challenge_of number a ≡ Some challenge.now → result ≡ challenge_verdict number a change }
 {
     match change {
         ChallengeChange::Read => Verdict::Answers(Shows::ClientChallenge(number)),
         ChallengeChange::Answer => {
-            if status.is_pending() && has_pending(row, number) {
+            if status.is_pending() && challenge.status.is_pending() {
                 return Verdict::Moves(Move::Answered(number));
             }
             Verdict::Answers(Shows::ClientChallenge(number))

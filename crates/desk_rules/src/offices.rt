@@ -4,17 +4,17 @@ ghost use Rattle.desk_model.specs.Lookup.{holds};
 ghost use Rattle.desk_model.specs.Questions.{account_on, authorization_on, order_on};
 ghost use Rattle.desk_model.specs.Rules.{certify_verdict, fail_verdict, is_revoked, is_revoked_status, office_verdict, report_verdict, revoke_account, revoke_authorization, same_problem};
 ghost use Rattle.desk_model.specs.Verdict.{given};
-ghost use Rattle.desk_model.specs.declared.call.Ask.TheVariants.{KeyOf};
+ghost use Rattle.desk_model.specs.declared.call.OfficeAsk.TheVariants.{KeyOf};
 
 use crate::challenge_rules::{expected, outcome_of, outcome_verdict};
 use crate::verdicts::refused;
 use desk_model::{
-    AccountRow, AccountStatus, Ask, AuthorizationRow, AuthzStatus, Ending, Finding,
-    LONGEST_CERTIFICATE, Listing, Move, OrderProblem, OrderRow, OrderStatus, Refusal, Sequence,
-    Shows, Verdict, is_same_bytes,
+    AccountRow, AccountStatus, AuthorizationRow, AuthzStatus, Ending, Finding, LONGEST_CERTIFICATE,
+    Listing, Move, OfficeAsk, OrderProblem, OrderRow, OrderStatus, Refusal, Sequence, Shows,
+    Verdict, is_same_bytes,
 };
 use std::alloc::{AllocError, Global};
-use swept_rows::{At, challenge_of};
+use swept_rows::At;
 
 // What the validator found for a challenge (RFC 8555, 8).
 #[tactic(auto, unfolding(desk_model::specs::Verdict::given))]
@@ -26,10 +26,7 @@ fn report_verdict(
 ) -> Result<Verdict, AllocError>
     ensures { IfOk result (λ v. v ≡ report_verdict at.now number finding.now) }
 {
-    let Some((row, status)) = at.owner(number) else {
-        return Ok(refused(alloc, Refusal::NotFound));
-    };
-    let Some(challenge) = challenge_of(row, number) else {
+    let Some((row, status, challenge)) = at.challenge(number) else {
         return Ok(refused(alloc, Refusal::NotFound));
     };
     let wanted = expected(alloc, at, row, challenge)?;
@@ -219,25 +216,25 @@ fn key_verdict(alloc: Global, at: &At, number: u64) -> Verdict
     Verdict::Answers(Shows::Key(number))
 }
 
-/// The verdict on an ask that carries no nonce, by the tables of a book at a moment; newNonce and signed requests,
-/// which are none, are refused as not found.
+/// The verdict on what carries no nonce, by the tables of a book at a moment.
 ///
 /// # Errors
 ///
 /// Where there is no memory for what is recorded or compared.
-pub fn judge_office(alloc: Global, at: &At, ask: &Ask) -> Result<Verdict, AllocError>
+pub fn judge_office(alloc: Global, at: &At, ask: &OfficeAsk) -> Result<Verdict, AllocError>
     ensures { IfOk result (λ v. v ≡ office_verdict at.now ask.now) }
 {
     match ask {
-        Ask::Directory => Ok(Verdict::Answers(Shows::List(Listing::Directory))),
-        Ask::NewNonce { head: _ } | Ask::Signed(_) => Ok(refused(alloc, Refusal::NotFound)),
-        Ask::Report { challenge, finding } => { report_verdict(alloc, at, *challenge, finding) }
-        Ask::Certify { order, bytes } => certify(alloc, at, *order, bytes),
-        Ask::FailOrder { order, problem } => fail_order(alloc, at, *order, problem),
-        Ask::RevokeAuthz(number) => Ok(revoke_authorization_of(alloc, at, *number)),
-        Ask::RevokeAccount(number) => Ok(revoke_account_of(alloc, at, *number)),
-        Ask::ChallengeWork => Ok(Verdict::Answers(Shows::List(Listing::ChallengeWork))),
-        Ask::OrderWork => Ok(Verdict::Answers(Shows::List(Listing::OrderWork))),
-        Ask::KeyOf(number) => Ok(key_verdict(alloc, at, *number)),
+        OfficeAsk::Directory => Ok(Verdict::Answers(Shows::List(Listing::Directory))),
+        OfficeAsk::Report { challenge, finding } => {
+            report_verdict(alloc, at, *challenge, finding)
+        }
+        OfficeAsk::Certify { order, bytes } => certify(alloc, at, *order, bytes),
+        OfficeAsk::FailOrder { order, problem } => fail_order(alloc, at, *order, problem),
+        OfficeAsk::RevokeAuthz(number) => Ok(revoke_authorization_of(alloc, at, *number)),
+        OfficeAsk::RevokeAccount(number) => Ok(revoke_account_of(alloc, at, *number)),
+        OfficeAsk::ChallengeWork => Ok(Verdict::Answers(Shows::List(Listing::ChallengeWork))),
+        OfficeAsk::OrderWork => Ok(Verdict::Answers(Shows::List(Listing::OrderWork))),
+        OfficeAsk::KeyOf(number) => Ok(key_verdict(alloc, at, *number)),
     }
 }

@@ -43,15 +43,15 @@ fn own_order<'a>(at: &'a At, sender: u64, number: u64) -> Option<(&'a OrderRow, 
     }
 }
 
-// An authorization with its status, where it is the sender's own.
-fn own_authorization<'b>(
+// The authorization of a number with its status at a moment, where it is the sender's own.
+fn own_authorization<'a>(
+    at: &'a At,
     sender: u64,
-    found: Option<(&'b AuthorizationRow, AuthzStatus)>,
-) -> Option<(&'b AuthorizationRow, AuthzStatus)>
-    ensures { option_map (λ p. record p.0.now { status = p.1 }) result
-        ≡ own (λ a. a.account) sender (option_map (λ p. record p.0.now { status = p.1 }) found.entry) }
+    number: u64,
+) -> Option<(&'a AuthorizationRow, AuthzStatus)>
+    ensures { option_map (λ p. record p.0.now { status = p.1 }) result ≡ own (λ a. a.account) sender (authorization_on at.now number) }
 {
-    match found {
+    match at.authorization(number) {
         Some((row, status)) => {
             if row.account == sender {
                 return Some((row, status));
@@ -166,7 +166,7 @@ pub(crate) fn authorization_target(
 ) -> Result<Verdict, AllocError>
     ensures { IfOk result (λ v. v ≡ given (own (λ a. a.account) sender (authorization_on at.now number)) Refusal.NotFound (λ a. given (authorization_change payload.now) Refusal.Malformed (authorization_verdict number a))) }
 {
-    let Some((row, status)) = own_authorization(sender, at.authorization(number)) else {
+    let Some((row, status)) = own_authorization(at, sender, number) else {
         return Ok(refused(alloc, Refusal::NotFound));
     };
     match authorization_change(alloc, payload)? {
@@ -186,11 +186,14 @@ pub(crate) fn challenge_target(
 ) -> Result<Verdict, AllocError>
     ensures { IfOk result (λ v. v ≡ given (own (λ a. a.account) sender (owner_on at.now number)) Refusal.NotFound (λ a. given (challenge_change payload.now) Refusal.Malformed (challenge_verdict number a))) }
 {
-    let Some((row, status)) = own_authorization(sender, at.owner(number)) else {
+    let Some((row, status, challenge)) = at.challenge(number) else {
         return Ok(refused(alloc, Refusal::NotFound));
     };
+    if row.account != sender {
+        return Ok(refused(alloc, Refusal::NotFound));
+    }
     match challenge_change(alloc, payload)? {
-        Some(change) => Ok(challenge_verdict(number, row, status, change)),
+        Some(change) => Ok(challenge_verdict(number, status, challenge, change)),
         None => Ok(refused(alloc, Refusal::Malformed)),
     }
 }

@@ -4,6 +4,7 @@ use Rattle.desk_model.specs.declared.refusal.Refusal.{Refusal}
 use Rattle.desk_model.specs.declared.refusal.Refusal.TheVariants as refusal
 use Rattle.desk_model.specs.declared.call.Ask.{Ask}
 use Rattle.desk_model.specs.declared.call.Ask.TheVariants as ask
+use Rattle.desk_model.specs.declared.call.OfficeAsk.TheVariants as asks
 use Rattle.desk_model.specs.declared.call.Signed.{Signed}
 use Rattle.desk_model.specs.declared.call.Target.{Target}
 use Rattle.desk_model.specs.declared.reply.Allow.{Allow}
@@ -29,27 +30,27 @@ IsSignedAsk target text (Some what) = (e : Envelope) × (s : Signed) × IsEnvelo
 
 -- what the validator reports of a challenge
 abbrev pub report_ask : ℕ → List ℕ → Option Ask
-report_ask challenge text = option_map (λ found. ask.Report challenge found) (finding text)
+report_ask challenge text = option_map (λ found. ask.Office (asks.Report challenge found)) (finding text)
 
 -- the certificate of an order: the bytes of the body, as they are
 abbrev pub certify_ask : ℕ → List ℕ → Option Ask
-certify_ask order text = Some (ask.Certify order text)
+certify_ask order text = Some (ask.Office (asks.Certify order text))
 
 -- why the signing office gives an order up
 abbrev pub fail_ask : ℕ → List ℕ → Option Ask
-fail_ask order text = option_map (λ problem. ask.FailOrder order problem) (order_problem text)
+fail_ask order text = option_map (λ problem. ask.Office (asks.FailOrder order problem)) (order_problem text)
 
 abbrev pub office_ask : OfficeResource → List ℕ → Option Ask
-office_ask (office.Key account) text = Some (ask.KeyOf account)
-office_ask office.ChallengeWork text = Some ask.ChallengeWork
-office_ask office.OrderWork text = Some ask.OrderWork
+office_ask (office.Key account) text = Some (ask.Office (asks.KeyOf account))
+office_ask office.ChallengeWork text = Some (ask.Office asks.ChallengeWork)
+office_ask office.OrderWork text = Some (ask.Office asks.OrderWork)
 office_ask (office.Report challenge) text = report_ask challenge text
 office_ask (office.Certify order) text = certify_ask order text
 office_ask (office.FailOrder order) text = fail_ask order text
 
 -- what a request of this method and body asks of a resource; None: the body is none for it
 abbrev pub IsAskOf : Resource → List ℕ → List ℕ → Option Ask → Type 0
-IsAskOf resource.Directory method text asked = asked ≡ Some ask.Directory
+IsAskOf resource.Directory method text asked = asked ≡ Some (ask.Office asks.Directory)
 IsAskOf resource.NewNonce method text asked = asked ≡ Some (ask.NewNonce (bytes_eq method (codes "HEAD")))
 IsAskOf (resource.Signed target) method text asked = IsSignedAsk target text asked
 IsAskOf (resource.Office o) method text asked = asked ≡ office_ask o text

@@ -5,7 +5,7 @@ ghost use Rattle.requests.specs.Request.{IsAskIn, IsAskOf, IsPlace, IsSignedAsk,
 use crate::envelopes::signed_in;
 use crate::offices::{finding, order_problem};
 use crate::routes::{OfficeResource, Resource, methods_of, resource_at, serves};
-use desk_model::{Allow, Ask, Refusal, Reply, Sequence, Target};
+use desk_model::{Allow, Ask, OfficeAsk, Refusal, Reply, Sequence, Target};
 use std::alloc::{AllocError, Global};
 
 /// What a request asks, or the refusal of one that is no call.
@@ -102,7 +102,7 @@ fn ask_of(
     ensures { IfOk result (λ o. IsAskOf resource method.now body.now o) }
 {
     match resource {
-        Resource::Directory => Ok(Some(Ask::Directory)),
+        Resource::Directory => Ok(Some(Ask::Office(OfficeAsk::Directory))),
         Resource::NewNonce => Ok(Some(Ask::NewNonce {
             head: method == "HEAD",
         })),
@@ -130,9 +130,9 @@ fn office_ask(
     ensures { IfOk result (λ o. o ≡ office_ask resource body.now) }
 {
     match resource {
-        OfficeResource::Key(account) => Ok(Some(Ask::KeyOf(account))),
-        OfficeResource::ChallengeWork => Ok(Some(Ask::ChallengeWork)),
-        OfficeResource::OrderWork => Ok(Some(Ask::OrderWork)),
+        OfficeResource::Key(account) => Ok(Some(Ask::Office(OfficeAsk::KeyOf(account)))),
+        OfficeResource::ChallengeWork => Ok(Some(Ask::Office(OfficeAsk::ChallengeWork))),
+        OfficeResource::OrderWork => Ok(Some(Ask::Office(OfficeAsk::OrderWork))),
         OfficeResource::Report(challenge) => report_ask(alloc, challenge, body),
         OfficeResource::Certify(order) => certify_ask(alloc, order, body.as_bytes()),
         OfficeResource::FailOrder(order) => fail_ask(alloc, order, body),
@@ -144,7 +144,7 @@ fn report_ask(alloc: Global, challenge: u64, body: &str) -> Result<Option<Ask>, 
     ensures { IfOk result (λ o. o ≡ report_ask challenge body.now) }
 {
     match finding(alloc, body)? {
-        Some(finding) => Ok(Some(Ask::Report { challenge, finding })),
+        Some(finding) => Ok(Some(Ask::Office(OfficeAsk::Report { challenge, finding }))),
         None => Ok(None),
     }
 }
@@ -155,10 +155,8 @@ fn certify_ask(alloc: Global, order: u64, body: &[u8]) -> Result<Option<Ask>, Al
 {
     let mut bytes = Vec::new(alloc);
     bytes.extend_from_slice(body)?;
-    Ok(Some(Ask::Certify {
-        order,
-        bytes: Sequence::new(bytes),
-    }))
+    let bytes = Sequence::new(bytes);
+    Ok(Some(Ask::Office(OfficeAsk::Certify { order, bytes })))
 }
 
 // Why this order is given up.
@@ -166,7 +164,7 @@ fn fail_ask(alloc: Global, order: u64, body: &str) -> Result<Option<Ask>, AllocE
     ensures { IfOk result (λ o. o ≡ fail_ask order body.now) }
 {
     match order_problem(alloc, body)? {
-        Some(problem) => Ok(Some(Ask::FailOrder { order, problem })),
+        Some(problem) => Ok(Some(Ask::Office(OfficeAsk::FailOrder { order, problem }))),
         None => Ok(None),
     }
 }

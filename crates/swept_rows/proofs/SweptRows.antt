@@ -1,11 +1,13 @@
 -- Rows that are looked up at a moment: those that stand, with their statuses then.
 use Rattle.std.proofs.Common.{◌≡◌, ℕ, Bool, true, false, cond, List, [], ◌∷◌, map, Some, refl, sym, ap, ◌∙◌}
-use Rattle.std.specs.Prelude.{◌==◌, find}
+use Rattle.std.specs.Prelude.{◌==◌, ◌||◌, find, is_some}
+use Rattle.std.specs.List.{list_any}
 use Rattle.std.specs.Option.{option_map}
 use Rattle.desk_model.specs.Tables.{Tables}
 use Rattle.desk_model.specs.Effect.{has_row, is_overdue, falls, swept, swept_authorization, swept_order}
-use Rattle.desk_model.specs.Questions.{authorization_on, order_on, owner_on}
+use Rattle.desk_model.specs.Questions.{authorization_on, challenge_of, order_on, owner_on}
 use Rattle.desk_model.specs.declared.rows.AuthorizationRow.{AuthorizationRow}
+use Rattle.desk_model.specs.declared.rows.ChallengeRow.{ChallengeRow}
 use Rattle.desk_model.specs.declared.rows.OrderRow.{OrderRow}
 use Rattle.desk_model.specs.declared.status.AuthzStatus.{AuthzStatus}
 use Rattle.desk_model.specs.declared.status.AuthzStatus.TheVariants as authz
@@ -88,3 +90,16 @@ order-found m T n row s found is =
     ∙ ap (λ r. Some r) (swept_order-status m T.authorizations row)
     ∙ ap (option_map (swept_order m T.authorizations)) found
     ∙ sym (swept_order_on m T n)
+
+-- an authorization that has a challenge of a number has one to be found
+pub challenge_there : (n : ℕ) (a : AuthorizationRow) → is_some (challenge_of n a) ≡ has_row n a
+challenge_there n a = by a.challenges
+  where
+    by : (cs : List ChallengeRow) → is_some (find (λ c. n == c.number) cs) ≡ list_any (λ c. n == c.number) cs
+    by [] = refl
+    by (c ∷ cs) = one (n == c.number) (by cs)
+      where
+        one : (b : Bool) → is_some (find (λ c. n == c.number) cs) ≡ list_any (λ c. n == c.number) cs →
+            is_some (cond b (Some c) (find (λ c. n == c.number) cs)) ≡ (b || list_any (λ c. n == c.number) cs)
+        one true ih = refl
+        one false ih = ih

@@ -1,12 +1,13 @@
 //! A book at a moment, as rules read it.
-ghost use Rattle.std.specs.Prelude.{◌≡◌, option_copied, option_map};
+ghost use Rattle.std.specs.Prelude.{◌≡◌, option_copied, option_map, Some, None, MatchOption};
 ghost use Rattle.desk_model.specs.Effect.{swept};
-ghost use Rattle.desk_model.specs.Questions.{account_on, account_with_key, authorization_on, order_on, owner_on};
+ghost use Rattle.desk_model.specs.Questions.{account_on, account_with_key, authorization_on, challenge_of, order_on, owner_on};
 
-use crate::standing::{authorization_status, order_status};
+use crate::standing::{authorization_status, challenge_of, order_status};
 use desk_book::Book;
 use desk_model::{
-    AccountRow, AuthorizationRow, AuthzStatus, Counters, OrderRow, OrderStatus, Policy,
+    AccountRow, AuthorizationRow, AuthzStatus, ChallengeRow, Counters, OrderRow, OrderStatus,
+    Policy,
 };
 use std::marker::Model;
 
@@ -81,6 +82,15 @@ impl<'a> At<'a> {
         ensures { option_map (λ p. record p.0.now { status = p.1 }) result ≡ owner_on self.now challenge }
     {
         owner_at(self.book, self.moment, challenge)
+    }
+
+    /// The challenge of a number, behind the authorization that it is of and the status of that one at the moment.
+    pub fn challenge(&self, number: u64) -> Option<(&AuthorizationRow, AuthzStatus, &ChallengeRow)>
+        ensures { MatchOption result (owner_on self.now number ≡ None)
+            (λ p. (owner_on self.now number ≡ Some (record p.0.now { status = p.1 })) × (challenge_of number p.0.now ≡ Some p.2.now)) }
+    {
+        let (row, status) = self.owner(number)?;
+        Some((row, status, challenge_of(row, number)?))
     }
 
     /// The order of a number, with its status at the moment.
