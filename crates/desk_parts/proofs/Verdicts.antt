@@ -16,7 +16,6 @@ use Rattle.desk_model.specs.Kept.{EachOf, Kept, restricted}
 use Rattle.desk_model.specs.Verdict.{check, given}
 use Rattle.desk_model.specs.declared.verdict.Verdict.TheVariants.{Answers as answers, Refused as refused}
 use Rattle.desk_model.specs.declared.verdict.Verdict.{Verdict}
-use Rattle.desk_model.specs.declared.call.Ask.{Ask}
 use Rattle.desk_model.specs.declared.call.Ask.TheVariants as ask
 use Rattle.desk_model.specs.declared.call.OfficeAsk.{OfficeAsk}
 use Rattle.desk_model.specs.declared.call.OfficeAsk.TheVariants as office
