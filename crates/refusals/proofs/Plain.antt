@@ -1,16 +1,16 @@
 -- The documents of refusals: their shapes, and that they hold no float.
-use Rattle.std.proofs.Common.{◌≡◌, ℕ, List, [], ◌∷◌, ◌++◌, map, codes, false, refl, ap}
+use Rattle.std.proofs.Common.{◌≡◌, List, [], ◌∷◌, ◌++◌, map, codes, false, refl, ap}
 use Rattle.std.specs.Prelude.{◌||◌}
-use Rattle.serde_json.specs.Data.{string, unsigned}
+use Rattle.serde_json.specs.Data.{Members, object, put, string, unsigned}
 use Rattle.serde_json.specs.Data as json
 use Rattle.serde_json.specs.View.{items_of}
 use Rattle.serde_json.specs.Written.{has_float, items_have_float}
 use Rattle.desk_model.specs.declared.refusal.Refusal.{Refusal}
-use Rattle.desk_model.specs.Json.{document}
+use Rattle.desk_model.specs.Json.{document, list, members}
 use Rattle.desk_model.specs.Refusals.{refusal_of, error_type, problem_document, subproblem_document, subproblem_members}
 use Rattle.desk_model.specs.declared.reply.Problem.{Problem}
 use Rattle.desk_model.specs.declared.reply.Subproblem.{Subproblem}
-use Rattle.refusals.specs.Problems.{joint_document, lone_document}
+use Rattle.refusals.specs.Problems.{refusal_members, with_subproblems}
 
 -- a document of a refusal by its why and its subproblems
 abbrev shaped : Refusal → List Subproblem → json.Data
@@ -23,20 +23,24 @@ shaped why subproblems =
     ∷ [])
     )
 
--- with subproblems, it lists them
-joint : (why : Refusal) (subproblems : List Subproblem) → (subproblems ≡ [] → ⊥) → joint_document why subproblems ≡ shaped why subproblems
-joint why [] some = absurd (some refl)
-joint why (s ∷ rest) some = refl
+-- the status and the subproblems stand in the order of names
+members_by : (subproblems : List Subproblem) (detail status kind : json.Data) →
+    with_subproblems subproblems (put (codes "status") status (members ((codes "detail", detail) ∷ (codes "type", kind) ∷ [])))
+    ≡ members ((codes "detail", detail) ∷ (codes "status", status) ∷ (subproblem_members subproblems ++ (codes "type", kind) ∷ []))
+members_by [] detail status kind = refl
+members_by (s ∷ rest) detail status kind = refl
 
-pub joint-problem : (p : Problem) → (p.subproblems ≡ [] → ⊥) → joint_document p.refusal p.subproblems ≡ problem_document p
-joint-problem p some = joint p.refusal p.subproblems some
+-- they make the document of a refusal
+pub problem-members : (p : Problem) →
+    object (with_subproblems p.subproblems (put (codes "status") (json.number (unsigned (refusal_of p.refusal).status)) (members (refusal_members p.refusal))))
+    ≡ problem_document p
+problem-members p = ap object (members_by p.subproblems _ _ _)
 
--- without, it has no such member
-lone : (why : Refusal) (subproblems : List Subproblem) → subproblems ≡ [] → lone_document why ≡ shaped why subproblems
-lone why subproblems none = rw none refl
-
-pub lone-problem : (p : Problem) → p.subproblems ≡ [] → lone_document p.refusal ≡ problem_document p
-lone-problem p none = lone p.refusal p.subproblems none
+-- where there are some, they are put
+pub some_put : (subproblems : List Subproblem) (others : Members) → (subproblems ≡ [] → ⊥) →
+    put (codes "subproblems") (list (map subproblem_document subproblems)) others ≡ with_subproblems subproblems others
+some_put [] others some = absurd (some refl)
+some_put (s ∷ rest) others some = refl
 
 -- no document of a refused identifier holds a float
 subproblems_plain : (subproblems : List Subproblem) → items_have_float (items_of (map subproblem_document subproblems)) ≡ false

@@ -1,12 +1,13 @@
 //! The JSON documents of refusals (RFC 7807, RFC 8555, 6.7).
-ghost use Rattle.std.specs.Prelude.{◌≡◌, IfOk, map, string_bytes};
-ghost use Rattle.serde_json.specs.View.{view};
-ghost use Rattle.desk_model.specs.Json.{list};
+ghost use Rattle.std.specs.Prelude.{◌≡◌, IfOk, OnOk, map};
+ghost use Rattle.serde_json.specs.Data.{string};
+ghost use Rattle.serde_json.specs.View.{view, members_view};
+ghost use Rattle.desk_model.specs.Json.{list, members};
 ghost use Rattle.desk_model.specs.Refusals.{refusal_of, error_type, problem_document, subproblem_document};
-ghost use Rattle.refusals.specs.Problems.{joint_document, lone_document};
+ghost use Rattle.refusals.specs.Problems.{identifier, refusal_members, with_subproblems};
 
 use desk_model::{Document, Problem, Refusal, Subproblem};
-use serde_json::{Value, json};
+use serde_json::{Map, Value, json, put};
 use std::alloc::{AllocError, Global};
 
 /// The document of a refusal (RFC 7807).
@@ -21,41 +22,42 @@ pub fn problem_document(alloc: Global, problem: &Problem) -> Result<Document, Al
     Ok(Document::new(value))
 }
 
-// The JSON value of a refusal, by whether it lists refused identifiers.
+// The JSON value of a refusal.
 fn problem_value(alloc: Global, problem: &Problem) -> Result<Value, AllocError>
     ensures { IfOk result (λ v. view v ≡ problem_document problem.now) }
 {
-    let subproblems = problem.subproblems.as_slice();
-    if subproblems.is_empty() {
-        lone_problem(alloc, problem.refusal)
-    } else {
-        joint_problem(alloc, problem.refusal, subproblems)
-    }
+    let mut members = refusal_members(alloc, problem.refusal)?;
+    let status = Value::from(problem.refusal.status());
+    put(&mut members, alloc, "status", status)?;
+    put_subproblems(&mut members, alloc, problem.subproblems.as_slice())?;
+    Ok(Value::Object(members))
 }
 
-// The document of a refusal without refused identifiers.
-fn lone_problem(alloc: Global, refusal: Refusal) -> Result<Value, AllocError>
-    ensures { IfOk result (λ v. view v ≡ lone_document refusal) }
+// The members that refusals and refused identifiers share.
+fn refusal_members(alloc: Global, refusal: Refusal) -> Result<Map<String, Value>, AllocError>
+    ensures { IfOk result (λ m. members_view m.entries ≡ members (refusal_members refusal)) }
 {
-    let detail = refusal.detail();
-    let status = refusal.status();
+    let mut members = Map::new(alloc);
+    let detail = Value::try_from_str(alloc, refusal.detail())?;
+    put(&mut members, alloc, "detail", detail)?;
     let kind = error_type(alloc, refusal)?;
-    json!(in alloc; {"detail": detail, "status": status, "type": kind})
+    put(&mut members, alloc, "type", kind)?;
+    Ok(members)
 }
 
-// The document of a refusal with refused identifiers (RFC 8555, 6.7.1).
-fn joint_problem(
+// Adds the refused identifiers, where there are any (RFC 8555, 6.7.1).
+fn put_subproblems(
+    members: &mut Map<String, Value>,
     alloc: Global,
-    refusal: Refusal,
     subproblems: &[Subproblem],
-) -> Result<Value, AllocError>
-    ensures { IfOk result (λ v. view v ≡ joint_document refusal subproblems.now) }
+) -> Result<(), AllocError>
+    ensures { OnOk result (members_view members.new.entries ≡ with_subproblems subproblems.now (members_view members.old.entries)) }
 {
-    let detail = refusal.detail();
-    let status = refusal.status();
-    let subproblems = subproblem_list(alloc, subproblems)?;
-    let kind = error_type(alloc, refusal)?;
-    json!(in alloc; {"detail": detail, "status": status, "subproblems": subproblems, "type": kind})
+    if subproblems.is_empty() {
+        return Ok(());
+    }
+    let list = subproblem_list(alloc, subproblems)?;
+    put(members, alloc, "subproblems", list)
 }
 
 // The list of the documents of refused identifiers.
@@ -73,16 +75,23 @@ fn subproblem_list(alloc: Global, subproblems: &[Subproblem]) -> Result<Value, A
 fn subproblem_document(alloc: Global, subproblem: &Subproblem) -> Result<Value, AllocError>
     ensures { IfOk result (λ v. view v ≡ subproblem_document subproblem.now) }
 {
-    let detail = subproblem.refusal.detail();
-    let kind = subproblem.kind.as_str();
-    let value = subproblem.value.as_str();
-    let error = error_type(alloc, subproblem.refusal)?;
-    json!(in alloc; {"detail": detail, "identifier": {"type": kind, "value": value}, "type": error})
+    let mut members = refusal_members(alloc, subproblem.refusal)?;
+    let identifier = identifier(alloc, subproblem.kind.as_str(), subproblem.value.as_str())?;
+    put(&mut members, alloc, "identifier", identifier)?;
+    Ok(Value::Object(members))
+}
+
+// An identifier as it was received.
+fn identifier(alloc: Global, kind: &str, value: &str) -> Result<Value, AllocError>
+    ensures { IfOk result (λ v. view v ≡ identifier kind.now value.now) }
+{
+    json!(in alloc; {"type": kind, "value": value})
 }
 
 // The error type of a refusal (RFC 8555, 6.7).
-fn error_type(alloc: Global, refusal: Refusal) -> Result<String, AllocError>
-    ensures { IfOk result (λ s. string_bytes s ≡ error_type (refusal_of refusal).error_type) }
+fn error_type(alloc: Global, refusal: Refusal) -> Result<Value, AllocError>
+    ensures { IfOk result (λ v. view v ≡ string (error_type (refusal_of refusal).error_type)) }
 {
-    format!(in alloc; "urn:ietf:params:acme:error:{}", refusal.error_type())
+    let kind = format!(in alloc; "urn:ietf:params:acme:error:{}", refusal.error_type())?;
+    Ok(Value::String(kind))
 }

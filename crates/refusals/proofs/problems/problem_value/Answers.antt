@@ -1,18 +1,18 @@
-use Rattle.std.proofs.Common.{◌≡◌, [], ◌∙◌, ap, arith}
-use Rattle.std.proofs.lemmas.Grind.{common_steps}
-use Rattle.std.proofs.lemmas.Result.{IfOk-weaker}
-use Rattle.refusals.proofs.Plain.{joint-problem, lone-problem}
-use Rattle.refusals.specs.Problems.{joint_document}
+use Rattle.std.proofs.Common.{ap, codes, ◌∙◌}
+use Rattle.serde_json.specs.Data.{object, put, unsigned}
+use Rattle.serde_json.specs.Data as json
+use Rattle.serde_json.specs.View.{members_view}
+use Rattle.serde_json.proofs.Views.{view-Object}
+use Rattle.refusals.specs.Problems.{with_subproblems}
+use Rattle.refusals.proofs.Plain.{problem-members}
 use Rattle.refusals.proofs.problems.problem_value.Goals as goal
 
-pub returns-then-is_empty : goal.returns-then-is_empty
-returns-then-is_empty c =
-    let none : c.args.problem.now.subproblems ≡ [] = grind (arith, common_steps) in
-    IfOk-weaker c.lone_problem.result _ _ (λ v h. h ∙ lone-problem c.args.problem.now none) c.lone_problem.ensures
-
-pub returns-else-is_empty : goal.returns-else-is_empty
-returns-else-is_empty c =
-    let some : c.args.problem.now.subproblems ≡ [] → ⊥ = grind (arith, common_steps) in
-    IfOk-weaker c.joint_problem.result _ _
-    (λ v h. h ∙ ap (λ l. joint_document c.args.problem.now.refusal l) c.as_slice-subproblems.ensures ∙ joint-problem c.args.problem.now some)
-    c.joint_problem.ensures
+pub returns : goal.returns
+returns c =
+    view-Object c.put_subproblems.new.members
+    ∙ ap object (c.in_ok-put_subproblems.ensures
+    ∙ ap (λ l. with_subproblems l (members_view c.put.new.map.entries)) c.as_slice.ensures
+    ∙ ap (with_subproblems c.args.problem.now.subproblems) (c.in_ok-put.ensures.ok
+    ∙ ap (λ d. put (codes "status") d (members_view c.in_ok-members.members.entries)) (c.from-status.ensures ∙ ap (λ n. json.number (unsigned n)) c.status.ensures)
+    ∙ ap (put (codes "status") _) c.in_ok-members.ensures))
+    ∙ problem-members c.args.problem.now
