@@ -125,18 +125,22 @@ fn fields_text(alloc: Global, fields: &Fields) -> Result<String, AllocError>
     let mut text = String::new(alloc);
     push_two(&mut text, fields.year / 100 % 100)?;
     push_two(&mut text, fields.year % 100)?;
-    text.push('-')?;
-    push_two(&mut text, u16::from(fields.month))?;
-    text.push('-')?;
-    push_two(&mut text, u16::from(fields.day))?;
-    text.push('T')?;
-    push_two(&mut text, u16::from(fields.hour))?;
-    text.push(':')?;
-    push_two(&mut text, u16::from(fields.minute))?;
-    text.push(':')?;
-    push_two(&mut text, u16::from(fields.second))?;
+    push_after(&mut text, '-', fields.month)?;
+    push_after(&mut text, '-', fields.day)?;
+    push_after(&mut text, 'T', fields.hour)?;
+    push_after(&mut text, ':', fields.minute)?;
+    push_after(&mut text, ':', fields.second)?;
     text.push('Z')?;
     Ok(text)
+}
+
+// A mark and two decimal digits at the end of a text.
+fn push_after(text: &mut String, mark: char, n: u8) -> Result<(), AllocError>
+    requires { mark < 128 }
+    ensures { IfOk result (λ _. string_bytes text.new ≡ string_bytes text.old ++ mark ∷ two_digits n) }
+{
+    text.push(mark)?;
+    push_two(text, u16::from(n))
 }
 
 // Two decimal digits at the end of a text.
@@ -144,8 +148,7 @@ fn push_two(text: &mut String, n: u16) -> Result<(), AllocError>
     ensures { IfOk result (λ _. string_bytes text.new ≡ string_bytes text.old ++ two_digits n) }
 {
     text.push(digit(n / 10 % 10))?;
-    text.push(digit(n % 10))?;
-    Ok(())
+    text.push(digit(n % 10))
 }
 
 // A decimal digit.
