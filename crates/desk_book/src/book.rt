@@ -188,26 +188,14 @@ impl Book {
                 self.meta = meta;
                 Ok(())
             }
-            Change::PutNonce(row) => {
-                self.nonces.put(row)?;
-                Ok(())
-            }
+            Change::PutNonce(row) => self.nonces.put(row),
             Change::RemoveNonce(serial) => {
                 self.nonces.remove(serial);
                 Ok(())
             }
-            Change::PutAccount(row) => {
-                self.accounts.put(row)?;
-                Ok(())
-            }
-            Change::PutAuthorization(row) => {
-                self.authorizations.put(row)?;
-                Ok(())
-            }
-            Change::PutOrder(row) => {
-                self.orders.put(row)?;
-                Ok(())
-            }
+            Change::PutAccount(row) => self.accounts.put(row),
+            Change::PutAuthorization(row) => self.authorizations.put(row),
+            Change::PutOrder(row) => self.orders.put(row),
         }
     }
 }
