@@ -24,11 +24,8 @@ pub fn thumbprint(key: &Jwk) -> [u8; 32]
 pub fn key_authorization(alloc: Global, token: &str, thumb: &[u8; 32]) -> Result<String, AllocError>
     ensures { IfOk result (λ t. string_bytes t ≡ authorization_of token.now thumb.now) }
 {
-    let mut text = String::from_str(alloc, token)?;
-    text.push('.')?;
     let digest = url_safe(alloc, thumb)?;
-    text.push_str(digest.as_str())?;
-    Ok(text)
+    format!(in alloc; "{token}.{digest}")
 }
 
 /// What a TXT record has to hold for a key authorization (RFC 8555, 8.4).
