@@ -1,65 +1,49 @@
--- Fifty names, ten at a time: a name is expensive to compute.
-use Rattle.std.specs.Prelude.{◌≡◌, refl, ℕ, ◌+◌, List, [], ◌∷◌, ◌++◌, map, Option, Some}
-use Rattle.std.proofs.Common.{ap, ◌∙◌}
+-- Fifty names, each of them plain.
+use Rattle.std.specs.Prelude.{◌≡◌, refl, ℕ, Bool, true, not, ◌&&◌, ◌==◌, List, [], ◌∷◌, map, Option, Some}
+use Rattle.std.specs.Cmp.Lexicographic.{bytes_decides}
+use Rattle.std.specs.List.{list_all, list_any}
+use Rattle.std.proofs.Common.{ap, ◌∙◌, bytes_eq}
+use Rattle.std.proofs.lemmas.Bool.{and_parts, not-true}
+use Rattle.desk_model.specs.BaseName.{is_base_name}
+use Rattle.desk_model.specs.Names.{name_of}
 use Rattle.desk_model.specs.declared.refusal.Refusal.TheVariants as refusal
 use Rattle.desk_model.specs.Rules.{subproblems, names_in, kept, wanted, order_of, new_order_verdict}
 use Rattle.desk_model.specs.Verdict.{check, given}
 use Rattle.desk_model.specs.declared.verdict.Verdict.TheVariants.{Orders as orders}
-use Rattle.desk_model.specs.Tables.{Tables}
 use Rattle.desk_model.specs.Name.{Name}
 use Rattle.desk_model.specs.declared.entry.Wanted.{Wanted}
 use Rattle.desk_model.specs.declared.payload.Identifier.{Identifier}
 use Rattle.desk_model.specs.declared.reply.Subproblem.{Subproblem}
 use Rattle.desk_examples.proofs.Computing.{computing}
-use Rattle.desk_examples.proofs.Naming.{naming}
+use Rattle.desk_examples.proofs.PlainNames.{is_marked, is_plain, lowered, plain_name}
 use Rattle.desk_examples.specs.Calls.{simple, zeros}
-use Rattle.desk_examples.specs.Fifty.{names_from, names, identifier, AreNames, FiftyIdentifiers, FiftyFaultless, FiftyTaken, FiftyKept, FiftyWanted, FiftyOrdered}
+use Rattle.desk_examples.specs.Fifty.{names, identifier, AreNames, FiftyIdentifiers, FiftyFaultless, FiftyTaken, FiftyKept, FiftyWanted, FiftyOrdered}
 
--- ten names, numbered from here
-abbrev Ten : ℕ → Type 0
-Ten start = AreNames (names_from start 10)
+-- the text is plain, and a name in its own spelling
+abbrev is_simple : List ℕ → Bool
+is_simple text =
+    is_plain text && (not (is_marked text) && (not (list_any (λ c. c == 42) text) && (bytes_eq (lowered text) text && is_base_name text)))
 
--- the first ten names
-to_ten : Ten 1
-unfolding computing naming
-to_ten = (refl, (refl, (refl, (refl, (refl, (refl, (refl, (refl, (refl, (refl, tt))))))))))
+-- such a text is the name's base
+simple_name : (text : List ℕ) → is_simple text ≡ true → name_of text ≡ Some (simple text)
+simple_name text h =
+    let plain = and_parts (is_plain text) _ h in
+    let unmarked' = and_parts (not (is_marked text)) _ plain.1 in
+    let unstarred = and_parts (not (list_any (λ c. c == 42) text)) _ unmarked'.1 in
+    let lower = and_parts (bytes_eq (lowered text) text) _ unstarred.1 in
+    let same : lowered text ≡ text = (bytes_decides _ _).0 lower.0 in
+    let none = not-true (is_marked text) unmarked'.0 in
+    plain_name text (rw none plain.0) ∙ rw (none, not-true _ unstarred.0, same, lower.1) refl
 
--- the second ten
-to_twenty : Ten 11
-unfolding computing naming
-to_twenty = (refl, (refl, (refl, (refl, (refl, (refl, (refl, (refl, (refl, (refl, tt))))))))))
-
--- the third ten
-to_thirty : Ten 21
-unfolding computing naming
-to_thirty = (refl, (refl, (refl, (refl, (refl, (refl, (refl, (refl, (refl, (refl, tt))))))))))
-
--- the fourth ten
-to_forty : Ten 31
-unfolding computing naming
-to_forty = (refl, (refl, (refl, (refl, (refl, (refl, (refl, (refl, (refl, (refl, tt))))))))))
-
--- the last ten
-to_fifty : Ten 41
-unfolding computing naming
-to_fifty = (refl, (refl, (refl, (refl, (refl, (refl, (refl, (refl, (refl, (refl, tt))))))))))
-
--- names and more names
-and_more : (xs ys : List (List ℕ)) → AreNames xs → AreNames ys → AreNames (xs ++ ys)
-and_more [] ys h k = k
-and_more (x ∷ xs) ys h k = (h.0, and_more xs ys h.1 k)
-
--- the last twenty
-after_thirty : AreNames (names_from 31 20)
-after_thirty = and_more (names_from 31 10) (names_from 41 10) to_forty to_fifty
-
--- the last forty
-after_ten : AreNames (names_from 11 40)
-after_ten = and_more (names_from 11 10) (names_from 21 30) to_twenty (and_more (names_from 21 10) (names_from 31 20) to_thirty after_thirty)
+-- such texts are names
+are_names : (xs : List (List ℕ)) → list_all is_simple xs ≡ true → AreNames xs
+are_names [] h = tt
+are_names (x ∷ xs) h = let parts = and_parts (is_simple x) _ h in (simple_name x parts.0, are_names xs parts.1)
 
 -- the fifty names
 pub all_fifty : AreNames (names 50)
-all_fifty = and_more (names_from 1 10) (names_from 11 40) to_ten after_ten
+unfolding computing
+all_fifty = are_names (names 50) refl
 
 -- identifiers of names are not faulty
 pub no_subproblems : (xs : List (List ℕ)) → AreNames xs → subproblems (map identifier xs) ≡ []

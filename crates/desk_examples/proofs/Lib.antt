@@ -18,6 +18,7 @@ pub mod Naming
 pub mod Offices
 pub mod Orders
 pub mod Payloads
+pub mod PlainNames
 pub mod Problems
 pub mod Refused
 pub mod Rows

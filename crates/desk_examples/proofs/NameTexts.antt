@@ -1,47 +1,40 @@
 -- Which texts are names, and of what (RFC 8555, 7.1.3, 7.1.4; UTS 46).
 use Rattle.std.specs.Prelude.{refl}
 use Rattle.desk_examples.proofs.Naming.{naming}
+use Rattle.desk_examples.proofs.PlainNames.{plain_name}
 use Rattle.desk_examples.specs.NameTexts.{Star, TwoStars, StarWithin, StarOfNothing, NoText, EmptyLabel, FinalDot, Address, FalsePunycode, OneLabel, WildcardOfLabel, HyphenInFront, HyphenAtEnd, LowLine, LongLabel, LongName, LongestLabel, LongestName, LongestWildcard, UpperCase, Books, IdeographicStop, InnerHyphens, DigitsInFront, WildcardShown}
 
 -- a star alone
 pub star : Star
-unfolding naming
-star = refl
+star = plain_name _ refl
 
 -- a star behind the first
 pub two_stars : TwoStars
-unfolding naming
-two_stars = refl
+two_stars = plain_name _ refl
 
 -- a star within a label
 pub star_within : StarWithin
-unfolding naming
-star_within = refl
+star_within = plain_name _ refl
 
 -- a star with nothing behind it
 pub star_of_nothing : StarOfNothing
-unfolding naming
-star_of_nothing = refl
+star_of_nothing = plain_name _ refl
 
 -- no text
 pub no_text : NoText
-unfolding naming
-no_text = refl
+no_text = plain_name _ refl
 
 -- an empty label
 pub empty_label : EmptyLabel
-unfolding naming
-empty_label = refl
+empty_label = plain_name _ refl
 
 -- a full stop at the end
 pub final_dot : FinalDot
-unfolding naming
-final_dot = refl
+final_dot = plain_name _ refl
 
 -- an address
 pub address : Address
-unfolding naming
-address = refl
+address = plain_name _ refl
 
 -- a label that claims to be Punycode and is not
 pub false_punycode : FalsePunycode
@@ -50,58 +43,47 @@ false_punycode = refl
 
 -- a label alone
 pub one_label : OneLabel
-unfolding naming
-one_label = refl
+one_label = plain_name _ refl
 
 -- a label alone below a wildcard
 pub wildcard_of_label : WildcardOfLabel
-unfolding naming
-wildcard_of_label = refl
+wildcard_of_label = plain_name _ refl
 
 -- a hyphen in front
 pub hyphen_in_front : HyphenInFront
-unfolding naming
-hyphen_in_front = refl
+hyphen_in_front = plain_name _ refl
 
 -- a hyphen at the end of a label
 pub hyphen_at_end : HyphenAtEnd
-unfolding naming
-hyphen_at_end = refl
+hyphen_at_end = plain_name _ refl
 
 -- a character that no host name has
 pub low_line : LowLine
-unfolding naming
-low_line = refl
+low_line = plain_name _ refl
 
 -- a label of 64 bytes
 pub long_label : LongLabel
-unfolding naming
-long_label = refl
+long_label = plain_name _ refl
 
 -- 254 bytes
 pub long_name : LongName
-unfolding naming
-long_name = refl
+long_name = plain_name _ refl
 
 -- a label of 63 bytes
 pub longest_label : LongestLabel
-unfolding naming
-longest_label = refl
+longest_label = plain_name _ refl
 
 -- 253 bytes
 pub longest_name : LongestName
-unfolding naming
-longest_name = refl
+longest_name = plain_name _ refl
 
 -- the mark of a wildcard does not count
 pub longest_wildcard : LongestWildcard
-unfolding naming
-longest_wildcard = refl
+longest_wildcard = plain_name _ refl
 
 -- upper case is lowered
 pub upper_case : UpperCase
-unfolding naming
-upper_case = refl
+upper_case = plain_name _ refl
 
 -- `*.Bücher.example`
 pub books : Books
@@ -115,13 +97,11 @@ ideographic_stop = refl
 
 -- hyphens in the third and fourth place
 pub inner_hyphens : InnerHyphens
-unfolding naming
-inner_hyphens = refl
+inner_hyphens = plain_name _ refl
 
 -- digits in all labels but the last
 pub digits_in_front : DigitsInFront
-unfolding naming
-digits_in_front = refl
+digits_in_front = plain_name _ refl
 
 -- the text of a wildcard
 pub wildcard_shown : WildcardShown
