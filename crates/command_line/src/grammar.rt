@@ -8,6 +8,29 @@ use std::alloc::{AllocError, Global};
 // The statuses of an order (RFC 8555, 7.1.6).
 const ORDER_STATUSES: &[&str] = &["pending", "ready", "processing", "valid", "invalid"];
 
+// What the program does, a word each.
+#[derive(Clone, Copy)]
+enum Task {
+    Make,
+    Serve,
+    Batch,
+    Status,
+    Check,
+    RevokeAuthorization,
+    RevokeAccount,
+}
+
+// The tasks, as help lists them.
+const TASKS: &[Task] = &[
+    Task::Make,
+    Task::Serve,
+    Task::Batch,
+    Task::Status,
+    Task::Check,
+    Task::RevokeAuthorization,
+    Task::RevokeAccount,
+];
+
 // An option that takes a value.
 fn option<'a>(alloc: Global, id: &'a str, value: &'a str, help: &'a str) -> Arg<'a> {
     Arg::new(alloc, id)
@@ -155,6 +178,14 @@ fn check<'a>(alloc: Global) -> Result<Command<'a>, AllocError> {
     ))
 }
 
+// The number of what is revoked.
+fn number<'a>(alloc: Global) -> Arg<'a> {
+    required(alloc, "N", "its number, 1 to 2^62").value_parser(ValueParser::unsigned(
+        1,
+        LAST_NUMBER,
+    ))
+}
+
 // A word that revokes what has a number.
 fn revoke<'a>(
     alloc: Global,
@@ -162,11 +193,7 @@ fn revoke<'a>(
     about: &'a str,
     after: &'a str,
 ) -> Result<Command<'a>, AllocError> {
-    let number = required(alloc, "N", "its number, 1 to 2^62");
-    word_on_file(alloc, name, about, after)?.arg(number.value_parser(ValueParser::unsigned(
-        1,
-        LAST_NUMBER,
-    )))
+    word_on_file(alloc, name, about, after)?.arg(number(alloc))
 }
 
 fn revoke_authorization<'a>(alloc: Global) -> Result<Command<'a>, AllocError> {
@@ -177,6 +204,19 @@ fn revoke_authorization<'a>(alloc: Global) -> Result<Command<'a>, AllocError> {
 fn revoke_account<'a>(alloc: Global) -> Result<Command<'a>, AllocError> {
     let about = "Revokes an account";
     revoke(alloc, "revoke-account", about, help::REVOKE_ACCOUNT)
+}
+
+// The command of a task.
+fn command<'a>(alloc: Global, task: Task) -> Result<Command<'a>, AllocError> {
+    match task {
+        Task::Make => make(alloc),
+        Task::Serve => serve(alloc),
+        Task::Batch => batch(alloc),
+        Task::Status => status(alloc),
+        Task::Check => check(alloc),
+        Task::RevokeAuthorization => revoke_authorization(alloc),
+        Task::RevokeAccount => revoke_account(alloc),
+    }
 }
 
 // The command with one word more.
@@ -194,14 +234,11 @@ fn with<'a>(
 /// Where a growth was refused.
 pub(crate) fn desk<'a>(alloc: Global) -> Result<Command<'a>, AllocError> {
     let about = "The order desk of an ACME certificate authority (RFC 8555)";
-    let desk = word(alloc, "desk", about, help::DESK)
+    let mut desk = word(alloc, "desk", about, help::DESK)
         .version(help::VERSION)
         .subcommand_required(true);
-    let desk = with(desk, make(alloc))?;
-    let desk = with(desk, serve(alloc))?;
-    let desk = with(desk, batch(alloc))?;
-    let desk = with(desk, status(alloc))?;
-    let desk = with(desk, check(alloc))?;
-    let desk = with(desk, revoke_authorization(alloc))?;
-    with(desk, revoke_account(alloc))
+    for &task in TASKS {
+        desk = with(desk, command(alloc, task))?;
+    }
+    Ok(desk)
 }

@@ -88,6 +88,18 @@ fn asked<'a>(
     }
 }
 
+// What the words ask for by a command that knows them.
+fn read_by<'a>(
+    alloc: Global,
+    command: &mut Command<'a>,
+    words: &'a [String],
+) -> Result<Order<'a>, WordsFault> {
+    match command.try_get_matches_from_mut(words) {
+        Ok(matches) => asked(alloc, command, &matches),
+        Err(error) => Err(WordsFault::of(alloc, &error)),
+    }
+}
+
 /// What the words of a command line ask for, of which the first is the program's name.
 ///
 /// # Errors
@@ -96,8 +108,5 @@ fn asked<'a>(
 /// was refused.
 pub fn read_words<'a>(alloc: Global, words: &'a [String]) -> Result<Order<'a>, WordsFault> {
     let mut command = desk(alloc)?;
-    match command.try_get_matches_from_mut(words) {
-        Ok(matches) => asked(alloc, &mut command, &matches),
-        Err(error) => Err(WordsFault::of(alloc, &error)),
-    }
+    read_by(alloc, &mut command, words)
 }
