@@ -6,9 +6,8 @@ use crate::reporting::{CheckStatuses, ListOrders};
 use crate::revoking::Revoke;
 use command_line::{Order, Terms, WordsFault, read_words};
 use desk_calls::{Desk, DeskFault, Memory};
-use desk_files::make;
 use desk_model::{Clock, Policy};
-use file_tasks::run_over_file;
+use file_tasks::{make_desk, run_over_file};
 use std::alloc::Global;
 use std::io::{Read, Write};
 
@@ -135,7 +134,7 @@ fn make_file<W: Write>(
     out: &mut W,
 ) -> Result<u8, Fault> {
     let policy = policy(rt.alloc(), terms)?;
-    make(rt, file, policy)?;
+    make_desk(rt, file, policy)?;
     match writeln!(out, "made") {
         Ok(()) => Ok(0),
         Err(_) => Err(Fault::Output),

@@ -7,9 +7,9 @@ use desk_storage::StorageFault;
 use desk_store::OpenFault;
 use sqlite::{Error, ErrorCode};
 
-pub(crate) const MEMORY: OpenFault = OpenFault::Storage(StorageFault::Memory);
+const MEMORY: OpenFault = OpenFault::Storage(StorageFault::Memory);
 
-pub(crate) const DEVICE: OpenFault = OpenFault::Storage(StorageFault::Device);
+const DEVICE: OpenFault = OpenFault::Storage(StorageFault::Device);
 
 /// The fault of files that the engine does not open. Those that it calls corrupt, or whose rows break their schema (a foreign
 /// key to no row, say), are no desk's.

@@ -1,61 +1,66 @@
-//! A task by the store of a file.
-use crate::tasks::{Tables, Task};
-use desk_files::{DeskFile, close, open};
+//! The desk of the file at a path, and its log beside it.
+use desk_files::{close_from, make_from, open_from};
+use desk_model::{Clock, Policy};
+use desk_storage::StorageFault;
 use desk_store::{OpenFault, Store};
-use reports::{Form, OrderFilter, ReportFault};
-use std::alloc::Global;
-use std::io::Write;
+use sqlite::{FileFrom, FileStore, Wary};
+use std::fs;
+use std::io::ErrorKind;
 
-impl Tables for Store<DeskFile> {
-    fn list_orders<W: Write>(
-        &mut self,
-        alloc: Global,
-        out: &mut W,
-        form: Form,
-        filter: OrderFilter,
-    ) -> Result<(), ReportFault> {
-        reports::list_orders(alloc, self, out, form, filter)
-    }
+/// What the engine keeps of a file. It takes nothing for granted of bytes whose write was cut off.
+pub(crate) type DeskFile = FileStore<FileFrom<Wary>>;
 
-    fn list_faults<W: Write>(
-        &mut self,
-        alloc: Global,
-        out: &mut W,
-        form: Form,
-    ) -> Result<bool, ReportFault> {
-        reports::list_faults(alloc, self, out, form)
-    }
-
-    fn end(self) -> Result<(), OpenFault> {
-        close(self)
+// Whether there is a file with bytes at the path.
+fn holds_bytes(rt: &HostRuntime, path: &str) -> Result<bool, OpenFault> {
+    match fs::metadata(rt, path) {
+        Ok(found) => Ok(found.len() > 0),
+        Err(error) => match error.kind() {
+            ErrorKind::NotFound => Ok(false),
+            ErrorKind::OutOfMemory => Err(OpenFault::Storage(StorageFault::Memory)),
+            _ => Err(OpenFault::Storage(StorageFault::Device)),
+        },
     }
 }
 
-/// Opens the desk of a file, does a task with its store, closes it, and gives the exit status.
+/// Makes a desk with a policy, at moment 0, in a new file.
 ///
 /// # Errors
 ///
-/// The task's own, and those of opening and closing the file; where the task gives another exit status than 0, closing
-/// adds no fault.
-pub fn run_over_file<T: Task + Drop>(rt: &HostRuntime, file: &str, task: T) -> Result<u8, T::Fault>
-where
-    T::Fault: From<OpenFault>,
-{
-    let mut task = task;
-    match open(rt, file) {
-        Ok(store) => run_over(store, &mut task),
-        Err(fault) => Err(T::Fault::from(fault)),
+/// `NotADesk` where there is a file with bytes at the path, `Storage` where the file or its store failed.
+pub fn make_desk(rt: &HostRuntime, path: &str, policy: Policy) -> Result<(), OpenFault> {
+    if holds_bytes(rt, path)? {
+        return Err(OpenFault::NotADesk);
+    }
+    match make_from(rt, path, Wary, policy, Clock::at(0)) {
+        Ok(store) => close(store),
+        Err(unmade) => Err(unmade.fault),
     }
 }
 
-// Does a task by a store, and closes it.
-fn run_over<K: Tables + Drop, T: Task>(store: K, task: &mut T) -> Result<u8, T::Fault>
-where
-    T::Fault: From<OpenFault>,
-{
-    let (store, status) = task.run(store)?;
-    match store.end() {
-        Err(fault) if status == 0 => Err(T::Fault::from(fault)),
-        _ => Ok(status),
+/// Opens the desk that a file holds.
+///
+/// # Errors
+///
+/// `NotADesk` where the file is missing or empty, or holds no desk, `NewerFormat` where it holds one of a later format,
+/// `Storage` where the file or its store failed.
+pub(crate) fn open(rt: &HostRuntime, path: &str) -> Result<Store<DeskFile>, OpenFault> {
+    if !holds_bytes(rt, path)? {
+        return Err(OpenFault::NotADesk);
+    }
+    match open_from(rt, path, Wary) {
+        Ok(store) => Ok(store),
+        Err(unopened) => Err(unopened.fault),
+    }
+}
+
+/// Closes the file, after its log was copied into it.
+///
+/// # Errors
+///
+/// `Storage` where the copy failed: the log then stands beside the file, and the next opening reads both.
+pub(crate) fn close(store: Store<DeskFile>) -> Result<(), OpenFault> {
+    match close_from(store) {
+        Ok(_) => Ok(()),
+        Err((fault, _)) => Err(fault),
     }
 }

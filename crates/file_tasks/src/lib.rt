@@ -1,8 +1,10 @@
-//! Tasks by the desk that a file holds.
+//! Desks in files at a path: made, and used by tasks.
 #![tactic(auto)]
 
 mod files;
+mod over_file;
 mod tasks;
 
-pub use files::run_over_file;
+pub use files::make_desk;
+pub use over_file::run_over_file;
 pub use tasks::{Tables, Task};
