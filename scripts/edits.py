@@ -2,9 +2,11 @@
 """The edits that the prover must refuse: those of the gate (crates/NAME/must-fail) and the planted ones (planted/NAME).
 
   scripts/edits.py check         sees that each edit still applies: its old texts stand once, and its first line says what it gets wrong
-  scripts/edits.py try [NAME..]  tries the planted edits of these crates, or of all, crates side by side; the prover must refuse each
+  scripts/edits.py try [NAME..]  tries the planted edits of these crates, or of all, crates side by side; the prover must refuse each. Edits of different
+                                 functions are made together and told apart by what it says of each function; what this leaves open is tried alone
 """
 import os
+import re
 import shutil
 import subprocess
 import sys
@@ -14,6 +16,7 @@ from concurrent.futures import ThreadPoolExecutor
 
 ROOT = os.path.dirname(os.path.dirname(os.path.abspath(__file__)))
 MEMORY = 4 << 30  # what one crate's edits take at most, in bytes
+LOST = re.compile(r"has no field|is not in scope|has no `|was not admitted")  # of a proof that names what an edit took away
 
 
 def edits_of(folder):
@@ -79,32 +82,176 @@ def lanes():
     return max(1, min(len(os.sched_getaffinity(0)), free // MEMORY))
 
 
+class Function:
+    """A function of a source: its file, its name, and its lines, from 0."""
+
+    def __init__(self, path, name, first, last):
+        self.path, self.name, self.first, self.last = path, name, first, last
+        self.key = path, first
+
+    def holds(self, path, line):
+        return path == self.path and self.first <= line <= self.last
+
+
+def functions_of(path, text):
+    """The functions of a formatted source; each ends at the brace that stands as deep as it begins, or on its own line."""
+    lines, found = text.split("\n"), []
+    for first, line in enumerate(lines):
+        head = re.match(r"( *)(?:pub(?:\([a-z]+\))? )?(?:const )?fn (\w+)", line)
+        if head:
+            ends = (at for at in range(first, len(lines)) if lines[at] == head[1] + "}" or lines[at].endswith("{}") or lines[at].endswith(";") and at == first)
+            found.append(Function(path, head[2], first, next(ends, len(lines) - 1)))
+    return found
+
+
+class Edit:
+    """A planted edit: the texts that it replaces, and the functions of src/ that it changes, none where it changes more than functions."""
+
+    def __init__(self, file, folder):
+        self.file, self.name = file, os.path.basename(file)
+        self.pairs, self.functions = [], []
+        path = old = None
+        with open(file, encoding="utf-8") as it:
+            for line in it.read().split("\n")[1:]:
+                if line.startswith("file: "):
+                    path = line[len("file: ") :].strip()
+                elif line.startswith("old: "):
+                    old = line[len("old: ") :]
+                elif line.startswith("new:"):
+                    self.pairs.append((path, old, line[len("new:") :].removeprefix(" ")))
+        for path, old, _ in self.pairs:
+            with open(f"{folder}/{path}", encoding="utf-8") as it:
+                text = it.read()
+            line = text[: text.index(old)].count("\n")
+            inside = [it for it in functions_of(path, text) if it.holds(path, line)]
+            if not path.startswith("src/") or not inside:
+                self.functions = []
+                return
+            self.functions.append(inside[-1])
+
+    def apply(self, folder):
+        for path, old, new in self.pairs:
+            with open(f"{folder}/{path}", encoding="utf-8") as it:
+                text = it.read()
+            with open(f"{folder}/{path}", "w", encoding="utf-8") as it:
+                it.write(text.replace(old, new))
+
+    def is_refused(self, said):
+        """Whether the prover's words refuse a function that the edit changes, for what stands in it and not for a name that it lost."""
+        for line in said.split("\n"):
+            at = re.match(r"(?:note: )?(?:\./)?(src/\S+?):(\d+):\d+: (?:error: |it is not proved)", line)
+            if at and any(it.holds(at[1], int(at[2]) - 1) for it in self.functions):
+                return True
+            at = re.match(r"(?:\./)?proofs/(\S+)/(\w+)/\w+\.antt:\d+:\d+: error: (.*)", line)
+            if at and not LOST.search(at[3]) and any(it.name == at[2] and at[1].startswith(it.path[len("src/") : -len(".rt")]) for it in self.functions):
+                return True
+        return False
+
+
+def linked(folder, to, *without):
+    """Copies a folder without what has one of these names; what rt made of it by links, as it replaces such a file and changes none."""
+
+    def copy(one, other):
+        try:
+            if "/out/" in one:
+                return os.link(one, other)
+        except OSError:
+            pass
+        return shutil.copy2(one, other)
+
+    shutil.copytree(folder, to, symlinks=True, ignore=shutil.ignore_patterns(*without), copy_function=copy)
+
+
+def copy_for(crate, copy):
+    """Makes a copy of the crates in which one is tried: rt keeps two checks of one copy apart."""
+    for name in ("HANDLES", "crates.txt"):
+        shutil.copy2(f"{ROOT}/{name}", copy)
+    for name in os.listdir(f"{ROOT}/crates"):
+        linked(f"{ROOT}/crates/{name}", f"{copy}/crates/{name}", "must-fail", "*.tmp-*", *([] if name == crate else ["incremental"]))
+
+
+def run(folder, *words):
+    """Runs rt in a folder of the copy; returns its status and what it said."""
+    ran = subprocess.run(["rt", *words], cwd=folder, stdin=subprocess.DEVNULL, stdout=subprocess.PIPE, stderr=subprocess.STDOUT, text=True, errors="replace")
+    return ran.returncode, ran.stdout
+
+
+def refused_together(folder, edits):
+    """The edits that are refused when they are made together. The prover takes a function by the contracts of those that it calls, so what it says of one
+    function is what it says without the edits of others; it leaves one that calls a refused one open, which the next round tries."""
+    seed, kept = f"{folder}/out/seed", f"{folder}/out/incremental"
+    taken, made = set(), []
+    for edit in edits:
+        keys = {it.key for it in edit.functions}
+        if keys and not keys & taken:
+            taken |= keys
+            made.append(edit)
+    sources = {path: open(f"{folder}/{path}", encoding="utf-8").read() for edit in made for path, _, _ in edit.pairs}
+    shutil.rmtree(kept, ignore_errors=True)
+    linked(seed, kept)
+    try:
+        for edit in made:
+            edit.apply(folder)
+        status, said = run(folder, "check", "--jobs", "1")
+    finally:
+        for path, text in sources.items():
+            with open(f"{folder}/{path}", "w", encoding="utf-8") as it:
+                it.write(text)
+    is_verdict = status == 1 and "logic=not-proved" in said
+    return [it for it in made if is_verdict and it.is_refused(said)]
+
+
+def try_alone(copy, crate, edits):
+    """Tries edits one by one; returns the lines on those that are not refused, and what rt said where it tried too few."""
+    if not edits:
+        return []
+    folder = f"{copy}/crates/{crate}/must-fail"
+    os.mkdir(folder)
+    for edit in edits:
+        shutil.copy2(edit.file, folder)
+    status, said = run(copy, "must-fail", crate)
+    lines = [line for line in said.splitlines() if "must-fail " in line]
+    bad = [line for line in lines if ": refused" not in line or "names what the edit took away" in line]
+    if len(lines) != len(edits) or status and not bad:
+        bad.append(said[-2000:])
+    return bad
+
+
+def try_crate(copy, crate):
+    """Tries a crate's planted edits; returns how many were tried alone, and the lines on those that are not refused."""
+    folder = f"{copy}/crates/{crate}"
+    left = [Edit(it, folder) for it in edits_of(f"{ROOT}/planted/{crate}")]
+    status, said = run(folder, "check", "--jobs", "1")
+    if status:
+        return 0, [f"{crate} is not proved as it stands", said[-2000:]]
+    os.rename(f"{folder}/out/incremental", f"{folder}/out/seed")
+    while left:
+        refused = refused_together(folder, left)
+        if not refused:
+            break
+        left = [it for it in left if it not in refused]
+    shutil.rmtree(f"{folder}/out/incremental", ignore_errors=True)
+    os.rename(f"{folder}/out/seed", f"{folder}/out/incremental")
+    return len(left), try_alone(copy, crate, left)
+
+
 def try_planted(names):
-    """Tries the planted edits of these crates on a copy; returns whether each was refused."""
+    """Tries the planted edits of these crates, each on a copy; returns whether each was refused."""
     printing, failed, tried = threading.Lock(), [], []
-    with tempfile.TemporaryDirectory(prefix="planted-") as copy:
-        for name in ("HANDLES", "crates.txt"):
-            shutil.copy2(f"{ROOT}/{name}", copy)
-        shutil.copytree(f"{ROOT}/crates", f"{copy}/crates", ignore=lambda at, _: {"must-fail"} if os.path.dirname(at) == f"{ROOT}/crates" else set())
-        for name in names:
-            shutil.copytree(f"{ROOT}/planted/{name}", f"{copy}/crates/{name}/must-fail")
 
-        def one(name):
-            ran = subprocess.run(["rt", "must-fail", name], cwd=copy, stdin=subprocess.DEVNULL, stdout=subprocess.PIPE, stderr=subprocess.STDOUT, text=True, errors="replace")
-            lines = [line for line in ran.stdout.splitlines() if "must-fail " in line]
-            bad = [line for line in lines if ": refused" not in line or "names what the edit took away" in line]
-            with printing:
-                count = len(edits_of(f"{ROOT}/planted/{name}"))
-                print(f"{name}: {count} edits, {len(lines) - len(bad)} refused", *bad, sep="\n  ", flush=True)
-                tried.append(count)
-                if ran.returncode or bad or len(lines) != count:
-                    failed.append(name)
-                    if len(lines) != count:
-                        print(ran.stdout[-2000:], flush=True)
+    def one(name):
+        with tempfile.TemporaryDirectory(prefix="planted-") as copy:
+            copy_for(name, copy)
+            alone, bad = try_crate(copy, name)
+        with printing:
+            tried.append(len(edits_of(f"{ROOT}/planted/{name}")))
+            print(f"{name}: {tried[-1]} edits, {alone} of them alone, {len(bad)} not refused", *bad, sep="\n  ", flush=True)
+            if bad:
+                failed.append(name)
 
-        names = sorted(names, key=lambda it: -len(edits_of(f"{ROOT}/planted/{it}")))
-        with ThreadPoolExecutor(lanes()) as pool:
-            list(pool.map(one, names))
+    names = sorted(names, key=lambda it: -len(edits_of(f"{ROOT}/planted/{it}")))
+    with ThreadPoolExecutor(lanes()) as pool:
+        list(pool.map(one, names))
     print(f"{sum(tried)} planted edits tried; {'crates with one that was not refused: ' + ' '.join(sorted(failed)) if failed else 'each was refused'}")
     return not failed
 
