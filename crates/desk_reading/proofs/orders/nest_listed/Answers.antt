@@ -40,3 +40,19 @@ returns-clause-found g c clean T has book open_ rows own are =
     let none : length rest ≡ 0 = omega (arith, c.loop-head.head-iterator.rest.ok, c.in-None.ensures.steps.0) in
     let all = whole_done c.args.heads.items c.loop-head.yielded rest c.loop-head.invariant.whole none in
     c.loop-head.invariant.found clean T has book open_ rows own (all ∙ are)
+
+pub returns-clause-unchanged : goal.returns-clause-unchanged
+returns-clause-unchanged g c clean open_ = c.loop-head.invariant.unchanged clean open_
+
+pub returns-clause-asks : goal.returns-clause-asks
+returns-clause-asks g c = c.loop-head.invariant.asks
+
+pub returns-in_err-listed-clause-asks : goal.returns-in_err-listed-clause-asks
+returns-in_err-listed-clause-asks g c =
+    asks_then (state g.S.Store c.args.conn.now) (state g.S.Store c.loop-head.conn) (state g.S.Store c.listed_under.new.conn)
+    c.loop-head.invariant.asks c.in_err-listed.ensures.asks
+
+pub returns-in_err-push-clause-asks : goal.returns-in_err-push-clause-asks
+returns-in_err-push-clause-asks g c =
+    asks_then (state g.S.Store c.args.conn.now) (state g.S.Store c.loop-head.conn) (state g.S.Store c.listed_under.new.conn)
+    c.loop-head.invariant.asks c.in_ok-listed.ensures.asks

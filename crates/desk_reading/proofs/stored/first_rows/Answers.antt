@@ -1,6 +1,8 @@
 use Rattle.std.proofs.Common.{arith, ◌∙◌}
+use Rattle.sqlite.proofs.Callers.{unchanged_then}
 use Rattle.sqlite.specs.Held.{state}
 use Rattle.sqlite.specs.State.{HasCleanDisk}
+use Rattle.desk_schema.proofs.StaysLemmas.{asks_then}
 use Rattle.desk_tables.proofs.Holding.{holds_still}
 use Rattle.desk_schema.specs.Failing.{IsFailure}
 use Rattle.desk_reading.proofs.Failing.{may_read_still}
@@ -49,3 +51,29 @@ returns-clause-shown g c clean =
       shown_still g.S.Store select_nonces nonce_in c.args.conn.now c.meta_table.new.conn _ same_one (c.in_ok-nonces.ensures.shown clean_two),
       shown_still g.S.Store select_accounts account_in c.args.conn.now c.nonce_table.new.conn _ (same_two ∙ same_one) (c.in_ok-accounts.ensures.shown clean),
     )
+
+pub returns-in_err-nonces-clause-asks : goal.returns-in_err-nonces-clause-asks
+returns-in_err-nonces-clause-asks g c =
+    asks_then (state g.S.Store c.args.conn.now) (state g.S.Store c.meta_table.new.conn) (state g.S.Store c.nonce_table.new.conn) c.in_ok-metas.ensures.asks c.in_err-nonces.ensures.asks
+
+pub returns-in_err-accounts-clause-asks : goal.returns-in_err-accounts-clause-asks
+returns-in_err-accounts-clause-asks g c =
+    asks_then (state g.S.Store c.args.conn.now) (state g.S.Store c.nonce_table.new.conn) (state g.S.Store c.account_table.new.conn)
+    (asks_then (state g.S.Store c.args.conn.now) (state g.S.Store c.meta_table.new.conn) (state g.S.Store c.nonce_table.new.conn) c.in_ok-metas.ensures.asks c.in_ok-nonces.ensures.asks)
+    c.in_err-accounts.ensures.asks
+
+pub returns-clause-asks : goal.returns-clause-asks
+returns-clause-asks g c =
+    asks_then (state g.S.Store c.args.conn.now) (state g.S.Store c.nonce_table.new.conn) (state g.S.Store c.account_table.new.conn)
+    (asks_then (state g.S.Store c.args.conn.now) (state g.S.Store c.meta_table.new.conn) (state g.S.Store c.nonce_table.new.conn) c.in_ok-metas.ensures.asks c.in_ok-nonces.ensures.asks)
+    c.in_ok-accounts.ensures.asks
+
+pub returns-clause-unchanged : goal.returns-clause-unchanged
+returns-clause-unchanged g c clean =
+    let before = state g.S.Store c.args.conn.now in
+    let one = state g.S.Store c.meta_table.new.conn in
+    let two = state g.S.Store c.nonce_table.new.conn in
+    let three = state g.S.Store c.account_table.new.conn in
+    let clean_two : HasCleanDisk two = omega (arith, clean, c.in_ok-accounts.ensures.asks.survives.clean) in
+    let clean_one : HasCleanDisk one = omega (arith, clean_two, c.in_ok-nonces.ensures.asks.survives.clean) in
+    unchanged_then before two three (unchanged_then before one two (c.in_ok-metas.ensures.unchanged clean_one) (c.in_ok-nonces.ensures.unchanged clean_two)) (c.in_ok-accounts.ensures.unchanged clean)

@@ -1,6 +1,8 @@
 use Rattle.std.proofs.Common.{arith, ◌∙◌}
+use Rattle.sqlite.proofs.Callers.{unchanged_then}
 use Rattle.sqlite.specs.Held.{state}
 use Rattle.sqlite.specs.State.{HasCleanDisk}
+use Rattle.desk_schema.proofs.StaysLemmas.{asks_then}
 use Rattle.desk_tables.proofs.Holding.{holds_still}
 use Rattle.desk_schema.specs.Failing.{IsFailure}
 use Rattle.desk_reading.proofs.Failing.{may_read_still}
@@ -74,3 +76,29 @@ returns-clause-shown g c clean =
       authorizations = shown_still g.S.Store select_authorizations authorization_in c.args.conn.now c.order_rows.new.conn _ same_two of_authorizations.0;
       challenges = shown_still g.S.Store select_challenges challenge_in c.args.conn.now c.order_rows.new.conn _ same_two of_authorizations.1;
     }
+
+pub returns-in_err-of_orders-clause-asks : goal.returns-in_err-of_orders-clause-asks
+returns-in_err-of_orders-clause-asks g c =
+    asks_then (state g.S.Store c.args.conn.now) (state g.S.Store c.first_rows.new.conn) (state g.S.Store c.order_rows.new.conn) c.in_ok-first.ensures.asks c.in_err-of_orders.ensures.asks
+
+pub returns-in_err-of_authorizations-clause-asks : goal.returns-in_err-of_authorizations-clause-asks
+returns-in_err-of_authorizations-clause-asks g c =
+    asks_then (state g.S.Store c.args.conn.now) (state g.S.Store c.order_rows.new.conn) (state g.S.Store c.authorization_rows.new.conn)
+    (asks_then (state g.S.Store c.args.conn.now) (state g.S.Store c.first_rows.new.conn) (state g.S.Store c.order_rows.new.conn) c.in_ok-first.ensures.asks c.in_ok-of_orders.ensures.asks)
+    c.in_err-of_authorizations.ensures.asks
+
+pub returns-clause-asks : goal.returns-clause-asks
+returns-clause-asks g c =
+    asks_then (state g.S.Store c.args.conn.now) (state g.S.Store c.order_rows.new.conn) (state g.S.Store c.authorization_rows.new.conn)
+    (asks_then (state g.S.Store c.args.conn.now) (state g.S.Store c.first_rows.new.conn) (state g.S.Store c.order_rows.new.conn) c.in_ok-first.ensures.asks c.in_ok-of_orders.ensures.asks)
+    c.in_ok-of_authorizations.ensures.asks
+
+pub returns-clause-unchanged : goal.returns-clause-unchanged
+returns-clause-unchanged g c clean =
+    let before = state g.S.Store c.args.conn.now in
+    let one = state g.S.Store c.first_rows.new.conn in
+    let two = state g.S.Store c.order_rows.new.conn in
+    let three = state g.S.Store c.authorization_rows.new.conn in
+    let clean_two : HasCleanDisk two = omega (arith, clean, c.in_ok-of_authorizations.ensures.asks.survives.clean) in
+    let clean_one : HasCleanDisk one = omega (arith, clean_two, c.in_ok-of_orders.ensures.asks.survives.clean) in
+    unchanged_then before two three (unchanged_then before one two (c.in_ok-first.ensures.unchanged clean_one) (c.in_ok-of_orders.ensures.unchanged clean_two)) (c.in_ok-of_authorizations.ensures.unchanged clean)

@@ -1,6 +1,8 @@
 use Rattle.std.proofs.Common.{arith}
+use Rattle.sqlite.proofs.Callers.{unchanged_then}
 use Rattle.sqlite.specs.Held.{state}
 use Rattle.sqlite.specs.State.{HasCleanDisk}
+use Rattle.desk_schema.proofs.StaysLemmas.{asks_then}
 use Rattle.desk_tables.proofs.Holding.{holds_still}
 use Rattle.desk_schema.specs.Failing.{IsFailure}
 use Rattle.desk_reading.proofs.Failing.{may_read_still}
@@ -27,3 +29,19 @@ returns-clause-shown g c clean =
     let clean_one : HasCleanDisk one = omega (arith, clean, c.in_ok-listed.ensures.asks.survives.clean) in
     let same_one = (c.in_ok-orders.ensures.unchanged clean_one).0.now_is in
     (c.in_ok-orders.ensures.shown clean_one, shown_still g.S.Store select_listed listed_in c.args.conn.now c.order_table.new.conn _ same_one (c.in_ok-listed.ensures.shown clean))
+
+pub returns-in_err-listed-clause-asks : goal.returns-in_err-listed-clause-asks
+returns-in_err-listed-clause-asks g c =
+    asks_then (state g.S.Store c.args.conn.now) (state g.S.Store c.order_table.new.conn) (state g.S.Store c.listed_table.new.conn) c.in_ok-orders.ensures.asks c.in_err-listed.ensures.asks
+
+pub returns-clause-asks : goal.returns-clause-asks
+returns-clause-asks g c =
+    asks_then (state g.S.Store c.args.conn.now) (state g.S.Store c.order_table.new.conn) (state g.S.Store c.listed_table.new.conn) c.in_ok-orders.ensures.asks c.in_ok-listed.ensures.asks
+
+pub returns-clause-unchanged : goal.returns-clause-unchanged
+returns-clause-unchanged g c clean =
+    let before = state g.S.Store c.args.conn.now in
+    let one = state g.S.Store c.order_table.new.conn in
+    let two = state g.S.Store c.listed_table.new.conn in
+    let clean_one : HasCleanDisk one = omega (arith, clean, c.in_ok-listed.ensures.asks.survives.clean) in
+    unchanged_then before one two (c.in_ok-orders.ensures.unchanged clean_one) (c.in_ok-listed.ensures.unchanged clean)
