@@ -1,9 +1,20 @@
 use Rattle.std.proofs.Common.{inr}
 use Rattle.desk_reading.specs.Failures.{IsOutOfMemory}
-use Rattle.desk_reading.proofs.Results.{fails_then, fails_under}
+use Rattle.desk_reading.proofs.Results.{fails_then, fails_under, read_then}
 use Rattle.desk_reading.proofs.query.read_query.Goals as goal
 
 pub returns-clause-fails : goal.returns-clause-fails
 returns-clause-fails g c clean =
     fails_then c.read_all.result (fails_under c.read_all.result IsOutOfMemory c.read_all.ensures.fails) (λ e memory.
     inr (c.in_ok-rows.rows.items, c.in_ok-rows.ensures.shown clean, λ fit. memory (rw (← c.deref.ensures.value) at fit)))
+
+pub returns-clause-read : goal.returns-clause-read
+returns-clause-read g c clean =
+    read_then c.read_all.result c.read_all.ensures.read (λ all are.
+    (c.in_ok-rows.rows.items, c.in_ok-rows.ensures.shown clean, rw (c.deref.ensures.value) at are))
+
+pub returns-clause-unchanged : goal.returns-clause-unchanged
+returns-clause-unchanged g c clean = read_then c.read_all.result c.read_all.ensures.read (λ _ _. c.in_ok-rows.ensures.unchanged clean)
+
+pub returns-clause-asks : goal.returns-clause-asks
+returns-clause-asks g c = c.in_ok-rows.ensures.asks
