@@ -83,10 +83,11 @@ def lanes():
 
 
 class Function:
-    """A function of a source: its file, its name, and its lines, from 0."""
+    """A function of a source: its file, its name, its lines, from 0, and whether no other in the file has its name."""
 
     def __init__(self, path, name, first, last):
         self.path, self.name, self.first, self.last = path, name, first, last
+        self.is_only = True
         self.key = path, first
 
     def holds(self, path, line):
@@ -101,6 +102,9 @@ def functions_of(path, text):
         if head:
             ends = (at for at in range(first, len(lines)) if lines[at] == head[1] + "}" or lines[at].endswith("{}") or lines[at].endswith(";") and at == first)
             found.append(Function(path, head[2], first, next(ends, len(lines) - 1)))
+    names = [it.name for it in found]
+    for it in found:
+        it.is_only = names.count(it.name) == 1
     return found
 
 
@@ -143,7 +147,7 @@ class Edit:
             if at and any(it.holds(at[1], int(at[2]) - 1) for it in self.functions):
                 return True
             at = re.match(r"(?:\./)?proofs/(\S+)/(\w+)/\w+\.antt:\d+:\d+: error: (.*)", line)
-            if at and not LOST.search(at[3]) and any(it.name == at[2] and at[1].startswith(it.path[len("src/") : -len(".rt")]) for it in self.functions):
+            if at and not LOST.search(at[3]) and any(it.is_only and it.name == at[2] and f"{at[1]}/".startswith(it.path[len("src/") : -len(".rt")] + "/") for it in self.functions):
                 return True
         return False
 
