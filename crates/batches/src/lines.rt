@@ -13,7 +13,7 @@ use std::io::{self, BufRead, BufReader, ErrorKind, Read, Write};
 use thiserror::Error;
 
 /// Why a line is not answered.
-#[derive(Clone, Copy, Debug, PartialEq, Eq, Error)]
+#[derive(Clone, Copy, Debug, Error)]
 pub enum AnswerFault {
     /// The line is no call.
     #[error("not a call")]
@@ -27,7 +27,7 @@ pub enum AnswerFault {
 }
 
 // Why a batch ends before its input does.
-#[derive(Clone, Copy, Debug, PartialEq, Eq, Error)]
+#[derive(Clone, Copy, Debug, Error)]
 enum BatchFault {
     #[error("input")]
     Input,

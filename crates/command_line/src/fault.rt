@@ -5,7 +5,7 @@ use std::fmt::Write;
 use thiserror::Error;
 
 /// Why words ask for nothing, with the text that says it.
-#[derive(Debug, Drop, PartialEq, Eq, Error)]
+#[derive(Debug, Drop, Error)]
 pub enum WordsFault {
     /// They ask for help or the version: its text goes to standard output.
     #[error("{0}")]

@@ -1,7 +1,7 @@
 //! What the words ask for.
 
 /// What the words ask for.
-#[derive(Clone, Copy, Debug, PartialEq, Eq)]
+#[derive(Clone, Copy)]
 pub enum Order<'a> {
     /// To make a desk in a new file.
     Make {
@@ -48,7 +48,7 @@ pub enum Order<'a> {
 }
 
 /// What is revoked.
-#[derive(Clone, Copy, Debug, PartialEq, Eq)]
+#[derive(Clone, Copy)]
 pub enum Target {
     /// The authorization of this number.
     Authorization(u64),
@@ -57,7 +57,7 @@ pub enum Target {
 }
 
 /// The terms of a desk, as the words give them.
-#[derive(Clone, Copy, Debug, PartialEq, Eq)]
+#[derive(Clone, Copy)]
 pub struct Terms<'a> {
     /// What each URL begins with.
     pub base: &'a str,
@@ -70,7 +70,7 @@ pub struct Terms<'a> {
 }
 
 /// Which orders are listed, and how.
-#[derive(Clone, Copy, Debug, PartialEq, Eq)]
+#[derive(Clone, Copy)]
 pub struct Listing<'a> {
     /// The account whose orders they are, or `None` for all accounts.
     pub account: Option<u64>,

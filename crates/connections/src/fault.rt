@@ -4,7 +4,7 @@ use std::error::Error;
 use std::fmt;
 
 /// Why a desk is served no longer.
-#[derive(Clone, Copy, Debug, PartialEq, Eq)]
+#[derive(Clone, Copy, Debug)]
 pub enum ServeFault {
     /// The port could not be taken.
     Bind,

@@ -9,7 +9,7 @@ use std::io::Write;
 use thiserror::Error;
 
 /// Why a command ends.
-#[derive(Clone, Copy, Debug, PartialEq, Eq, Error)]
+#[derive(Clone, Copy, Debug, Error)]
 pub(crate) enum Fault {
     /// A limit of the terms is broken.
     #[error("bad policy")]
@@ -58,5 +58,8 @@ impl From<ReportFault> for Fault {
 /// Says why a command ended, and gives the exit status.
 pub(crate) fn tell<E: Write>(errors: &mut E, fault: Fault) -> u8 {
     let _ = writeln!(errors, "desk: {fault}");
-    if fault == Fault::BadPolicy { 2 } else { 1 }
+    match fault {
+        Fault::BadPolicy => 2,
+        _ => 1,
+    }
 }

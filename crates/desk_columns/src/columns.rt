@@ -3,7 +3,7 @@
 use desk_model::{Sequence, Text};
 
 /// A row of the table `meta`.
-#[derive(Drop, Debug)]
+#[derive(Drop)]
 pub struct MetaColumns {
     pub id: i64,
     pub format: i64,
@@ -20,7 +20,7 @@ pub struct MetaColumns {
 }
 
 /// A row of the table `nonce`.
-#[derive(Drop, Debug)]
+#[derive(Drop)]
 pub struct NonceColumns {
     pub serial: i64,
     pub random: Sequence<u8>,
@@ -28,7 +28,7 @@ pub struct NonceColumns {
 }
 
 /// A row of the table `account`.
-#[derive(Drop, Debug)]
+#[derive(Drop)]
 pub struct AccountColumns {
     pub num: i64,
     pub jwk: Text,
@@ -40,7 +40,7 @@ pub struct AccountColumns {
 }
 
 /// A row of the table `ord`.
-#[derive(Drop, Debug)]
+#[derive(Drop)]
 pub struct OrderColumns {
     pub num: i64,
     pub account: i64,
@@ -56,7 +56,7 @@ pub struct OrderColumns {
 }
 
 /// A row of the table `authz`.
-#[derive(Drop, Debug)]
+#[derive(Drop)]
 pub struct AuthzColumns {
     pub num: i64,
     pub account: i64,
@@ -70,7 +70,7 @@ pub struct AuthzColumns {
 }
 
 /// A row of the table `ord_authz`.
-#[derive(Clone, Copy, Debug, PartialEq, Eq)]
+#[derive(Clone, Copy)]
 pub struct OrderAuthzColumns {
     pub ord: i64,
     pub place: i64,
@@ -78,7 +78,7 @@ pub struct OrderAuthzColumns {
 }
 
 /// A row of the table `chall`.
-#[derive(Drop, Debug)]
+#[derive(Drop)]
 pub struct ChallColumns {
     pub num: i64,
     pub authz: i64,
@@ -91,7 +91,7 @@ pub struct ChallColumns {
 }
 
 /// The rows of the seven tables, in any order.
-#[derive(Drop, Debug)]
+#[derive(Drop)]
 pub struct StoredRows {
     pub metas: Sequence<MetaColumns>,
     pub nonces: Sequence<NonceColumns>,

@@ -4,7 +4,7 @@ use desk_model::{
 };
 
 /// A row that belongs to another, and the number of that other row.
-#[derive(Drop, Debug)]
+#[derive(Drop)]
 pub struct Owned<T> {
     /// The number of the order or authorization that it belongs to.
     pub owner: u64,
@@ -13,7 +13,7 @@ pub struct Owned<T> {
 }
 
 /// The rows of each table, in any order.
-#[derive(Drop, Debug)]
+#[derive(Drop)]
 pub struct FlatRows {
     /// The desk's own row; that there is one is not asked here.
     pub metas: Sequence<Meta>,

@@ -38,7 +38,7 @@ impl fmt::Display for IoFault {
 impl Error for IoFault {}
 
 /// Why a request did not have its reply.
-#[derive(Clone, Copy, Debug, PartialEq, Eq)]
+#[derive(Clone, Copy, PartialEq, Eq)]
 pub enum Cause {
     /// The desk had a fault.
     Desk(DeskFault),
@@ -49,7 +49,7 @@ pub enum Cause {
 }
 
 /// How a request was served.
-#[derive(Clone, Copy, Debug, PartialEq, Eq)]
+#[derive(Clone, Copy, PartialEq, Eq)]
 pub struct Served {
     /// Why it did not have its reply, if so.
     pub cause: Option<Cause>,

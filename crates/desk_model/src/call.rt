@@ -13,7 +13,7 @@ use crate::sequence::Sequence;
 use crate::text::{Text, is_same_text};
 
 /// One call: when it was made, the random bytes that it may take, and what it asks.
-#[derive(Drop, Debug)]
+#[derive(Drop)]
 pub struct Call {
     /// Seconds since 1970-01-01T00:00:00Z.
     pub at: u64,
@@ -24,7 +24,7 @@ pub struct Call {
 }
 
 /// What a call asks: the first kind is given a nonce, the second spends one and is given another, the third does neither.
-#[derive(Drop, Debug)]
+#[derive(Drop)]
 pub enum Ask {
     /// A fresh nonce, by GET or HEAD (RFC 8555, 7.2).
     NewNonce { head: bool },
@@ -35,7 +35,7 @@ pub enum Ask {
 }
 
 /// The directory, and what the validator, the signing office and the operator ask; objects are named by their numbers.
-#[derive(Drop, Debug)]
+#[derive(Drop)]
 pub enum OfficeAsk {
     /// The directory (RFC 8555, 7.1.1).
     Directory,
@@ -58,7 +58,7 @@ pub enum OfficeAsk {
 }
 
 /// A signed request, as the front hands it in.
-#[derive(Drop, Debug)]
+#[derive(Drop)]
 pub struct Signed {
     /// Where it was sent, as its path tells.
     pub target: Target,
@@ -71,11 +71,11 @@ pub struct Signed {
 }
 
 /// The request's key is of no kind that the desk accepts.
-#[derive(Clone, Copy, Debug, PartialEq, Eq)]
+#[derive(Clone, Copy)]
 pub struct BadKey;
 
 /// The resource that a signed request is sent to (RFC 8555, 7.1).
-#[derive(Clone, Copy, Debug, PartialEq, Eq)]
+#[derive(Clone, Copy)]
 pub enum Target {
     /// Where accounts are opened or looked up by their key (RFC 8555, 7.3).
     NewAccount,
@@ -98,7 +98,7 @@ pub enum Target {
 }
 
 /// What the validator saw: the body of the HTTP resource, the TXT records, or neither.
-#[derive(Drop, Debug)]
+#[derive(Drop)]
 pub enum Finding {
     /// The bytes at the well-known path of the name, for http-01 (RFC 8555, 8.3).
     Body(Sequence<u8>),
@@ -109,7 +109,7 @@ pub enum Finding {
 }
 
 /// Why the validator saw nothing (RFC 8555, 6.7: connection, dns).
-#[derive(Clone, Copy, Debug, PartialEq, Eq)]
+#[derive(Clone, Copy)]
 pub enum FetchError {
     /// The server of the name could not be reached (RFC 8555, 6.7, `connection`).
     Connection,
@@ -118,7 +118,7 @@ pub enum FetchError {
 }
 
 /// Why an order failed: an error type without its prefix, and a text for people (RFC 8555, 6.7).
-#[derive(Drop, Debug, Clone)]
+#[derive(Drop, Clone)]
 pub struct OrderProblem {
     /// The error type; only `badCSR` and `serverInternal` are recorded.
     pub kind: Text,

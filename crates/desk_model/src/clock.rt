@@ -6,7 +6,7 @@ use crate::limits::LAST_MOMENT;
 use std::marker::Model;
 
 /// A moment in seconds since 1970, not past the last one; contracts see the number.
-#[derive(Clone, Copy, Debug, PartialEq, Eq)]
+#[derive(Clone, Copy)]
 pub struct Clock {
     moment: u64,
 }

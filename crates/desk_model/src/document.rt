@@ -7,7 +7,7 @@ use serde_json::Value;
 use std::marker::Model;
 
 /// A JSON document without a float, so that its compact text is a function of it.
-#[derive(Drop, Debug)]
+#[derive(Drop)]
 pub struct Document {
     value: Value,
 }

@@ -12,7 +12,7 @@ use crate::sequence::Sequence;
 use crate::text::Text;
 
 /// How an account ends, and how a client or the operator ends an authorization.
-#[derive(Clone, Copy, Debug, PartialEq, Eq)]
+#[derive(Clone, Copy)]
 pub enum Ending {
     /// By the client, who owns it (RFC 8555, 7.3.6, 7.5.2).
     Deactivated,
@@ -43,7 +43,7 @@ impl Ending {
 }
 
 /// What a validation showed.
-#[derive(Clone, Copy, Debug, PartialEq, Eq)]
+#[derive(Clone, Copy, PartialEq, Eq)]
 pub enum Outcome {
     /// What was found is what was expected; the authorization may become valid.
     Good,
@@ -77,7 +77,7 @@ impl Outcome {
 }
 
 /// A name of an order: a new authorization, with a token for each challenge that it gets.
-#[derive(Drop, Debug)]
+#[derive(Drop)]
 pub enum Wanted {
     /// An authorization is made for the name; none that exists already is used again.
     New {
@@ -89,7 +89,7 @@ pub enum Wanted {
 }
 
 /// A fact. Accounts, orders, authorizations, challenges and nonces are named by their numbers.
-#[derive(Drop, Debug)]
+#[derive(Drop)]
 pub enum Entry {
     /// The desk was made, under this policy: the first entry, and no later one.
     Made(Policy),
@@ -120,7 +120,7 @@ pub enum Entry {
 }
 
 /// An entry with the moment at which it was recorded, in seconds since 1970.
-#[derive(Drop, Debug)]
+#[derive(Drop)]
 pub struct Dated {
     /// The moment that its call acted at: dates never fall in a history.
     pub date: u64,

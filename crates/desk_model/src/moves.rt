@@ -5,7 +5,7 @@ use crate::sequence::Sequence;
 use crate::text::Text;
 
 /// What a request does to rows that are there: each is recorded as the entry of the same name.
-#[derive(Drop, Debug)]
+#[derive(Drop)]
 pub enum Move {
     /// The account gets these contacts in the place of those that it has (RFC 8555, 7.3.2).
     ContactsChanged(u64, Sequence<Text>),

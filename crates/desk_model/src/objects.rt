@@ -12,7 +12,7 @@ use crate::status::AuthzStatus;
 use crate::text::Text;
 
 /// A nonce: its serial, its random bytes and when it was issued (RFC 8555, 6.5).
-#[derive(Clone, Copy, Debug, PartialEq, Eq)]
+#[derive(Clone, Copy)]
 pub struct Nonce {
     /// Its place among all nonces of the desk, from 1.
     pub serial: u64,
@@ -23,7 +23,7 @@ pub struct Nonce {
 }
 
 /// An account as it was opened (RFC 8555, 7.1.2).
-#[derive(Drop, Debug)]
+#[derive(Drop)]
 pub struct Account {
     /// Its place among all accounts of the desk, from 1, which its URL ends in.
     pub number: u64,
@@ -36,7 +36,7 @@ pub struct Account {
 }
 
 /// An order as it was made, with its authorizations in the order of its names (RFC 8555, 7.1.3).
-#[derive(Drop, Debug)]
+#[derive(Drop)]
 pub struct Order {
     /// Its place among all orders of the desk, from 1, which its URL ends in.
     pub number: u64,
@@ -51,7 +51,7 @@ pub struct Order {
 }
 
 /// An authorization as it was made, with its challenges (RFC 8555, 7.1.4).
-#[derive(Drop, Debug)]
+#[derive(Drop)]
 pub struct Authorization {
     /// Its place among all authorizations of the desk, from 1, which its URL ends in.
     pub number: u64,
@@ -68,7 +68,7 @@ pub struct Authorization {
 }
 
 /// A challenge as it was made (RFC 8555, 7.1.5).
-#[derive(Drop, Debug)]
+#[derive(Drop)]
 pub struct Challenge {
     /// Its place among all challenges of the desk, from 1, which its URL ends in.
     pub number: u64,
@@ -79,7 +79,7 @@ pub struct Challenge {
 }
 
 /// How a challenge is answered (RFC 8555, 8.3, 8.4).
-#[derive(Clone, Copy, Debug, PartialEq, Eq)]
+#[derive(Clone, Copy)]
 pub enum Kind {
     /// By a resource of the name's HTTP server (RFC 8555, 8.3).
     Http01,
@@ -100,7 +100,7 @@ impl Kind {
 }
 
 /// When a challenge was reported, and what the report showed.
-#[derive(Clone, Copy, Debug, PartialEq, Eq)]
+#[derive(Clone, Copy)]
 pub struct Report {
     /// When it was recorded, in seconds since 1970-01-01T00:00:00Z.
     pub date: u64,
@@ -109,7 +109,7 @@ pub struct Report {
 }
 
 /// When and how an account ended.
-#[derive(Clone, Copy, Debug, PartialEq, Eq)]
+#[derive(Clone, Copy)]
 pub struct AccountEnd {
     /// When it was recorded, in seconds since 1970-01-01T00:00:00Z.
     pub date: u64,
@@ -118,7 +118,7 @@ pub struct AccountEnd {
 }
 
 /// How an authorization ended: by a bad report, by its client or with its account, or by the operator.
-#[derive(Clone, Copy, Debug, PartialEq, Eq)]
+#[derive(Clone, Copy)]
 pub enum EndKind {
     /// By a report other than a good one (RFC 8555, 7.1.6).
     Invalid,
@@ -153,7 +153,7 @@ impl EndKind {
 }
 
 /// When and how an authorization ended.
-#[derive(Clone, Copy, Debug, PartialEq, Eq)]
+#[derive(Clone, Copy)]
 pub struct AuthorizationEnd {
     /// When it was recorded, in seconds since 1970-01-01T00:00:00Z, and not past `expires`: a later end does not count.
     pub date: u64,

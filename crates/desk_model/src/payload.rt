@@ -3,7 +3,7 @@ use crate::sequence::Sequence;
 use crate::text::Text;
 
 /// A newAccount payload (RFC 8555, 7.3).
-#[derive(Drop, Debug)]
+#[derive(Drop)]
 pub struct NewAccount {
     /// The member `contact` as received, empty where it is left out.
     pub contacts: Sequence<Text>,
@@ -12,7 +12,7 @@ pub struct NewAccount {
 }
 
 /// What a request to an account asks (RFC 8555, 7.3.2, 7.3.6).
-#[derive(Drop, Debug)]
+#[derive(Drop)]
 pub enum AccountChange {
     /// Nothing but its document: the payload is empty.
     Read,
@@ -23,7 +23,7 @@ pub enum AccountChange {
 }
 
 /// What a request to an authorization asks (RFC 8555, 7.5, 7.5.2).
-#[derive(Clone, Copy, Debug, PartialEq, Eq)]
+#[derive(Clone, Copy)]
 pub enum AuthorizationChange {
     /// Nothing but its document: the payload is empty.
     Read,
@@ -32,7 +32,7 @@ pub enum AuthorizationChange {
 }
 
 /// What a request to a challenge asks (RFC 8555, 7.5.1).
-#[derive(Clone, Copy, Debug, PartialEq, Eq)]
+#[derive(Clone, Copy)]
 pub enum ChallengeChange {
     /// Nothing but its document: the payload is empty.
     Read,
@@ -41,7 +41,7 @@ pub enum ChallengeChange {
 }
 
 /// An identifier as an order gives it (RFC 8555, 7.4).
-#[derive(Drop, Debug)]
+#[derive(Drop)]
 pub struct Identifier {
     /// The member `type`, of which `dns` alone is accepted (RFC 8555, 9.7.7).
     pub kind: Text,

@@ -13,7 +13,7 @@ use std::alloc::{AllocError, Global};
 use std::marker::Model;
 
 /// The base of every URL, and how long nonces, orders and authorizations live, in seconds.
-#[derive(Drop, Debug)]
+#[derive(Drop)]
 pub struct Policy {
     base: Text,
     nonce_life: u64,

@@ -5,7 +5,7 @@ use crate::sequence::Sequence;
 use crate::text::Text;
 
 /// A reply: an HTTP status, the fields that some replies carry, and a body.
-#[derive(Drop, Debug)]
+#[derive(Drop)]
 pub struct Reply {
     /// The HTTP status (RFC 9110, 15).
     pub status: u16,
@@ -20,7 +20,7 @@ pub struct Reply {
 }
 
 /// The body of a reply, whose media type follows from its kind.
-#[derive(Drop, Debug)]
+#[derive(Drop)]
 pub enum Body {
     /// No byte.
     Empty,
@@ -33,7 +33,7 @@ pub enum Body {
 }
 
 /// A refusal (RFC 8555, 6.7), with what its text needs of the request.
-#[derive(Drop, Debug)]
+#[derive(Drop)]
 pub struct Problem {
     /// What the status, the error type and the text are those of.
     pub refusal: Refusal,
@@ -46,7 +46,7 @@ pub struct Problem {
 }
 
 /// The refusal of one identifier, with its type and value as received (RFC 8555, 6.7.1).
-#[derive(Drop, Debug)]
+#[derive(Drop)]
 pub struct Subproblem {
     /// Why this identifier was refused, as if it stood alone.
     pub refusal: Refusal,
@@ -57,7 +57,7 @@ pub struct Subproblem {
 }
 
 /// The methods that a path serves, which the field Allow lists (RFC 9110, 10.2.1).
-#[derive(Clone, Copy, Debug, PartialEq, Eq)]
+#[derive(Clone, Copy)]
 pub enum Allow {
     /// No such field: the refusal is not of the method.
     No,

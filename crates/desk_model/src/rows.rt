@@ -13,7 +13,7 @@ use crate::text::Text;
 use std::alloc::AllocError;
 
 /// What calls move of a desk's own row: its clock, and the last number given of each kind.
-#[derive(Clone, Copy, Debug, PartialEq, Eq)]
+#[derive(Clone, Copy)]
 pub struct Counters {
     /// The latest recorded moment.
     pub clock: Clock,
@@ -30,7 +30,7 @@ pub struct Counters {
 }
 
 /// The one row of a desk's own.
-#[derive(Drop, Debug)]
+#[derive(Drop)]
 pub struct Meta {
     /// What the operator fixed when the desk was made; no call changes it.
     pub policy: Policy,
@@ -50,7 +50,7 @@ impl Clone for Meta {
 }
 
 /// An account as it stands (RFC 8555, 7.1.2).
-#[derive(Drop, Debug)]
+#[derive(Drop)]
 pub struct AccountRow {
     /// The key of the table, from 1.
     pub number: u64,
@@ -82,7 +82,7 @@ impl Clone for AccountRow {
 }
 
 /// A challenge as it stands, within its authorization (RFC 8555, 7.1.5, 8).
-#[derive(Drop, Debug)]
+#[derive(Drop)]
 pub struct ChallengeRow {
     /// The key of the table, from 1, over all authorizations.
     pub number: u64,
@@ -114,7 +114,7 @@ impl Clone for ChallengeRow {
 }
 
 /// An authorization with its challenges.
-#[derive(Drop, Debug)]
+#[derive(Drop)]
 pub struct AuthorizationRow {
     /// The key of the table, from 1.
     pub number: u64,
@@ -152,7 +152,7 @@ impl Clone for AuthorizationRow {
 }
 
 /// The place of an authorization in its order, from 1, and its number.
-#[derive(Clone, Copy, Debug, PartialEq, Eq)]
+#[derive(Clone, Copy)]
 pub struct Listed {
     /// 1 for the first name of the order; no two of an order are equal.
     pub place: u64,
@@ -161,7 +161,7 @@ pub struct Listed {
 }
 
 /// When bytes were handed in, and the bytes: a CSR or a certificate.
-#[derive(Drop, Debug)]
+#[derive(Drop)]
 pub struct DatedBytes {
     /// When it was recorded, in seconds since 1970-01-01T00:00:00Z.
     pub date: u64,
@@ -170,7 +170,7 @@ pub struct DatedBytes {
 }
 
 /// When the signing office failed an order, and why.
-#[derive(Drop, Debug)]
+#[derive(Drop)]
 pub struct DatedProblem {
     /// When it was recorded, in seconds since 1970-01-01T00:00:00Z.
     pub date: u64,
@@ -201,7 +201,7 @@ impl Clone for DatedProblem {
 }
 
 /// An order with the authorizations that it lists.
-#[derive(Drop, Debug)]
+#[derive(Drop)]
 pub struct OrderRow {
     /// The key of the table, from 1.
     pub number: u64,
@@ -242,7 +242,7 @@ impl Clone for OrderRow {
 }
 
 /// A row put in the place of the one with its number, or the row of a nonce removed.
-#[derive(Drop, Debug)]
+#[derive(Drop)]
 pub enum Change {
     /// The desk's own row, once a call: its counters are those after all entries, its policy stays.
     PutMeta(Meta),
@@ -259,7 +259,7 @@ pub enum Change {
 }
 
 /// A row whose stored status is not the one that its columns give.
-#[derive(Clone, Copy, Debug, PartialEq, Eq)]
+#[derive(Clone, Copy)]
 pub enum StatusFault {
     /// In the table of accounts.
     Account {

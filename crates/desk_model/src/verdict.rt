@@ -8,7 +8,7 @@ use crate::sequence::Sequence;
 use crate::text::Text;
 
 /// Refused by the first test that fails, else what is recorded besides nonces; what the reply shows follows from it.
-#[derive(Drop, Debug)]
+#[derive(Drop)]
 pub enum Verdict {
     /// Nothing is recorded but nonces, one spent and one issued, where the request has one.
     Refused {
@@ -28,7 +28,7 @@ pub enum Verdict {
 }
 
 /// What the reply to a request shows that records nothing.
-#[derive(Clone, Copy, Debug, PartialEq, Eq)]
+#[derive(Clone, Copy)]
 pub enum Shows {
     /// The directory, or a list.
     List(Listing),
@@ -51,7 +51,7 @@ pub enum Shows {
 }
 
 /// What is shown of no single object.
-#[derive(Clone, Copy, Debug, PartialEq, Eq)]
+#[derive(Clone, Copy)]
 pub enum Listing {
     /// The URLs to begin with (RFC 8555, 7.1.1).
     Directory,

@@ -1,7 +1,7 @@
 //! The kinds of objects that have a status.
 
 /// A kind of object whose rows store a status (RFC 8555, 7.1.6).
-#[derive(Clone, Copy, Debug, PartialEq, Eq)]
+#[derive(Clone, Copy)]
 pub enum FaultKind {
     Account,
     Order,

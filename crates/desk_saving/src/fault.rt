@@ -3,7 +3,7 @@ use thiserror::Error;
 use written_rows::WriteFault;
 
 /// Why rows are not saved.
-#[derive(Clone, Copy, Debug, PartialEq, Eq, Error)]
+#[derive(Clone, Copy, Debug, Error)]
 pub enum SaveFault {
     /// A row is not written as columns.
     #[error("a row is not written: {0}")]

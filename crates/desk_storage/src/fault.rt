@@ -4,7 +4,7 @@ use std::error::Error;
 use std::fmt;
 
 /// Why the tables of a desk are not read or changed.
-#[derive(Clone, Copy, Debug, PartialEq, Eq)]
+#[derive(Clone, Copy, Debug)]
 pub enum StorageFault {
     /// A growth was refused; nothing changed.
     Memory,

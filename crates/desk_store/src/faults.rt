@@ -14,7 +14,7 @@ use sqlite::{Alter, Connection, Error, ErrorCode};
 use written_rows::WriteFault;
 
 /// What an error of the engine comes from.
-#[derive(Clone, Copy, Debug, PartialEq, Eq)]
+#[derive(Clone, Copy)]
 pub(crate) enum Cause {
     /// A growth was refused.
     Memory,

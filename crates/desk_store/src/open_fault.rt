@@ -4,7 +4,7 @@ use std::error::Error;
 use std::fmt;
 
 /// Why a desk is not made or opened.
-#[derive(Clone, Copy, Debug, PartialEq, Eq)]
+#[derive(Clone, Copy, Debug)]
 pub enum OpenFault {
     /// The store failed.
     Storage(StorageFault),

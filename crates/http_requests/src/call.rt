@@ -18,7 +18,7 @@ use std::alloc::{AllocError, Global};
 use std::io::Read;
 
 /// How the reply to a request is written.
-#[derive(Clone, Copy, Debug, PartialEq, Eq)]
+#[derive(Clone, Copy)]
 pub struct Manner {
     /// Without its body.
     pub head_only: bool,
@@ -27,7 +27,7 @@ pub struct Manner {
 }
 
 /// What was read of a request.
-#[derive(Drop, Debug)]
+#[derive(Drop)]
 pub struct Heard {
     /// How its reply is written.
     pub manner: Manner,

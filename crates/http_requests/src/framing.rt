@@ -9,7 +9,7 @@ use httparse::spans::HeaderSpan;
 use requests::{OfficeResource, Resource, methods_of};
 
 /// What the fields of a head say of the body behind it.
-#[derive(Clone, Copy, Debug, PartialEq, Eq)]
+#[derive(Clone, Copy)]
 pub enum Framing {
     /// The fields are malformed.
     Malformed,
@@ -20,7 +20,7 @@ pub enum Framing {
 }
 
 // The values of the fields of one name: none, the one that there is, or more.
-#[derive(Clone, Copy, Debug, PartialEq, Eq)]
+#[derive(Clone, Copy)]
 enum Found<'b> {
     Nothing,
     One(&'b [u8]),

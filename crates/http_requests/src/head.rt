@@ -11,7 +11,7 @@ use std::fmt;
 use std::io::{ErrorKind, Read};
 
 /// The reader failed.
-#[derive(Clone, Copy, Debug, PartialEq, Eq, Drop)]
+#[derive(Clone, Copy, Debug, Drop)]
 pub struct ReadFailed;
 
 impl fmt::Display for ReadFailed {
@@ -23,7 +23,7 @@ impl fmt::Display for ReadFailed {
 impl Error for ReadFailed {}
 
 /// What the first bytes of a request are.
-#[derive(Clone, Copy, Debug, PartialEq, Eq)]
+#[derive(Clone, Copy)]
 pub enum HeadRead {
     /// A head, whose parts lie at these spans.
     Complete(RequestSpans),

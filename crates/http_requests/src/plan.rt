@@ -13,7 +13,7 @@ use requests::{Place, Request, Resource, has_index, place_of, refused};
 use std::alloc::{AllocError, Global};
 
 /// What is done with a request whose head is read.
-#[derive(Drop, Debug)]
+#[derive(Drop)]
 pub enum Plan {
     /// It is refused, whatever follows.
     Answered(Request),

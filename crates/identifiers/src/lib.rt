@@ -15,7 +15,7 @@ use std::alloc::Global;
 use thiserror::Error;
 
 /// Why a name was not read.
-#[derive(Debug, Drop, Clone, Copy, PartialEq, Eq, Error)]
+#[derive(Debug, Drop, Clone, Copy, Error)]
 pub enum NameFault {
     /// The text stands for no name whose base has the form that is asked of it.
     #[error("not a name that is served")]

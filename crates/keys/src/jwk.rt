@@ -12,7 +12,7 @@ use std::alloc::{AllocError, Global};
 use thiserror::Error;
 
 /// Why a key was not read.
-#[derive(Debug, Drop, Clone, Copy, PartialEq, Eq, Error)]
+#[derive(Debug, Drop, Clone, Copy, Error)]
 pub enum KeyFault {
     /// The value is no object with the members of a key that is served (RFC 7518, 6; RFC 8037, 2).
     #[error("not a key that is served")]

@@ -4,7 +4,7 @@ use std::io::{self, ErrorKind};
 use thiserror::Error;
 
 /// Why a report is not written to its end.
-#[derive(Clone, Copy, Debug, PartialEq, Eq, Error)]
+#[derive(Clone, Copy, Debug, Error)]
 pub enum ReportFault {
     /// A growth was refused, or the rows could not be read.
     #[error("{0}")]

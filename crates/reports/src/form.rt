@@ -1,7 +1,7 @@
 //! How a report is written.
 
 /// How a report is written.
-#[derive(Clone, Copy, Debug, PartialEq, Eq)]
+#[derive(Clone, Copy, PartialEq, Eq)]
 pub enum Form {
     /// As lines for people, with a last line that sums up.
     Text,

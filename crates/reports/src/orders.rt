@@ -13,7 +13,7 @@ use std::alloc::Global;
 use std::io::{self, Write};
 
 /// Which orders are listed.
-#[derive(Clone, Copy, Debug, PartialEq, Eq)]
+#[derive(Clone, Copy)]
 pub struct OrderFilter {
     /// The account whose orders they are, or `None` for all accounts.
     pub account: Option<u64>,

@@ -9,7 +9,7 @@ use desk_model::{Allow, Ask, OfficeAsk, Refusal, Reply, Sequence, Target};
 use std::alloc::{AllocError, Global};
 
 /// What a request asks, or the refusal of one that is no call.
-#[derive(Drop, Debug)]
+#[derive(Drop)]
 pub enum Request {
     /// What a call would ask; its moment and random bytes come from elsewhere.
     Asks(Ask),
@@ -18,7 +18,7 @@ pub enum Request {
 }
 
 /// Where a request of a method and a path goes.
-#[derive(Clone, Copy, Debug, PartialEq, Eq)]
+#[derive(Clone, Copy)]
 pub enum Place {
     /// To a resource that serves the method.
     Served(Resource),

@@ -8,7 +8,7 @@ use desk_model::{Allow, LAST_NUMBER, Target};
 use std::alloc::{AllocError, Global};
 
 /// A resource of the desk.
-#[derive(Clone, Copy, Debug, PartialEq, Eq)]
+#[derive(Clone, Copy)]
 pub enum Resource {
     /// The directory (RFC 8555, 7.1.1), by GET.
     Directory,
@@ -21,7 +21,7 @@ pub enum Resource {
 }
 
 /// A resource for the validator and the signing office.
-#[derive(Clone, Copy, Debug, PartialEq, Eq)]
+#[derive(Clone, Copy)]
 pub enum OfficeResource {
     /// The key of the account of this number, by GET.
     Key(u64),
@@ -38,7 +38,7 @@ pub enum OfficeResource {
 }
 
 /// A form of paths, whose number is left open where they have one.
-#[derive(Clone, Copy, Debug, PartialEq, Eq)]
+#[derive(Clone, Copy)]
 pub(crate) enum Route {
     Directory,
     NewNonce,

@@ -3,7 +3,7 @@ use std::alloc::AllocError;
 use thiserror::Error;
 
 /// Why a row is not written.
-#[derive(Clone, Copy, Debug, PartialEq, Eq, Error)]
+#[derive(Clone, Copy, Debug, Error)]
 pub enum WriteFault {
     /// A growth was refused.
     #[error("out of memory")]
