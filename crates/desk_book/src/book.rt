@@ -1,5 +1,5 @@
 //! The book of a desk: its rows in memory.
-ghost use Rattle.std.specs.Prelude.{◌≡◌, ◌==◌, ◌∷◌, [], List, find, bytes_eq, OnOk, OnErr, option_copied};
+ghost use Rattle.std.specs.Prelude.{◌≡◌, ◌==◌, ◌∷◌, [], List, find, bytes_eq, IfOk, OnOk, OnErr, option_copied};
 ghost use Rattle.desk_model.specs.declared.entry.Entry.TheVariants.{Made as made};
 ghost use Rattle.desk_model.specs.Legal.{Legal};
 ghost use Rattle.desk_model.specs.Tables.{Tables, picture};
@@ -165,10 +165,17 @@ impl Book {
         if changes.is_empty() {
             return Ok(());
         }
+        *self = self.after(changes)?;
+        Ok(())
+    }
+
+    // The book after the changes.
+    fn after(&self, changes: Vec<Change>) -> Result<Book, AllocError>
+        ensures { IfOk result (λ book. book ≡ applied changes.items self.now) }
+    {
         let mut next = self.clone()?;
         next.apply_all(changes)?;
-        *self = next;
-        Ok(())
+        Ok(next)
     }
 
     fn apply_all(&mut self, changes: Vec<Change>) -> Result<(), AllocError>

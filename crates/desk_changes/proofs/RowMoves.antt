@@ -1,6 +1,6 @@
 -- Rows that an entry moves.
-use Rattle.std.proofs.Common.{◌≡◌, ℕ, Bool, true, false, cond, List, [], ◌∷◌, ◌++◌, map, filter, Option, Some, None, refl, sym, ap, ◌∙◌, append_assoc}
-use Rattle.std.proofs.lemmas.List.{map-append}
+use Rattle.std.proofs.Common.{◌≡◌, ◌≤◌, ◌<◌, ◌+◌, ℕ, Bool, true, false, cond, List, [], ◌∷◌, ◌++◌, map, filter, length, drop, get_or, Option, Some, None, refl, sym, ap, ◌∙◌, append_assoc, append-nil}
+use Rattle.std.proofs.lemmas.List.{at_drop_all, at_drop_more, map-append}
 use Rattle.std.specs.Prelude.{◌==◌, ◌&&◌, ◌||◌, find, is_some, unwrap_or}
 use Rattle.std.specs.List.{list_any}
 use Rattle.std.specs.Option.{option_map}
@@ -182,3 +182,19 @@ status-touched e m n rows row found is moves looked =
     (standing_numbered m n rows ∙ ap (option_map (swept_authorization m)) is) (touches_swept e m row ∙ moves)
     ∙ ap (λ b. Some (cond b (stated_authorization e m (swept_authorization m row)) (swept_authorization m row))) (sym (touches_swept e m row ∙ moves))
     ∙ sym (after_numbered e m n rows ∙ ap (option_map (λ r. moved_authorization e m (swept_authorization m r))) is))
+
+-- what comes of rows, by one more of them
+pub maps-step : {X Y : Type 0} (f : X → Y) (xs : List X) (index : ℕ) (d : X) (y : Y) (before after whole : List Y) →
+    index < length xs → y ≡ f (get_or xs index d) → after ≡ before ++ y ∷ [] → before ++ map f (drop index xs) ≡ whole →
+    after ++ map f (drop (index + 1) xs) ≡ whole
+maps-step f xs index d y before after whole more is pushed kept =
+    ap (λ l. l ++ map f (drop (index + 1) xs)) pushed
+    ∙ append_assoc before (y ∷ []) (map f (drop (index + 1) xs))
+    ∙ ap (λ l. before ++ l) (ap (λ z. z ∷ map f (drop (index + 1) xs)) is ∙ sym (at_drop_more (map f) xs index d more))
+    ∙ kept
+
+-- and behind the last one
+pub maps-end : {X Y : Type 0} (f : X → Y) (xs : List X) (index : ℕ) (done whole : List Y) →
+    length xs ≤ index → done ++ map f (drop index xs) ≡ whole → done ≡ whole
+maps-end f xs index done whole all kept =
+    sym (ap (λ l. done ++ l) (at_drop_all (map f) xs index all) ∙ append-nil done) ∙ kept

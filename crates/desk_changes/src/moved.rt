@@ -166,6 +166,23 @@ fn put_authorization(
     Ok(())
 }
 
+// An authorization that a move touches, as it leaves it, with the change that this makes.
+fn restate_authorization(
+    changes: &mut Vec<Change>,
+    alloc: Global,
+    moved: &Move,
+    moment: u64,
+    standing: &AuthorizationRow,
+) -> Result<AuthorizationRow, AllocError>
+    ensures changes { OnOk result (changes.new.items ≡ changes.old.items
+        ++ map PutAuthorization (cond (authorization_differs standing.now (stated_authorization (entry_of moved.now) moment standing.now)) (stated_authorization (entry_of moved.now) moment standing.now ∷ []) [])) }
+    ensures row { IfOk result (λ r. r ≡ stated_authorization (entry_of moved.now) moment standing.now) }
+{
+    let next = stated_authorization(alloc, moved, moment, standing)?;
+    put_authorization(changes, standing, &next)?;
+    Ok(next)
+}
+
 // The authorization as a move leaves it, if it touches it, with the change that this makes.
 fn move_authorization(
     changes: &mut Vec<Change>,
@@ -182,8 +199,7 @@ fn move_authorization(
         return Ok(None);
     }
     let standing = standing_authorization(moment, row)?;
-    let next = stated_authorization(alloc, moved, moment, &standing)?;
-    put_authorization(changes, &standing, &next)?;
+    let next = restate_authorization(changes, alloc, moved, moment, &standing)?;
     Ok(Some(next))
 }
 
@@ -302,6 +318,26 @@ fn put_order(
     Ok(())
 }
 
+// An order that a move touches, as it leaves it, with the change that this makes.
+fn restate_order(
+    changes: &mut Vec<Change>,
+    alloc: Global,
+    book: &Book,
+    moved: &Move,
+    after: &[AuthorizationRow],
+    moment: u64,
+    standing: &OrderRow,
+) -> Result<OrderRow, AllocError>
+    requires { after.now ≡ authorizations_moved (entry_of moved.now) moment book.now.authorizations }
+    ensures changes { OnOk result (changes.new.items ≡ changes.old.items
+        ++ map PutOrder (cond (order_differs standing.now (stated_order (entry_of moved.now) moment book.now.authorizations standing.now)) (stated_order (entry_of moved.now) moment book.now.authorizations standing.now ∷ []) [])) }
+    ensures row { IfOk result (λ r. r ≡ stated_order (entry_of moved.now) moment book.now.authorizations standing.now) }
+{
+    let next = stated_order(alloc, book, moved, after, moment, standing)?;
+    put_order(changes, standing, &next)?;
+    Ok(next)
+}
+
 // The order as a move leaves it, if it touches it, with the change that this makes.
 fn move_order(
     changes: &mut Vec<Change>,
@@ -321,8 +357,7 @@ fn move_order(
         return Ok(None);
     }
     let standing = standing_order(book, moment, row)?;
-    let next = stated_order(alloc, book, moved, after, moment, &standing)?;
-    put_order(changes, &standing, &next)?;
+    let next = restate_order(changes, alloc, book, moved, after, moment, &standing)?;
     Ok(Some(next))
 }
 

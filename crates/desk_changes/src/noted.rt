@@ -1,5 +1,5 @@
 //! Moves, written into the dated columns of rows.
-ghost use Rattle.std.specs.Prelude.{◌≡◌, map, unwrap_or, IfOk};
+ghost use Rattle.std.specs.Prelude.{◌≡◌, map, unwrap_or, IfOk, OnOk};
 ghost use Rattle.desk_model.specs.Entry.{entry_of};
 ghost use Rattle.desk_model.specs.History.{earlier};
 ghost use Rattle.desk_model.specs.Account.{changing, ends as account_ends};
@@ -260,54 +260,50 @@ fn failure_by(moved: &Move, moment: u64, number: u64) -> Result<Option<DatedProb
     Ok(None)
 }
 
-fn csr_after(moved: &Move, moment: u64, row: &OrderRow) -> Result<Option<DatedBytes>, AllocError>
-    ensures { IfOk result (λ o. o ≡ earlier row.now.finalized (finalizing row.now.number (entry_of moved.now) moment)) }
+// Notes the CSR of a move, where the order has none.
+fn note_csr(noted: &mut OrderRow, moved: &Move, moment: u64) -> Result<(), AllocError>
+    ensures { OnOk result (noted.new ≡ record noted.old { finalized = earlier noted.old.finalized (finalizing noted.old.number (entry_of moved.now) moment) }) }
 {
-    match &row.finalized {
-        Some(finalized) => Ok(Some(finalized.clone()?)),
-        None => csr_by(moved, moment, row.number),
+    if noted.finalized.is_none() {
+        noted.finalized = csr_by(moved, moment, noted.number)?;
     }
+    Ok(())
 }
 
-fn certificate_after(
-    moved: &Move,
-    moment: u64,
-    row: &OrderRow,
-) -> Result<Option<DatedBytes>, AllocError>
-    ensures { IfOk result (λ o. o ≡ earlier row.now.certified (certifying row.now.number (entry_of moved.now) moment)) }
+// Notes the certificate of a move, where the order has none.
+fn note_certificate(noted: &mut OrderRow, moved: &Move, moment: u64) -> Result<(), AllocError>
+    ensures { OnOk result (noted.new ≡ record noted.old { certified = earlier noted.old.certified (certifying noted.old.number (entry_of moved.now) moment) }) }
 {
-    match &row.certified {
-        Some(certified) => Ok(Some(certified.clone()?)),
-        None => certificate_by(moved, moment, row.number),
+    if noted.certified.is_none() {
+        noted.certified = certificate_by(moved, moment, noted.number)?;
     }
+    Ok(())
 }
 
-fn failure_after(
-    moved: &Move,
-    moment: u64,
-    row: &OrderRow,
-) -> Result<Option<DatedProblem>, AllocError>
-    ensures { IfOk result (λ o. o ≡ earlier row.now.failed (failing row.now.number (entry_of moved.now) moment)) }
+// Notes the failure of a move, where the order has none.
+fn note_failure(noted: &mut OrderRow, moved: &Move, moment: u64) -> Result<(), AllocError>
+    ensures { OnOk result (noted.new ≡ record noted.old { failed = earlier noted.old.failed (failing noted.old.number (entry_of moved.now) moment) }) }
 {
-    match &row.failed {
-        Some(failed) => Ok(Some(failed.clone()?)),
-        None => failure_by(moved, moment, row.number),
+    if noted.failed.is_none() {
+        noted.failed = failure_by(moved, moment, noted.number)?;
     }
+    Ok(())
+}
+
+// Notes a move in the dated columns of an order: what came first stays.
+fn note_dates(noted: &mut OrderRow, moved: &Move, moment: u64) -> Result<(), AllocError>
+    ensures { OnOk result (noted.new ≡ noted_order (entry_of moved.now) moment noted.old) }
+{
+    note_csr(noted, moved, moment)?;
+    note_certificate(noted, moved, moment)?;
+    note_failure(noted, moved, moment)
 }
 
 /// The row of an order after a move, with the status that it had before.
 pub(crate) fn noted_order(moved: &Move, moment: u64, row: &OrderRow) -> Result<OrderRow, AllocError>
     ensures { IfOk result (λ r. r ≡ noted_order (entry_of moved.now) moment row.now) }
 {
-    Ok(OrderRow {
-        number: row.number,
-        account: row.account,
-        made: row.made,
-        expires: row.expires,
-        listed: row.listed.clone()?,
-        finalized: csr_after(moved, moment, row)?,
-        certified: certificate_after(moved, moment, row)?,
-        failed: failure_after(moved, moment, row)?,
-        status: row.status,
-    })
+    let mut noted = row.clone()?;
+    note_dates(&mut noted, moved, moment)?;
+    Ok(noted)
 }

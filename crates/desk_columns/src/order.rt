@@ -1,8 +1,9 @@
 //! Rows of the table `ord`.
-ghost use Rattle.std.specs.Prelude.{◌≡◌, ◌≢◌, IfOk, MatchOption};
+ghost use Rattle.std.specs.Prelude.{◌≡◌, ◌≢◌, Option, Some, IfOk, MatchOption};
+ghost use Rattle.desk_model.specs.declared.rows.DatedBytes.{DatedBytes as Bytes};
 ghost use Rattle.desk_model.specs.declared.rows.OrderRow.{OrderRow as Row};
-ghost use Rattle.desk_columns.specs.Columns.{dated_problem_columns, order_columns};
-ghost use Rattle.desk_columns.specs.Limits.{IfRecorded, IsDatedProblem, IsStoredOrder};
+ghost use Rattle.desk_columns.specs.Columns.{dated_bytes_columns, dated_problem_columns, order_columns};
+ghost use Rattle.desk_columns.specs.Limits.{AreDatedBytes, IfRecorded, IsDatedProblem, IsStoredOrder};
 ghost use Rattle.desk_columns.specs.Reading.{IsRead};
 ghost use Rattle.desk_columns.specs.RowHeads.{IsOrderHead};
 
@@ -11,7 +12,7 @@ use crate::facts::{read_dated_bytes, read_dated_problem};
 use crate::numbers::{read_expiry, read_moment, read_number};
 use crate::spelling::read_order_status;
 use crate::table::Columns;
-use desk_model::{DatedProblem, OrderRow, OrderStatus, Sequence};
+use desk_model::{DatedBytes, DatedProblem, OrderRow, OrderStatus, Sequence};
 use std::alloc::{AllocError, Global};
 
 // What stands in columns of its own.
@@ -48,9 +49,7 @@ fn order_with(
     requires limits { IfRecorded IsDatedProblem failed }
     ensures { IsRead order_columns IsStoredOrder columns result }
 {
-    let head = read_head(&columns)?;
-    let finalized = read_dated_bytes(columns.finalized, columns.csr)?;
-    let certified = read_dated_bytes(columns.certified, columns.cert)?;
+    let (head, (finalized, certified)) = read_unfailed(columns)?;
     Some(OrderRow {
         number: head.number,
         account: head.account,
@@ -62,6 +61,44 @@ fn order_with(
         failed,
         status: head.status,
     })
+}
+
+// The parts of an order but its failure, or `None` where no order has these columns.
+fn read_unfailed(
+    columns: OrderColumns,
+) -> Option<(OrderHead, (Option<DatedBytes>, Option<DatedBytes>))>
+    ensures { MatchOption result
+        ((row : Row) → IsStoredOrder row → columns ≢ order_columns row)
+        (λ parts. IsOrderHead columns parts.0
+        × (IsRead dated_bytes_columns (IfRecorded AreDatedBytes) (columns.finalized, columns.csr) (Some parts.1.0)
+        × IsRead dated_bytes_columns (IfRecorded AreDatedBytes) (columns.certified, columns.cert) (Some parts.1.1))) }
+{
+    let head = read_head(&columns)?;
+    let files = read_files(
+        columns.finalized,
+        columns.csr,
+        columns.certified,
+        columns.cert,
+    )?;
+    Some((head, files))
+}
+
+// When the request was handed in and the certificate issued, and their bytes.
+fn read_files(
+    finalized: Option<i64>,
+    csr: Option<Sequence<u8>>,
+    certified: Option<i64>,
+    cert: Option<Sequence<u8>>,
+) -> Option<(Option<DatedBytes>, Option<DatedBytes>)>
+    ensures { MatchOption result
+        ((request certificate : Option Bytes) → IfRecorded AreDatedBytes request → IfRecorded AreDatedBytes certificate
+        → (finalized, csr) ≡ dated_bytes_columns request → (certified, cert) ≢ dated_bytes_columns certificate)
+        (λ files. IsRead dated_bytes_columns (IfRecorded AreDatedBytes) (finalized, csr) (Some files.0)
+        × IsRead dated_bytes_columns (IfRecorded AreDatedBytes) (certified, cert) (Some files.1)) }
+{
+    let finalized = read_dated_bytes(finalized, csr)?;
+    let certified = read_dated_bytes(certified, cert)?;
+    Some((finalized, certified))
 }
 
 // The parts of an order that stand in columns of their own, or `None` where no order has these columns.

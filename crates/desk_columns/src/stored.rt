@@ -1,8 +1,9 @@
 //! The rows of all tables.
-ghost use Rattle.std.specs.Prelude.{IfOk};
+ghost use Rattle.std.specs.Prelude.{IfOk, map};
+ghost use Rattle.desk_model.specs.Kept.{EachOf};
 ghost use Rattle.desk_columns.specs.Columns.{rows_columns};
 ghost use Rattle.desk_columns.specs.Limits.{AreStored};
-ghost use Rattle.desk_columns.specs.Reading.{AreRead, IsRead};
+ghost use Rattle.desk_columns.specs.Reading.{IsRead};
 
 use crate::columns::StoredRows;
 use crate::flat_rows::FlatRows;
@@ -10,21 +11,36 @@ use crate::table::{Columns, read_table};
 use desk_model::Sequence;
 use std::alloc::{AllocError, Global};
 
-// The rows of two tables, or `None` where no rows in their limits have these columns.
-fn read_pair<A: Columns, B: Columns>(
-    alloc: Global,
-    first: Sequence<A>,
-    second: Sequence<B>,
-) -> Result<Option<(Sequence<A::Row>, Sequence<B::Row>)>, AllocError>
-    ensures { IfOk result (λ tables. AreRead A.write A.IsStored B.write B.IsStored first second tables) }
-{
-    let Some(first) = read_table(alloc, first)? else {
-        return Ok(None);
-    };
-    let Some(second) = read_table(alloc, second)? else {
-        return Ok(None);
-    };
-    Ok(Some((first, second)))
+// A pair is read part by part, the first part first.
+impl<A: Columns, B: Columns> Columns for (A, B) {
+    type Row = (A::Row, B::Row);
+
+    ghost write = { λ rows. (A.write rows.0, B.write rows.1) };
+
+    ghost IsStored = { λ rows. A.IsStored rows.0 × B.IsStored rows.1 };
+
+    fn read(self, alloc: Global) -> Result<Option<(A::Row, B::Row)>, AllocError> {
+        let (first, second) = self;
+        let Some(first) = first.read(alloc)? else {
+            return Ok(None);
+        };
+        let Some(second) = second.read(alloc)? else {
+            return Ok(None);
+        };
+        Ok(Some((first, second)))
+    }
+}
+
+impl<C: Columns> Columns for Sequence<C> {
+    type Row = Sequence<C::Row>;
+
+    ghost write = { map C.write };
+
+    ghost IsStored = { EachOf C.IsStored };
+
+    fn read(self, alloc: Global) -> Result<Option<Sequence<C::Row>>, AllocError> {
+        read_table(alloc, self)
+    }
 }
 
 /// The rows with these columns, table by table, or `None` where no rows in their limits have them.
@@ -35,16 +51,16 @@ fn read_pair<A: Columns, B: Columns>(
 pub fn read_rows(alloc: Global, stored: StoredRows) -> Result<Option<FlatRows>, AllocError>
     ensures { IfOk result (λ rows. IsRead rows_columns AreStored stored rows) }
 {
-    let Some((metas, nonces)) = read_pair(alloc, stored.metas, stored.nonces)? else {
-        return Ok(None);
-    };
-    let Some((accounts, orders)) = read_pair(alloc, stored.accounts, stored.orders)? else {
-        return Ok(None);
-    };
-    let Some((authorizations, challenges)) = read_pair(alloc, stored.authzs, stored.challs)? else {
-        return Ok(None);
-    };
-    let Some(listed) = read_table(alloc, stored.order_authzs)? else {
+    let tables = (
+        (
+            (stored.metas, stored.nonces),
+            (stored.accounts, stored.orders),
+        ),
+        ((stored.authzs, stored.challs), stored.order_authzs),
+    );
+    let Some((((metas, nonces), (accounts, orders)), ((authorizations, challenges), listed))) =
+        tables.read(alloc)?
+    else {
         return Ok(None);
     };
     Ok(Some(FlatRows {

@@ -1,3 +1,4 @@
+pub mod Acting
 pub mod ActingRows
 pub mod Deciding
 pub mod DecidingAsks

@@ -4,7 +4,7 @@ ghost use Rattle.desk_model.specs.Effect.{effects, has_row, swept};
 ghost use Rattle.desk_model.specs.Entry.{entry_of};
 ghost use Rattle.desk_model.specs.Limits.{last_end};
 ghost use Rattle.desk_model.specs.Questions.{account_on, authorization_on, challenge_of, order_on, owner_on};
-ghost use Rattle.desk_model.specs.Shown.{certificate_reply, challenge_in, client_challenge_in, located_order, moved_reply, order_reply, reply_of, shown};
+ghost use Rattle.desk_model.specs.Shown.{authorization_reply, certificate_reply, challenge_in, client_challenge_in, located_order, moved_reply, order_reply, reply_of, shown};
 ghost use Rattle.desk_model.specs.Tables.{Tables};
 ghost use Rattle.desk_changes.specs.Moved.{AreMoved};
 ghost use Rattle.desk_decisions.specs.HasTexts.{HasTexts};
@@ -115,6 +115,27 @@ fn show_client_challenge(
 
 // ---- what a verdict shows
 
+// What is shown of an order at a moment.
+fn show_order_at(alloc: Global, book: &Book, at: &At, number: u64) -> Result<Reply, AllocError>
+    requires { IsSome (order_on at.now number) }
+    ensures { IfOk result (λ r. (moment : ℕ) → at.now ≡ swept moment book.now → HasTexts at.now
+        → r ≡ shown (order_reply 200 at.now) (order_on at.now number)) }
+{
+    let row = order_at(at, number)?;
+    let reply = show_order(alloc, book, &row)?;
+    Ok(reply)
+}
+
+// What is shown of an authorization at a moment.
+fn show_authorization_at(alloc: Global, at: &At, number: u64) -> Result<Reply, AllocError>
+    requires { IsSome (authorization_on at.now number) }
+    ensures { IfOk result (λ r. HasTexts at.now → r ≡ shown (authorization_reply at.now) (authorization_on at.now number)) }
+{
+    let row = authorization_at(at, number)?;
+    let reply = authorization_reply(alloc, at.policy(), &row)?;
+    Ok(reply)
+}
+
 // What is shown of a challenge at a moment.
 fn show_challenge_at(alloc: Global, at: &At, number: u64) -> Result<Reply, AllocError>
     requires { IsSome (owner_on at.now number) }
@@ -145,11 +166,9 @@ fn show_at(alloc: Global, book: &Book, at: &At, shows: Shows) -> Result<Reply, A
             located_account(alloc, at.policy(), 200, account_at(at, number))
         }
         Shows::Key(number) => key_reply(alloc, account_at(at, number)),
-        Shows::Order(number) => show_order(alloc, book, &order_at(at, number)?),
+        Shows::Order(number) => show_order_at(alloc, book, at, number),
         Shows::Certificate(number) => show_certificate(at, number),
-        Shows::Authorization(number) => {
-            authorization_reply(alloc, at.policy(), &authorization_at(at, number)?)
-        }
+        Shows::Authorization(number) => show_authorization_at(alloc, at, number),
         Shows::Challenge(number) => show_challenge_at(alloc, at, number),
         Shows::ClientChallenge(number) => show_client_challenge_at(alloc, at, number),
     }

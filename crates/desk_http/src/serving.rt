@@ -2,6 +2,10 @@
 ghost use Rattle.std.specs.Prelude.{◌≡◌, ◌+◌, IfOk, IfErr, MatchResult, OnOk, Bool, Ok};
 ghost use Rattle.std.specs.Io.KnownBytes.{Appends};
 ghost use Rattle.desk_model.specs.Limits.{longest_body, longest_head};
+ghost use Rattle.desk_model.specs.declared.refusal.Refusal.TheVariants.{ServerInternal};
+ghost use Rattle.desk_model.specs.declared.reply.Allow.TheVariants.{No};
+ghost use Rattle.requests.specs.Request.{refused_request};
+ghost use Rattle.http_replies.specs.Replies.{reply_bytes};
 ghost use Rattle.http_requests.specs.Head.{TakesAtMost};
 ghost use Rattle.desk_http.specs.Serving.{Breaks, IsAnswer, LacksReply, LacksText, Responds, Says, Serves, Tells, call_of, index_for};
 
@@ -201,14 +205,26 @@ fn tell<W: Write>(
     ensures told { IfOk result (λ written. Tells base.now index head_only (W.contents writer.old) (W.contents writer.new) written) }
     ensures failed { IfErr result (λ e. e ≡ IoFault.Write) }
 {
-    let reply = refusal_reply(alloc, Refusal::ServerInternal, Allow::No, index);
-    match reply_text(alloc, base, &reply, head_only) {
+    match inability_text(alloc, base, index, head_only) {
         Ok(text) => match send(writer, text.as_slice()) {
             Ok(()) => Ok(true),
             Err(fault) => Err(fault),
         },
         Err(_) => Ok(false),
     }
+}
+
+// The bytes that say that the desk could not act.
+fn inability_text(
+    alloc: Global,
+    base: &str,
+    index: bool,
+    head_only: bool,
+) -> Result<Vec<u8>, AllocError>
+    ensures { IfOk result (λ text. text.items ≡ reply_bytes base.now (refused_request ServerInternal No index) head_only) }
+{
+    let reply = refusal_reply(alloc, Refusal::ServerInternal, Allow::No, index);
+    reply_text(alloc, base, &reply, head_only)
 }
 
 // Writes a text and flushes the writer.

@@ -1,3 +1,4 @@
+pub mod Gathered
 pub mod KeyMembers
 pub mod NoFloats
 pub mod ShownAuthorizations

@@ -1,7 +1,7 @@
 -- What the documents of orders show.
 use Rattle.std.proofs.Common.{◌≡◌, ℕ, ◌≤◌, List, [], ◌∷◌, ◌++◌, map, Option, Some, None, refl, sym, ap, ◌∙◌, arith}
 use Rattle.std.specs.Prelude.{is_some, codes}
-use Rattle.serde_json.specs.Data.{Data, string}
+use Rattle.serde_json.specs.Data.{Data, Members, string}
 use Rattle.desk_model.specs.Limits.{last_end}
 use Rattle.desk_model.specs.Json.{members, list, when}
 use Rattle.desk_model.specs.Terms.{Terms}
@@ -23,6 +23,10 @@ capped-same m le = omega arith
 pub map-map : {X Y Z : Type 0} (f : Y → Z) (g : X → Y) (xs : List X) → map f (map g xs) ≡ map (λ x. f (g x)) xs
 map-map f g [] = refl
 map-map f g (x ∷ xs) = ap (λ l. f (g x) ∷ l) (map-map f g xs)
+
+-- members with one more put among them
+pub and_put : (member : List ℕ × Data) (before now known : Members) → now ≡ with_members (member ∷ []) before → before ≡ known → now ≡ with_members (member ∷ []) known
+and_put member before now known put earlier = put ∙ ap (with_members (member ∷ [])) earlier
 
 -- the certificate and the error of an order stand in the order of names
 order_members-by : (certified : Option DatedBytes) (failed : Option DatedProblem) (a x f i s c : Data) →

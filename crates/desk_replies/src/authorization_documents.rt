@@ -9,7 +9,9 @@ ghost use Rattle.desk_model.specs.Tokens.{token_text};
 ghost use Rattle.desk_model.specs.Document.{authorization_status_text, challenge_status_text, kind_text, challenge_url, identifier, error_of, report_error, validated, validated_by, challenge_document, shown_challenges, authorization_document};
 ghost use Rattle.desk_replies.specs.Shown.{capped, capped_report, capped_challenge, capped_authorization, with_members, HasDatedReport, HasMoments};
 
-use crate::document_values::{error_value, identifier_value, list_value, moment_value, text_value};
+use crate::document_values::{
+    error_value, identifier_value, list_value, moment_value, put_str, put_text, put_value,
+};
 use crate::urls::challenge_url;
 use desk_model::{AuthorizationRow, ChallengeRow, Document, Outcome, Policy, Report};
 use serde_json::{Map, Value, put};
@@ -78,14 +80,12 @@ fn challenge_members(
         ∷ [])) }
 {
     let mut members = Map::new(alloc);
-    let status = Value::try_from_str(alloc, row.status.as_str())?;
-    put(&mut members, alloc, "status", status)?;
-    let token = keys::token_text(alloc, row.token)?;
-    put(&mut members, alloc, "token", text_value(token))?;
-    let kind = Value::try_from_str(alloc, row.kind.as_str())?;
-    put(&mut members, alloc, "type", kind)?;
-    let url = challenge_url(alloc, policy, row.number)?;
-    put(&mut members, alloc, "url", text_value(url))?;
+    put_str(&mut members, alloc, "status", row.status.as_str())?;
+    let token = keys::token_text(alloc, row.token);
+    put_text(&mut members, alloc, "token", token)?;
+    put_str(&mut members, alloc, "type", row.kind.as_str())?;
+    let url = challenge_url(alloc, policy, row.number);
+    put_text(&mut members, alloc, "url", url)?;
     Ok(members)
 }
 
@@ -173,12 +173,11 @@ fn authorization_members(
     let mut members = Map::new(alloc);
     let challenges = shown_challenges(alloc, policy, row.challenges.as_slice())?;
     put(&mut members, alloc, "challenges", list_value(challenges))?;
-    let expires = moment_value(alloc, row.expires)?;
-    put(&mut members, alloc, "expires", expires)?;
-    let identifier = identifier_value(alloc, row.name.base())?;
-    put(&mut members, alloc, "identifier", identifier)?;
-    let status = Value::try_from_str(alloc, row.status.as_str())?;
-    put(&mut members, alloc, "status", status)?;
+    let expires = moment_value(alloc, row.expires);
+    put_value(&mut members, alloc, "expires", expires)?;
+    let identifier = identifier_value(alloc, row.name.base());
+    put_value(&mut members, alloc, "identifier", identifier)?;
+    put_str(&mut members, alloc, "status", row.status.as_str())?;
     Ok(members)
 }
 

@@ -1,14 +1,14 @@
 //! The values that several documents hold: lists, moments, identifiers and errors (RFC 8555, 6.7, 7.1).
-ghost use Rattle.std.specs.Prelude.{◌≡◌, map, string_bytes, IfOk};
-ghost use Rattle.serde_json.specs.Data.{string};
-ghost use Rattle.serde_json.specs.View.{view};
+ghost use Rattle.std.specs.Prelude.{ℕ, List, ◌≡◌, ◌∷◌, [], map, string_bytes, IfOk, OnOk};
+ghost use Rattle.serde_json.specs.Data.{Data, string};
+ghost use Rattle.serde_json.specs.View.{view, members_view};
 ghost use Rattle.desk_model.specs.Json.{list};
 ghost use Rattle.desk_model.specs.Document.{identifier, error};
 ghost use Rattle.desk_model.specs.Moment.{moment_text as text_of_moment};
-ghost use Rattle.desk_replies.specs.Shown.{capped};
+ghost use Rattle.desk_replies.specs.Shown.{capped, with_members};
 
 use desk_model::{LAST_END, Text};
-use serde_json::{Value, json};
+use serde_json::{Map, Value, json, put};
 use std::alloc::{AllocError, Global};
 
 /// A JSON text.
@@ -64,4 +64,42 @@ pub(crate) fn error_value(
         "status": status,
         "type": format!(in alloc; "urn:ietf:params:acme:error:{kind}")?
     })
+}
+
+/// Puts a text among members.
+pub(crate) fn put_str(
+    members: &mut Map<String, Value>,
+    alloc: Global,
+    name: &str,
+    text: &str,
+) -> Result<(), AllocError>
+    ensures { OnOk result (members_view members.new.entries ≡ with_members ((name.now, string text.now) ∷ []) (members_view members.old.entries)) }
+{
+    put(members, alloc, name, Value::try_from_str(alloc, text)?)
+}
+
+/// Puts a text among members, if it could be made.
+pub(crate) fn put_text(
+    members: &mut Map<String, Value>,
+    alloc: Global,
+    name: &str,
+    text: Result<String, AllocError>,
+) -> Result<(), AllocError>
+    ensures { OnOk result ((bytes : List ℕ) → IfOk text (λ t. string_bytes t ≡ bytes)
+        → members_view members.new.entries ≡ with_members ((name.now, string bytes) ∷ []) (members_view members.old.entries)) }
+{
+    put(members, alloc, name, text_value(text?))
+}
+
+/// Puts a value among members, if it could be made.
+pub(crate) fn put_value(
+    members: &mut Map<String, Value>,
+    alloc: Global,
+    name: &str,
+    value: Result<Value, AllocError>,
+) -> Result<(), AllocError>
+    ensures { OnOk result ((shown : Data) → IfOk value (λ v. view v ≡ shown)
+        → members_view members.new.entries ≡ with_members ((name.now, shown) ∷ []) (members_view members.old.entries)) }
+{
+    put(members, alloc, name, value?)
 }

@@ -13,7 +13,10 @@ ghost use Rattle.desk_model.specs.Effect.{swept, swept_order};
 ghost use Rattle.desk_model.specs.Document.{order_status_text, order_error, identifier, finalize_url, certificate_url, authorization_url, order_url, rows_of, listed_rows, order_document, is_listed, orders_document, order_with_names};
 ghost use Rattle.desk_replies.specs.Shown.{capped, capped_order, with_members};
 
-use crate::document_values::{error_value, identifier_value, list_value, moment_value, text_value};
+use crate::document_values::{
+    error_value, identifier_value, list_value, moment_value, put_str, put_text, put_value,
+    text_value,
+};
 use crate::urls::{authorization_url, certificate_url, finalize_url, order_url};
 use desk_book::{Book, Table};
 use desk_model::{
@@ -28,27 +31,27 @@ fn authorization_urls(
     alloc: Global,
     policy: &Policy,
     listed: &[Listed],
-) -> Result<Vec<Value>, AllocError>
-    ensures { IfOk result (λ v. map (λ d. view d) v.items ≡ map (λ l. string (authorization_url policy.now l.authorization)) listed.now) }
+) -> Result<Value, AllocError>
+    ensures { IfOk result (λ v. view v ≡ list (map (λ l. string (authorization_url policy.now l.authorization)) listed.now)) }
 {
     let mut urls = Vec::new(alloc);
     for place in listed {
         let url = authorization_url(alloc, policy, place.authorization)?;
         urls.push(text_value(url))?;
     }
-    Ok(urls)
+    Ok(list_value(urls))
 }
 
 // The identifiers of names.
-fn identifiers(alloc: Global, names: &[DnsName]) -> Result<Vec<Value>, AllocError>
-    ensures { IfOk result (λ v. map (λ d. view d) v.items ≡ map (λ n. identifier (shown_name n)) names.now) }
+fn identifiers(alloc: Global, names: &[DnsName]) -> Result<Value, AllocError>
+    ensures { IfOk result (λ v. view v ≡ list (map (λ n. identifier (shown_name n)) names.now)) }
 {
     let mut identifiers = Vec::new(alloc);
     for name in names {
         let text = name.shown(alloc)?;
         identifiers.push(identifier_value(alloc, text.as_str())?)?;
     }
-    Ok(identifiers)
+    Ok(list_value(identifiers))
 }
 
 // The members that the document of every order has.
@@ -67,16 +70,15 @@ fn order_members(
         ∷ [])) }
 {
     let mut members = Map::new(alloc);
-    let urls = authorization_urls(alloc, policy, row.listed.as_slice())?;
-    put(&mut members, alloc, "authorizations", list_value(urls))?;
-    let expires = moment_value(alloc, row.expires)?;
-    put(&mut members, alloc, "expires", expires)?;
-    let finalize = finalize_url(alloc, policy, row.number)?;
-    put(&mut members, alloc, "finalize", text_value(finalize))?;
-    let identifiers = identifiers(alloc, names)?;
-    put(&mut members, alloc, "identifiers", list_value(identifiers))?;
-    let status = Value::try_from_str(alloc, row.status.as_str())?;
-    put(&mut members, alloc, "status", status)?;
+    let urls = authorization_urls(alloc, policy, row.listed.as_slice());
+    put_value(&mut members, alloc, "authorizations", urls)?;
+    let expires = moment_value(alloc, row.expires);
+    put_value(&mut members, alloc, "expires", expires)?;
+    let finalize = finalize_url(alloc, policy, row.number);
+    put_text(&mut members, alloc, "finalize", finalize)?;
+    let identifiers = identifiers(alloc, names);
+    put_value(&mut members, alloc, "identifiers", identifiers)?;
+    put_str(&mut members, alloc, "status", row.status.as_str())?;
     Ok(members)
 }
 

@@ -3,6 +3,7 @@
 
 mod changes;
 mod children;
+mod ending;
 mod fault;
 mod laws;
 mod making;

@@ -8,6 +8,7 @@ ghost use Rattle.desk_saving.specs.Making.{MakesDesk};
 ghost use Rattle.desk_saving.specs.Numbers.{IsNotTooLarge};
 ghost use Rattle.written_rows.specs.Fits.{FitsMeta};
 
+use crate::ending::end;
 use crate::fault::SaveFault;
 use crate::rows::put_meta;
 use desk_model::Meta;
@@ -52,9 +53,6 @@ pub fn make_tables<S: Alter>(
     ensures fits { FitsMeta meta.now → IfErr result IsNotTooLarge }
 {
     let mut tx = conn.transaction();
-    define_desk(alloc, &mut tx, meta)?;
-    match tx.commit() {
-        Ok(()) => Ok(()),
-        Err(error) => Err(SaveFault::Commit(error)),
-    }
+    let defined = define_desk(alloc, &mut tx, meta);
+    end(tx, defined)
 }

@@ -8,6 +8,7 @@ ghost use Rattle.desk_saving.specs.Fitting.{Saves};
 ghost use Rattle.desk_saving.specs.Numbers.{FitsColumns, IsNotTooLarge};
 
 use crate::changes::put_changes;
+use crate::ending::end;
 use crate::fault::SaveFault;
 use desk_model::Change;
 use sqlite::{Alter, Connection};
@@ -34,9 +35,6 @@ pub fn save_all<S: Alter>(
     ensures fits { EachOf FitsColumns changes.now → IfErr result IsNotTooLarge }
 {
     let mut tx = conn.transaction();
-    put_changes(alloc, &mut tx, changes)?;
-    match tx.commit() {
-        Ok(()) => Ok(()),
-        Err(error) => Err(SaveFault::Commit(error)),
-    }
+    let put = put_changes(alloc, &mut tx, changes);
+    end(tx, put)
 }

@@ -1,5 +1,5 @@
 -- Rows that are nested under their owners have these parents and these children, and none else do.
-use Rattle.std.proofs.Common.{◌≡◌, ℕ, ◌+◌, ◌<◌, ◌≤◌, Bool, true, false, cond, List, [], ◌∷◌, ◌++◌, map, refl, sym, ap, ◌∙◌, arith, append_assoc}
+use Rattle.std.proofs.Common.{◌≡◌, ℕ, ◌+◌, ◌<◌, ◌≤◌, Bool, true, false, cond, List, [], ◌∷◌, ◌++◌, length, map, refl, sym, ap, ◌∙◌, arith, append_assoc}
 use Rattle.std.specs.Prelude.{◌==◌}
 use Rattle.std.specs.List.{AllByRecursion}
 use Rattle.std.proofs.lemmas.Bool.{eqb-true, eq-eqb}
@@ -9,18 +9,10 @@ use Rattle.desk_columns.specs.declared.flat_rows.Owned.{Owned}
 use Rattle.desk_columns.specs.Flat.{owned_by}
 use Rattle.stored_rows.specs.Nesting.{IsNesting, child_rows, first_of, behind, nested, left_over}
 
--- one more row takes its first children of what is left
-pub nested-last : {P T : Type 0} (number : P → ℕ) (with_children : P → List T → P) (ps : List P) (p : P) (rs : List (Owned T)) →
-    nested number with_children (ps ++ p ∷ []) rs
-    ≡ nested number with_children ps rs ++ with_children p (first_of (number p) (left_over number ps rs)) ∷ []
-nested-last number with_children [] p rs = refl
-nested-last number with_children (q ∷ ps) p rs =
-    ap (λ l. with_children q (first_of (number q) rs) ∷ l) (nested-last number with_children ps p (behind (number q) rs))
-
-pub left_over-last : {P T : Type 0} (number : P → ℕ) (ps : List P) (p : P) (rs : List (Owned T)) →
-    left_over number (ps ++ p ∷ []) rs ≡ behind (number p) (left_over number ps rs)
-left_over-last number [] p rs = refl
-left_over-last number (q ∷ ps) p rs = left_over-last number ps p (behind (number q) rs)
+-- nothing is left where none is counted
+pub no_items : {X : Type 0} (xs : List X) → length xs ≡ 0 → xs ≡ []
+no_items [] none = refl
+no_items (x ∷ xs) none = absurd (omega (arith, none))
 
 -- what is taken and what is left are all
 first-behind : {T : Type 0} (n : ℕ) (rs : List (Owned T)) → owned_by n (first_of n rs) ++ behind n rs ≡ rs

@@ -1,11 +1,13 @@
 //! The status fault of a row: it stores another status than its columns give (RFC 8555, 7.1.6).
-ghost use Rattle.std.specs.Prelude.{◌≡◌, List};
-ghost use Rattle.desk_model.specs.Derived.{account_faults, authorization_faults, challenge_faults, numbers_of, order_faults, stored_statuses, unless};
+ghost use Rattle.std.specs.Prelude.{◌≡◌, ◌==◌, List};
+ghost use Rattle.desk_model.specs.Derived.{account_faults, authorization_faults, challenge_faults, numbers_of, order_code, order_faults, stored_statuses, unless};
 ghost use Rattle.desk_model.specs.declared.rows.AuthorizationRow.{AuthorizationRow as Row};
 ghost use Rattle.stored_rows.specs.RowFaults.{listed_fault};
 
 use desk_book::{derived_account, derived_authorization, derived_challenge, derived_order};
-use desk_model::{AccountRow, AuthorizationRow, AuthzStatus, ChallengeRow, OrderRow, StatusFault};
+use desk_model::{
+    AccountRow, AuthorizationRow, AuthzStatus, ChallengeRow, OrderRow, OrderStatus, StatusFault,
+};
 
 // The fault, unless the row is fine.
 fn fault_unless(is_fine: bool, fault: StatusFault) -> Option<StatusFault>
@@ -27,6 +29,13 @@ pub fn account_fault(row: &AccountRow) -> Option<StatusFault>
     fault_unless(row.status == derived, fault)
 }
 
+// Whether the status of an order is this one.
+fn has_status(row: &OrderRow, status: OrderStatus) -> bool
+    ensures { result ≡ (order_code row.now.status == order_code status) }
+{
+    row.status == status
+}
+
 /// The fault of an order at a moment, if it stores another status than its columns and the stored statuses of the
 /// authorizations that it lists give (RFC 8555, 7.1.6).
 pub fn order_fault(moment: u64, row: &OrderRow, statuses: &[AuthzStatus]) -> Option<StatusFault>
@@ -39,7 +48,7 @@ pub fn order_fault(moment: u64, row: &OrderRow, statuses: &[AuthzStatus]) -> Opt
         stored: row.status,
         derived,
     };
-    fault_unless(row.status == derived, fault)
+    fault_unless(has_status(row, derived), fault)
 }
 
 /// The fault of an authorization at a moment, if it stores another status than its columns give (RFC 8555, 7.1.6).

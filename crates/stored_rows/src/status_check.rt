@@ -1,5 +1,5 @@
 //! The check of statuses: which rows store another status than their columns give (RFC 8555, 7.1.6).
-ghost use Rattle.std.specs.Prelude.{◌≡◌, ◌++◌, [], List, IfOk, OnOk, option_map};
+ghost use Rattle.std.specs.Prelude.{◌≡◌, ◌++◌, ◌∷◌, [], List, IfOk, OnOk, option_map};
 ghost use Rattle.std.specs.List.{flat_map};
 ghost use Rattle.desk_model.specs.Derived.{account_faults, authorization_faults, authorization_numbered, challenge_faults, numbers_of, order_faults, sorted_challenges, status_faults, stored_statuses};
 ghost use Rattle.desk_model.specs.Entry.{History};
@@ -26,25 +26,24 @@ pub fn check(alloc: Global, book: &Book) -> Result<Vec<StatusFault>, AllocError>
     ensures faults { IfOk result (λ v. v.items ≡ status_faults book.now) }
     ensures picture { IfOk result (λ v. (F : History) → Legal F → book.now ≡ picture F → v.items ≡ []) }
 {
-    let faults = faults_by_kind(alloc, book)?;
+    let mut faults = Vec::new(alloc);
+    push_faults(&mut faults, alloc, book)?;
     Ok(faults)
 }
 
-// The faults of accounts, orders, authorizations and challenges, one kind after the other.
-fn faults_by_kind(alloc: Global, book: &Book) -> Result<Vec<StatusFault>, AllocError>
-    ensures { IfOk result (λ v. v.items ≡ status_faults book.now) }
+// Puts the faults of accounts, orders, authorizations and challenges, one kind after the other.
+fn push_faults(faults: &mut Vec<StatusFault>, alloc: Global, book: &Book) -> Result<(), AllocError>
+    ensures { OnOk result (faults.new.items ≡ faults.old.items ++ status_faults book.now) }
 {
-    let mut faults = Vec::new(alloc);
-    push_accounts(&mut faults, book.accounts())?;
-    push_orders(&mut faults, alloc, book)?;
+    push_accounts(faults, book.accounts())?;
+    push_orders(faults, alloc, book)?;
     push_authorizations(
-        &mut faults,
+        faults,
         book.meta().counters.clock.moment(),
         book.authorizations(),
     )?;
-    let mut challenges = challenges_by_number(alloc, book.authorizations())?;
-    faults.append(&mut challenges)?;
-    Ok(faults)
+    push_sorted_challenges(faults, alloc, book.authorizations())?;
+    Ok(())
 }
 
 // Puts a fault, if there is one.
@@ -86,6 +85,20 @@ fn stored_status(book: &Book, number: u64) -> Option<AuthzStatus>
     book.authorization(number).map(|row| row.status)
 }
 
+// Puts the stored status of the authorization of a number, if there is one.
+fn push_stored_status(
+    statuses: &mut Vec<AuthzStatus>,
+    book: &Book,
+    number: u64,
+) -> Result<(), AllocError>
+    ensures { OnOk result (statuses.new.items ≡ statuses.old.items ++ stored_statuses book.now.authorizations (number ∷ [])) }
+{
+    if let Some(status) = stored_status(book, number) {
+        statuses.push(status)?;
+    }
+    Ok(())
+}
+
 // The stored statuses of the authorizations that an order lists.
 fn listed_statuses(
     alloc: Global,
@@ -96,9 +109,7 @@ fn listed_statuses(
 {
     let mut statuses = Vec::new(alloc);
     for listed in listed {
-        if let Some(status) = stored_status(book, listed.authorization) {
-            statuses.push(status)?;
-        }
+        push_stored_status(&mut statuses, book, listed.authorization)?;
     }
     Ok(statuses)
 }
@@ -212,4 +223,17 @@ fn challenges_by_number(
     push_all_challenges(&mut faults, authorizations)?;
     sort_faults(&mut faults)?;
     Ok(faults)
+}
+
+// Puts the faults of challenges by number, those of one number in the order of their authorizations.
+fn push_sorted_challenges(
+    faults: &mut Vec<StatusFault>,
+    alloc: Global,
+    authorizations: &Table<AuthorizationRow>,
+) -> Result<(), AllocError>
+    ensures { OnOk result (faults.new.items ≡ faults.old.items
+        ++ flat_map challenge_faults (sorted_challenges (challenges_of authorizations.now))) }
+{
+    let mut challenges = challenges_by_number(alloc, authorizations)?;
+    faults.append(&mut challenges)
 }

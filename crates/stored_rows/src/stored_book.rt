@@ -1,19 +1,24 @@
 //! The book of rows that stand in any order.
-ghost use Rattle.std.specs.Prelude.{◌≡◌, [], ◌∷◌, IfOk, IfErr, MatchResult};
+ghost use Rattle.std.specs.Prelude.{◌≡◌, [], ◌∷◌, IfOk, IfErr, IsPermutation, MatchResult};
+ghost use Rattle.desk_laws.specs.Ordered.{Ascends};
+ghost use Rattle.desk_model.specs.Kept.{EachOf};
 ghost use Rattle.desk_model.specs.Tables.{Tables};
 ghost use Rattle.desk_columns.specs.Flat.{AreReordered, flat};
 ghost use Rattle.desk_columns.specs.Columns.{rows_columns};
 ghost use Rattle.desk_columns.specs.Limits.{AreStored};
 ghost use Rattle.desk_columns.specs.declared.flat_rows.FlatRows.{FlatRows as Rows};
-ghost use Rattle.stored_rows.specs.IsBook.{AreFlat, AreInOrder, IsBookOf, IsBookOfStored};
+ghost use Rattle.stored_rows.specs.IsBook.{AreFlat, AreInOrder, IsBookOf, IsBookOfStored, IsSound};
+ghost use Rattle.stored_rows.specs.Nesting.{IsNestOf};
 ghost use Rattle.stored_rows.specs.declared.rows_fault.RowsFault.TheVariants.{NotABook};
 
 use crate::assembling::{nested_table_of, table_of};
 use crate::rows_fault::RowsFault;
 use crate::soundness::is_sound;
-use desk_book::Book;
-use desk_columns::{FlatRows, StoredRows, read_rows};
-use desk_model::{Meta, Sequence};
+use desk_book::{Book, Table};
+use desk_columns::{FlatRows, Owned, StoredRows, read_rows};
+use desk_model::{
+    AccountRow, AuthorizationRow, ChallengeRow, Listed, Meta, Nonce, OrderRow, Sequence,
+};
 use std::alloc::Global;
 
 /// The book whose rows the tables of a file hold, in any order (format 1).
@@ -50,10 +55,19 @@ fn book_of_rows(alloc: Global, rows: FlatRows) -> Result<Book, RowsFault>
         (λ fault. fault ≡ NotABook → (T : Tables) → IsBookOf rows T → ⊥) }
 {
     let book = book_in_order(alloc, rows)?;
-    if !is_sound(alloc, &book)? {
-        return Err(RowsFault::NotABook);
-    }
+    check_soundness(alloc, &book)?;
     Ok(book)
+}
+
+// Refuses a book that is not sound.
+fn check_soundness(alloc: Global, book: &Book) -> Result<(), RowsFault>
+    ensures { MatchResult result (λ _. IsSound book.now) (λ fault. fault ≡ NotABook → IsSound book.now → ⊥) }
+{
+    if is_sound(alloc, book)? {
+        Ok(())
+    } else {
+        Err(RowsFault::NotABook)
+    }
 }
 
 // The one row of a table.
@@ -67,6 +81,45 @@ fn only_row(rows: Sequence<Meta>) -> Result<Meta, RowsFault>
     rows.pop().ok_or(RowsFault::NotABook)
 }
 
+// The tables of nonces and of accounts.
+fn numbered_tables(
+    alloc: Global,
+    nonces: Sequence<Nonce>,
+    accounts: Sequence<AccountRow>,
+) -> Result<(Table<Nonce>, Table<AccountRow>), RowsFault>
+    ensures { MatchResult result
+        (λ tables. (IsPermutation nonces tables.0 × Ascends (λ n. n.serial) 1 tables.0)
+        × (IsPermutation accounts tables.1 × Ascends (λ a. a.number) 1 tables.1))
+        (λ fault. fault ≡ NotABook → (T : Tables) → IsPermutation nonces T.nonces → Ascends (λ n. n.serial) 1 T.nonces
+        → IsPermutation accounts T.accounts → Ascends (λ a. a.number) 1 T.accounts → ⊥) }
+{
+    let nonces = table_of(alloc, nonces)?;
+    let accounts = table_of(alloc, accounts)?;
+    Ok((nonces, accounts))
+}
+
+// The tables of authorizations with their challenges and of orders with what they list.
+fn nested_tables(
+    alloc: Global,
+    authorizations: Sequence<AuthorizationRow>,
+    challenges: Sequence<Owned<ChallengeRow>>,
+    orders: Sequence<OrderRow>,
+    listed: Sequence<Owned<Listed>>,
+) -> Result<(Table<AuthorizationRow>, Table<OrderRow>), RowsFault>
+    requires authorizations { EachOf (λ a. a.challenges ≡ []) authorizations }
+    requires orders { EachOf (λ o. o.listed ≡ []) orders }
+    ensures { MatchResult result
+        (λ tables. IsNestOf (λ a. a.number) (λ a. a.challenges) (λ a cs. record a { challenges = cs }) (λ c. c.number) authorizations challenges tables.0
+        × IsNestOf (λ o. o.number) (λ o. o.listed) (λ o ls. record o { listed = ls }) (λ l. l.place) orders listed tables.1)
+        (λ fault. fault ≡ NotABook → (T : Tables)
+        → IsNestOf (λ a. a.number) (λ a. a.challenges) (λ a cs. record a { challenges = cs }) (λ c. c.number) authorizations challenges T.authorizations
+        → IsNestOf (λ o. o.number) (λ o. o.listed) (λ o ls. record o { listed = ls }) (λ l. l.place) orders listed T.orders → ⊥) }
+{
+    let authorizations = nested_table_of(alloc, authorizations, challenges)?;
+    let orders = nested_table_of(alloc, orders, listed)?;
+    Ok((authorizations, orders))
+}
+
 // The book whose rows stand by number, with those that belong to them.
 fn book_in_order(alloc: Global, rows: FlatRows) -> Result<Book, RowsFault>
     requires { AreFlat rows }
@@ -75,9 +128,13 @@ fn book_in_order(alloc: Global, rows: FlatRows) -> Result<Book, RowsFault>
         (λ fault. fault ≡ NotABook → (T : Tables) → AreInOrder T → AreReordered rows (flat T) → ⊥) }
 {
     let meta = only_row(rows.metas)?;
-    let nonces = table_of(alloc, rows.nonces)?;
-    let accounts = table_of(alloc, rows.accounts)?;
-    let authorizations = nested_table_of(alloc, rows.authorizations, rows.challenges)?;
-    let orders = nested_table_of(alloc, rows.orders, rows.listed)?;
+    let (nonces, accounts) = numbered_tables(alloc, rows.nonces, rows.accounts)?;
+    let (authorizations, orders) = nested_tables(
+        alloc,
+        rows.authorizations,
+        rows.challenges,
+        rows.orders,
+        rows.listed,
+    )?;
     Ok(Book::of_tables(meta, nonces, accounts, authorizations, orders))
 }

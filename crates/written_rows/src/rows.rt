@@ -1,6 +1,7 @@
 //! The columns of each row (docs/SPECIFICATION.md, 13).
 ghost use Rattle.std.specs.Prelude.{◌≡◌, IfOk, IfErr, IsOk};
-ghost use Rattle.desk_columns.specs.Columns.{meta_columns, nonce_columns, account_columns, order_columns, authorization_columns, listed_columns, challenge_columns};
+ghost use Rattle.desk_columns.specs.Columns.{meta_columns, nonce_columns, account_columns, order_columns, authorization_columns};
+ghost use Rattle.desk_columns.specs.Columns.{listed_columns, challenge_columns};
 ghost use Rattle.written_rows.specs.Fits.{FitsMeta, FitsNonce, FitsAccount, FitsOrder, FitsAuthorization, FitsListed, FitsChallenge};
 ghost use Rattle.written_rows.specs.declared.fault.WriteFault.TheVariants.{Memory};
 
@@ -31,7 +32,6 @@ pub fn meta_columns(alloc: Global, row: &Meta) -> Result<MetaColumns, WriteFault
     Ok(MetaColumns {
         id: 1,
         format: 1,
-        base: text_column(alloc, row.policy.base())?,
         nonce_life: number_column(row.policy.nonce_life())?,
         order_life: number_column(row.policy.order_life())?,
         authz_life: number_column(row.policy.authz_life())?,
@@ -41,6 +41,7 @@ pub fn meta_columns(alloc: Global, row: &Meta) -> Result<MetaColumns, WriteFault
         orders: number_column(row.counters.orders)?,
         authzs: number_column(row.counters.authorizations)?,
         challs: number_column(row.counters.challenges)?,
+        base: text_column(alloc, row.policy.base())?,
     })
 }
 
@@ -55,8 +56,8 @@ pub fn nonce_columns(alloc: Global, row: &Nonce) -> Result<NonceColumns, WriteFa
 {
     Ok(NonceColumns {
         serial: number_column(row.serial)?,
-        random: bytes_column(alloc, &row.random)?,
         issued: number_column(row.issued)?,
+        random: bytes_column(alloc, &row.random)?,
     })
 }
 
@@ -69,12 +70,14 @@ pub fn account_columns(alloc: Global, row: &AccountRow) -> Result<AccountColumns
     ensures columns { IfOk result (λ c. c ≡ account_columns row.now) }
     ensures fits { FitsAccount row.now → IfErr result (λ why. why ≡ Memory) }
 {
+    let num = number_column(row.number)?;
+    let opened = number_column(row.opened)?;
     let (ended, end_kind) = account_end_columns(alloc, row.ended)?;
     Ok(AccountColumns {
-        num: number_column(row.number)?,
+        num,
         jwk: text_column(alloc, row.key.canonical())?,
         contacts: contacts_column(alloc, row.contacts.as_slice())?,
-        opened: number_column(row.opened)?,
+        opened,
         ended,
         end_kind,
         status: text_column(alloc, row.status.as_str())?,
@@ -90,14 +93,18 @@ pub fn order_columns(alloc: Global, row: &OrderRow) -> Result<OrderColumns, Writ
     ensures columns { IfOk result (λ c. c ≡ order_columns row.now) }
     ensures fits { FitsOrder row.now → IfErr result (λ why. why ≡ Memory) }
 {
+    let num = number_column(row.number)?;
+    let account = number_column(row.account)?;
+    let made = number_column(row.made)?;
+    let expires = number_column(row.expires)?;
     let (finalized, csr) = dated_bytes_columns(alloc, &row.finalized)?;
     let (certified, cert) = dated_bytes_columns(alloc, &row.certified)?;
     let (failed, problem) = dated_problem_columns(alloc, &row.failed)?;
     Ok(OrderColumns {
-        num: number_column(row.number)?,
-        account: number_column(row.account)?,
-        made: number_column(row.made)?,
-        expires: number_column(row.expires)?,
+        num,
+        account,
+        made,
+        expires,
         finalized,
         csr,
         certified,
@@ -120,14 +127,18 @@ pub fn authorization_columns(
     ensures columns { IfOk result (λ c. c ≡ authorization_columns row.now) }
     ensures fits { FitsAuthorization row.now → IfErr result (λ why. why ≡ Memory) }
 {
+    let num = number_column(row.number)?;
+    let account = number_column(row.account)?;
+    let made = number_column(row.made)?;
+    let expires = number_column(row.expires)?;
     let (ended, end_kind) = authorization_end_columns(alloc, row.ended)?;
     Ok(AuthzColumns {
-        num: number_column(row.number)?,
-        account: number_column(row.account)?,
+        num,
+        account,
         name: text_column(alloc, row.name.base())?,
         wildcard: wildcard_column(row.name.is_wildcard()),
-        made: number_column(row.made)?,
-        expires: number_column(row.expires)?,
+        made,
+        expires,
         ended,
         end_kind,
         status: text_column(alloc, row.status.as_str())?,
@@ -163,13 +174,16 @@ pub fn challenge_columns(
     ensures columns { IfOk result (λ c. c ≡ challenge_columns (record { owner = authorization; row = row.now })) }
     ensures fits { FitsChallenge (record { owner = authorization; row = row.now }) → IfErr result (λ why. why ≡ Memory) }
 {
+    let num = number_column(row.number)?;
+    let authz = number_column(authorization)?;
+    let answered = answered_column(row.answered)?;
     let (reported, outcome) = report_columns(alloc, row.reported)?;
     Ok(ChallColumns {
-        num: number_column(row.number)?,
-        authz: number_column(authorization)?,
+        num,
+        authz,
         kind: text_column(alloc, row.kind.as_str())?,
         token: bytes_column(alloc, &row.token)?,
-        answered: answered_column(row.answered)?,
+        answered,
         reported,
         outcome,
         status: text_column(alloc, row.status.as_str())?,

@@ -1,32 +1,34 @@
 use Rattle.std.proofs.Common.{rules}
-use Rattle.sqlite.specs.Held.{state}
-use Rattle.sqlite.specs.State.{Survives}
-use Rattle.desk_schema.specs.Advances.{Advances}
-use Rattle.desk_saving.specs.Committing.{IsLeft}
 use Rattle.desk_saving.specs.Making.{MakesDesk}
-use Rattle.desk_saving.proofs.Leaving.{begun, left_by}
+use Rattle.desk_saving.proofs.Leaving.{committed_by, left_by, spared_by, undone_by}
 use Rattle.desk_saving.proofs.making.make_tables.Goals as goal
 
-pub returns-in-Ok-clause-left : goal.returns-in-Ok-clause-left
-returns-in-Ok-clause-left g c =
+pub returns-clause-ok : goal.returns-clause-ok
+returns-clause-ok g c =
     let old = c.args.conn.now in
-    let last = c.define_desk.new.tx.conn.now in
-    let end = c.commit.new.self.0 in
+    let last = c.define_desk-defined.new.tx.conn.now in
     let Does = MakesDesk c.args.meta.now in
-    let start = c.transaction-tx.ensures.begun in
-    let advances : Advances (state g.S.Store (begun old)) (state g.S.Store last) Does = rw start at c.in_ok-define_desk.ensures.ok in
-    let whole : Survives (state g.S.Store old) (state g.S.Store end) (IsLeft (Does (state g.S.Store old).now)) =
-    left_by g.S.Store old last end Does Does (λ did. did) (rw start at c.define_desk.ensures.survives) advances c.commit.ensures.survives in
+    let whole = committed_by g.S.Store old c.transaction-tx.result.conn.now last c.end.new.tx.0 c.transaction-tx.ensures.begun c.define_desk-defined.result c.end.result
+    Does Does (λ did. did) c.define_desk-defined.ensures.ok c.end.ensures.left c.end.ensures.done c.end.ensures.ok in
     search (rules, whole)
 
-pub returns-in-Err-clause-left : goal.returns-in-Err-clause-left
-returns-in-Err-clause-left g c =
+pub returns-clause-err : goal.returns-clause-err
+returns-clause-err g c =
+    let whole = undone_by g.S.Store c.args.conn.now c.transaction-tx.result.conn.now c.define_desk-defined.new.tx.conn.now c.end.new.tx.0 c.transaction-tx.ensures.begun
+    c.define_desk-defined.result c.end.result (MakesDesk c.args.meta.now) c.define_desk-defined.ensures.ok c.define_desk-defined.ensures.kept c.end.ensures.left c.end.ensures.err in
+    search (rules, whole)
+
+pub returns-clause-before : goal.returns-clause-before
+returns-clause-before g c =
+    let whole = spared_by g.S.Store c.args.conn.now c.transaction-tx.result.conn.now c.define_desk-defined.new.tx.conn.now c.end.new.tx.0 c.transaction-tx.ensures.begun
+    c.define_desk-defined.result c.end.result c.define_desk-defined.ensures.survives c.end.ensures.before in
+    search (rules, whole)
+
+pub returns-clause-left : goal.returns-clause-left
+returns-clause-left g c =
     let old = c.args.conn.now in
-    let last = c.define_desk.new.tx.conn.now in
-    let end = c.commit.new.self.0 in
+    let last = c.define_desk-defined.new.tx.conn.now in
     let Does = MakesDesk c.args.meta.now in
-    let start = c.transaction-tx.ensures.begun in
-    let advances : Advances (state g.S.Store (begun old)) (state g.S.Store last) Does = rw start at c.in_ok-define_desk.ensures.ok in
-    let whole : Survives (state g.S.Store old) (state g.S.Store end) (IsLeft (Does (state g.S.Store old).now)) =
-    left_by g.S.Store old last end Does Does (λ did. did) (rw start at c.define_desk.ensures.survives) advances c.commit.ensures.survives in
+    let whole = left_by g.S.Store old c.transaction-tx.result.conn.now last c.end.new.tx.0 c.transaction-tx.ensures.begun c.define_desk-defined.result
+    Does Does (λ did. did) c.define_desk-defined.ensures.survives c.define_desk-defined.ensures.ok c.end.ensures.left in
     search (rules, whole)

@@ -1,53 +1,39 @@
-use Rattle.std.proofs.Common.{refl, rules, arith}
+use Rattle.std.proofs.Common.{rules}
 use Rattle.sqlite.specs.Held.{state}
-use Rattle.sqlite.specs.State.{HasCleanDisk, Survives}
-use Rattle.desk_schema.specs.Advances.{Advances}
-use Rattle.desk_saving.specs.Committing.{HasCommitted, IsLeft}
 use Rattle.desk_saving.specs.Fitting.{Saves}
 use Rattle.desk_saving.specs.Makes.{MakesAll}
 use Rattle.desk_saving.proofs.BackFits.{saves_by}
-use Rattle.desk_saving.proofs.Leaving.{begun, committed_by, left_by}
+use Rattle.desk_saving.proofs.Leaving.{committed_by, left_by, spared_by, undone_by}
 use Rattle.desk_saving.proofs.saving.save_all.Goals as goal
 
-pub returns-in-Ok-clause-ok : goal.returns-in-Ok-clause-ok
-returns-in-Ok-clause-ok g c =
+pub returns-clause-ok : goal.returns-clause-ok
+returns-clause-ok g c =
     let old = c.args.conn.now in
-    let last = c.put_changes.new.tx.conn.now in
-    let end = c.commit.new.self.0 in
+    let last = c.put_changes-put.new.tx.conn.now in
     let changes = c.args.changes.now in
-    let start = c.transaction-tx.ensures.begun in
-    let advances : Advances (state g.S.Store (begun old)) (state g.S.Store last) (MakesAll changes) = rw start at c.in_ok-put_changes.ensures.ok in
     let means = saves_by changes (state g.S.Store old).now (state g.S.Store last).now in
-    let settled = g.met.S.Store.settled end.store in
-    let whole : HasCleanDisk (state g.S.Store end) → HasCommitted (state g.S.Store old) (state g.S.Store end) (Saves changes) =
-    λ clean.
-    let clean_last : HasCleanDisk (state g.S.Store last) = omega (arith, clean, c.in-Ok.ensures.survives.clean) in
-    committed_by (state g.S.Store old) (state g.S.Store last) (state g.S.Store end) (MakesAll changes) (Saves changes) means settled
-    (advances clean_last refl).does (c.in-Ok.ensures.ok clean).1 in
+    let whole = committed_by g.S.Store old c.transaction-tx.result.conn.now last c.end.new.tx.0 c.transaction-tx.ensures.begun c.put_changes-put.result c.end.result
+    (MakesAll changes) (Saves changes) means c.put_changes-put.ensures.ok c.end.ensures.left c.end.ensures.done c.end.ensures.ok in
     search (rules, whole)
 
-pub returns-in-Ok-clause-left : goal.returns-in-Ok-clause-left
-returns-in-Ok-clause-left g c =
-    let old = c.args.conn.now in
-    let last = c.put_changes.new.tx.conn.now in
-    let end = c.commit.new.self.0 in
-    let changes = c.args.changes.now in
-    let start = c.transaction-tx.ensures.begun in
-    let advances : Advances (state g.S.Store (begun old)) (state g.S.Store last) (MakesAll changes) = rw start at c.in_ok-put_changes.ensures.ok in
-    let means = saves_by changes (state g.S.Store old).now (state g.S.Store last).now in
-    let whole : Survives (state g.S.Store old) (state g.S.Store end) (IsLeft (Saves changes (state g.S.Store old).now)) =
-    left_by g.S.Store old last end (MakesAll changes) (Saves changes) means (rw start at c.put_changes.ensures.survives) advances c.commit.ensures.survives in
+pub returns-clause-err : goal.returns-clause-err
+returns-clause-err g c =
+    let whole = undone_by g.S.Store c.args.conn.now c.transaction-tx.result.conn.now c.put_changes-put.new.tx.conn.now c.end.new.tx.0 c.transaction-tx.ensures.begun
+    c.put_changes-put.result c.end.result (MakesAll c.args.changes.now) c.put_changes-put.ensures.ok c.put_changes-put.ensures.kept c.end.ensures.left c.end.ensures.err in
     search (rules, whole)
 
-pub returns-in-Err-clause-left : goal.returns-in-Err-clause-left
-returns-in-Err-clause-left g c =
+pub returns-clause-before : goal.returns-clause-before
+returns-clause-before g c =
+    let whole = spared_by g.S.Store c.args.conn.now c.transaction-tx.result.conn.now c.put_changes-put.new.tx.conn.now c.end.new.tx.0 c.transaction-tx.ensures.begun
+    c.put_changes-put.result c.end.result c.put_changes-put.ensures.survives c.end.ensures.before in
+    search (rules, whole)
+
+pub returns-clause-left : goal.returns-clause-left
+returns-clause-left g c =
     let old = c.args.conn.now in
-    let last = c.put_changes.new.tx.conn.now in
-    let end = c.commit.new.self.0 in
+    let last = c.put_changes-put.new.tx.conn.now in
     let changes = c.args.changes.now in
-    let start = c.transaction-tx.ensures.begun in
-    let advances : Advances (state g.S.Store (begun old)) (state g.S.Store last) (MakesAll changes) = rw start at c.in_ok-put_changes.ensures.ok in
     let means = saves_by changes (state g.S.Store old).now (state g.S.Store last).now in
-    let whole : Survives (state g.S.Store old) (state g.S.Store end) (IsLeft (Saves changes (state g.S.Store old).now)) =
-    left_by g.S.Store old last end (MakesAll changes) (Saves changes) means (rw start at c.put_changes.ensures.survives) advances c.commit.ensures.survives in
+    let whole = left_by g.S.Store old c.transaction-tx.result.conn.now last c.end.new.tx.0 c.transaction-tx.ensures.begun c.put_changes-put.result
+    (MakesAll changes) (Saves changes) means c.put_changes-put.ensures.survives c.put_changes-put.ensures.ok c.end.ensures.left in
     search (rules, whole)

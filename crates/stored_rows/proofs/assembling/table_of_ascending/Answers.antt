@@ -1,6 +1,8 @@
-use Rattle.std.proofs.Common.{◌++◌, ◌∷◌, [], ◌∙◌, sym, ap, append_assoc, subst}
+use Rattle.std.proofs.Common.{◌++◌, ◌∷◌, [], ◌∙◌, sym, ap, append_assoc, arith, subst}
 use Rattle.desk_laws.specs.Ordered.{Ascends}
 use Rattle.stored_rows.proofs.Ascending.{put-ascending}
+use Rattle.stored_rows.proofs.NestedRows.{no_items}
+use Rattle.stored_rows.proofs.Nests.{append-nil}
 use Rattle.stored_rows.proofs.assembling.table_of_ascending.Goals as goal
 
 pub loop-row-preserved : goal.loop-row-preserved
@@ -11,3 +13,8 @@ loop-row-preserved g c =
     ap (λ l. l ++ rest) (c.in_ok-put.ensures.done ∙ put-ascending (λ r. g.R.Row.number r) 1 c.loop-row.table c.in-Some.row rest up)
     ∙ append_assoc c.loop-row.table (c.in-Some.row ∷ []) rest
     ∙ all
+
+pub returns : goal.returns
+returns g c =
+    let none = no_items c.loop-row.row-iterator.rest.items (omega (arith, c.loop-row.row-iterator.rest.ok, c.in-None.ensures.steps.0)) in
+    sym (append-nil c.loop-row.table) ∙ ap (λ l. c.loop-row.table ++ l) (sym none) ∙ c.loop-row.invariant

@@ -1,6 +1,10 @@
-use Rattle.std.proofs.Common.{◌∙◌}
+use Rattle.std.proofs.Common.{◌++◌, ap, ◌∙◌}
+use Rattle.desk_model.specs.Derived.{status_faults}
 use Rattle.stored_rows.proofs.Pushed.{picture-no_faults}
 use Rattle.stored_rows.proofs.status_check.check.Goals as goal
 
 pub returns-clause-picture : goal.returns-clause-picture
-returns-clause-picture c = λ F legal are. c.in_ok-faults.ensures ∙ picture-no_faults c.args.book.now F legal are
+returns-clause-picture c = λ F legal are.
+    c.in_ok-push_faults.ensures
+    ∙ ap (λ l. l ++ status_faults c.args.book.now) c.new-faults.ensures.items
+    ∙ picture-no_faults c.args.book.now F legal are

@@ -11,24 +11,15 @@ returns-in_err-meta c =
 pub returns-in_err-nonces : goal.returns-in_err-nonces
 returns-in_err-nonces c =
     let p = err_from_is_err_and c.from_residual-in_err-nonces.result c.from_residual-in_err-nonces.ensures.1 in
-    rw (p.1, p.2) (λ e T o r. c.in_err-nonces.ensures e T.nonces r.nonces o.nonces)
-
-pub returns-in_err-accounts : goal.returns-in_err-accounts
-returns-in_err-accounts c =
-    let p = err_from_is_err_and c.from_residual-in_err-accounts.result c.from_residual-in_err-accounts.ensures.1 in
-    rw (p.1, p.2) (λ e T o r. c.in_err-accounts.ensures e T.accounts r.accounts o.accounts)
+    rw (p.1, p.2) (λ e T o r. c.in_err-nonces.ensures e T r.nonces o.nonces r.accounts o.accounts)
 
 pub returns-in_err-authorizations : goal.returns-in_err-authorizations
 returns-in_err-authorizations c =
     let p = err_from_is_err_and c.from_residual-in_err-authorizations.result c.from_residual-in_err-authorizations.ensures.1 in
-    rw (p.1, p.2) (λ e T o r. c.in_err-authorizations.ensures e T.authorizations (authorizations-nest c.args.rows T o r))
-
-pub returns-in_err-orders : goal.returns-in_err-orders
-returns-in_err-orders c =
-    let p = err_from_is_err_and c.from_residual-in_err-orders.result c.from_residual-in_err-orders.ensures.1 in
-    rw (p.1, p.2) (λ e T o r. c.in_err-orders.ensures e T.orders (orders-nest c.args.rows T o r))
+    rw (p.1, p.2) (λ e T o r. c.in_err-authorizations.ensures e T (authorizations-nest c.args.rows T o r) (orders-nest c.args.rows T o r))
 
 pub returns : goal.returns
 returns c =
     rw c.of_tables.ensures
-    (in_order-from_tables c.args.rows _ c.in_ok-meta.ensures c.in_ok-nonces.ensures c.in_ok-accounts.ensures c.in_ok-authorizations.ensures c.in_ok-orders.ensures)
+    (in_order-from_tables c.args.rows _ c.in_ok-meta.ensures c.in_ok-nonces.ensures.0 c.in_ok-nonces.ensures.1
+    c.in_ok-authorizations.ensures.0 c.in_ok-authorizations.ensures.1)

@@ -1,0 +1,78 @@
+use Rattle.std.proofs.Common.{◌≡◌, ◌∙◌, IfOk, OnOk, ap, append-nil, subst, sym}
+use Rattle.desk_model.specs.Effect.{swept}
+use Rattle.desk_model.specs.Shown.{reply_of}
+use Rattle.desk_model.specs.declared.verdict.Verdict.TheVariants.{Answers as answers, Orders as orders, Refused as refused}
+use Rattle.desk_decisions.specs.HasTexts.{HasTexts}
+use Rattle.desk_decisions.proofs.Acting.{Records, Replies, clock_at, records_nothing, replies_move, where_answered}
+use Rattle.desk_decisions.proofs.ShownTexts.{ok_so}
+use Rattle.desk_decisions.proofs.acts.act.Goals as goal
+
+pub returns-in-Refused-clause-recorded : goal.returns-in-Refused-clause-recorded
+returns-in-Refused-clause-recorded c =
+    let done = c.args.recording.now.changes.items in
+    let counters = c.args.recording.now.counters in
+    subst (Records c.args.book.now done counters done counters) (sym c.in-Refused.is)
+    (records_nothing c.args.book.now done counters (refused c.in-Refused.refusal c.in-Refused.subproblems) append-nil)
+
+pub returns-in-Refused-clause-reply : goal.returns-in-Refused-clause-reply
+returns-in-Refused-clause-reply c =
+    subst (λ v. Replies c.args.index c.args.book.now c.args.recording.now.counters v c.refusal_reply.result) (sym c.in-Refused.is)
+    (λ m at ordered texts. c.refusal_reply.ensures)
+
+pub returns-in-Answers-clause-recorded : goal.returns-in-Answers-clause-recorded
+returns-in-Answers-clause-recorded c =
+    let done = c.args.recording.now.changes.items in
+    let counters = c.args.recording.now.counters in
+    where_answered c.show.result
+    (subst (Records c.args.book.now done counters done counters) (sym c.in-Answers.is)
+    (records_nothing c.args.book.now done counters (answers c.in-Answers.shows) append-nil))
+
+pub returns-in-Answers-clause-reply : goal.returns-in-Answers-clause-reply
+returns-in-Answers-clause-reply c =
+    let book = c.args.book.now in
+    let counters = c.args.recording.now.counters in
+    let shows = c.in-Answers.shows in
+    subst (λ v. IfOk c.show.result (Replies c.args.index book counters v)) (sym c.in-Answers.is)
+    (ok_so c.show.result
+    (λ r said m at ordered. subst (λ n. HasTexts (swept n book) → r ≡ reply_of (swept n book) shows) (c.moment.ensures.same ∙ clock_at m book counters at) said)
+    c.show.ensures)
+
+pub returns-in-Opens-clause-recorded : goal.returns-in-Opens-clause-recorded
+returns-in-Opens-clause-recorded c =
+    let recorded = c.args.recording.now in
+    let after = c.act_on_account.new.recording in
+    subst (λ v. OnOk c.act_on_account.result (Records c.args.book.now recorded.changes.items recorded.counters after.changes.items after.counters v)) (sym c.in-Opens.is)
+    (ok_so c.act_on_account.result (λ _ it m es ordered untouched. it m es) c.act_on_account.ensures.recorded)
+
+pub returns-in-Opens-clause-reply : goal.returns-in-Opens-clause-reply
+returns-in-Opens-clause-reply c =
+    subst (λ v. IfOk c.act_on_account.result (Replies c.args.index c.args.book.now c.args.recording.now.counters v)) (sym c.in-Opens.is)
+    (ok_so c.act_on_account.result (λ _ it m at ordered texts. it m at ordered) c.act_on_account.ensures.reply)
+
+pub returns-in_ok-reply-in-Orders-clause-recorded : goal.returns-in_ok-reply-in-Orders-clause-recorded
+returns-in_ok-reply-in-Orders-clause-recorded c =
+    let recorded = c.args.recording.now in
+    let after = c.act_on_order.new.recording in
+    subst (Records c.args.book.now recorded.changes.items recorded.counters after.changes.items after.counters)
+    (ap (orders c.in-Orders.account) c.as_slice.ensures ∙ sym c.in-Orders.is)
+    c.in_ok-reply-in-Orders.ensures.recorded
+
+pub returns-in_ok-reply-in-Orders-clause-reply : goal.returns-in_ok-reply-in-Orders-clause-reply
+returns-in_ok-reply-in-Orders-clause-reply c =
+    subst (λ v. Replies c.args.index c.args.book.now c.args.recording.now.counters v c.in_ok-reply-in-Orders.reply)
+    (ap (orders c.in-Orders.account) c.as_slice.ensures ∙ sym c.in-Orders.is)
+    c.in_ok-reply-in-Orders.ensures.reply
+
+pub returns-in_ok-reply-in-Moves-clause-recorded : goal.returns-in_ok-reply-in-Moves-clause-recorded
+returns-in_ok-reply-in-Moves-clause-recorded c =
+    let recorded = c.args.recording.now in
+    let after = c.act_on_rows.new.recording in
+    subst (Records c.args.book.now recorded.changes.items recorded.counters after.changes.items after.counters) (sym c.in-Moves.is)
+    (λ m es ordered. c.in_ok-reply-in-Moves.ensures.recorded m es)
+
+pub returns-in_ok-reply-in-Moves-clause-reply : goal.returns-in_ok-reply-in-Moves-clause-reply
+returns-in_ok-reply-in-Moves-clause-reply c =
+    let book = c.args.book.now in
+    let counters = c.args.recording.now.counters in
+    subst (λ v. Replies c.args.index book counters v c.in_ok-reply-in-Moves.reply) (sym c.in-Moves.is)
+    (replies_move c.args.index book counters c.in-Moves.moved c.in_ok-reply-in-Moves.reply c.in_ok-reply-in-Moves.ensures.reply)
