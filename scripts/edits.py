@@ -93,6 +93,10 @@ class Function:
     def holds(self, path, line):
         return path == self.path and self.first <= line <= self.last
 
+    def is_proved_in(self, folder, name):
+        """Whether the proof files of this name in a folder of proofs/ are this function's, and no other's."""
+        return self.is_only and self.name == name and f"{folder}/".startswith(self.path[len("src/") : -len(".rt")] + "/")
+
 
 def functions_of(path, text):
     """The functions of a formatted source; each ends at the brace that stands as deep as it begins, or on its own line."""
@@ -147,7 +151,7 @@ class Edit:
             if at and any(it.holds(at[1], int(at[2]) - 1) for it in self.functions):
                 return True
             at = re.match(r"(?:\./)?proofs/(\S+)/(\w+)/\w+\.antt:\d+:\d+: error: (.*)", line)
-            if at and not LOST.search(at[3]) and any(it.is_only and it.name == at[2] and f"{at[1]}/".startswith(it.path[len("src/") : -len(".rt")] + "/") for it in self.functions):
+            if at and not LOST.search(at[3]) and any(it.is_proved_in(at[1], at[2]) for it in self.functions):
                 return True
         return False
 

@@ -120,7 +120,8 @@ remove-remove {X} number n (e ∷ es) h s = by (is_eq (nat_cmp n e.0)) refl (rem
         ∙ sym (ap (λ c. cond (not c) (e.1 ∷ remove number n (values_of es)) (remove number n (values_of es))) (same false p))
 
 -- entries whose keys and rows are clones are the entries themselves
-pub clones_same : {X : Type 0} (C : X → X → Type 0) → ((x y : X) → C x y → y ≡ x) → (es fs : List (ℕ × X)) → AllZip (λ p q. (q.0 ≡ p.0) × C p.1 q.1) es fs → fs ≡ es
+pub clones_same : {X : Type 0} (C : X → X → Type 0) → ((x y : X) → C x y → y ≡ x) → (es fs : List (ℕ × X))
+    → AllZip (λ p q. (q.0 ≡ p.0) × C p.1 q.1) es fs → fs ≡ es
 clones_same C same [] [] h = refl
 clones_same C same [] (f ∷ fs) h = absurd h
 clones_same C same (e ∷ es) [] h = absurd h

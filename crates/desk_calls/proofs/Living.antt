@@ -14,7 +14,10 @@ use Rattle.desk_lives.proofs.Extends.{acknowledged_stays, histories_are_legal, h
 use Rattle.desk_storage.specs.Sight.{Sight, Keeps, Opens}
 use Rattle.desk_calls.specs.Answers.{Exits, IsEither}
 use Rattle.desk_calls.proofs.Policies.{policy_stays}
-use Rattle.desk_calls.specs.Seen.{Place, runs, rests, Seen, seen_reply, seen_fault, seen_stop, seen_end, seen_open, seen_failure, place_after, told_by, replied, IsExit, IsExitInPlace, IsExitOfStop, MaySee, MaySeeOn, MaySeeOff, IsSeen, IsAt, RunsIn, SeenIsLived, Follows, AreKeptOf, SeenIsOfCalls, RepliesAreKept, NonceServesOnce, NoncesSeenOnce, EndedSeenStays}
+use Rattle.desk_calls.specs.Seen.{Place, runs, rests, Seen, seen_reply, seen_fault, seen_stop, seen_end, seen_open, seen_failure}
+use Rattle.desk_calls.specs.Seen.{place_after, told_by, replied, IsExit, IsExitInPlace, IsExitOfStop, MaySee, MaySeeOn, MaySeeOff}
+use Rattle.desk_calls.specs.Seen.{IsSeen, IsAt, RunsIn, SeenIsLived, Follows, AreKeptOf, SeenIsOfCalls, RepliesAreKept}
+use Rattle.desk_calls.specs.Seen.{NonceServesOnce, NoncesSeenOnce, EndedSeenStays}
 use Rattle.desk_calls.specs.declared.fault.DeskFault.{DeskFault}
 use Rattle.desk_calls.specs.declared.fault.DeskFault.TheVariants as deskfault
 

@@ -4,7 +4,8 @@ use Rattle.desk_model.specs.declared.call.Call.{Call}
 use Rattle.desk_model.specs.declared.reply.Reply.{Reply}
 use Rattle.desk_storage.specs.Sight.{Sight}
 use Rattle.desk_calls.specs.Runs.{AnswersAll, EndsBy}
-use Rattle.desk_calls.specs.Seen.{Place, runs, Seen, seen_reply, seen_fault, seen_stop, seen_end, seen_open, seen_failure, place_after, told_by, IsExitInPlace, MaySee, IsSeen}
+use Rattle.desk_calls.specs.Seen.{Place, runs, Seen, seen_reply, seen_fault, seen_stop, seen_end, seen_open, seen_failure}
+use Rattle.desk_calls.specs.Seen.{place_after, told_by, IsExitInPlace, MaySee, IsSeen}
 use Rattle.desk_calls.specs.SeenRuns.{told_in_turn, IsSeenEnd, RunsAreSeen}
 use Rattle.desk_calls.specs.declared.fault.DeskFault.{DeskFault}
 use Rattle.desk_calls.proofs.Running.{honest_all, honest_end}

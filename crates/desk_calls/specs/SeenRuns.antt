@@ -26,7 +26,8 @@ module _ {S C : Type 0} (v : Sight S C) where
   IsSeenEnd first seen mid (call ∷ rest) (Some why) new = IsSeenFault first seen call why new
 
   -- the replies of a run may be seen, one after the other, and then its end
-  pub record IsSeenRun (first : Place S C) (earlier : List (Seen S C)) (calls : List Call) (replies : List Reply) (why : Option DeskFault) (new : S) : Type 0 where
+  pub record IsSeenRun (first : Place S C) (earlier : List (Seen S C)) (calls : List Call) (replies : List Reply) (why : Option DeskFault)
+      (new : S) : Type 0 where
     pub seen : List (Seen S C)
     pub mid : S
     pub is : IsSeen v first (seen ++ earlier)

@@ -33,7 +33,8 @@ places_made m place (a ∷ rest) =
     ap (λ (l : List Listed). record { place = place; authorization = a.number } ∷ l) (places_made m (place + 1) rest)
 
 -- the numbers of new rows go up
-pub made_ascends : (m account expires : ℕ) (wanted : List Wanted) (n c : ℕ) → Ascends (λ r. r.number) n (made_rows m (made_for account m (m + expires) wanted n c))
+pub made_ascends : (m account expires : ℕ) (wanted : List Wanted) (n c : ℕ)
+    → Ascends (λ r. r.number) n (made_rows m (made_for account m (m + expires) wanted n c))
 made_ascends m account life wanted n c =
     ascends_map (λ a. a.number) (λ r. r.number) (made_row m) (λ a. refl) n (made_for account m (m + life) wanted n c)
     (numbered_ascends (λ a. a.number) n (made_for account m (m + life) wanted n c) (made_by_numbered (ordered account wanted) m life n c))
@@ -60,18 +61,22 @@ find-after {X} p (x ∷ xs) ys none = by (p x) none (find-after p xs ys)
     by false e ih = ih e
 
 -- the authorizations that stood have none of the new numbers
-pub stood_before : (T : Tables) (m account n : ℕ) (wanted : List Wanted) → Below (λ a. a.number) (T.meta.counters.authorizations + 1) T.authorizations → T.meta.counters.authorizations + 1 ≤ n →
+pub stood_before : (T : Tables) (m account n : ℕ) (wanted : List Wanted)
+    → Below (λ a. a.number) (T.meta.counters.authorizations + 1) T.authorizations → T.meta.counters.authorizations + 1 ≤ n →
     authorization_numbered n (map (moved_authorization (ordered account wanted) m) T.authorizations) ≡ None
 stood_before T m account n wanted is le =
-    find-moved (λ a. a.number == n) (moved_authorization (ordered account wanted) m) T.authorizations (λ a. ap (λ k. k == n) (moved_number (ordered account wanted) m a))
-    ∙ ap (option_map (moved_authorization (ordered account wanted) m)) (none_below (λ a. a.number) (T.meta.counters.authorizations + 1) n T.authorizations le is)
+    find-moved (λ a. a.number == n) (moved_authorization (ordered account wanted) m) T.authorizations
+    (λ a. ap (λ k. k == n) (moved_number (ordered account wanted) m a))
+    ∙ ap (option_map (moved_authorization (ordered account wanted) m))
+    (none_below (λ a. a.number) (T.meta.counters.authorizations + 1) n T.authorizations le is)
 
 -- look-ups of these numbers agree
 abbrev SameFor : List AuthorizationRow → List AuthorizationRow → List ℕ → Type 0
 SameFor rows others ns = EachOf (λ n. authorization_numbered n rows ≡ authorization_numbered n others) ns
 
 -- a new order looks up its own authorizations alone
-own_alone : (T : Tables) (m account : ℕ) (wanted : List Wanted) → Below (λ a. a.number) (T.meta.counters.authorizations + 1) T.authorizations → (rows : List AuthorizationRow) →
+own_alone : (T : Tables) (m account : ℕ) (wanted : List Wanted)
+    → Below (λ a. a.number) (T.meta.counters.authorizations + 1) T.authorizations → (rows : List AuthorizationRow) →
     EachOf (λ r. T.meta.counters.authorizations < r.number) rows → (more : List AuthorizationRow) →
     SameFor (map (moved_authorization (ordered account wanted) m) T.authorizations ++ more) more (map (λ r. r.number) rows)
 own_alone T m account wanted is [] h more = tt
@@ -82,13 +87,16 @@ own_alone T m account wanted is (r ∷ rows) h more = (
 )
 
 -- so its status is the one beside them
-pub made_beside : (T : Tables) (m account : ℕ) (wanted : List Wanted) (row : OrderRow) → Below (λ a. a.number) (T.meta.counters.authorizations + 1) T.authorizations →
+pub made_beside : (T : Tables) (m account : ℕ) (wanted : List Wanted) (row : OrderRow)
+    → Below (λ a. a.number) (T.meta.counters.authorizations + 1) T.authorizations →
     (let made : List Authorization = new_authorizations T (ordered account wanted) m in
     row.listed ≡ places_from 1 (made_rows m made) →
     restated_order m (authorizations_after T (ordered account wanted) m) row ≡ restated_order m (made_rows m made) row)
 made_beside T m account wanted row is listed =
     restated_same m (authorizations_after T (ordered account wanted) m) rows row
-    (rw (listed, numbers_placed 1 rows) (own_alone T m account wanted is rows (ascends_above (λ r. r.number) T.meta.counters.authorizations (T.meta.counters.authorizations + 1) rows (omega arith) (made_ascends m account T.meta.policy.authz_life wanted (T.meta.counters.authorizations + 1) (T.meta.counters.challenges + 1))) rows))
+    (rw (listed, numbers_placed 1 rows) (own_alone T m account wanted is rows
+    (ascends_above (λ r. r.number) T.meta.counters.authorizations (T.meta.counters.authorizations + 1) rows (omega arith)
+    (made_ascends m account T.meta.policy.authz_life wanted (T.meta.counters.authorizations + 1) (T.meta.counters.challenges + 1))) rows))
   where
     rows : List AuthorizationRow
     rows = made_rows m (new_authorizations T (ordered account wanted) m)

@@ -7,7 +7,9 @@ use Rattle.desk_model.specs.Account.{opened_by}
 use Rattle.desk_model.specs.Order.{ordered_by}
 use Rattle.desk_model.specs.Authorization.{count_challenges}
 use Rattle.desk_model.specs.Derived.{restated_authorization, restated_order}
-use Rattle.desk_model.specs.Effect.{effect, effects, swept, swept_authorization, fresh_account, fresh_authorization, fresh_order, moved_authorization, new_authorizations, authorizations_after, noted_account, noted_order, touches_account, touches_authorization, touches_order}
+use Rattle.desk_model.specs.Effect.{effect, effects, swept, swept_authorization, fresh_account, fresh_authorization, fresh_order}
+use Rattle.desk_model.specs.Effect.{moved_authorization, new_authorizations, authorizations_after, noted_account, noted_order}
+use Rattle.desk_model.specs.Effect.{touches_account, touches_authorization, touches_order}
 use Rattle.desk_model.specs.Change.{changes, moved_rows, account_differs, authorization_differs, order_differs, spent_by}
 use Rattle.desk_model.specs.Entry.{entry_of}
 use Rattle.desk_model.specs.declared.entry.Entry.{Entry}
@@ -46,14 +48,63 @@ pub record MakesNothing (m : ℕ) (T : Tables) (e : Entry) : Type 0 where
   pub orders : (made : List Authorization) → ordered_by e m T.meta.policy made (T.meta.counters.orders + 1) ≡ []
 
 pub makes_nothing : (m : ℕ) (T : Tables) (v : Move) → MakesNothing m T (entry_of v)
-makes_nothing m T (move.ContactsChanged n contacts) = record { policy = refl; unspent = refl; nonces = refl; accounts = refl; authorizations = refl; orders = λ made. refl }
-makes_nothing m T (move.AccountEnded n ending) = record { policy = refl; unspent = refl; nonces = refl; accounts = refl; authorizations = refl; orders = λ made. refl }
+makes_nothing m T (move.ContactsChanged n contacts) = record {
+  policy = refl;
+  unspent = refl;
+  nonces = refl;
+  accounts = refl;
+  authorizations = refl;
+  orders = λ made. refl;
+}
+makes_nothing m T (move.AccountEnded n ending) = record {
+  policy = refl;
+  unspent = refl;
+  nonces = refl;
+  accounts = refl;
+  authorizations = refl;
+  orders = λ made. refl;
+}
 makes_nothing m T (move.Answered n) = record { policy = refl; unspent = refl; nonces = refl; accounts = refl; authorizations = refl; orders = λ made. refl }
-makes_nothing m T (move.Reported n outcome) = record { policy = refl; unspent = refl; nonces = refl; accounts = refl; authorizations = refl; orders = λ made. refl }
-makes_nothing m T (move.AuthorizationEnded n ending) = record { policy = refl; unspent = refl; nonces = refl; accounts = refl; authorizations = refl; orders = λ made. refl }
-makes_nothing m T (move.Finalized n csr) = record { policy = refl; unspent = refl; nonces = refl; accounts = refl; authorizations = refl; orders = λ made. refl }
-makes_nothing m T (move.Certified n certificate) = record { policy = refl; unspent = refl; nonces = refl; accounts = refl; authorizations = refl; orders = λ made. refl }
-makes_nothing m T (move.Failed n problem) = record { policy = refl; unspent = refl; nonces = refl; accounts = refl; authorizations = refl; orders = λ made. refl }
+makes_nothing m T (move.Reported n outcome) = record {
+  policy = refl;
+  unspent = refl;
+  nonces = refl;
+  accounts = refl;
+  authorizations = refl;
+  orders = λ made. refl;
+}
+makes_nothing m T (move.AuthorizationEnded n ending) = record {
+  policy = refl;
+  unspent = refl;
+  nonces = refl;
+  accounts = refl;
+  authorizations = refl;
+  orders = λ made. refl;
+}
+makes_nothing m T (move.Finalized n csr) = record {
+  policy = refl;
+  unspent = refl;
+  nonces = refl;
+  accounts = refl;
+  authorizations = refl;
+  orders = λ made. refl;
+}
+makes_nothing m T (move.Certified n certificate) = record {
+  policy = refl;
+  unspent = refl;
+  nonces = refl;
+  accounts = refl;
+  authorizations = refl;
+  orders = λ made. refl;
+}
+makes_nothing m T (move.Failed n problem) = record {
+  policy = refl;
+  unspent = refl;
+  nonces = refl;
+  accounts = refl;
+  authorizations = refl;
+  orders = λ made. refl;
+}
 
 -- the counters stay, but for the clock
 pub moving_counters : (m : ℕ) (T : Tables) (v : Move) → (effect m T (entry_of v)).meta.counters ≡ record T.meta.counters { clock = m }
@@ -63,15 +114,19 @@ moving_counters m T v =
       clock = m;
       nonces = (ap (λ (l : List Nonce). T.meta.counters.nonces + length l) none.nonces ∙ add-zero T.meta.counters.nonces) i;
       accounts = (ap (λ (l : List Account). T.meta.counters.accounts + length l) none.accounts ∙ add-zero T.meta.counters.accounts) i;
-      orders = (ap (λ (l : List Order). T.meta.counters.orders + length l) (none.orders (new_authorizations T (entry_of v) m)) ∙ add-zero T.meta.counters.orders) i;
-      authorizations = (ap (λ (l : List Authorization). T.meta.counters.authorizations + length l) none.authorizations ∙ add-zero T.meta.counters.authorizations) i;
-      challenges = (ap (λ (l : List Authorization). T.meta.counters.challenges + count_challenges l) none.authorizations ∙ add-zero T.meta.counters.challenges) i;
+      orders = (ap (λ (l : List Order). T.meta.counters.orders + length l) (none.orders (new_authorizations T (entry_of v) m))
+          ∙ add-zero T.meta.counters.orders) i;
+      authorizations = (ap (λ (l : List Authorization). T.meta.counters.authorizations + length l) none.authorizations
+          ∙ add-zero T.meta.counters.authorizations) i;
+      challenges = (ap (λ (l : List Authorization). T.meta.counters.challenges + count_challenges l) none.authorizations
+          ∙ add-zero T.meta.counters.challenges) i;
     }
 
 -- the authorizations after it are those that stood, moved
 pub moving_after : (m : ℕ) (T : Tables) (v : Move) → authorizations_after T (entry_of v) m ≡ map (moved_authorization (entry_of v) m) T.authorizations
 moving_after m T v =
-    ap (λ l. map (moved_authorization (entry_of v) m) T.authorizations ++ map (λ a. restated_authorization m (fresh_authorization a)) l) (makes_nothing m T v).authorizations
+    ap (λ l. map (moved_authorization (entry_of v) m) T.authorizations ++ map (λ a. restated_authorization m (fresh_authorization a)) l)
+    (makes_nothing m T v).authorizations
     ∙ append-nil (map (moved_authorization (entry_of v) m) T.authorizations)
 
 -- the rows that it moves, one table after the other
@@ -79,7 +134,8 @@ abbrev pub moves : ℕ → Tables → Entry → List Change
 moves m T e =
     map PutAccount (moved_rows (touches_account e) account_differs (noted_account e m) T.accounts)
     ++ (map PutAuthorization (moved_rows (touches_authorization e) authorization_differs (stated_authorization e m) T.authorizations)
-    ++ map PutOrder (moved_rows (touches_order e T.authorizations) order_differs (λ r. restated_order m (map (moved_authorization e m) T.authorizations) (noted_order e m r)) T.orders))
+    ++ map PutOrder (moved_rows (touches_order e T.authorizations) order_differs
+    (λ r. restated_order m (map (moved_authorization e m) T.authorizations) (noted_order e m r)) T.orders))
 
 -- and nothing else is recorded of it
 pub moving_changes : (m : ℕ) (T : Tables) (v : Move) → changes m T (entry_of v) ≡ moves m T (entry_of v)
@@ -98,27 +154,34 @@ moving_changes m T v =
         ≡ moved_rows (touches_account e) account_differs (noted_account e m) T.accounts
     accounts = ap (λ l. moved_rows (touches_account e) account_differs (noted_account e m) T.accounts ++ map fresh_account l) none.accounts ∙ append-nil _
 
-    authorizations : moved_rows (touches_authorization e) authorization_differs (stated_authorization e m) T.authorizations ++ map (λ a. restated_authorization m (fresh_authorization a)) (new_authorizations T e m)
+    authorizations : moved_rows (touches_authorization e) authorization_differs (stated_authorization e m) T.authorizations
+        ++ map (λ a. restated_authorization m (fresh_authorization a)) (new_authorizations T e m)
         ≡ moved_rows (touches_authorization e) authorization_differs (stated_authorization e m) T.authorizations
-    authorizations = ap (λ l. moved_rows (touches_authorization e) authorization_differs (stated_authorization e m) T.authorizations ++ map (λ a. restated_authorization m (fresh_authorization a)) l) none.authorizations ∙ append-nil _
+    authorizations = ap (λ l. moved_rows (touches_authorization e) authorization_differs (stated_authorization e m) T.authorizations
+        ++ map (λ a. restated_authorization m (fresh_authorization a)) l) none.authorizations ∙ append-nil _
 
     orders : moved_rows (touches_order e T.authorizations) order_differs (λ r. restated_order m (authorizations_after T e m) (noted_order e m r)) T.orders
-        ++ map (λ o. restated_order m (authorizations_after T e m) (fresh_order o)) (ordered_by e m T.meta.policy (new_authorizations T e m) (T.meta.counters.orders + 1))
-        ≡ moved_rows (touches_order e T.authorizations) order_differs (λ r. restated_order m (map (moved_authorization e m) T.authorizations) (noted_order e m r)) T.orders
+        ++ map (λ o. restated_order m (authorizations_after T e m) (fresh_order o))
+        (ordered_by e m T.meta.policy (new_authorizations T e m) (T.meta.counters.orders + 1))
+        ≡ moved_rows (touches_order e T.authorizations) order_differs
+        (λ r. restated_order m (map (moved_authorization e m) T.authorizations) (noted_order e m r)) T.orders
     orders =
         ap (λ l. moved_rows (touches_order e T.authorizations) order_differs (λ r. restated_order m (authorizations_after T e m) (noted_order e m r)) T.orders
         ++ map (λ o. restated_order m (authorizations_after T e m) (fresh_order o)) l) (none.orders (new_authorizations T e m))
         ∙ append-nil _
-        ∙ ap (λ rows. moved_rows (touches_order e T.authorizations) order_differs (λ r. restated_order m rows (noted_order e m r)) T.orders) (moving_after m T v)
+        ∙ ap (λ rows. moved_rows (touches_order e T.authorizations) order_differs (λ r. restated_order m rows (noted_order e m r)) T.orders)
+        (moving_after m T v)
 
 same_moves : (m : ℕ) (B : Tables) (es : List Entry) (e : Entry) → IsUntouched m B es → moves m (effects m (swept m B) es) e ≡ book_moves m B e
 same_moves m B es e h =
     λ i. map PutAccount (moved_rows (touches_account e) account_differs (noted_account e m) (h.accounts i))
     ++ (map PutAuthorization (moved_rows (touches_authorization e) authorization_differs (stated_authorization e m) (h.authorizations i))
-    ++ map PutOrder (moved_rows (touches_order e (h.authorizations i)) order_differs (λ r. restated_order m (map (moved_authorization e m) (h.authorizations i)) (noted_order e m r)) (h.orders i)))
+    ++ map PutOrder (moved_rows (touches_order e (h.authorizations i)) order_differs
+    (λ r. restated_order m (map (moved_authorization e m) (h.authorizations i)) (noted_order e m r)) (h.orders i)))
 
 -- a move is recorded
-pub and_moved : (m : ℕ) (B : Tables) (es : List Entry) (v : Move) (done : List Change) (counters : Counters) → IsUntouched m B es → IsRecorded m B es done counters →
+pub and_moved : (m : ℕ) (B : Tables) (es : List Entry) (v : Move) (done : List Change) (counters : Counters) → IsUntouched m B es
+    → IsRecorded m B es done counters →
     IsRecorded m B (es ++ entry_of v ∷ []) (done ++ book_moves m B (entry_of v)) counters
 and_moved m B es v done counters untouched h =
     let T : Tables = effects m (swept m B) es in
@@ -152,7 +215,13 @@ ordered_one m T account wanted below =
     made = new_authorizations T (ordered account wanted) m
 
     fresh : OrderRow
-    fresh = fresh_order (record { number = T.meta.counters.orders + 1; account = account; made = m; expires = m + T.meta.policy.order_life; authorizations = made })
+    fresh = fresh_order (record {
+      number = T.meta.counters.orders + 1;
+      account = account;
+      made = m;
+      expires = m + T.meta.policy.order_life;
+      authorizations = made;
+    })
 
 -- what is recorded of it
 ordered_changes : (m : ℕ) (T : Tables) (account : ℕ) (wanted : List Wanted) → Below (λ a. a.number) (T.meta.counters.authorizations + 1) T.authorizations →
@@ -161,7 +230,8 @@ ordered_changes : (m : ℕ) (T : Tables) (account : ℕ) (wanted : List Wanted) 
     ++ PutOrder (next_order T.meta.policy (record T.meta.counters { clock = m }) account wanted) ∷ []
 ordered_changes m T account wanted below =
     quiet_changes m T (ordered account wanted) (λ a. refl) (λ a. refl) (λ k. refl)
-    ∙ (λ i. map PutAuthorization (next_rows T.meta.policy (record T.meta.counters { clock = m }) account wanted) ++ map PutOrder (ordered_one m T account wanted below i))
+    ∙ (λ i. map PutAuthorization (next_rows T.meta.policy (record T.meta.counters { clock = m }) account wanted)
+    ++ map PutOrder (ordered_one m T account wanted below i))
 
 -- the authorizations that stand at the moment have no later number
 pub below_standing : (m n : ℕ) (rows : List AuthorizationRow) → Below (λ a. a.number) n rows → Below (λ a. a.number) n (standing_rows m rows)
@@ -182,7 +252,8 @@ and_ordered m B es policy account wanted done counters same is untouched h =
     let last : T.meta.counters.authorizations ≡ B.meta.counters.authorizations = ap (λ (x : Counters). x.authorizations) untouched.counters in
     let below : Below (λ a. a.number) (T.meta.counters.authorizations + 1) T.authorizations =
     subst (λ n. Below (λ a. a.number) (n + 1) T.authorizations) (sym last)
-    (subst (Below (λ a. a.number) (B.meta.counters.authorizations + 1)) (sym untouched.authorizations) (below_standing m (B.meta.counters.authorizations + 1) B.authorizations is.authorizations.1)) in
+    (subst (Below (λ a. a.number) (B.meta.counters.authorizations + 1)) (sym untouched.authorizations)
+    (below_standing m (B.meta.counters.authorizations + 1) B.authorizations is.authorizations.1)) in
     one_more m B es (ordered account wanted) done _ counters _ h
     ((λ i. map PutAuthorization (next_rows (terms i) (then i) account wanted) ++ PutOrder (next_order (terms i) (then i) account wanted) ∷ [])
     ∙ sym (ordered_changes m T account wanted below))
@@ -201,8 +272,14 @@ untouched_nonces m B n r =
       counters =
           issued_counters m (effect m (swept m B) (spent n)) r
           ∙ (λ i. record (spent_counters m (swept m B) n i) { clock = m; nonces = (effect m (swept m B) (spent n)).meta.counters.nonces + 1 })
-          ∙ (λ i. record B.meta.counters { clock = m; nonces = sym (ap (λ (x : Counters). x.nonces) (issued_counters m (effect m (swept m B) (spent n)) r)) i });
-      accounts = ap (λ (T : Tables). T.accounts) (issued_effect m (effect m (swept m B) (spent n)) r) ∙ ap (λ (T : Tables). T.accounts) (spent_effect m (swept m B) n);
-      authorizations = ap (λ (T : Tables). T.authorizations) (issued_effect m (effect m (swept m B) (spent n)) r) ∙ ap (λ (T : Tables). T.authorizations) (spent_effect m (swept m B) n);
-      orders = ap (λ (T : Tables). T.orders) (issued_effect m (effect m (swept m B) (spent n)) r) ∙ ap (λ (T : Tables). T.orders) (spent_effect m (swept m B) n);
+          ∙ (λ i. record B.meta.counters {
+            clock = m;
+            nonces = sym (ap (λ (x : Counters). x.nonces) (issued_counters m (effect m (swept m B) (spent n)) r)) i;
+          });
+      accounts = ap (λ (T : Tables). T.accounts) (issued_effect m (effect m (swept m B) (spent n)) r)
+          ∙ ap (λ (T : Tables). T.accounts) (spent_effect m (swept m B) n);
+      authorizations = ap (λ (T : Tables). T.authorizations) (issued_effect m (effect m (swept m B) (spent n)) r)
+          ∙ ap (λ (T : Tables). T.authorizations) (spent_effect m (swept m B) n);
+      orders = ap (λ (T : Tables). T.orders) (issued_effect m (effect m (swept m B) (spent n)) r)
+          ∙ ap (λ (T : Tables). T.orders) (spent_effect m (swept m B) n);
     }

@@ -15,7 +15,9 @@ use Rattle.desk_model.specs.Lookup.{holds}
 use Rattle.desk_model.specs.Account.{opened_by}
 use Rattle.desk_model.specs.Order.{ordered_by}
 use Rattle.desk_model.specs.Derived.{numbers_of, authorization_numbered, restated_authorization, restated_order}
-use Rattle.desk_model.specs.Effect.{effect, noted_account, noted_authorization, noted_order, touches_account, touches_authorization, touches_order, names_order, lists_one, fresh_account, fresh_authorization, fresh_order, new_authorizations, authorizations_after}
+use Rattle.desk_model.specs.Effect.{effect, noted_account, noted_authorization, noted_order, touches_account}
+use Rattle.desk_model.specs.Effect.{touches_authorization, touches_order, names_order, lists_one, fresh_account}
+use Rattle.desk_model.specs.Effect.{fresh_authorization, fresh_order, new_authorizations, authorizations_after}
 use Rattle.desk_model.specs.Change.{changes, moved_rows, account_differs, authorization_differs, order_differs, spent_by, nonces_put}
 
 -- the same counters with nothing added
@@ -23,23 +25,46 @@ abbrev with_nonces : ℕ → ℕ → Counters → Counters
 with_nonces m more old = record old { clock = m; nonces = old.nonces + more }
 
 counted : (m more : ℕ) (old : Counters) →
-    (let now : Counters = record old { clock = m; nonces = old.nonces + more; accounts = old.accounts + 0; orders = old.orders + 0; authorizations = old.authorizations + 0; challenges = old.challenges + 0 } in
+    (let now : Counters = record old {
+      clock = m;
+      nonces = old.nonces + more;
+      accounts = old.accounts + 0;
+      orders = old.orders + 0;
+      authorizations = old.authorizations + 0;
+      challenges = old.challenges + 0;
+    } in
     now ≡ with_nonces m more old)
 counted m more old =
-    λ i. record old { clock = m; nonces = old.nonces + more; accounts = add-zero old.accounts i; orders = add-zero old.orders i; authorizations = add-zero old.authorizations i; challenges = add-zero old.challenges i }
+    λ i. record old {
+      clock = m;
+      nonces = old.nonces + more;
+      accounts = add-zero old.accounts i;
+      orders = add-zero old.orders i;
+      authorizations = add-zero old.authorizations i;
+      challenges = add-zero old.challenges i;
+    }
 
 -- the counters after a nonce is spent
 pub spent_counters : (m : ℕ) (T : Tables) (n : ℕ) → (effect m T (spent n)).meta.counters ≡ record T.meta.counters { clock = m }
 spent_counters m T n = counted m 0 T.meta.counters ∙ (λ i. record T.meta.counters { clock = m; nonces = add-zero T.meta.counters.nonces i })
 
 -- the counters after a nonce is issued
-pub issued_counters : (m : ℕ) (T : Tables) (r : List ℕ) → (effect m T (issued r)).meta.counters ≡ record T.meta.counters { clock = m; nonces = T.meta.counters.nonces + 1 }
+pub issued_counters : (m : ℕ) (T : Tables) (r : List ℕ) → (effect m T (issued r)).meta.counters
+    ≡ record T.meta.counters { clock = m; nonces = T.meta.counters.nonces + 1 }
 issued_counters m T r = counted m 1 T.meta.counters
 
 -- the counters after an account is opened
-pub opened_counters : (m : ℕ) (T : Tables) (key : List ℕ) (contacts : List (List ℕ)) → (effect m T (opened key contacts)).meta.counters ≡ record T.meta.counters { clock = m; accounts = T.meta.counters.accounts + 1 }
+pub opened_counters : (m : ℕ) (T : Tables) (key : List ℕ) (contacts : List (List ℕ))
+    → (effect m T (opened key contacts)).meta.counters ≡ record T.meta.counters { clock = m; accounts = T.meta.counters.accounts + 1 }
 opened_counters m T key contacts =
-    λ i. record T.meta.counters { clock = m; nonces = add-zero T.meta.counters.nonces i; accounts = T.meta.counters.accounts + 1; orders = add-zero T.meta.counters.orders i; authorizations = add-zero T.meta.counters.authorizations i; challenges = add-zero T.meta.counters.challenges i }
+    λ i. record T.meta.counters {
+      clock = m;
+      nonces = add-zero T.meta.counters.nonces i;
+      accounts = T.meta.counters.accounts + 1;
+      orders = add-zero T.meta.counters.orders i;
+      authorizations = add-zero T.meta.counters.authorizations i;
+      challenges = add-zero T.meta.counters.challenges i;
+    }
 
 filter_none : {X : Type 0} (p : X → Bool) (xs : List X) → ((x : X) → p x ≡ false) → filter p xs ≡ []
 filter_none p [] h = refl
@@ -60,25 +85,34 @@ order_untouched e T r none unnamed =
     lists_none [] = refl
     lists_none (n ∷ ns) = λ i. found (authorization_numbered n T.authorizations) i || lists_none ns i
 
-unmoved_rows : {X : Type 0} (touched : X → Bool) (differs : X → X → Bool) (move : X → X) (xs : List X) → ((x : X) → touched x ≡ false) → moved_rows touched differs move xs ≡ []
-unmoved_rows touched differs move xs none = ap (map move) (filter_none (λ r. touched r && differs r (move r)) xs (λ x. ap (λ b. b && differs x (move x)) (none x)))
+unmoved_rows : {X : Type 0} (touched : X → Bool) (differs : X → X → Bool) (move : X → X) (xs : List X) → ((x : X) → touched x ≡ false)
+    → moved_rows touched differs move xs ≡ []
+unmoved_rows touched differs move xs none =
+    ap (map move) (filter_none (λ r. touched r && differs r (move r)) xs (λ x. ap (λ b. b && differs x (move x)) (none x)))
 
 -- an entry that touches no row that stands records what it makes
-pub quiet_changes : (m : ℕ) (T : Tables) (e : Entry) → ((a : AccountRow) → touches_account e a ≡ false) → ((a : AuthorizationRow) → touches_authorization e a ≡ false) →
+pub quiet_changes : (m : ℕ) (T : Tables) (e : Entry) → ((a : AccountRow) → touches_account e a ≡ false)
+    → ((a : AuthorizationRow) → touches_authorization e a ≡ false) →
     ((n : ℕ) → names_order e n ≡ false) →
     changes m T e ≡ map RemoveNonce (spent_by e)
     ++ (map PutNonce (nonces_put T e m)
     ++ (map PutAccount (map fresh_account (opened_by e m (T.meta.counters.accounts + 1)))
     ++ (map PutAuthorization (map (λ a. restated_authorization m (fresh_authorization a)) (new_authorizations T e m))
-    ++ map PutOrder (map (λ o. restated_order m (authorizations_after T e m) (fresh_order o)) (ordered_by e m T.meta.policy (new_authorizations T e m) (T.meta.counters.orders + 1))))))
+    ++ map PutOrder (map (λ o. restated_order m (authorizations_after T e m) (fresh_order o))
+    (ordered_by e m T.meta.policy (new_authorizations T e m) (T.meta.counters.orders + 1))))))
 quiet_changes m T e no_account no_authorization no_order =
     λ i. map RemoveNonce (spent_by e)
     ++ (map PutNonce (nonces_put T e m)
-    ++ (map PutAccount (unmoved_rows (touches_account e) account_differs (noted_account e m) T.accounts no_account i ++ map fresh_account (opened_by e m (T.meta.counters.accounts + 1)))
-    ++ (map PutAuthorization (unmoved_rows (touches_authorization e) authorization_differs (λ r. restated_authorization m (noted_authorization e m r)) T.authorizations no_authorization i
+    ++ (map PutAccount (unmoved_rows (touches_account e) account_differs (noted_account e m) T.accounts no_account i
+    ++ map fresh_account (opened_by e m (T.meta.counters.accounts + 1)))
+    ++ (map PutAuthorization (unmoved_rows (touches_authorization e) authorization_differs
+    (λ r. restated_authorization m (noted_authorization e m r)) T.authorizations no_authorization i
     ++ map (λ a. restated_authorization m (fresh_authorization a)) (new_authorizations T e m))
-    ++ map PutOrder (unmoved_rows (touches_order e T.authorizations) order_differs (λ r. restated_order m (authorizations_after T e m) (noted_order e m r)) T.orders (λ r. order_untouched e T r no_authorization (no_order r.number)) i
-    ++ map (λ o. restated_order m (authorizations_after T e m) (fresh_order o)) (ordered_by e m T.meta.policy (new_authorizations T e m) (T.meta.counters.orders + 1))))))
+    ++ map PutOrder (unmoved_rows (touches_order e T.authorizations) order_differs
+    (λ r. restated_order m (authorizations_after T e m) (noted_order e m r)) T.orders
+    (λ r. order_untouched e T r no_authorization (no_order r.number)) i
+    ++ map (λ o. restated_order m (authorizations_after T e m) (fresh_order o))
+    (ordered_by e m T.meta.policy (new_authorizations T e m) (T.meta.counters.orders + 1))))))
 
 -- what is recorded of a nonce that is spent
 pub spent_changes : (m : ℕ) (T : Tables) (n : ℕ) → changes m T (spent n) ≡ RemoveNonce n ∷ []
@@ -91,6 +125,13 @@ issued_changes m T r = quiet_changes m T (issued r) (λ a. refl) (λ a. refl) (�
 
 -- what is recorded of an account that is opened
 pub opened_changes : (m : ℕ) (T : Tables) (key : List ℕ) (contacts : List (List ℕ)) →
-    (let fresh : AccountRow = record { number = T.meta.counters.accounts + 1; key = key; contacts = contacts; opened = m; ended = None; status = account.Valid } in
+    (let fresh : AccountRow = record {
+      number = T.meta.counters.accounts + 1;
+      key = key;
+      contacts = contacts;
+      opened = m;
+      ended = None;
+      status = account.Valid;
+    } in
     changes m T (opened key contacts) ≡ PutAccount fresh ∷ [])
 opened_changes m T key contacts = quiet_changes m T (opened key contacts) (λ a. refl) (λ a. refl) (λ k. refl)

@@ -30,7 +30,8 @@ clocked m T [] h = h
 clocked m T (e ∷ es) h = clocked m (effect m T e) es refl
 
 -- nothing is recorded but the passing of time
-pub begun : (m : ℕ) (B : Tables) (done : List Change) (counters : Counters) → done ≡ sweep_changes m B → counters ≡ record B.meta.counters { clock = m } → IsRecorded m B [] done counters
+pub begun : (m : ℕ) (B : Tables) (done : List Change) (counters : Counters) → done ≡ sweep_changes m B
+    → counters ≡ record B.meta.counters { clock = m } → IsRecorded m B [] done counters
 begun m B done counters c r = record { changes = c ∙ sym (append-nil (sweep_changes m B)); counted = r; policy = refl }
 
 -- one more entry is recorded, which leaves the policy
@@ -88,18 +89,34 @@ and_issued m B es r done counters h =
     (ap (λ (x : Counters). record x { nonces = x.nonces + 1 }) (counters_then m B es done counters h) ∙ sym (issued_counters m T r)) refl
 
 -- an account is opened
-pub and_opened : (m : ℕ) (B : Tables) (es : List Entry) (key : List ℕ) (contacts : List (List ℕ)) (done : List Change) (counters : Counters) → IsRecorded m B es done counters →
-    (let fresh : AccountRow = record { number = counters.accounts + 1; key = key; contacts = contacts; opened = counters.clock; ended = None; status = account.Valid } in
+pub and_opened : (m : ℕ) (B : Tables) (es : List Entry) (key : List ℕ) (contacts : List (List ℕ)) (done : List Change) (counters : Counters)
+    → IsRecorded m B es done counters →
+    (let fresh : AccountRow = record {
+      number = counters.accounts + 1;
+      key = key;
+      contacts = contacts;
+      opened = counters.clock;
+      ended = None;
+      status = account.Valid;
+    } in
     IsRecorded m B (es ++ opened key contacts ∷ []) (done ++ PutAccount fresh ∷ []) (record counters { accounts = counters.accounts + 1 }))
 and_opened m B es key contacts done counters h =
     let T : Tables = effects m (swept m B) es in
     one_more m B es (opened key contacts) done _ counters _ h
-    ((λ i. PutAccount (record { number = (h.counted i).accounts + 1; key = key; contacts = contacts; opened = clock_is m B es done counters h i; ended = None; status = account.Valid }) ∷ [])
+    ((λ i. PutAccount (record {
+      number = (h.counted i).accounts + 1;
+      key = key;
+      contacts = contacts;
+      opened = clock_is m B es done counters h i;
+      ended = None;
+      status = account.Valid;
+    }) ∷ [])
     ∙ sym (opened_changes m T key contacts))
     (ap (λ (x : Counters). record x { accounts = x.accounts + 1 }) (counters_then m B es done counters h) ∙ sym (opened_counters m T key contacts)) refl
 
 -- the same recording, by equal changes and equal counters
-pub recorded_as : (m : ℕ) (B : Tables) (es : List Entry) (done other : List Change) (counters others : Counters) → other ≡ done → others ≡ counters → IsRecorded m B es done counters → IsRecorded m B es other others
+pub recorded_as : (m : ℕ) (B : Tables) (es : List Entry) (done other : List Change) (counters others : Counters) → other ≡ done
+    → others ≡ counters → IsRecorded m B es done counters → IsRecorded m B es other others
 recorded_as m B es done other counters others c r h = record { changes = c ∙ h.changes; counted = r ∙ h.counted; policy = h.policy }
 
 -- what two clauses give on the way that went well

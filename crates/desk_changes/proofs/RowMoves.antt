@@ -1,5 +1,6 @@
 -- Rows that an entry moves.
-use Rattle.std.proofs.Common.{◌≡◌, ◌≤◌, ◌<◌, ◌+◌, ℕ, Bool, true, false, cond, List, [], ◌∷◌, ◌++◌, map, filter, length, drop, get_or, Option, Some, None, refl, sym, ap, ◌∙◌, append_assoc, append-nil}
+use Rattle.std.proofs.Common.{◌≡◌, ◌≤◌, ◌<◌, ◌+◌, ℕ, Bool, true, false, cond, List, [], ◌∷◌, ◌++◌, map, filter, length, drop}
+use Rattle.std.proofs.Common.{get_or, Option, Some, None, refl, sym, ap, ◌∙◌, append_assoc, append-nil}
 use Rattle.std.proofs.lemmas.List.{at_drop_all, at_drop_more, map-append}
 use Rattle.std.specs.Prelude.{◌==◌, ◌&&◌, ◌||◌, find, is_some, unwrap_or}
 use Rattle.std.specs.List.{list_any}
@@ -9,7 +10,9 @@ use Rattle.desk_model.specs.Derived.{authorization_numbered, numbers_of}
 use Rattle.desk_model.specs.Effect.{swept_authorization, swept_order, touches_authorization, touches_order, names_order, lists_one, moved_authorization}
 use Rattle.desk_model.specs.Change.{moved_rows}
 use Rattle.desk_model.specs.declared.entry.Entry.{Entry}
-use Rattle.desk_model.specs.declared.entry.Entry.TheVariants.{Answered as answered, Reported as reported, AuthorizationEnded as authorization_ended, AccountEnded as account_ended}
+use Rattle.desk_model.specs.declared.entry.Entry.TheVariants.{Answered as answered, Reported as reported}
+use Rattle.desk_model.specs.declared.entry.Entry.TheVariants.{AuthorizationEnded as authorization_ended}
+use Rattle.desk_model.specs.declared.entry.Entry.TheVariants.{AccountEnded as account_ended}
 use Rattle.desk_model.specs.declared.rows.AuthorizationRow.{AuthorizationRow}
 use Rattle.desk_model.specs.declared.rows.OrderRow.{OrderRow}
 use Rattle.desk_model.specs.declared.status.AuthzStatus.{AuthzStatus}
@@ -49,9 +52,11 @@ touches_swept e m row =
     ap (touches_authorization e) (sym (swept_authorization-status m row)) ∙ touches_restated e row (swept_authorization m row).status
 
 -- the authorization of a number at the moment
-pub standing_numbered : (m n : ℕ) (rows : List AuthorizationRow) → authorization_numbered n (standing_rows m rows) ≡ option_map (swept_authorization m) (authorization_numbered n rows)
+pub standing_numbered : (m n : ℕ) (rows : List AuthorizationRow)
+    → authorization_numbered n (standing_rows m rows) ≡ option_map (swept_authorization m) (authorization_numbered n rows)
 standing_numbered m n rows =
-    find-moved (λ a. a.number == n) (swept_authorization m) rows (λ a. ap (λ k. k == n) (sym (ap (λ (r : AuthorizationRow). r.number) (swept_authorization-status m a))))
+    find-moved (λ a. a.number == n) (swept_authorization m) rows
+    (λ a. ap (λ k. k == n) (sym (ap (λ (r : AuthorizationRow). r.number) (swept_authorization-status m a))))
 
 -- and after the entry
 pub after_numbered : (e : Entry) (m n : ℕ) (rows : List AuthorizationRow) →
@@ -61,14 +66,17 @@ after_numbered e m n rows =
     ∙ ap (option_map (moved_authorization e m)) (standing_numbered m n rows)
     ∙ twice (authorization_numbered n rows)
   where
-    twice : (o : Option AuthorizationRow) → option_map (moved_authorization e m) (option_map (swept_authorization m) o) ≡ option_map (λ r. moved_authorization e m (swept_authorization m r)) o
+    twice : (o : Option AuthorizationRow) → option_map (moved_authorization e m) (option_map (swept_authorization m) o)
+        ≡ option_map (λ r. moved_authorization e m (swept_authorization m r)) o
     twice None = refl
     twice (Some r) = refl
 
 -- an order that lists one that is touched does so at the moment
-pub lists_standing : (e : Entry) (m : ℕ) (rows : List AuthorizationRow) (ns : List ℕ) → lists_one (touches_authorization e) (standing_rows m rows) ns ≡ lists_one (touches_authorization e) rows ns
+pub lists_standing : (e : Entry) (m : ℕ) (rows : List AuthorizationRow) (ns : List ℕ)
+    → lists_one (touches_authorization e) (standing_rows m rows) ns ≡ lists_one (touches_authorization e) rows ns
 lists_standing e m rows [] = refl
-lists_standing e m rows (n ∷ ns) = λ i. (ap (holds (touches_authorization e)) (standing_numbered m n rows) ∙ same (authorization_numbered n rows)) i || lists_standing e m rows ns i
+lists_standing e m rows (n ∷ ns) = λ i. (ap (holds (touches_authorization e)) (standing_numbered m n rows)
+    ∙ same (authorization_numbered n rows)) i || lists_standing e m rows ns i
   where
     same : (o : Option AuthorizationRow) → holds (touches_authorization e) (option_map (swept_authorization m) o) ≡ holds (touches_authorization e) o
     same None = refl
@@ -81,21 +89,25 @@ touches_standing e m rows row =
     ∙ ap (λ b. names_order e row.number || b) (lists_standing e m rows (numbers_of row.listed))
 
 -- what is not touched is not moved
-pub moved_one-untouched : {X : Type 0} (touched : X → Bool) (differs : X → X → Bool) (move : X → X) (x : X) → touched x ≡ false → moved_one touched differs move x ≡ []
+pub moved_one-untouched : {X : Type 0} (touched : X → Bool) (differs : X → X → Bool) (move : X → X) (x : X) → touched x ≡ false
+    → moved_one touched differs move x ≡ []
 moved_one-untouched touched differs move x none = ap (λ b. cond (b && differs x (move x)) (move x ∷ []) []) none
 
 -- what is touched is, where it differs
-pub moved_one-touched : {X : Type 0} (touched : X → Bool) (differs : X → X → Bool) (move : X → X) (x : X) → touched x ≡ true → moved_one touched differs move x ≡ cond (differs x (move x)) (move x ∷ []) []
+pub moved_one-touched : {X : Type 0} (touched : X → Bool) (differs : X → X → Bool) (move : X → X) (x : X) → touched x ≡ true
+    → moved_one touched differs move x ≡ cond (differs x (move x)) (move x ∷ []) []
 moved_one-touched touched differs move x is = ap (λ b. cond (b && differs x (move x)) (move x ∷ []) []) is
 
 -- a row that is touched, and the one that it moves to
-pub moved_one-is : {X : Type 0} (touched : X → Bool) (differs : X → X → Bool) (move : X → X) (x before after : X) → touched x ≡ true → before ≡ x → after ≡ move before →
+pub moved_one-is : {X : Type 0} (touched : X → Bool) (differs : X → X → Bool) (move : X → X) (x before after : X) → touched x ≡ true
+    → before ≡ x → after ≡ move before →
     cond (differs before after) (after ∷ []) [] ≡ moved_one touched differs move x
 moved_one-is touched differs move x before after is same next =
     (λ i. cond (differs (same i) ((next ∙ ap move same) i)) ((next ∙ ap move same) i ∷ []) []) ∙ sym (moved_one-touched touched differs move x is)
 
 -- the row that is touched, if it is
-pub touched_one-is : {X : Type 0} (touched : X → Bool) (move : X → X) (x : X) (b : Bool) → touched x ≡ b → touched_one touched move x ≡ cond b (Some (move x)) None
+pub touched_one-is : {X : Type 0} (touched : X → Bool) (move : X → X) (x : X) (b : Bool) → touched x ≡ b
+    → touched_one touched move x ≡ cond b (Some (move x)) None
 touched_one-is touched move x b is = ap (λ c. cond c (Some (move x)) None) is
 
 -- touched rows, one after the other
@@ -127,7 +139,8 @@ find-touched {X} test touched move those (x ∷ xs) = by (touched x) refl (test 
     moved y = cond (touched y) (move y) y
 
     by : (b : Bool) → touched x ≡ b → (c : Bool) → test x ≡ c → find test (map move (filter touched xs)) ≡ find test (map moved xs) →
-        find test (map move (cond b (x ∷ filter touched xs) (filter touched xs))) ≡ cond (test (cond b (move x) x)) (Some (cond b (move x) x)) (find test (map moved xs))
+        find test (map move (cond b (x ∷ filter touched xs) (filter touched xs)))
+        ≡ cond (test (cond b (move x) x)) (Some (cond b (move x) x)) (find test (map moved xs))
     by true t c h ih = ap (λ o. cond (test (move x)) (Some (move x)) o) ih
     by false t true h ih = let yes : touched x ≡ true = those x h in cc
     by false t false h ih = ih ∙ ap (λ d. cond d (Some x) (find test (map moved xs))) (sym h)
@@ -157,23 +170,27 @@ pub puts-step : {X C : Type 0} (F : X → C) (touched : X → Bool) (differs : X
 puts-step F touched differs move x xs before after whole put kept =
     ap (λ l. l ++ map F (moved_rows touched differs move xs)) put
     ∙ append_assoc before (map F (moved_one touched differs move x)) (map F (moved_rows touched differs move xs))
-    ∙ ap (λ l. before ++ l) (sym (map-append F (moved_one touched differs move x) (moved_rows touched differs move xs)) ∙ ap (map F) (sym (moved_rows-one touched differs move x xs)))
+    ∙ ap (λ l. before ++ l) (sym (map-append F (moved_one touched differs move x) (moved_rows touched differs move xs))
+    ∙ ap (map F) (sym (moved_rows-one touched differs move x xs)))
     ∙ kept
 
 -- the status of an authorization that is not there, after the entry
-pub status-none : (e : Entry) (m n : ℕ) (rows : List AuthorizationRow) → authorization_numbered n rows ≡ None → None ≡ option_map (λ r. r.status) (authorization_numbered n (rows_after e m rows))
+pub status-none : (e : Entry) (m n : ℕ) (rows : List AuthorizationRow) → authorization_numbered n rows ≡ None
+    → None ≡ option_map (λ r. r.status) (authorization_numbered n (rows_after e m rows))
 status-none e m n rows none =
     sym (ap (option_map (λ r. r.status)) (after_numbered e m n rows ∙ ap (option_map (λ r. moved_authorization e m (swept_authorization m r))) none))
 
 -- that of one that is found: its own at the moment, where the entry does not touch it
-pub status-untouched : (e : Entry) (m n : ℕ) (rows : List AuthorizationRow) (row : AuthorizationRow) → authorization_numbered n rows ≡ Some row → touches_authorization e row ≡ false →
+pub status-untouched : (e : Entry) (m n : ℕ) (rows : List AuthorizationRow) (row : AuthorizationRow)
+    → authorization_numbered n rows ≡ Some row → touches_authorization e row ≡ false →
     Some (swept_authorization m row).status ≡ option_map (λ r. r.status) (authorization_numbered n (rows_after e m rows))
 status-untouched e m n rows row is none =
     ap (λ b. Some (cond b (stated_authorization e m (swept_authorization m row)) (swept_authorization m row)).status) (sym (touches_swept e m row ∙ none))
     ∙ sym (ap (option_map (λ r. r.status)) (after_numbered e m n rows ∙ ap (option_map (λ r. moved_authorization e m (swept_authorization m r))) is))
 
 -- and that of the row that it leaves, where it is
-pub status-touched : (e : Entry) (m n : ℕ) (rows : List AuthorizationRow) (row : AuthorizationRow) (found : Option AuthorizationRow) → authorization_numbered n rows ≡ Some row →
+pub status-touched : (e : Entry) (m n : ℕ) (rows : List AuthorizationRow) (row : AuthorizationRow) (found : Option AuthorizationRow)
+    → authorization_numbered n rows ≡ Some row →
     touches_authorization e row ≡ true → found ≡ authorization_numbered n (authorizations_moved e m rows) →
     option_map (λ r. r.status) found ≡ option_map (λ r. r.status) (authorization_numbered n (rows_after e m rows))
 status-touched e m n rows row found is moves looked =

@@ -5,7 +5,9 @@ use Rattle.std.specs.Option.{option_map}
 use Rattle.desk_model.specs.Tables.{Tables}
 use Rattle.desk_model.specs.Derived.{authorization_numbered, numbers_of, restated_authorization, restated_order}
 use Rattle.desk_model.specs.Document.{and_row, listed_rows, rows_of}
-use Rattle.desk_model.specs.Effect.{effect, fresh_account, fresh_order, has_row, lists_one, names_order, noted_account, noted_authorization, swept, swept_authorization, moved_account, moved_authorization, moved_order, touches_account, touches_authorization, touches_order}
+use Rattle.desk_model.specs.Effect.{effect, fresh_account, fresh_order, has_row, lists_one, names_order, noted_account}
+use Rattle.desk_model.specs.Effect.{noted_authorization, swept, swept_authorization, moved_account, moved_authorization}
+use Rattle.desk_model.specs.Effect.{moved_order, touches_account, touches_authorization, touches_order}
 use Rattle.desk_model.specs.Entry.{entry_of}
 use Rattle.desk_model.specs.Questions.{account_on, authorization_on, order_on, owner_on}
 use Rattle.desk_model.specs.declared.entry.Entry.{Entry}
@@ -23,13 +25,15 @@ use Rattle.swept_rows.proofs.SweptRows.{find-moved, swept_authorization-status}
 
 moving_accounts : (m : ℕ) (T : Tables) (v : Move) → (effect m T (entry_of v)).accounts ≡ map (moved_account (entry_of v) m) T.accounts
 moving_accounts m T v =
-    ap (λ l. map (moved_account (entry_of v) m) T.accounts ++ map fresh_account l) (makes_nothing m T v).accounts ∙ append-nil (map (moved_account (entry_of v) m) T.accounts)
+    ap (λ l. map (moved_account (entry_of v) m) T.accounts ++ map fresh_account l) (makes_nothing m T v).accounts
+    ∙ append-nil (map (moved_account (entry_of v) m) T.accounts)
 
 moving_orders : (m : ℕ) (T : Tables) (v : Move) → (let e : Entry = entry_of v in
     (effect m T e).orders ≡ map (moved_order e m T.authorizations (map (moved_authorization e m) T.authorizations)) T.orders)
 moving_orders m T v =
     let e : Entry = entry_of v in
-    ap (λ l. map (moved_order e m T.authorizations (effect m T e).authorizations) T.orders ++ map (λ o. restated_order m (effect m T e).authorizations (fresh_order o)) l)
+    ap (λ l. map (moved_order e m T.authorizations (effect m T e).authorizations) T.orders
+    ++ map (λ o. restated_order m (effect m T e).authorizations (fresh_order o)) l)
     ((makes_nothing m T v).orders _)
     ∙ append-nil (map (moved_order e m T.authorizations (effect m T e).authorizations) T.orders)
     ∙ ap (λ rows. map (moved_order e m T.authorizations rows) T.orders) (moving_after m T v)
@@ -84,11 +88,13 @@ account_moved m B v n those =
     ∙ sym (find-touched (λ a. a.number == n) (touches_account (entry_of v)) (noted_account (entry_of v) m) those B.accounts)
 
 -- the authorization of a number
-pub authorization_moved : (m : ℕ) (B : Tables) (v : Move) (n : ℕ) → ((a : AuthorizationRow) → (a.number == n) ≡ true → touches_authorization (entry_of v) a ≡ true) →
+pub authorization_moved : (m : ℕ) (B : Tables) (v : Move) (n : ℕ)
+    → ((a : AuthorizationRow) → (a.number == n) ≡ true → touches_authorization (entry_of v) a ≡ true) →
     authorization_on (effect m (swept m B) (entry_of v)) n ≡ find (λ a. a.number == n) (authorizations_moved (entry_of v) m B.authorizations)
 authorization_moved m B v n those =
     ap (find (λ a. a.number == n)) (moving_after m (swept m B) v)
-    ∙ sym (find-touched (λ a. a.number == n) (touches_authorization (entry_of v)) (stated_authorization (entry_of v) m) those (standing_rows m B.authorizations))
+    ∙ sym (find-touched (λ a. a.number == n) (touches_authorization (entry_of v)) (stated_authorization (entry_of v) m) those
+    (standing_rows m B.authorizations))
 
 -- the authorization that a challenge is of
 pub owner_moved : (m : ℕ) (B : Tables) (v : Move) (n : ℕ) → ((a : AuthorizationRow) → has_row n a ≡ true → touches_authorization (entry_of v) a ≡ true) →
@@ -103,4 +109,5 @@ pub order_moved : (m : ℕ) (B : Tables) (v : Move) (n : ℕ) → ((k : ℕ) →
 order_moved m B v n those =
     ap (find (λ o. o.number == n)) (moving_orders m (swept m B) v)
     ∙ sym (find-touched (λ o. o.number == n) (touches_order (entry_of v) (standing_rows m B.authorizations)) (stated_order (entry_of v) m B.authorizations)
-    (λ o is. ap (λ b. b || lists_one (touches_authorization (entry_of v)) (standing_rows m B.authorizations) (numbers_of o.listed)) (those o.number is)) (swept m B).orders)
+    (λ o is. ap (λ b. b || lists_one (touches_authorization (entry_of v)) (standing_rows m B.authorizations) (numbers_of o.listed))
+    (those o.number is)) (swept m B).orders)

@@ -114,7 +114,8 @@ pub(crate) fn push_authorizations(
 ) -> Result<u64, AllocError>
     requires numbers { number + length wanted.now ≤ last_number + 1 }
     requires challenges { challenge + count_tokens wanted.now ≤ last_number + 1 }
-    ensures rows { OnOk result (rows.new.items ≡ rows.old.items ++ made_rows making.date (made_for making.account making.date making.expires wanted.now number challenge)) }
+    ensures rows { OnOk result (rows.new.items ≡ rows.old.items
+        ++ made_rows making.date (made_for making.account making.date making.expires wanted.now number challenge)) }
     ensures next { IfOk result (λ n. n ≡ challenge + count_challenges (made_for making.account making.date making.expires wanted.now number challenge)) }
 {
     let Some((Wanted::New { name, tokens }, rest)) = wanted.split_first() else {

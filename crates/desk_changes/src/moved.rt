@@ -5,7 +5,8 @@ ghost use Rattle.desk_model.specs.Entry.{entry_of};
 ghost use Rattle.desk_model.specs.Effect.{has_row, swept_authorization, swept_order, noted_account, touches_account, touches_authorization, touches_order};
 ghost use Rattle.desk_model.specs.Change.{account_differs, authorization_differs, order_differs, moved_rows};
 ghost use Rattle.desk_model.specs.declared.rows.Change.TheVariants.{PutAccount, PutAuthorization, PutOrder};
-ghost use Rattle.desk_changes.specs.Moved.{accounts_moved, authorizations_moved, moved_one, orders_moved, rows_after, standing_rows, stated_authorization, stated_order, row_of, touched_one};
+ghost use Rattle.desk_changes.specs.Moved.{accounts_moved, authorizations_moved, moved_one, orders_moved, rows_after};
+ghost use Rattle.desk_changes.specs.Moved.{standing_rows, stated_authorization, stated_order, row_of, touched_one};
 
 use crate::differing::{account_differs, authorization_differs, order_differs};
 use crate::noted::{noted_account, noted_authorization, noted_order};
@@ -158,7 +159,8 @@ fn put_authorization(
     before: &AuthorizationRow,
     after: &AuthorizationRow,
 ) -> Result<(), AllocError>
-    ensures { OnOk result (changes.new.items ≡ changes.old.items ++ map PutAuthorization (cond (authorization_differs before.now after.now) (after.now ∷ []) [])) }
+    ensures { OnOk result (changes.new.items ≡ changes.old.items
+        ++ map PutAuthorization (cond (authorization_differs before.now after.now) (after.now ∷ []) [])) }
 {
     if authorization_differs(before, after) {
         changes.push(Change::PutAuthorization(after.clone()?))?;
@@ -175,7 +177,8 @@ fn restate_authorization(
     standing: &AuthorizationRow,
 ) -> Result<AuthorizationRow, AllocError>
     ensures changes { OnOk result (changes.new.items ≡ changes.old.items
-        ++ map PutAuthorization (cond (authorization_differs standing.now (stated_authorization (entry_of moved.now) moment standing.now)) (stated_authorization (entry_of moved.now) moment standing.now ∷ []) [])) }
+        ++ map PutAuthorization (cond (authorization_differs standing.now (stated_authorization (entry_of moved.now) moment standing.now))
+        (stated_authorization (entry_of moved.now) moment standing.now ∷ []) [])) }
     ensures row { IfOk result (λ r. r ≡ stated_authorization (entry_of moved.now) moment standing.now) }
 {
     let next = stated_authorization(alloc, moved, moment, standing)?;
@@ -192,8 +195,10 @@ fn move_authorization(
     row: &AuthorizationRow,
 ) -> Result<Option<AuthorizationRow>, AllocError>
     ensures changes { OnOk result (changes.new.items ≡ changes.old.items
-        ++ map PutAuthorization (moved_one (touches_authorization (entry_of moved.now)) authorization_differs (stated_authorization (entry_of moved.now) moment) (swept_authorization moment row.now))) }
-    ensures row { IfOk result (λ o. o ≡ touched_one (touches_authorization (entry_of moved.now)) (stated_authorization (entry_of moved.now) moment) (swept_authorization moment row.now)) }
+        ++ map PutAuthorization (moved_one (touches_authorization (entry_of moved.now)) authorization_differs
+        (stated_authorization (entry_of moved.now) moment) (swept_authorization moment row.now))) }
+    ensures row { IfOk result (λ o. o ≡ touched_one (touches_authorization (entry_of moved.now))
+        (stated_authorization (entry_of moved.now) moment) (swept_authorization moment row.now)) }
 {
     if !touches_authorization(moved, row) {
         return Ok(None);
@@ -212,7 +217,8 @@ pub(crate) fn put_authorizations(
     moment: u64,
 ) -> Result<Vec<AuthorizationRow>, AllocError>
     ensures changes { OnOk result (changes.new.items ≡ changes.old.items
-        ++ map PutAuthorization (moved_rows (touches_authorization (entry_of moved.now)) authorization_differs (stated_authorization (entry_of moved.now) moment) (standing_rows moment book.now.authorizations))) }
+        ++ map PutAuthorization (moved_rows (touches_authorization (entry_of moved.now)) authorization_differs
+        (stated_authorization (entry_of moved.now) moment) (standing_rows moment book.now.authorizations))) }
     ensures rows { IfOk result (λ v. v.items ≡ authorizations_moved (entry_of moved.now) moment book.now.authorizations) }
 {
     let mut rows = Vec::new(alloc);
@@ -330,7 +336,8 @@ fn restate_order(
 ) -> Result<OrderRow, AllocError>
     requires { after.now ≡ authorizations_moved (entry_of moved.now) moment book.now.authorizations }
     ensures changes { OnOk result (changes.new.items ≡ changes.old.items
-        ++ map PutOrder (cond (order_differs standing.now (stated_order (entry_of moved.now) moment book.now.authorizations standing.now)) (stated_order (entry_of moved.now) moment book.now.authorizations standing.now ∷ []) [])) }
+        ++ map PutOrder (cond (order_differs standing.now (stated_order (entry_of moved.now) moment book.now.authorizations standing.now))
+        (stated_order (entry_of moved.now) moment book.now.authorizations standing.now ∷ []) [])) }
     ensures row { IfOk result (λ r. r ≡ stated_order (entry_of moved.now) moment book.now.authorizations standing.now) }
 {
     let next = stated_order(alloc, book, moved, after, moment, standing)?;
@@ -350,8 +357,10 @@ fn move_order(
 ) -> Result<Option<OrderRow>, AllocError>
     requires { after.now ≡ authorizations_moved (entry_of moved.now) moment book.now.authorizations }
     ensures changes { OnOk result (changes.new.items ≡ changes.old.items
-        ++ map PutOrder (moved_one (touches_order (entry_of moved.now) (standing_rows moment book.now.authorizations)) order_differs (stated_order (entry_of moved.now) moment book.now.authorizations) (swept_order moment book.now.authorizations row.now))) }
-    ensures row { IfOk result (λ o. o ≡ touched_one (touches_order (entry_of moved.now) (standing_rows moment book.now.authorizations)) (stated_order (entry_of moved.now) moment book.now.authorizations) (swept_order moment book.now.authorizations row.now)) }
+        ++ map PutOrder (moved_one (touches_order (entry_of moved.now) (standing_rows moment book.now.authorizations)) order_differs
+        (stated_order (entry_of moved.now) moment book.now.authorizations) (swept_order moment book.now.authorizations row.now))) }
+    ensures row { IfOk result (λ o. o ≡ touched_one (touches_order (entry_of moved.now) (standing_rows moment book.now.authorizations))
+        (stated_order (entry_of moved.now) moment book.now.authorizations) (swept_order moment book.now.authorizations row.now)) }
 {
     if !touches_order(moved, book, row) {
         return Ok(None);
@@ -372,7 +381,8 @@ pub(crate) fn put_orders(
 ) -> Result<Vec<OrderRow>, AllocError>
     requires { after.now ≡ authorizations_moved (entry_of moved.now) moment book.now.authorizations }
     ensures changes { OnOk result (changes.new.items ≡ changes.old.items
-        ++ map PutOrder (moved_rows (touches_order (entry_of moved.now) (standing_rows moment book.now.authorizations)) order_differs (stated_order (entry_of moved.now) moment book.now.authorizations) (map (swept_order moment book.now.authorizations) book.now.orders))) }
+        ++ map PutOrder (moved_rows (touches_order (entry_of moved.now) (standing_rows moment book.now.authorizations)) order_differs
+        (stated_order (entry_of moved.now) moment book.now.authorizations) (map (swept_order moment book.now.authorizations) book.now.orders))) }
     ensures rows { IfOk result (λ v. v.items ≡ orders_moved (entry_of moved.now) moment book.now.authorizations book.now.orders) }
 {
     let mut rows = Vec::new(alloc);

@@ -173,7 +173,8 @@ impl Recording {
     ) -> Result<MovedRows, AllocError>
         ensures changes { OnOk result (self.new.changes.items ≡ self.old.changes.items ++ book_moves self.old.counters.clock book.now (entry_of moved.now)) }
         ensures counters { OnOk result (self.new.counters ≡ self.old.counters) }
-        ensures rows { IfOk result (λ r. AreMoved self.old.counters.clock book.now (entry_of moved.now) r.accounts.items r.authorizations.items r.orders.items) }
+        ensures rows { IfOk result (λ r. AreMoved self.old.counters.clock book.now (entry_of moved.now) r.accounts.items
+            r.authorizations.items r.orders.items) }
         ensures recorded { OnOk result ((m : ℕ) (es : List EntryOf) → IsUntouched m book.now es
             → IsRecorded m book.now es self.old.changes.items self.old.counters
             → IsRecorded m book.now (es ++ entry_of moved.now ∷ []) self.new.changes.items self.new.counters) }
@@ -190,7 +191,8 @@ impl Recording {
     ) -> Result<MovedRows, AllocError>
         ensures changes { OnOk result (self.new.changes.items ≡ self.old.changes.items ++ book_moves self.old.counters.clock book.now (entry_of moved.now)) }
         ensures counters { OnOk result (self.new.counters ≡ self.old.counters) }
-        ensures rows { IfOk result (λ r. AreMoved self.old.counters.clock book.now (entry_of moved.now) r.accounts.items r.authorizations.items r.orders.items) }
+        ensures rows { IfOk result (λ r. AreMoved self.old.counters.clock book.now (entry_of moved.now) r.accounts.items
+            r.authorizations.items r.orders.items) }
     {
         let moment = self.counters.clock.moment();
         let accounts = put_accounts(&mut self.changes, alloc, book, moved, moment)?;
@@ -226,7 +228,8 @@ impl Recording {
         requires authorizations { self.old.counters.authorizations + length wanted.now ≤ last_number }
         requires challenges { self.old.counters.challenges + count_tokens wanted.now ≤ last_number }
         ensures changes { OnOk result (self.new.changes.items ≡ self.old.changes.items
-            ++ (map PutAuthorization (next_rows policy.now self.old.counters account wanted.now) ++ PutOrder (next_order policy.now self.old.counters account wanted.now) ∷ [])) }
+            ++ (map PutAuthorization (next_rows policy.now self.old.counters account wanted.now)
+            ++ PutOrder (next_order policy.now self.old.counters account wanted.now) ∷ [])) }
         ensures counters { OnOk result (self.new.counters ≡ ordered_counters policy.now self.old.counters account wanted.now) }
         ensures order { IfOk result (λ o. o ≡ next_order policy.now self.old.counters account wanted.now) }
         ensures recorded { OnOk result ((m : ℕ) (B : Tables) (es : List EntryOf) → B.meta.policy ≡ policy.now → IsOrdered B → IsUntouched m B es
@@ -247,7 +250,8 @@ impl Recording {
         requires authorizations { self.old.counters.authorizations + length wanted.now ≤ last_number }
         requires challenges { self.old.counters.challenges + count_tokens wanted.now ≤ last_number }
         ensures changes { OnOk result (self.new.changes.items ≡ self.old.changes.items
-            ++ (map PutAuthorization (next_rows policy.now self.old.counters account wanted.now) ++ PutOrder (next_order policy.now self.old.counters account wanted.now) ∷ [])) }
+            ++ (map PutAuthorization (next_rows policy.now self.old.counters account wanted.now)
+            ++ PutOrder (next_order policy.now self.old.counters account wanted.now) ∷ [])) }
         ensures counters { OnOk result (self.new.counters ≡ ordered_counters policy.now self.old.counters account wanted.now) }
         ensures order { IfOk result (λ o. o ≡ next_order policy.now self.old.counters account wanted.now) }
     {
@@ -269,7 +273,8 @@ impl Recording {
         requires authorizations { self.old.counters.authorizations + length wanted.now ≤ last_number }
         requires challenges { self.old.counters.challenges + count_tokens wanted.now ≤ last_number }
         ensures rows { IfOk result (λ v. v.items ≡ next_rows policy.now self.old.counters account wanted.now) }
-        ensures counters { OnOk result (self.new.counters ≡ record (ordered_counters policy.now self.old.counters account wanted.now) { orders = self.old.counters.orders }) }
+        ensures counters { OnOk result (self.new.counters
+            ≡ record (ordered_counters policy.now self.old.counters account wanted.now) { orders = self.old.counters.orders }) }
         ensures changes { OnOk result (self.new.changes.items ≡ self.old.changes.items) }
     {
         let mut rows = Vec::new(alloc);

@@ -67,7 +67,9 @@ fn touches_number(moved: &Move, book: &Book, number: u64) -> bool
 }
 
 fn touches_listed(moved: &Move, book: &Book, listed: &[Listed]) -> bool
-    ensures { result ≡ list_any (λ l. holds (touches_authorization (entry_of moved.now)) (authorization_numbered l.authorization book.now.authorizations)) listed.now }
+    ensures { result
+        ≡ list_any
+        (λ l. holds (touches_authorization (entry_of moved.now)) (authorization_numbered l.authorization book.now.authorizations)) listed.now }
 {
     listed
         .iter()

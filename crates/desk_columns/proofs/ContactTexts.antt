@@ -14,7 +14,8 @@ contacts_list contacts = list (map string contacts)
 
 -- what is no JSON spells none
 pub none_of_no_value : (text : List ℕ) → read text ≡ None → (contacts : List (List ℕ)) → text ≢ contacts_text contacts
-none_of_no_value text unread contacts same = let back : read text ≡ Some (contacts_list contacts) = ap read same ∙ read-contacts_text contacts in cc (unread, back)
+none_of_no_value text unread contacts same = let back : read text ≡ Some (contacts_list contacts) = ap read same
+    ∙ read-contacts_text contacts in cc (unread, back)
 
 -- a text of contacts is read as their list
 list_of : (text : List ℕ) (d : Data) → read text ≡ Some d → (contacts : List (List ℕ)) → text ≡ contacts_text contacts → d ≡ contacts_list contacts
@@ -26,7 +27,8 @@ pub none_of_other_value : (text : List ℕ) (d : Data) → read text ≡ Some d 
 none_of_other_value text d there other contacts same = other contacts (list_of text d there contacts same)
 
 -- nor is a text that is not compact
-pub none_of_loose_text : (text : List ℕ) (d : Data) (compact : Bool) → read text ≡ Some d → (has_float d ≡ false → IsTrue compact ↔ (text ≡ compact_text d)) → compact ≡ false
+pub none_of_loose_text : (text : List ℕ) (d : Data) (compact : Bool) → read text ≡ Some d
+    → (has_float d ≡ false → IsTrue compact ↔ (text ≡ compact_text d)) → compact ≡ false
     → (contacts : List (List ℕ)) → text ≢ contacts_text contacts
 none_of_loose_text text d compact there tells loose contacts same =
     let is : d ≡ contacts_list contacts = list_of text d there contacts same in
@@ -34,6 +36,7 @@ none_of_loose_text text d compact there tells loose contacts same =
     cc (loose, tight)
 
 -- a compact list of strings is spelled by these
-pub of_compact_text : (text : List ℕ) (d : Data) (compact : Bool) (contacts : List (List ℕ)) → d ≡ contacts_list contacts → (has_float d ≡ false → IsTrue compact ↔ (text ≡ compact_text d)) → compact ≡ true
+pub of_compact_text : (text : List ℕ) (d : Data) (compact : Bool) (contacts : List (List ℕ)) → d ≡ contacts_list contacts
+    → (has_float d ≡ false → IsTrue compact ↔ (text ≡ compact_text d)) → compact ≡ true
     → text ≡ contacts_text contacts
 of_compact_text text d compact contacts is tells tight = (tells (ap has_float is ∙ has_float-contacts contacts)).0 tight ∙ ap compact_text is

@@ -12,14 +12,16 @@ use Rattle.desk_columns.proofs.JsonTexts.{read-problem_text}
 
 -- what is no JSON spells none
 pub none_of_no_value : (text : List ℕ) → read text ≡ None → (problem : OrderProblem) → text ≢ problem_text problem
-none_of_no_value text unread problem same = let back : read text ≡ Some (problem_document problem) = ap read same ∙ read-problem_text problem in cc (unread, back)
+none_of_no_value text unread problem same = let back : read text ≡ Some (problem_document problem) = ap read same
+    ∙ read-problem_text problem in cc (unread, back)
 
 -- a text of a problem is read as its object
 document_of : (text : List ℕ) (d : Data) → read text ≡ Some d → (problem : OrderProblem) → text ≡ problem_text problem → d ≡ problem_document problem
 document_of text d there problem same = let back : read text ≡ Some (problem_document problem) = ap read same ∙ read-problem_text problem in cc (there, back)
 
 -- the value of another object is spelled by none
-pub none_of_other_value : (text : List ℕ) (d : Data) → read text ≡ Some d → IsProblemIn d None → (problem : OrderProblem) → IsProblem problem → text ≢ problem_text problem
+pub none_of_other_value : (text : List ℕ) (d : Data) → read text ≡ Some d → IsProblemIn d None → (problem : OrderProblem)
+    → IsProblem problem → text ≢ problem_text problem
 none_of_other_value text d there other problem formed same = other problem formed (document_of text d there problem same)
 
 -- the strings `detail` and `type` of a problem's object are those of the problem

@@ -13,13 +13,18 @@ use Rattle.desk_model.specs.declared.objects.AuthorizationEnd.{AuthorizationEnd}
 use Rattle.desk_model.specs.declared.objects.Report.{Report}
 use Rattle.desk_model.specs.declared.rows.DatedBytes.{DatedBytes}
 use Rattle.desk_model.specs.declared.rows.DatedProblem.{DatedProblem}
-use Rattle.desk_columns.specs.Columns.{account_columns, account_end_columns, authorization_columns, authorization_end_columns, challenge_columns, dated_bytes_columns, dated_problem_columns, listed_columns, meta_columns, nonce_columns, order_columns, report_columns, rows_columns}
+use Rattle.desk_columns.specs.Columns.{account_columns, account_end_columns, authorization_columns, authorization_end_columns}
+use Rattle.desk_columns.specs.Columns.{challenge_columns, dated_bytes_columns, dated_problem_columns, listed_columns}
+use Rattle.desk_columns.specs.Columns.{meta_columns, nonce_columns, order_columns, report_columns, rows_columns}
 use Rattle.desk_columns.specs.Laws.{AreToldApart, ColumnsTellRowsApart}
-use Rattle.desk_columns.specs.Limits.{AreStored, IsStoredAccount, IsStoredAuthorization, IsStoredChallenge, IsStoredListed, IsStoredMeta, IsStoredNonce, IsStoredOrder}
+use Rattle.desk_columns.specs.Limits.{AreStored, IsStoredAccount, IsStoredAuthorization, IsStoredChallenge, IsStoredListed}
+use Rattle.desk_columns.specs.Limits.{IsStoredMeta, IsStoredNonce, IsStoredOrder}
 use Rattle.desk_model.specs.Facts.{ending_text, end_kind_text, outcome_text}
 use Rattle.desk_columns.specs.Spelling.{contacts_text, problem_document, problem_text}
 use Rattle.desk_columns.proofs.JsonTexts.{read-contacts_text, read-problem_text}
-use Rattle.desk_columns.proofs.SpellingApart.{account_status_text-apart, order_status_text-apart, authorization_status_text-apart, challenge_status_text-apart, kind_text-apart, ending_text-apart, end_kind_text-apart, outcome_text-apart, wildcard_column-apart}
+use Rattle.desk_columns.proofs.SpellingApart.{account_status_text-apart, order_status_text-apart, authorization_status_text-apart}
+use Rattle.desk_columns.proofs.SpellingApart.{challenge_status_text-apart, kind_text-apart, ending_text-apart}
+use Rattle.desk_columns.proofs.SpellingApart.{end_kind_text-apart, outcome_text-apart, wildcard_column-apart}
 
 pos-apart : (m n : ℕ) → pos m ≡ pos n → m ≡ n
 pos-apart m n same = cc same
@@ -206,12 +211,15 @@ rows-apart rows others kept kept2 same =
     λ i. record {
       metas = table-apart meta_columns IsStoredMeta metas-apart rows.metas others.metas kept.metas kept2.metas (ap (λ c. c.metas) same) i;
       nonces = table-apart nonce_columns IsStoredNonce nonces-apart rows.nonces others.nonces kept.nonces kept2.nonces (ap (λ c. c.nonces) same) i;
-      accounts = table-apart account_columns IsStoredAccount accounts-apart rows.accounts others.accounts kept.accounts kept2.accounts (ap (λ c. c.accounts) same) i;
+      accounts = table-apart account_columns IsStoredAccount accounts-apart rows.accounts others.accounts kept.accounts kept2.accounts
+          (ap (λ c. c.accounts) same) i;
       orders = table-apart order_columns IsStoredOrder orders-apart rows.orders others.orders kept.orders kept2.orders (ap (λ c. c.orders) same) i;
-      authorizations = table-apart authorization_columns IsStoredAuthorization authorizations-apart rows.authorizations others.authorizations kept.authorizations kept2.authorizations
+      authorizations = table-apart authorization_columns IsStoredAuthorization authorizations-apart rows.authorizations
+          others.authorizations kept.authorizations kept2.authorizations
           (ap (λ c. c.authzs) same) i;
       listed = table-apart listed_columns IsStoredListed listed-apart rows.listed others.listed kept.listed kept2.listed (ap (λ c. c.order_authzs) same) i;
-      challenges = table-apart challenge_columns IsStoredChallenge challenges-apart rows.challenges others.challenges kept.challenges kept2.challenges (ap (λ c. c.challs) same) i;
+      challenges = table-apart challenge_columns IsStoredChallenge challenges-apart rows.challenges others.challenges kept.challenges
+          kept2.challenges (ap (λ c. c.challs) same) i;
     }
 
 pub all_apart : ColumnsTellRowsApart

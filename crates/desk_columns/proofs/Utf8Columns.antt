@@ -77,7 +77,10 @@ problem_is_text problem h =
       IsUtf8-are_ascii _ refl,
       (
         IsUtf8-key (codes "detail") (IsUtf8-are_ascii _ refl),
-        (IsUtf8-quoted problem.detail h.detail, (IsUtf8-key (codes "type") (IsUtf8-are_ascii _ refl), (IsUtf8-quoted problem.kind h.kind, (IsUtf8-are_ascii _ refl, tt)))),
+        (
+          IsUtf8-quoted problem.detail h.detail,
+          (IsUtf8-key (codes "type") (IsUtf8-are_ascii _ refl), (IsUtf8-quoted problem.kind h.kind, (IsUtf8-are_ascii _ refl, tt))),
+        ),
       ),
     )
 

@@ -1,6 +1,7 @@
 -- Laws of columns.
 use Rattle.std.specs.Prelude.{◌≡◌}
-use Rattle.desk_columns.specs.Columns.{account_columns, authorization_columns, challenge_columns, listed_columns, meta_columns, nonce_columns, order_columns, rows_columns}
+use Rattle.desk_columns.specs.Columns.{account_columns, authorization_columns, challenge_columns, listed_columns, meta_columns}
+use Rattle.desk_columns.specs.Columns.{nonce_columns, order_columns, rows_columns}
 use Rattle.desk_model.specs.Texts.{HoldsTextAccount, HoldsTextAuthorization, HoldsTextMeta, HoldsTextOrder}
 use Rattle.desk_model.specs.declared.rows.AccountRow.{AccountRow}
 use Rattle.desk_model.specs.declared.rows.AuthorizationRow.{AuthorizationRow}
@@ -10,7 +11,8 @@ use Rattle.desk_model.specs.declared.rows.OrderRow.{OrderRow}
 use Rattle.desk_columns.specs.TextColumns.{HasTextAccount, HasTextAuthorization, HasTextChallenge, HasTextMeta, HasTextOrder, ColumnsAreTexts, RowsHoldTexts}
 use Rattle.desk_columns.specs.declared.flat_rows.FlatRows.{FlatRows}
 use Rattle.desk_columns.specs.declared.flat_rows.Owned.{Owned}
-use Rattle.desk_columns.specs.Limits.{AreStored, IsStoredAccount, IsStoredAuthorization, IsStoredChallenge, IsStoredListed, IsStoredMeta, IsStoredNonce, IsStoredOrder}
+use Rattle.desk_columns.specs.Limits.{AreStored, IsStoredAccount, IsStoredAuthorization, IsStoredChallenge, IsStoredListed}
+use Rattle.desk_columns.specs.Limits.{IsStoredMeta, IsStoredNonce, IsStoredOrder}
 
 -- different rows in their limits have different columns
 abbrev pub AreToldApart : {C R : Type 0} → (write : R → C) → (IsStored : R → Type 0) → Type 0

@@ -42,18 +42,22 @@ pub at_issued : (m : ℕ) (B : Tables) (C : Counters) → C ≡ record B.meta.co
 at_issued m B C is = is ∙ (λ i. record B.meta.counters { clock = m; nonces = (sym is i).nonces })
 
 -- the same entries are recorded
-pub same_entries : (m : ℕ) (B : Tables) {es ds : List Entry} {done : List Change} {counters : Counters} → es ≡ ds → IsRecorded m B es done counters → IsRecorded m B ds done counters
+pub same_entries : (m : ℕ) (B : Tables) {es ds : List Entry} {done : List Change} {counters : Counters} → es ≡ ds
+    → IsRecorded m B es done counters → IsRecorded m B ds done counters
 same_entries m B {es} {ds} {done} {counters} is h = subst (λ l. IsRecorded m B l done counters) is h
 
 -- ---- an account that is opened
 
 -- the accounts that stood have not its number
 account_after : (m : ℕ) (B : Tables) (key : List ℕ) (contacts : List (List ℕ)) → IsOrdered B →
-    account_on (effect m (swept m B) (opened key contacts)) (B.meta.counters.accounts + 1) ≡ Some (next_account (record B.meta.counters { clock = m }) key contacts)
+    account_on (effect m (swept m B) (opened key contacts)) (B.meta.counters.accounts + 1)
+    ≡ Some (next_account (record B.meta.counters { clock = m }) key contacts)
 account_after m B key contacts is =
     find-after (λ a. a.number == B.meta.counters.accounts + 1) (map (moved_account (opened key contacts) m) B.accounts) (fresh ∷ [])
-    (find-moved (λ a. a.number == B.meta.counters.accounts + 1) (moved_account (opened key contacts) m) B.accounts (λ a. ap (λ k. k == B.meta.counters.accounts + 1) (account_number (opened key contacts) m a))
-    ∙ ap (option_map (moved_account (opened key contacts) m)) (none_below (λ a. a.number) (B.meta.counters.accounts + 1) (B.meta.counters.accounts + 1) B.accounts (omega arith) is.accounts.1))
+    (find-moved (λ a. a.number == B.meta.counters.accounts + 1) (moved_account (opened key contacts) m) B.accounts
+    (λ a. ap (λ k. k == B.meta.counters.accounts + 1) (account_number (opened key contacts) m a))
+    ∙ ap (option_map (moved_account (opened key contacts) m))
+    (none_below (λ a. a.number) (B.meta.counters.accounts + 1) (B.meta.counters.accounts + 1) B.accounts (omega arith) is.accounts.1))
     ∙ ap (λ b. cond b (Some fresh) None) (eq-eqb (B.meta.counters.accounts + 1) (B.meta.counters.accounts + 1) refl)
   where
     fresh : AccountRow
@@ -70,16 +74,21 @@ opened_found m B C key contacts at is =
 
 -- it is found by its number
 order_after : (m : ℕ) (B : Tables) (account : ℕ) (wanted : List Wanted) → IsOrdered B →
-    order_on (effect m (swept m B) (ordered account wanted)) (B.meta.counters.orders + 1) ≡ Some (next_order B.meta.policy (record B.meta.counters { clock = m }) account wanted)
+    order_on (effect m (swept m B) (ordered account wanted)) (B.meta.counters.orders + 1)
+    ≡ Some (next_order B.meta.policy (record B.meta.counters { clock = m }) account wanted)
 order_after m B account wanted is =
     find-after (λ o. o.number == B.meta.counters.orders + 1) stood _
     (find-moved (λ o. o.number == B.meta.counters.orders + 1) (moved_order e m S.authorizations (authorizations_after S e m)) S.orders
     (λ o. ap (λ k. k == B.meta.counters.orders + 1) (order_number e m S.authorizations (authorizations_after S e m) o))
     ∙ ap (option_map (moved_order e m S.authorizations (authorizations_after S e m)))
-    (find-moved (λ o. o.number == B.meta.counters.orders + 1) (swept_order m B.authorizations) B.orders (λ o. ap (λ k. k == B.meta.counters.orders + 1) (swept_order_number m B.authorizations o))
-    ∙ ap (option_map (swept_order m B.authorizations)) (none_below (λ o. o.number) (B.meta.counters.orders + 1) (B.meta.counters.orders + 1) B.orders (omega arith) is.orders.1)))
-    ∙ ap (find (λ o. o.number == B.meta.counters.orders + 1)) (ordered_one m S account wanted (below_standing m (B.meta.counters.authorizations + 1) B.authorizations is.authorizations.1))
-    ∙ ap (λ b. cond b (Some (next_order B.meta.policy (record B.meta.counters { clock = m }) account wanted)) None) (eq-eqb (B.meta.counters.orders + 1) (B.meta.counters.orders + 1) refl)
+    (find-moved (λ o. o.number == B.meta.counters.orders + 1) (swept_order m B.authorizations) B.orders
+    (λ o. ap (λ k. k == B.meta.counters.orders + 1) (swept_order_number m B.authorizations o))
+    ∙ ap (option_map (swept_order m B.authorizations))
+    (none_below (λ o. o.number) (B.meta.counters.orders + 1) (B.meta.counters.orders + 1) B.orders (omega arith) is.orders.1)))
+    ∙ ap (find (λ o. o.number == B.meta.counters.orders + 1))
+    (ordered_one m S account wanted (below_standing m (B.meta.counters.authorizations + 1) B.authorizations is.authorizations.1))
+    ∙ ap (λ b. cond b (Some (next_order B.meta.policy (record B.meta.counters { clock = m }) account wanted)) None)
+    (eq-eqb (B.meta.counters.orders + 1) (B.meta.counters.orders + 1) refl)
   where
     e : Entry
     e = ordered account wanted
@@ -97,13 +106,15 @@ ordered_found m B C account wanted at is =
     ∙ ap (λ x. Some (next_order B.meta.policy x account wanted)) (sym at)
 
 -- rows that are found by their numbers are those that an order lists
-rows_found : (all rows : List AuthorizationRow) → EachOf (λ r. authorization_numbered r.number all ≡ Some r) rows → rows_of all (map (λ r. r.number) rows) ≡ rows
+rows_found : (all rows : List AuthorizationRow) → EachOf (λ r. authorization_numbered r.number all ≡ Some r) rows
+    → rows_of all (map (λ r. r.number) rows) ≡ rows
 rows_found all [] h = refl
 rows_found all (r ∷ rows) h = λ i. and_row (h.0 i) (rows_found all rows h.1 i)
 
 -- new rows are found among all
 made_found : (T : Tables) (m account : ℕ) (wanted : List Wanted) → Below (λ a. a.number) (T.meta.counters.authorizations + 1) T.authorizations →
-    (all rows : List AuthorizationRow) → EachOf (λ r. T.meta.counters.authorizations < r.number) rows → EachOf (λ r. authorization_numbered r.number all ≡ Some r) rows →
+    (all rows : List AuthorizationRow) → EachOf (λ r. T.meta.counters.authorizations < r.number) rows
+    → EachOf (λ r. authorization_numbered r.number all ≡ Some r) rows →
     EachOf (λ r. authorization_numbered r.number (map (moved_authorization (ordered account wanted) m) T.authorizations ++ all) ≡ Some r) rows
 made_found T m account wanted below all [] h k = tt
 made_found T m account wanted below all (r ∷ rows) h k = (
@@ -113,13 +124,15 @@ made_found T m account wanted below all (r ∷ rows) h k = (
 )
 
 -- the names of new authorizations are those that are wanted
-made_names : (m account expires : ℕ) (wanted : List Wanted) (n c : ℕ) → map (λ r. r.name) (made_rows m (made_for account m expires wanted n c)) ≡ map wanted_name wanted
+made_names : (m account expires : ℕ) (wanted : List Wanted) (n c : ℕ)
+    → map (λ r. r.name) (made_rows m (made_for account m expires wanted n c)) ≡ map wanted_name wanted
 made_names m account expires [] n c = refl
 made_names m account expires (new name tokens ∷ wanted) n c = ap (λ l. name ∷ l) (made_names m account expires wanted (n + 1) _)
 
 -- so the new order names them
 names_after : (m : ℕ) (B : Tables) (account : ℕ) (wanted : List Wanted) → IsOrdered B →
-    map (λ a. a.name) (listed_rows (effect m (swept m B) (ordered account wanted)) (next_order B.meta.policy (record B.meta.counters { clock = m }) account wanted)) ≡ map wanted_name wanted
+    map (λ a. a.name) (listed_rows (effect m (swept m B) (ordered account wanted))
+    (next_order B.meta.policy (record B.meta.counters { clock = m }) account wanted)) ≡ map wanted_name wanted
 names_after m B account wanted is =
     ap (λ ns. map (λ a. a.name) (rows_of (effect m (swept m B) (ordered account wanted)).authorizations ns)) (numbers_placed 1 rows)
     ∙ ap (map (λ a. a.name)) (rows_found (effect m (swept m B) (ordered account wanted)).authorizations rows
@@ -144,4 +157,5 @@ ordered_names m B C account wanted at is =
 pub ordered_text : (m : ℕ) (B : Tables) (C : Counters) (account : ℕ) (wanted : List Wanted) → IsAt m B C → IsOrdered B →
     HasTexts (effect m (swept m B) (ordered account wanted)) → (next_order B.meta.policy C account wanted).expires ≤ last_end
 ordered_text m B C account wanted at is texts =
-    subst (λ o. IfSome o (λ o. o.expires ≤ last_end)) (ordered_found m B C account wanted at is) (order_ends (effect m (swept m B) (ordered account wanted)) (B.meta.counters.orders + 1) texts)
+    subst (λ o. IfSome o (λ o. o.expires ≤ last_end)) (ordered_found m B C account wanted at is)
+    (order_ends (effect m (swept m B) (ordered account wanted)) (B.meta.counters.orders + 1) texts)

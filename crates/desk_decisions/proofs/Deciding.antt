@@ -1,5 +1,6 @@
 -- From what the code answers by rows to what is promised against histories.
-use Rattle.std.proofs.Common.{◌≡◌, ℕ, ◌+◌, ◌*◌, ◌<◌, ◌≤◌, true, false, not, List, [], ◌∷◌, length, Some, None, sym, ap, subst, ◌∙◌, arith, length-append, append-nil, cond}
+use Rattle.std.proofs.Common.{◌≡◌, ℕ, ◌+◌, ◌*◌, ◌<◌, ◌≤◌, true, false, not, List, [], ◌∷◌, length, Some, None, sym, ap, subst}
+use Rattle.std.proofs.Common.{◌∙◌, arith, length-append, append-nil, cond}
 use Rattle.std.specs.Prelude.{nat_lt, IsTrue}
 use Rattle.desk_model.specs.Entry.{History}
 use Rattle.desk_model.specs.History.{clock, moment_of, record_all}
@@ -46,7 +47,8 @@ pub less : (a b : ℕ) → a < b → nat_lt a b ≡ true
 less a b h = grind (arith, nat_tests)
 
 -- no fault, from its three tests
-pub faultless : (F : History) (call : Call) → call.at ≤ last_moment → IsTrue (numbers_fit (after F call)) → 16 * count_pieces (decide F call).entries ≤ length call.random →
+pub faultless : (F : History) (call : Call) → call.at ≤ last_moment → IsTrue (numbers_fit (after F call))
+    → 16 * count_pieces (decide F call).entries ≤ length call.random →
     fault F call ≡ None
 faultless F call at fits enough =
     λ i. cond (not_less last_moment call.at at i) (Some 24)
@@ -62,7 +64,8 @@ pub fitting : (F : History) → CountersFit (picture F).meta.counters → IsTrue
 fitting F h = numbers_fit_counters F (clock F) h
 
 -- the numbers after some entries
-pub fits_issued : (F : History) (m : ℕ) (r : List ℕ) → CountersFit (picture F).meta.counters → length (nonces F) < last_number → CountersFit (picture (record { date = m; entry = issued r } ∷ F)).meta.counters
+pub fits_issued : (F : History) (m : ℕ) (r : List ℕ) → CountersFit (picture F).meta.counters → length (nonces F) < last_number
+    → CountersFit (picture (record { date = m; entry = issued r } ∷ F)).meta.counters
 fits_issued F m r h lt =
     record {
       nonces = omega (arith, length-append (nonces F) (record { serial = length (nonces F) + 1; random = r; issued = m } ∷ []));
@@ -91,24 +94,30 @@ pub fits_nonces : (F : History) (m n : ℕ) (r : List ℕ) → CountersFit (pict
 fits_nonces F m n r h lt = fits_issued (record { date = m; entry = spent n } ∷ F) m r (fits_spent F m n h) (omega (arith, nonces_stay F m n))
 
 -- what a verdict needs does not hang on the count of nonces
-pub left_same : (C D : Counters) (v : Verdict) → C.accounts ≡ D.accounts → C.orders ≡ D.orders → C.authorizations ≡ D.authorizations → C.challenges ≡ D.challenges →
+pub left_same : (C D : Counters) (v : Verdict) → C.accounts ≡ D.accounts → C.orders ≡ D.orders → C.authorizations ≡ D.authorizations
+    → C.challenges ≡ D.challenges →
     NumbersLeft D v → NumbersLeft C v
 left_same C D v a o z c h =
-    subst (λ (K : Counters). NumbersLeft K v) (λ i. record C { accounts = sym a i; orders = sym o i; authorizations = sym z i; challenges = sym c i }) (still v h)
+    subst (λ (K : Counters). NumbersLeft K v)
+    (λ i. record C { accounts = sym a i; orders = sym o i; authorizations = sym z i; challenges = sym c i }) (still v h)
   where
-    still : (v : Verdict) → NumbersLeft D v → NumbersLeft (record C { accounts = D.accounts; orders = D.orders; authorizations = D.authorizations; challenges = D.challenges }) v
+    still : (v : Verdict) → NumbersLeft D v
+        → NumbersLeft (record C { accounts = D.accounts; orders = D.orders; authorizations = D.authorizations; challenges = D.challenges }) v
     still (refused why ss) h = tt
     still (answers what) h = tt
     still (opens key contacts) h = h
     still (ordering account wanted) h = h
     still (moves move) h = tt
 
-pub spent_same : (C D : Counters) (v : Verdict) → C.accounts ≡ D.accounts → C.orders ≡ D.orders → C.authorizations ≡ D.authorizations → C.challenges ≡ D.challenges →
+pub spent_same : (C D : Counters) (v : Verdict) → C.accounts ≡ D.accounts → C.orders ≡ D.orders → C.authorizations ≡ D.authorizations
+    → C.challenges ≡ D.challenges →
     NumbersSpent D v → NumbersSpent C v
 spent_same C D v a o z c h =
-    subst (λ (K : Counters). NumbersSpent K v) (λ i. record C { accounts = sym a i; orders = sym o i; authorizations = sym z i; challenges = sym c i }) (still v h)
+    subst (λ (K : Counters). NumbersSpent K v)
+    (λ i. record C { accounts = sym a i; orders = sym o i; authorizations = sym z i; challenges = sym c i }) (still v h)
   where
-    still : (v : Verdict) → NumbersSpent D v → NumbersSpent (record C { accounts = D.accounts; orders = D.orders; authorizations = D.authorizations; challenges = D.challenges }) v
+    still : (v : Verdict) → NumbersSpent D v
+        → NumbersSpent (record C { accounts = D.accounts; orders = D.orders; authorizations = D.authorizations; challenges = D.challenges }) v
     still (refused why ss) h = absurd h
     still (answers what) h = absurd h
     still (opens key contacts) h = h
@@ -136,7 +145,8 @@ texts_same T U same texts =
 -- ---- decisions
 
 -- a decision that records these entries
-pub decides : (F : History) (call : Call) (e : Entry) (es : List Entry) (changes : List Change) (reply : Reply) → Legal F → IsFormedCall call → call.at ≤ last_moment →
+pub decides : (F : History) (call : Call) (e : Entry) (es : List Entry) (changes : List Change) (reply : Reply) → Legal F
+    → IsFormedCall call → call.at ≤ last_moment →
     (decide F call).entries ≡ e ∷ es → IsTrue (numbers_fit (record_all (moment_of call.at F) (e ∷ es) F)) → 16 * count_pieces (e ∷ es) ≤ length call.random →
     changes ≡ recorded_changes (moment_of call.at F) (picture F) (e ∷ es) →
     (EachFollows (record_all (moment_of call.at F) (e ∷ es) F) → reply ≡ (decide F call).reply) →

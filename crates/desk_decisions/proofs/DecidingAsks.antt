@@ -1,5 +1,6 @@
 -- What is promised of each ask.
-use Rattle.std.proofs.Common.{◌≡◌, ℕ, ◌+◌, ◌*◌, ◌≤◌, max, true, false, List, [], ◌∷◌, ◌++◌, length, take, drop, Option, Some, None, refl, sym, ap, subst, ◌∙◌, arith, Result, Ok, Err, IfOk, IfErr, MatchResult}
+use Rattle.std.proofs.Common.{◌≡◌, ℕ, ◌+◌, ◌*◌, ◌≤◌, max, true, false, List, [], ◌∷◌, ◌++◌, length, take, drop, Option, Some}
+use Rattle.std.proofs.Common.{None, refl, sym, ap, subst, ◌∙◌, arith, Result, Ok, Err, IfOk, IfErr, MatchResult}
 use Rattle.std.specs.Prelude.{IsTrue}
 use Rattle.desk_model.specs.Change.{recorded_changes}
 use Rattle.desk_model.specs.declared.refusal.Refusal.TheVariants as refusal
@@ -11,7 +12,8 @@ use Rattle.desk_model.specs.Tables.{Tables, tables_at, picture}
 use Rattle.desk_model.specs.Effect.{effects, swept}
 use Rattle.desk_model.specs.Rules.{office_verdict, signed_verdict, open_nonce}
 use Rattle.desk_model.specs.Shown.{with_nonce, fresh_nonce, refusal_reply, nonce_reply}
-use Rattle.desk_model.specs.Decide.{Decision, decide, decide_at, entries_of, nonce_entries, office_decision, passed_decision, verdict_reply, tables_after, signed_decision}
+use Rattle.desk_model.specs.Decide.{Decision, decide, decide_at, entries_of, nonce_entries, office_decision, passed_decision}
+use Rattle.desk_model.specs.Decide.{verdict_reply, tables_after, signed_decision}
 use Rattle.desk_model.specs.Run.{count_pieces, IsFormedCall}
 use Rattle.desk_model.specs.declared.call.Call.{Call}
 use Rattle.desk_model.specs.declared.call.Ask.{Ask}
@@ -52,7 +54,9 @@ issues : (F : History) (call : Call) (answer : Reply) (changes : List Change) (r
     Issues (moment_of call.at F) (picture F) call.random answer changes reply → IsDecision F call changes reply
 issues F call answer changes reply legal formed at entries said h =
     decides F call (issued (take 16 call.random)) [] changes reply legal formed at entries
-    (numbers_fit_counters (record { date = moment_of call.at F; entry = issued (take 16 call.random) } ∷ F) (clock (record { date = moment_of call.at F; entry = issued (take 16 call.random) } ∷ F)) (fits_issued F (moment_of call.at F) (take 16 call.random) (counters F legal) h.nonces))
+    (numbers_fit_counters (record { date = moment_of call.at F; entry = issued (take 16 call.random) } ∷ F)
+    (clock (record { date = moment_of call.at F; entry = issued (take 16 call.random) } ∷ F))
+    (fits_issued F (moment_of call.at F) (take 16 call.random) (counters F legal) h.nonces))
     (let enough : 16 ≤ length call.random = h.bytes in omega arith)
     h.recorded
     (λ follows. h.replies ∙ sym said)
@@ -80,7 +84,8 @@ settles : (F : History) (call : Call) (a : OfficeAsk) (changes : List Change) (r
     Settles (moment_of call.at F) (picture F) (settled F call a) changes reply → IsDecision F call changes reply
 settles F call a changes reply legal formed at is h =
     by (entries_of (settled F call a)) refl
-    (numbers_left F (moment_of call.at F) (settled F call a) (counters F legal) (office_spaced (swept (moment_of call.at F) (picture F)) a) (no_numbers (picture F).meta.counters a (swept (moment_of call.at F) (picture F))))
+    (numbers_left F (moment_of call.at F) (settled F call a) (counters F legal) (office_spaced (swept (moment_of call.at F) (picture F)) a)
+    (no_numbers (picture F).meta.counters a (swept (moment_of call.at F) (picture F))))
     (no_bytes a (swept (moment_of call.at F) (picture F)))
     (h.recorded (tables_ordered F (clock F)))
     (settles_reply F call a changes reply legal is h)
@@ -113,7 +118,8 @@ pub judged_left : (F : History) (call : Call) (serial : ℕ) (v : Verdict) → N
     NumbersLeft (picture (record_all (moment_of call.at F) (nonce_entries serial call.random) F)).meta.counters v
 judged_left F call serial v h =
     let same = nonce_rows F (moment_of call.at F) serial (take 16 call.random) in
-    left_same (picture (record_all (moment_of call.at F) (nonce_entries serial call.random) F)).meta.counters (picture F).meta.counters v same.last_accounts same.last_orders same.last_authorizations same.last_challenges h
+    left_same (picture (record_all (moment_of call.at F) (nonce_entries serial call.random) F)).meta.counters (picture F).meta.counters v
+    same.last_accounts same.last_orders same.last_authorizations same.last_challenges h
 
 -- the model's decision, by the verdict that the code comes to
 pub passed_is : (F : History) (call : Call) (s : Signed) (serial : ℕ) → decide F call ≡ signed_decision F (moment_of call.at F) call.random s (Some serial) →
@@ -129,7 +135,8 @@ passes_reply F call s serial changes reply is h follows =
     let m : ℕ = moment_of call.at F in
     let S : Tables = swept m (picture F) in
     let v : Verdict = judged F call s in
-    let grown : tables_after m (nonce_entries serial call.random ++ entries_of v) F ≡ effects m (effects m S (nonce_entries serial call.random)) (entries_of v) =
+    let grown : tables_after m (nonce_entries serial call.random ++ entries_of v) F
+    ≡ effects m (effects m S (nonce_entries serial call.random)) (entries_of v) =
     after_is F call (nonce_entries serial call.random ++ entries_of v) follows ∙ effects-append m S (nonce_entries serial call.random) (entries_of v) in
     let same : SameRows (effects m S (nonce_entries serial call.random)) S = nonce_effects m S serial (take 16 call.random) in
     h.replies (tables_ordered F (clock F))
@@ -151,17 +158,20 @@ passes F call s serial changes reply legal formed at is h =
     (ap (λ (d : Decision). d.entries) (passed_is F call s serial is))
     (numbers_left (record_all m (nonce_entries serial call.random) F) m v (fits_nonces F m serial (take 16 call.random) (counters F legal) h.nonces)
     (signed_spaced S (drop 16 call.random) s) (judged_left F call serial v h.numbers))
-    (let enough : 16 * (1 + count_pieces (entries_of v)) ≤ length call.random = pieces_bounded S (drop 16 call.random) s call.random h.tokens h.bytes in omega arith)
+    (let enough : 16 * (1 + count_pieces (entries_of v)) ≤ length call.random = pieces_bounded S (drop 16 call.random) s call.random
+    h.tokens h.bytes in omega arith)
     (h.recorded (tables_ordered F (clock F)))
     (passes_reply F call s serial changes reply (passed_is F call s serial is) h)
 
 -- a signed request
 signed_decides : (F : History) (call : Call) (s : Signed) (changes : List Change) (reply : Reply) → Legal F → IsFormedCall call → call.at ≤ last_moment →
     call.ask ≡ ask.Signed s →
-    MeetsSigned (moment_of call.at F) (picture F) call.random s (open_nonce (swept (moment_of call.at F) (picture F)) s.nonce) changes reply → IsDecision F call changes reply
+    MeetsSigned (moment_of call.at F) (picture F) call.random s (open_nonce (swept (moment_of call.at F) (picture F)) s.nonce) changes reply
+    → IsDecision F call changes reply
 signed_decides F call s changes reply legal formed at asks h = by (open_nonce (swept (moment_of call.at F) (picture F)) s.nonce) refl h
   where
-    is : (o : Option ℕ) → open_nonce (swept (moment_of call.at F) (picture F)) s.nonce ≡ o → decide F call ≡ signed_decision F (moment_of call.at F) call.random s o
+    is : (o : Option ℕ) → open_nonce (swept (moment_of call.at F) (picture F)) s.nonce ≡ o
+        → decide F call ≡ signed_decision F (moment_of call.at F) call.random s o
     is o e =
         ap (λ a. decide_at F (moment_of call.at F) call.random a) asks
         ∙ ap (signed_decision F (moment_of call.at F) call.random s) (ap (λ T. open_nonce T s.nonce) (now_is F call) ∙ e)
@@ -169,7 +179,8 @@ signed_decides F call s changes reply legal formed at asks h = by (open_nonce (s
     by : (o : Option ℕ) → open_nonce (swept (moment_of call.at F) (picture F)) s.nonce ≡ o →
         MeetsSigned (moment_of call.at F) (picture F) call.random s o changes reply → IsDecision F call changes reply
     by None e m =
-        issues F call (refusal_reply true refusal.BadNonce []) changes reply legal formed at (ap (λ (d : Decision). d.entries) (is None e)) (ap (λ (d : Decision). d.reply) (is None e)) m
+        issues F call (refusal_reply true refusal.BadNonce []) changes reply legal formed at (ap (λ (d : Decision). d.entries) (is None e))
+        (ap (λ (d : Decision). d.reply) (is None e)) m
     by (Some serial) e m = passes F call s serial changes reply legal formed at (is (Some serial) e) m
 
 -- ---- each ask
@@ -193,7 +204,8 @@ asks_decide F call changes reply legal formed at h = by call.ask refl h
     by (ask.Office a) e m = settles F call a changes reply legal formed at (settled_is a (at_ask (ask.Office a) e)) m
 
 -- the same, as the code has its parts
-pub code_decides : (F : History) (call : Call) (B : Tables) (m : ℕ) (random : List ℕ) (changes : List Change) (reply : Reply) → Legal F → IsPartFor call (picture F) B → IsFormedCall call →
+pub code_decides : (F : History) (call : Call) (B : Tables) (m : ℕ) (random : List ℕ) (changes : List Change) (reply : Reply) → Legal F
+    → IsPartFor call (picture F) B → IsFormedCall call →
     call.at ≤ last_moment → m ≡ max call.at B.meta.counters.clock → random ≡ call.random →
     (IsOrdered B → MeetsAsk m B random call.ask changes reply) → IsDecision F call changes reply
 code_decides F call B m random changes reply legal part formed at acts bytes meets =
@@ -207,10 +219,12 @@ code_decides F call B m random changes reply legal part formed at acts bytes mee
     (subst (λ r. MeetsAsk m B r call.ask changes reply) bytes (meets ordered)))))
 
 -- what a clause on both outcomes gives on the way that went well, and on the other
-pub ok_part : {T E A : Type 0} {R : T → Type 0} (P : T → Type 0) (Q : E → Type 0) (r : Result T E) → (A → MatchResult r P Q) → ((x : T) → (A → P x) → R x) → IfOk r R
+pub ok_part : {T E A : Type 0} {R : T → Type 0} (P : T → Type 0) (Q : E → Type 0) (r : Result T E) → (A → MatchResult r P Q)
+    → ((x : T) → (A → P x) → R x) → IfOk r R
 ok_part P Q (Ok x) h k = k x h
 ok_part P Q (Err e) h k = tt
 
-pub err_part : {T E A : Type 0} {R : E → Type 0} (P : T → Type 0) (Q : E → Type 0) (r : Result T E) → (A → MatchResult r P Q) → ((e : E) → (A → Q e) → R e) → IfErr r R
+pub err_part : {T E A : Type 0} {R : E → Type 0} (P : T → Type 0) (Q : E → Type 0) (r : Result T E) → (A → MatchResult r P Q)
+    → ((e : E) → (A → Q e) → R e) → IfErr r R
 err_part P Q (Ok x) h k = tt
 err_part P Q (Err e) h k = k e h

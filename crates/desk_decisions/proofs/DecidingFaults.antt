@@ -1,5 +1,6 @@
 -- The faults that the code answers are those of the model.
-use Rattle.std.proofs.Common.{◌≡◌, ℕ, ◌+◌, ◌*◌, ◌<◌, ◌≤◌, false, not, cond, List, [], ◌∷◌, ◌++◌, length, take, drop, max, Option, Some, None, refl, ap, subst, ◌∙◌, arith, length-append, ◌⊎◌, inl, inr}
+use Rattle.std.proofs.Common.{◌≡◌, ℕ, ◌+◌, ◌*◌, ◌<◌, ◌≤◌, false, not, cond, List, [], ◌∷◌, ◌++◌, length, take, drop, max, Option}
+use Rattle.std.proofs.Common.{Some, None, refl, ap, subst, ◌∙◌, arith, length-append, ◌⊎◌, inl, inr}
 use Rattle.std.specs.Prelude.{nat_lt, nat_le, ◌&&◌, IsTrue}
 use Rattle.std.proofs.lemmas.Bool.Decides.{nat_tests}
 use Rattle.desk_model.specs.Entry.{History, entry_of}
@@ -48,18 +49,23 @@ not_le a b h = grind (arith, nat_tests)
 -- too many nonces
 nonces_over : (G : History) → last_number < length (nonces G) → numbers_fit G ≡ false
 nonces_over G h =
-    ap (λ b. b && (nat_le (length (accounts G)) last_number && (nat_le (length (orders G)) last_number && (nat_le (length (authorizations G)) last_number && nat_le (count_challenges (authorizations G)) last_number))))
+    ap (λ b. b
+    && (nat_le (length (accounts G)) last_number
+    && (nat_le (length (orders G)) last_number
+    && (nat_le (length (authorizations G)) last_number && nat_le (count_challenges (authorizations G)) last_number))))
     (not_le (length (nonces G)) last_number h)
 
 -- fault 26, and fault 25
-is_full : (F : History) (call : Call) (es : List Entry) → call.at ≤ last_moment → (decide F call).entries ≡ es → numbers_fit (record_all (moment_of call.at F) es F) ≡ false →
+is_full : (F : History) (call : Call) (es : List Entry) → call.at ≤ last_moment → (decide F call).entries ≡ es
+    → numbers_fit (record_all (moment_of call.at F) es F) ≡ false →
     fault F call ≡ Some 26
 is_full F call es at is over =
     λ i. cond (not_less last_moment call.at at i) (Some 24)
     (cond (not ((ap (λ l. numbers_fit (record_all (moment_of call.at F) l F)) is ∙ over) i)) (Some 26)
     (cond (nat_lt (length call.random) (16 * count_pieces (decide F call).entries)) (Some 25) None))
 
-is_short : (F : History) (call : Call) (es : List Entry) → call.at ≤ last_moment → (decide F call).entries ≡ es → IsTrue (numbers_fit (record_all (moment_of call.at F) es F)) →
+is_short : (F : History) (call : Call) (es : List Entry) → call.at ≤ last_moment → (decide F call).entries ≡ es
+    → IsTrue (numbers_fit (record_all (moment_of call.at F) es F)) →
     length call.random < 16 * count_pieces es → fault F call ≡ Some 25
 is_short F call es at is fits short =
     λ i. cond (not_less last_moment call.at at i) (Some 24)
@@ -69,7 +75,8 @@ is_short F call es at is fits short =
 -- a moment above the last
 pub is_late : (F : History) (call : Call) → last_moment < call.at → fault F call ≡ Some 24
 is_late F call late =
-    ap (λ b. cond b (Some 24) (cond (not (numbers_fit (after F call))) (Some 26) (cond (nat_lt (length call.random) (16 * count_pieces (decide F call).entries)) (Some 25) None)))
+    ap (λ b. cond b (Some 24) (cond (not (numbers_fit (after F call))) (Some 26)
+    (cond (nat_lt (length call.random) (16 * count_pieces (decide F call).entries)) (Some 25) None)))
     (less last_moment call.at late)
 
 -- a nonce that is issued and nothing else
@@ -79,10 +86,17 @@ issue_faults F call core.Memory legal at is h = tt
 issue_faults F call core.Moment legal at is h = absurd h
 issue_faults F call core.Full legal at is h =
     is_full F call (issued (take 16 call.random) ∷ []) at is
-    (nonces_over (record { date = moment_of call.at F; entry = issued (take 16 call.random) } ∷ F) (let le : last_number ≤ length (nonces F) = h in omega (arith, length-append (nonces F) (record { serial = length (nonces F) + 1; random = take 16 call.random; issued = moment_of call.at F } ∷ []))))
+    (nonces_over (record { date = moment_of call.at F; entry = issued (take 16 call.random) } ∷ F)
+    (let le : last_number ≤ length (nonces F) = h in
+    omega (
+      arith,
+      length-append (nonces F)
+          (record { serial = length (nonces F) + 1; random = take 16 call.random; issued = moment_of call.at F } ∷ []),
+    )))
 issue_faults F call core.ShortRandom legal at is h =
     is_short F call (issued (take 16 call.random) ∷ []) at is
-    (fitting (record { date = moment_of call.at F; entry = issued (take 16 call.random) } ∷ F) (fits_issued F (moment_of call.at F) (take 16 call.random) (counters F legal) h.0))
+    (fitting (record { date = moment_of call.at F; entry = issued (take 16 call.random) } ∷ F)
+    (fits_issued F (moment_of call.at F) (take 16 call.random) (counters F legal) h.0))
     (let short : length call.random < 16 = h.1 in omega arith)
 
 -- nonces are not lost
@@ -107,10 +121,13 @@ passed_faults F call s serial core.Full legal at is h = is_full F call _ at is (
     over : NumbersSpent (picture F).meta.counters (judged F call s) ⊎ (last_number ≤ length (nonces F)) →
         numbers_fit (record_all (moment_of call.at F) (nonce_entries serial call.random ++ entries_of (judged F call s)) F) ≡ false
     over (inl full) =
-        numbers_spent (record_all (moment_of call.at F) (nonce_entries serial call.random) F) (moment_of call.at F) (judged F call s) (signed_spaced (swept (moment_of call.at F) (picture F)) (drop 16 call.random) s)
+        numbers_spent (record_all (moment_of call.at F) (nonce_entries serial call.random) F) (moment_of call.at F) (judged F call s)
+        (signed_spaced (swept (moment_of call.at F) (picture F)) (drop 16 call.random) s)
         (spent_same (picture (record_all (moment_of call.at F) (nonce_entries serial call.random) F)).meta.counters (picture F).meta.counters (judged F call s)
-        (nonce_rows F (moment_of call.at F) serial (take 16 call.random)).last_accounts (nonce_rows F (moment_of call.at F) serial (take 16 call.random)).last_orders
-        (nonce_rows F (moment_of call.at F) serial (take 16 call.random)).last_authorizations (nonce_rows F (moment_of call.at F) serial (take 16 call.random)).last_challenges full)
+        (nonce_rows F (moment_of call.at F) serial (take 16 call.random)).last_accounts
+        (nonce_rows F (moment_of call.at F) serial (take 16 call.random)).last_orders
+        (nonce_rows F (moment_of call.at F) serial (take 16 call.random)).last_authorizations
+        (nonce_rows F (moment_of call.at F) serial (take 16 call.random)).last_challenges full)
     over (inr full) =
         nonces_over (record_all (moment_of call.at F) (nonce_entries serial call.random ++ entries_of (judged F call s)) F)
         (omega (
@@ -131,12 +148,14 @@ signed_faults : (F : History) (call : Call) (s : Signed) (e : CoreFault) → Leg
     IsSignedFault (moment_of call.at F) (picture F) call.random s (open_nonce (swept (moment_of call.at F) (picture F)) s.nonce) e → IsFaultOf F call e
 signed_faults F call s e legal at asks h = by (open_nonce (swept (moment_of call.at F) (picture F)) s.nonce) refl h
   where
-    is : (o : Option ℕ) → open_nonce (swept (moment_of call.at F) (picture F)) s.nonce ≡ o → decide F call ≡ signed_decision F (moment_of call.at F) call.random s o
+    is : (o : Option ℕ) → open_nonce (swept (moment_of call.at F) (picture F)) s.nonce ≡ o
+        → decide F call ≡ signed_decision F (moment_of call.at F) call.random s o
     is o found =
         ap (λ a. decide_at F (moment_of call.at F) call.random a) asks
         ∙ ap (signed_decision F (moment_of call.at F) call.random s) (ap (λ T. open_nonce T s.nonce) (now_is F call) ∙ found)
 
-    by : (o : Option ℕ) → open_nonce (swept (moment_of call.at F) (picture F)) s.nonce ≡ o → IsSignedFault (moment_of call.at F) (picture F) call.random s o e → IsFaultOf F call e
+    by : (o : Option ℕ) → open_nonce (swept (moment_of call.at F) (picture F)) s.nonce ≡ o
+        → IsSignedFault (moment_of call.at F) (picture F) call.random s o e → IsFaultOf F call e
     by None found h = issue_faults F call e legal at (ap (λ (d : Decision). d.entries) (is None found)) h
     by (Some serial) found h =
         passed_faults F call s serial e legal at (ap (λ (d : Decision). d.entries) (passed_is F call s serial (is (Some serial) found))) h
@@ -154,7 +173,8 @@ asks_fail : (F : History) (call : Call) (e : CoreFault) → Legal F → call.at 
 asks_fail F call e legal at h = by call.ask refl h
   where
     by : (a : Ask) → call.ask ≡ a → IsAskFault (moment_of call.at F) (picture F) call.random a e → IsFaultOf F call e
-    by (ask.NewNonce head) is h = issue_faults F call e legal at (ap (λ (d : Decision). d.entries) (ap (λ a. decide_at F (moment_of call.at F) call.random a) is)) h
+    by (ask.NewNonce head) is h = issue_faults F call e legal at
+        (ap (λ (d : Decision). d.entries) (ap (λ a. decide_at F (moment_of call.at F) call.random a) is)) h
     by (ask.Signed s) is h = signed_faults F call s e legal at is h
     by _ is h = memory_faults F call e h
 

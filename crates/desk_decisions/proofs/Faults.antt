@@ -13,14 +13,16 @@ use Rattle.desk_rules.specs.declared.fault.CoreFault.{CoreFault}
 use Rattle.desk_rules.specs.declared.fault.CoreFault.TheVariants as fault
 
 -- a fault of the verdict is one of the request
-pub need_fault : (B : Tables) (random : List ℕ) (v : Verdict) (e : CoreFault) → B.meta.counters.nonces < last_number → IsNeedFault B.meta.counters random v e → IsPassedFault B random v e
+pub need_fault : (B : Tables) (random : List ℕ) (v : Verdict) (e : CoreFault) → B.meta.counters.nonces < last_number
+    → IsNeedFault B.meta.counters random v e → IsPassedFault B random v e
 need_fault B random v fault.Memory left h = tt
 need_fault B random v fault.Full left h = inl h
 need_fault B random v fault.ShortRandom left h = (left, h.0, h.1)
 need_fault B random v fault.Moment left h = absurd h
 
 -- so are too few bytes for the fresh nonce
-pub short_fault : (B : Tables) (random : List ℕ) (v : Verdict) (e : CoreFault) → B.meta.counters.nonces < last_number → NumbersLeft B.meta.counters v → IsShort random e → IsPassedFault B random v e
+pub short_fault : (B : Tables) (random : List ℕ) (v : Verdict) (e : CoreFault) → B.meta.counters.nonces < last_number
+    → NumbersLeft B.meta.counters v → IsShort random e → IsPassedFault B random v e
 short_fault B random v fault.Memory left numbers h = tt
 short_fault B random v fault.Full left numbers h = absurd h
 short_fault B random v fault.ShortRandom left numbers h =
@@ -28,7 +30,8 @@ short_fault B random v fault.ShortRandom left numbers h =
 short_fault B random v fault.Moment left numbers h = absurd h
 
 -- and no number left for it
-pub full_fault : (B : Tables) (random : List ℕ) (v : Verdict) (e : CoreFault) → e ≡ fault.Full → last_number ≤ B.meta.counters.nonces → IsPassedFault B random v e
+pub full_fault : (B : Tables) (random : List ℕ) (v : Verdict) (e : CoreFault) → e ≡ fault.Full → last_number ≤ B.meta.counters.nonces
+    → IsPassedFault B random v e
 full_fault B random v fault.Memory is h = tt
 full_fault B random v fault.Full is h = inr h
 full_fault B random v fault.ShortRandom is h = cc

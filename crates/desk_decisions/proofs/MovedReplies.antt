@@ -22,13 +22,15 @@ account_there m B v n xs touched is =
     ap (find (λ a. a.number == n)) is ∙ sym (account_moved m B v n (λ a same. touched a ∙ eq_turn n a.number ∙ same))
 
 -- the authorization that it is of
-pub authorization_there : (m : ℕ) (B : Tables) (v : Move) (n : ℕ) (xs : List AuthorizationRow) → ((a : AuthorizationRow) → touches_authorization (entry_of v) a ≡ (n == a.number)) →
+pub authorization_there : (m : ℕ) (B : Tables) (v : Move) (n : ℕ) (xs : List AuthorizationRow)
+    → ((a : AuthorizationRow) → touches_authorization (entry_of v) a ≡ (n == a.number)) →
     xs ≡ authorizations_moved (entry_of v) m B.authorizations → find (λ a. a.number == n) xs ≡ authorization_on (effect m (swept m B) (entry_of v)) n
 authorization_there m B v n xs touched is =
     ap (find (λ a. a.number == n)) is ∙ sym (authorization_moved m B v n (λ a same. touched a ∙ eq_turn n a.number ∙ same))
 
 -- that of the challenge that it is of
-pub owner_there : (m : ℕ) (B : Tables) (v : Move) (n : ℕ) (xs : List AuthorizationRow) → ((a : AuthorizationRow) → touches_authorization (entry_of v) a ≡ has_row n a) →
+pub owner_there : (m : ℕ) (B : Tables) (v : Move) (n : ℕ) (xs : List AuthorizationRow)
+    → ((a : AuthorizationRow) → touches_authorization (entry_of v) a ≡ has_row n a) →
     xs ≡ authorizations_moved (entry_of v) m B.authorizations → find (has_row n) xs ≡ owner_on (effect m (swept m B) (entry_of v)) n
 owner_there m B v n xs touched is = ap (find (has_row n)) is ∙ sym (owner_moved m B v n (λ a same. touched a ∙ same))
 

@@ -3,7 +3,8 @@ use Rattle.std.proofs.Common.{◌≡◌, ℕ, List, [], ◌∷◌, map, Bool, tr
 use Rattle.std.specs.Prelude.{◌==◌, ◌||◌, find, is_some, IsSome}
 use Rattle.desk_laws.proofs.Basics.{eq_turn, list_any-map, list_any-same}
 use Rattle.desk_laws.proofs.MovedRows.{challenge_number}
-use Rattle.desk_model.specs.Effect.{has_row, lists_one, names_order, noted_account, noted_challenge, swept, touches_account, touches_authorization, touches_order}
+use Rattle.desk_model.specs.Effect.{has_row, lists_one, names_order, noted_account, noted_challenge, swept, touches_account}
+use Rattle.desk_model.specs.Effect.{touches_authorization, touches_order}
 use Rattle.desk_model.specs.Derived.{numbers_of}
 use Rattle.desk_model.specs.Entry.{entry_of}
 use Rattle.desk_model.specs.Tables.{Tables}
@@ -17,7 +18,8 @@ use Rattle.desk_changes.specs.Moved.{AreMoved, accounts_moved, authorizations_mo
 use Rattle.desk_decisions.specs.There.{IsAmong}
 
 -- a row that is found, and touched, is found among the touched ones, which keep what it is found by
-still_found : {X : Type 0} (test touched : X → Bool) (move : X → X) → ((x : X) → test (move x) ≡ test x) → ((x : X) → test x ≡ true → touched x ≡ true) → (xs : List X) →
+still_found : {X : Type 0} (test touched : X → Bool) (move : X → X) → ((x : X) → test (move x) ≡ test x)
+    → ((x : X) → test x ≡ true → touched x ≡ true) → (xs : List X) →
     IsSome (find test xs) → IsSome (find test (map move (filter touched xs)))
 still_found test touched move kept those [] h = h
 still_found {X} test touched move kept those (x ∷ xs) h = by (test x) (touched x) refl refl h (still_found test touched move kept those xs)
@@ -42,7 +44,8 @@ account_stays e m n rows touched h =
 authorization_stays : (e : Entry) (m n : ℕ) (rows : List AuthorizationRow) → ((a : AuthorizationRow) → touches_authorization e a ≡ (n == a.number)) →
     IsSome (find (λ a. a.number == n) (standing_rows m rows)) → IsSome (find (λ a. a.number == n) (authorizations_moved e m rows))
 authorization_stays e m n rows touched h =
-    still_found (λ a. a.number == n) (touches_authorization e) (stated_authorization e m) (λ a. refl) (λ a is. touched a ∙ eq_turn n a.number ∙ is) (standing_rows m rows) h
+    still_found (λ a. a.number == n) (touches_authorization e) (stated_authorization e m) (λ a. refl)
+    (λ a is. touched a ∙ eq_turn n a.number ∙ is) (standing_rows m rows) h
 
 -- that of a challenge
 owner_stays : (e : Entry) (m n : ℕ) (rows : List AuthorizationRow) → ((a : AuthorizationRow) → touches_authorization e a ≡ has_row n a) →
@@ -59,11 +62,13 @@ order_stays : (e : Entry) (m n : ℕ) (B : Tables) → ((k : ℕ) → names_orde
     IsSome (find (λ o. o.number == n) (swept m B).orders) → IsSome (find (λ o. o.number == n) (orders_moved e m B.authorizations B.orders))
 order_stays e m n B named h =
     still_found (λ o. o.number == n) (touches_order e (standing_rows m B.authorizations)) (stated_order e m B.authorizations) (λ o. refl)
-    (λ o is. ap (λ b. b || lists_one (touches_authorization e) (standing_rows m B.authorizations) (numbers_of o.listed)) (named o.number ∙ eq_turn n o.number ∙ is)) (swept m B).orders h
+    (λ o is. ap (λ b. b || lists_one (touches_authorization e) (standing_rows m B.authorizations) (numbers_of o.listed))
+    (named o.number ∙ eq_turn n o.number ∙ is)) (swept m B).orders h
 
 -- each move
 stays : (m : ℕ) (B : Tables) (v : Move) → IsAmong v (swept m B).accounts (swept m B).authorizations (swept m B).orders →
-    IsAmong v (accounts_moved (entry_of v) m B.accounts) (authorizations_moved (entry_of v) m B.authorizations) (orders_moved (entry_of v) m B.authorizations B.orders)
+    IsAmong v (accounts_moved (entry_of v) m B.accounts) (authorizations_moved (entry_of v) m B.authorizations)
+    (orders_moved (entry_of v) m B.authorizations B.orders)
 stays m B (move.ContactsChanged n contacts) h = account_stays (entry_of (move.ContactsChanged n contacts)) m n B.accounts (λ a. refl) h
 stays m B (move.AccountEnded n ending) h = account_stays (entry_of (move.AccountEnded n ending)) m n B.accounts (λ a. refl) h
 stays m B (move.Answered n) h = owner_stays (entry_of (move.Answered n)) m n B.authorizations (λ a. refl) h
@@ -78,4 +83,5 @@ pub among_moved : (m : ℕ) (B : Tables) (v : Move) (xs : List AccountRow) (ys :
 among_moved m B v xs ys zs h rows =
     subst (λ zs. IsAmong v xs ys zs) (sym rows.orders)
     (subst (λ ys. IsAmong v xs ys (orders_moved (entry_of v) m B.authorizations B.orders)) (sym rows.authorizations)
-    (subst (λ xs. IsAmong v xs (authorizations_moved (entry_of v) m B.authorizations) (orders_moved (entry_of v) m B.authorizations B.orders)) (sym rows.accounts) (stays m B v h)))
+    (subst (λ xs. IsAmong v xs (authorizations_moved (entry_of v) m B.authorizations)
+    (orders_moved (entry_of v) m B.authorizations B.orders)) (sym rows.accounts) (stays m B v h)))

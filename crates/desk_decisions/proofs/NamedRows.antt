@@ -8,7 +8,11 @@ use Rattle.desk_model.specs.Legal.{has_length, is_pending_challenge, is_problem,
 use Rattle.desk_model.specs.Limits.{most_names}
 use Rattle.desk_model.specs.Order.{is_processing, is_ready}
 use Rattle.desk_model.specs.Questions.{account_on, account_with_key, authorization_on, order_on, owner_on}
-use Rattle.desk_model.specs.Rules.{account_verdict, authorization_verdict, certificate_verdict, certify_verdict, challenge_verdict, csr_in, fail_verdict, finalize_verdict, holder_verdict, key_verdict, new_account_verdict, new_order_verdict, office_verdict, open_account, order_of, own, report_verdict, revoke_account, revoke_authorization, signed_verdict, stands_open, subproblems, target_verdict}
+use Rattle.desk_model.specs.Rules.{account_verdict, authorization_verdict, certificate_verdict, certify_verdict}
+use Rattle.desk_model.specs.Rules.{challenge_verdict, csr_in, fail_verdict, finalize_verdict, holder_verdict, key_verdict}
+use Rattle.desk_model.specs.Rules.{new_account_verdict, new_order_verdict, office_verdict, open_account, order_of, own}
+use Rattle.desk_model.specs.Rules.{report_verdict, revoke_account, revoke_authorization, signed_verdict, stands_open, subproblems}
+use Rattle.desk_model.specs.Rules.{target_verdict}
 use Rattle.desk_model.specs.Tables.{Tables}
 use Rattle.desk_model.specs.Verdict.{check, choose, given}
 use Rattle.desk_model.specs.declared.call.BadKey.{BadKey}
@@ -84,7 +88,8 @@ open_there : (T : Tables) (key : List ℕ) (p : NewAccount) → NamesRows T (ope
 open_there T key p = check_there T _ refusal.AccountDoesNotExist _ (step.fault_keeps (NamesRows T) (contacts_fault p.contacts) _ (λ _. tt) (λ _. tt))
 
 -- newAccount
-new_account_there : (T : Tables) (key : List ℕ) (o : Option AccountRow) (p : Option NewAccount) → account_with_key T key ≡ o → NamesRows T (new_account_verdict key o p)
+new_account_there : (T : Tables) (key : List ℕ) (o : Option AccountRow) (p : Option NewAccount) → account_with_key T key ≡ o
+    → NamesRows T (new_account_verdict key o p)
 new_account_there T key (Some a) p is = check_there T _ refusal.Unauthorized _ (given_there T p refusal.Malformed _ (λ _ _. by_number T key a is))
 new_account_there T key None p is = given_there T p refusal.Malformed _ (λ x _. open_there T key x)
 
@@ -114,7 +119,8 @@ certificate_there T n o is =
     given_there T o.certified refusal.NotFound _ (λ k has. subst (λ x. IsSomeAnd x (λ y. IsSome y.certified)) (sym is) (there o.certified k has))
 
 -- an authorization is ended
-authorization_there : (T : Tables) (n : ℕ) (a : AuthorizationRow) (p : AuthorizationChange) → IsSome (authorization_on T n) → NamesRows T (authorization_verdict n a p)
+authorization_there : (T : Tables) (n : ℕ) (a : AuthorizationRow) (p : AuthorizationChange) → IsSome (authorization_on T n)
+    → NamesRows T (authorization_verdict n a p)
 authorization_there T n a authz_change.Read h = h
 authorization_there T n a authz_change.Deactivate h = choose_there T (is_live a.status) _ _ h h
 
@@ -146,7 +152,8 @@ target_there T r n p (to.Chall k) h =
 -- a request of a key that has an account
 holder_there : (T : Tables) (r key p : List ℕ) (t : Target) → NamesRows T (holder_verdict T r p t (account_with_key T key))
 holder_there T r key p t =
-    given_there T (account_with_key T key) refusal.AccountDoesNotExist _ (λ a is. check_there T _ refusal.Unauthorized _ (target_there T r a.number p t (by_number T key a is)))
+    given_there T (account_with_key T key) refusal.AccountDoesNotExist _
+    (λ a is. check_there T _ refusal.Unauthorized _ (target_there T r a.number p t (by_number T key a is)))
 
 -- a request of a key
 key_there : (T : Tables) (r key p : List ℕ) (t : Target) → NamesRows T (key_verdict T r key p t)
@@ -162,7 +169,8 @@ signed_there T r s = by s.key
     by (Ok key) = key_there T r key s.payload s.target
 
 -- so it is of what is judged so
-pub judged_there : (T : Tables) (asked : Verdict) (C : Counters) (random : List ℕ) (r : Result Verdict CoreFault) → NamesRows T asked → IsJudged C random r asked → IfOk r (NamesRows T)
+pub judged_there : (T : Tables) (asked : Verdict) (C : Counters) (random : List ℕ) (r : Result Verdict CoreFault) → NamesRows T asked
+    → IsJudged C random r asked → IfOk r (NamesRows T)
 judged_there T asked C random (Ok v) h is = subst (NamesRows T) (sym is.0) h
 judged_there T asked C random (Err e) h is = tt
 
@@ -177,11 +185,13 @@ report_there T n finding =
 -- a certificate
 certify_there : (T : Tables) (n : ℕ) (bytes : List ℕ) (o : OrderRow) → IsSome (order_on T n) → NamesRows T (certify_verdict n bytes o)
 certify_there T n bytes o h =
-    check_there T _ refusal.Malformed _ (check_there T _ refusal.TooLarge _ (choose_there T _ _ _ h (check_there T (is_processing o.status) refusal.Conflict _ h)))
+    check_there T _ refusal.Malformed _ (check_there T _ refusal.TooLarge _
+    (choose_there T _ _ _ h (check_there T (is_processing o.status) refusal.Conflict _ h)))
 
 -- a failure
 fail_there : (T : Tables) (n : ℕ) (problem : OrderProblem) (o : OrderRow) → IsSome (order_on T n) → NamesRows T (fail_verdict n problem o)
-fail_there T n problem o h = check_there T (is_problem problem) refusal.Malformed _ (choose_there T _ _ _ h (check_there T (is_processing o.status) refusal.Conflict _ h))
+fail_there T n problem o h = check_there T (is_problem problem) refusal.Malformed _
+    (choose_there T _ _ _ h (check_there T (is_processing o.status) refusal.Conflict _ h))
 
 -- the operator takes back an authorization
 revoke_authorization_there : (T : Tables) (n : ℕ) (a : AuthorizationRow) → IsSome (authorization_on T n) → NamesRows T (revoke_authorization n a)

@@ -1,5 +1,6 @@
 -- The numbers after a verdict's entry.
-use Rattle.std.proofs.Common.{◌≡◌, ℕ, ◌+◌, ◌<◌, ◌≤◌, ◌⊎◌, inl, inr, Bool, true, false, List, [], ◌∷◌, ◌++◌, length, refl, sym, ap, subst, ◌∙◌, arith, length-append, append-nil}
+use Rattle.std.proofs.Common.{◌≡◌, ℕ, ◌+◌, ◌<◌, ◌≤◌, ◌⊎◌, inl, inr, Bool, true, false, List, [], ◌∷◌, ◌++◌, length, refl, sym, ap}
+use Rattle.std.proofs.Common.{subst, ◌∙◌, arith, length-append, append-nil}
 use Rattle.std.specs.Prelude.{nat_le, ◌&&◌, IsTrue}
 use Rattle.std.proofs.lemmas.Bool.Decides.{nat_tests}
 use Rattle.desk_model.specs.Account.{accounts}
@@ -61,21 +62,29 @@ made_in G m k ws = made_for k m (m + (terms G).authz_life) ws (length (authoriza
 -- how many orders there are after one more
 orders_after : (G : History) (m k : ℕ) (ws : List Wanted) → length (orders (record { date = m; entry = ordered k ws } ∷ G)) ≡ length (orders G) + 1
 orders_after G m k ws =
-    length-append (orders G) (record { number = length (orders G) + 1; account = k; made = m; expires = m + (terms G).order_life; authorizations = made_in G m k ws } ∷ [])
+    length-append (orders G) (record {
+      number = length (orders G) + 1;
+      account = k;
+      made = m;
+      expires = m + (terms G).order_life;
+      authorizations = made_in G m k ws;
+    } ∷ [])
 
 -- how many authorizations
 authorizations_after : (G : History) (m k : ℕ) (ws : List Wanted) →
     length (authorizations (record { date = m; entry = ordered k ws } ∷ G)) ≡ length (authorizations G) + length ws
 authorizations_after G m k ws =
     length-append (authorizations G) (made_in G m k ws)
-    ∙ ap (λ n. length (authorizations G) + n) (length-made k m (m + (terms G).authz_life) ws (length (authorizations G) + 1) (count_challenges (authorizations G) + 1))
+    ∙ ap (λ n. length (authorizations G) + n)
+    (length-made k m (m + (terms G).authz_life) ws (length (authorizations G) + 1) (count_challenges (authorizations G) + 1))
 
 -- how many challenges
 challenges_after : (G : History) (m k : ℕ) (ws : List Wanted) → EachOf HasTokens ws →
     count_challenges (authorizations (record { date = m; entry = ordered k ws } ∷ G)) ≡ count_challenges (authorizations G) + count_tokens ws
 challenges_after G m k ws h =
     count-append (authorizations G) (made_in G m k ws)
-    ∙ ap (λ n. count_challenges (authorizations G) + n) (counted k m (m + (terms G).authz_life) ws (length (authorizations G) + 1) (count_challenges (authorizations G) + 1) h)
+    ∙ ap (λ n. count_challenges (authorizations G) + n)
+    (counted k m (m + (terms G).authz_life) ws (length (authorizations G) + 1) (count_challenges (authorizations G) + 1) h)
 
 -- ---- numbers that fit
 
@@ -103,7 +112,8 @@ fits_account G m key contacts h first =
 
 -- an order whose numbers can be given
 fits_ordered : (G : History) (m k : ℕ) (ws : List Wanted) → CountersFit (picture G).meta.counters → EachOf HasTokens ws →
-    length (orders G) < last_number → length (authorizations G) + length ws ≤ last_number → count_challenges (authorizations G) + count_tokens ws ≤ last_number →
+    length (orders G) < last_number → length (authorizations G) + length ws ≤ last_number
+    → count_challenges (authorizations G) + count_tokens ws ≤ last_number →
     CountersFit (picture (record { date = m; entry = ordered k ws } ∷ G)).meta.counters
 fits_ordered G m k ws h spaced first second third =
     record {
@@ -127,12 +137,15 @@ fits_same F G n a o z h =
     }
 
 -- a move
-fits_moved : (G : History) (m : ℕ) (v : Move) → CountersFit (picture G).meta.counters → CountersFit (picture (record { date = m; entry = entry_of v } ∷ G)).meta.counters
-fits_moved G m (move.ContactsChanged n contacts) h = fits_same (record { date = m; entry = entry_of (move.ContactsChanged n contacts) } ∷ G) G refl refl refl refl h
+fits_moved : (G : History) (m : ℕ) (v : Move) → CountersFit (picture G).meta.counters
+    → CountersFit (picture (record { date = m; entry = entry_of v } ∷ G)).meta.counters
+fits_moved G m (move.ContactsChanged n contacts) h =
+    fits_same (record { date = m; entry = entry_of (move.ContactsChanged n contacts) } ∷ G) G refl refl refl refl h
 fits_moved G m (move.AccountEnded n ending) h = fits_same (record { date = m; entry = entry_of (move.AccountEnded n ending) } ∷ G) G refl refl refl refl h
 fits_moved G m (move.Answered n) h = fits_same (record { date = m; entry = entry_of (move.Answered n) } ∷ G) G refl refl refl refl h
 fits_moved G m (move.Reported n outcome) h = fits_same (record { date = m; entry = entry_of (move.Reported n outcome) } ∷ G) G refl refl refl refl h
-fits_moved G m (move.AuthorizationEnded n ending) h = fits_same (record { date = m; entry = entry_of (move.AuthorizationEnded n ending) } ∷ G) G refl refl refl refl h
+fits_moved G m (move.AuthorizationEnded n ending) h =
+    fits_same (record { date = m; entry = entry_of (move.AuthorizationEnded n ending) } ∷ G) G refl refl refl refl h
 fits_moved G m (move.Finalized n csr) h = fits_same (record { date = m; entry = entry_of (move.Finalized n csr) } ∷ G) G refl refl refl refl h
 fits_moved G m (move.Certified n certificate) h = fits_same (record { date = m; entry = entry_of (move.Certified n certificate) } ∷ G) G refl refl refl refl h
 fits_moved G m (move.Failed n problem) h = fits_same (record { date = m; entry = entry_of (move.Failed n problem) } ∷ G) G refl refl refl refl h
@@ -216,7 +229,8 @@ numbers_spent G m (opens key contacts) spaced spent =
     omega (arith, accounts_after G m key contacts))
 numbers_spent G m (ordering k ws) spaced spent = by spent
   where
-    by : (last_number ≤ length (orders G)) ⊎ ((last_number < length (authorizations G) + length ws) ⊎ (last_number < count_challenges (authorizations G) + count_tokens ws)) →
+    by : (last_number ≤ length (orders G))
+        ⊎ ((last_number < length (authorizations G) + length ws) ⊎ (last_number < count_challenges (authorizations G) + count_tokens ws)) →
         numbers_fit (record { date = m; entry = ordered k ws } ∷ G) ≡ false
     by (inl many) = orders_over (record { date = m; entry = ordered k ws } ∷ G) (omega (arith, orders_after G m k ws))
     by (inr (inl many)) =

@@ -27,7 +27,8 @@ use Rattle.desk_rules.specs.declared.fault.CoreFault.{CoreFault}
 use Rattle.desk_rules.specs.declared.fault.CoreFault.TheVariants as core
 
 -- moments that have texts in all rows have them in those of a part
-texts_then : (m : ℕ) (T P : Tables) (v : Verdict) → CarriesOutAs m T P v → HasTexts (effects m (swept m T) (entries_of v)) → HasTexts (effects m (swept m P) (entries_of v))
+texts_then : (m : ℕ) (T P : Tables) (v : Verdict) → CarriesOutAs m T P v → HasTexts (effects m (swept m T) (entries_of v))
+    → HasTexts (effects m (swept m P) (entries_of v))
 texts_then m T P v alike texts =
     record {
       authorizations =
@@ -44,7 +45,8 @@ issues_whole : (m : ℕ) (k : Kept) (T : Tables) (random : List ℕ) (answer : R
 issues_whole m k T random answer changes reply alike h =
     record { recorded = h.recorded ∙ alike.records (take 16 random); replies = h.replies; nonces = h.nonces; bytes = h.bytes }
 
-settles_whole : (m : ℕ) (k : Kept) (T : Tables) (a : OfficeAsk) (changes : List Change) (reply : Reply) → IsOrdered (restricted k T) → SettlesAs m a T (restricted k T) →
+settles_whole : (m : ℕ) (k : Kept) (T : Tables) (a : OfficeAsk) (changes : List Change) (reply : Reply) → IsOrdered (restricted k T)
+    → SettlesAs m a T (restricted k T) →
     Settles m (restricted k T) (office_verdict (swept m (restricted k T)) a) changes reply → Settles m T (office_verdict (swept m T) a) changes reply
 settles_whole m k T a changes reply ordered alike met =
     let v : Verdict = office_verdict (swept m T) a in
@@ -54,7 +56,8 @@ settles_whole m k T a changes reply ordered alike met =
       replies = λ whole texts. h.replies ordered (texts_then m T (restricted k T) v alike.verdict texts) ∙ alike.verdict.shows false;
     }
 
-passes_whole : (m : ℕ) (k : Kept) (T : Tables) (random : List ℕ) (serial : ℕ) (s : Signed) (changes : List Change) (reply : Reply) → IsOrdered (restricted k T) →
+passes_whole : (m : ℕ) (k : Kept) (T : Tables) (random : List ℕ) (serial : ℕ) (s : Signed) (changes : List Change) (reply : Reply)
+    → IsOrdered (restricted k T) →
     PassesAs m s T (restricted k T) →
     Passes m (restricted k T) random serial (signed_verdict (swept m (restricted k T)) (drop 16 random) s) changes reply →
     Passes m T random serial (signed_verdict (swept m T) (drop 16 random) s) changes reply
@@ -75,7 +78,8 @@ passes_whole m k T random serial s changes reply ordered alike met =
 
 signed_whole : (m : ℕ) (k : Kept) (T : Tables) (random : List ℕ) (s : Signed) (changes : List Change) (reply : Reply) → IsOrdered (restricted k T) →
     PassesAs m s T (restricted k T) → (o : Option ℕ) → MeetsSigned m (restricted k T) random s o changes reply → MeetsSigned m T random s o changes reply
-signed_whole m k T random s changes reply ordered alike None met = issues_whole m k T random (refusal_reply true refusal.BadNonce []) changes reply alike.issues met
+signed_whole m k T random s changes reply ordered alike None met =
+    issues_whole m k T random (refusal_reply true refusal.BadNonce []) changes reply alike.issues met
 signed_whole m k T random s changes reply ordered alike (Some serial) met = passes_whole m k T random serial s changes reply ordered alike met
 
 -- what the code answers to an ask
@@ -95,7 +99,8 @@ issue_fault_whole k T random core.Moment h = h
 issue_fault_whole k T random core.ShortRandom h = h
 issue_fault_whole k T random core.Full h = h
 
-passed_fault_whole : (k : Kept) (T : Tables) (random : List ℕ) (v : Verdict) (e : CoreFault) → IsPassedFault (restricted k T) random v e → IsPassedFault T random v e
+passed_fault_whole : (k : Kept) (T : Tables) (random : List ℕ) (v : Verdict) (e : CoreFault) → IsPassedFault (restricted k T) random v e
+    → IsPassedFault T random v e
 passed_fault_whole k T random v core.Memory h = h
 passed_fault_whole k T random v core.Moment h = h
 passed_fault_whole k T random v core.ShortRandom h = h

@@ -39,7 +39,8 @@ ok_so (Ok x) f h = f x h
 ok_so (Err e) f h = tt
 
 -- what is shown of one that is found is shown of what was looked for
-pub shown_found : {X : Type 0} (f : X → Reply) (P : X → Type 0) (found on : Option X) (r : Reply) → found ≡ on → IfSome on P → (IfSome found P → r ≡ shown f found) → r ≡ shown f on
+pub shown_found : {X : Type 0} (f : X → Reply) (P : X → Type 0) (found on : Option X) (r : Reply) → found ≡ on → IfSome on P
+    → (IfSome found P → r ≡ shown f found) → r ≡ shown f on
 shown_found f P found on r is h said = said (subst (λ o. IfSome o P) (sym is) h) ∙ ap (shown f) is
 
 -- a copy is there where the value is

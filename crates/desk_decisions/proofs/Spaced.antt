@@ -16,7 +16,11 @@ use Rattle.desk_model.specs.Run.{count_pieces}
 use Rattle.desk_model.specs.Tables.{Tables}
 use Rattle.desk_model.specs.Kept.{EachOf}
 use Rattle.desk_model.specs.Verdict.{check, given, unless_fault, choose}
-use Rattle.desk_model.specs.Rules.{open_account, new_account_verdict, account_verdict, kept, names_in, wanted, order_of, new_order_verdict, subproblems, csr_in, finalize_verdict, authorization_verdict, stands_open, challenge_verdict, target_verdict, holder_verdict, key_verdict, signed_verdict, outcome_verdict, report_verdict, certify_verdict, fail_verdict, revoke_authorization, revoke_account, office_verdict}
+use Rattle.desk_model.specs.Rules.{open_account, new_account_verdict, account_verdict, kept, names_in, wanted, order_of}
+use Rattle.desk_model.specs.Rules.{new_order_verdict, subproblems, csr_in, finalize_verdict, authorization_verdict, stands_open}
+use Rattle.desk_model.specs.Rules.{challenge_verdict, target_verdict, holder_verdict, key_verdict, signed_verdict}
+use Rattle.desk_model.specs.Rules.{outcome_verdict, report_verdict, certify_verdict, fail_verdict, revoke_authorization}
+use Rattle.desk_model.specs.Rules.{revoke_account, office_verdict}
 use Rattle.desk_model.specs.declared.call.OfficeAsk.{OfficeAsk}
 use Rattle.desk_model.specs.declared.call.OfficeAsk.TheVariants as office
 use Rattle.desk_model.specs.declared.call.BadKey.{BadKey}
@@ -71,11 +75,13 @@ choose_keeps P b v w h = step.choose_keeps P b v w (λ _. h)
 
 -- an account that is opened
 open_spaced : (key : List ℕ) (p : NewAccount) → IsSpaced (open_account key p)
-open_spaced key p = check_keeps IsSpaced (not p.only_existing) refusal.AccountDoesNotExist _ tt (fault_keeps IsSpaced (contacts_fault p.contacts) _ (λ _. tt) tt)
+open_spaced key p = check_keeps IsSpaced (not p.only_existing) refusal.AccountDoesNotExist _ tt
+    (fault_keeps IsSpaced (contacts_fault p.contacts) _ (λ _. tt) tt)
 
 -- newAccount
 new_account_spaced : (key : List ℕ) (o : Option AccountRow) (p : Option NewAccount) → IsSpaced (new_account_verdict key o p)
-new_account_spaced key (Some a) p = check_keeps IsSpaced (is_valid_account a.status) refusal.Unauthorized _ tt (given_keeps IsSpaced p refusal.Malformed _ tt (λ _. tt))
+new_account_spaced key (Some a) p = check_keeps IsSpaced (is_valid_account a.status) refusal.Unauthorized _ tt
+    (given_keeps IsSpaced p refusal.Malformed _ tt (λ _. tt))
 new_account_spaced key None p = given_keeps IsSpaced p refusal.Malformed _ tt (open_spaced key)
 
 -- a change of an account
@@ -101,7 +107,8 @@ new_order_spaced r n ids = check_keeps IsSpaced (has_length 1 most_names ids) re
 
 -- an order that is finalized
 finalize_spaced : (n : ℕ) (o : OrderRow) (text : List ℕ) → IsSpaced (finalize_verdict n o text)
-finalize_spaced n o text = check_keeps IsSpaced (is_ready o.status) refusal.OrderNotReady _ tt (given_keeps IsSpaced (csr_in text) refusal.BadCsr _ tt (λ _. tt))
+finalize_spaced n o text = check_keeps IsSpaced (is_ready o.status) refusal.OrderNotReady _ tt
+    (given_keeps IsSpaced (csr_in text) refusal.BadCsr _ tt (λ _. tt))
 
 -- an authorization that is ended
 authorization_spaced : (n : ℕ) (a : AuthorizationRow) (p : AuthorizationChange) → IsSpaced (authorization_verdict n a p)
@@ -121,13 +128,16 @@ target_spaced T r n p (to.Account k) = check_keeps IsSpaced _ refusal.NotFound _
 target_spaced T r n p (to.Orders k) = check_keeps IsSpaced _ refusal.NotFound _ tt (check_keeps IsSpaced _ refusal.Malformed _ tt tt)
 target_spaced T r n p (to.Order k) = given_keeps IsSpaced _ refusal.NotFound _ tt (λ o. check_keeps IsSpaced _ refusal.Malformed _ tt tt)
 target_spaced T r n p (to.Finalize k) = given_keeps IsSpaced _ refusal.NotFound _ tt (λ o. given_keeps IsSpaced _ refusal.Malformed _ tt (finalize_spaced k o))
-target_spaced T r n p (to.Cert k) = given_keeps IsSpaced _ refusal.NotFound _ tt (λ o. check_keeps IsSpaced _ refusal.Malformed _ tt (given_keeps IsSpaced _ refusal.NotFound _ tt (λ _. tt)))
-target_spaced T r n p (to.Authz k) = given_keeps IsSpaced _ refusal.NotFound _ tt (λ a. given_keeps IsSpaced _ refusal.Malformed _ tt (authorization_spaced k a))
+target_spaced T r n p (to.Cert k) = given_keeps IsSpaced _ refusal.NotFound _ tt
+    (λ o. check_keeps IsSpaced _ refusal.Malformed _ tt (given_keeps IsSpaced _ refusal.NotFound _ tt (λ _. tt)))
+target_spaced T r n p (to.Authz k) = given_keeps IsSpaced _ refusal.NotFound _ tt
+    (λ a. given_keeps IsSpaced _ refusal.Malformed _ tt (authorization_spaced k a))
 target_spaced T r n p (to.Chall k) = given_keeps IsSpaced _ refusal.NotFound _ tt (λ a. given_keeps IsSpaced _ refusal.Malformed _ tt (challenge_spaced k a))
 
 -- a request of a key that has an account
 holder_spaced : (T : Tables) (r p : List ℕ) (t : Target) (o : Option AccountRow) → IsSpaced (holder_verdict T r p t o)
-holder_spaced T r p t o = given_keeps IsSpaced o refusal.AccountDoesNotExist _ tt (λ a. check_keeps IsSpaced _ refusal.Unauthorized _ tt (target_spaced T r a.number p t))
+holder_spaced T r p t o = given_keeps IsSpaced o refusal.AccountDoesNotExist _ tt
+    (λ a. check_keeps IsSpaced _ refusal.Unauthorized _ tt (target_spaced T r a.number p t))
 
 -- a request of a key
 key_spaced : (T : Tables) (r key p : List ℕ) (t : Target) → IsSpaced (key_verdict T r key p t)
@@ -158,18 +168,21 @@ outcome_quiet n a c outcome =
 -- a report
 report_quiet : (T : Tables) (n : ℕ) (finding : Finding) → IsQuiet (report_verdict T n finding)
 report_quiet T n finding =
-    given_keeps IsQuiet _ refusal.NotFound _ tt (λ a. given_keeps IsQuiet _ refusal.NotFound _ tt (λ c. given_keeps IsQuiet _ refusal.Malformed _ tt (outcome_quiet n a c)))
+    given_keeps IsQuiet _ refusal.NotFound _ tt
+    (λ a. given_keeps IsQuiet _ refusal.NotFound _ tt (λ c. given_keeps IsQuiet _ refusal.Malformed _ tt (outcome_quiet n a c)))
 
 -- a certificate
 certify_quiet : (n : ℕ) (bytes : List ℕ) (o : OrderRow) → IsQuiet (certify_verdict n bytes o)
 certify_quiet n bytes o =
     check_keeps IsQuiet (nat_le 1 (length bytes)) refusal.Malformed _ tt
-    (check_keeps IsQuiet (nat_le (length bytes) longest_certificate) refusal.TooLarge _ tt (choose_keeps IsQuiet _ _ _ tt (check_keeps IsQuiet (is_processing o.status) refusal.Conflict _ tt tt)))
+    (check_keeps IsQuiet (nat_le (length bytes) longest_certificate) refusal.TooLarge _ tt
+    (choose_keeps IsQuiet _ _ _ tt (check_keeps IsQuiet (is_processing o.status) refusal.Conflict _ tt tt)))
 
 -- a failure
 fail_quiet : (n : ℕ) (problem : OrderProblem) (o : OrderRow) → IsQuiet (fail_verdict n problem o)
 fail_quiet n problem o =
-    check_keeps IsQuiet (is_problem problem) refusal.Malformed _ tt (choose_keeps IsQuiet _ _ _ tt (check_keeps IsQuiet (is_processing o.status) refusal.Conflict _ tt tt))
+    check_keeps IsQuiet (is_problem problem) refusal.Malformed _ tt
+    (choose_keeps IsQuiet _ _ _ tt (check_keeps IsQuiet (is_processing o.status) refusal.Conflict _ tt tt))
 
 -- the operator takes back an authorization
 revoke_authorization_quiet : (n : ℕ) (a : AuthorizationRow) → IsQuiet (revoke_authorization n a)

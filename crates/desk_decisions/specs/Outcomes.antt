@@ -33,7 +33,8 @@ pub record Issues (m : ℕ) (B : Tables) (random : List ℕ) (answer : Reply) (c
 -- a nonce is spent, one is issued, and the verdict is carried out
 pub record Passes (m : ℕ) (B : Tables) (random : List ℕ) (serial : ℕ) (v : Verdict) (changes : List Change) (reply : Reply) : Type 0 where
   pub recorded : IsOrdered B → changes ≡ recorded_changes m B (nonce_entries serial random ++ entries_of v)
-  pub replies : IsOrdered B → HasTexts (effects m (swept m B) (entries_of v)) → reply ≡ with_nonce (fresh_nonce B random) (verdict_reply true (effects m (swept m B) (entries_of v)) v)
+  pub replies : IsOrdered B → HasTexts (effects m (swept m B) (entries_of v))
+      → reply ≡ with_nonce (fresh_nonce B random) (verdict_reply true (effects m (swept m B) (entries_of v)) v)
   pub nonces : B.meta.counters.nonces < last_number
   pub numbers : NumbersLeft B.meta.counters v
   pub tokens : BytesLeft random v
@@ -69,7 +70,8 @@ IsShort random _ = ⊥
 abbrev pub IsPassedFault : Tables → List ℕ → Verdict → CoreFault → Type 0
 IsPassedFault B random v fault.Memory = Unit {0}
 IsPassedFault B random v fault.Full = NumbersSpent B.meta.counters v ⊎ (last_number ≤ B.meta.counters.nonces)
-IsPassedFault B random v fault.ShortRandom = (B.meta.counters.nonces < last_number) × NumbersLeft B.meta.counters v × (length random < 16 * (1 + count_pieces (entries_of v)))
+IsPassedFault B random v fault.ShortRandom = (B.meta.counters.nonces < last_number) × NumbersLeft B.meta.counters v
+    × (length random < 16 * (1 + count_pieces (entries_of v)))
 IsPassedFault B random v fault.Moment = ⊥
 
 abbrev pub IsSignedFault : ℕ → Tables → List ℕ → Signed → Option ℕ → CoreFault → Type 0

@@ -36,7 +36,8 @@ fn act_on_rows(
     ensures recorded { OnOk result ((m : ℕ) (es : List EntryOf) → IsUntouched m book.now es
         → IsRecorded m book.now es recording.old.changes.items recording.old.counters
         → IsRecorded m book.now (es ++ entry_of moved.now ∷ []) recording.new.changes.items recording.new.counters) }
-    ensures reply { IfOk result (λ r. (let T : Tables = effects recording.old.counters.clock (swept recording.old.counters.clock book.now) (entry_of moved.now ∷ []) in
+    ensures reply { IfOk result (λ r. (let T : Tables = effects recording.old.counters.clock (swept recording.old.counters.clock book.now)
+        (entry_of moved.now ∷ []) in
         HasTexts T → r ≡ moved_reply T moved.now)) }
 {
     let rows = recording.shift(alloc, book, moved)?;

@@ -126,7 +126,8 @@ fn act_with_nonce(
         → IsRecorded m book.now (es ++ entries_of verdict) recording.new.changes.items recording.new.counters) }
     ensures reply { IfOk result (λ r. (m : ℕ) → IsAt m book.now recording.old.counters → IsOrdered book.now
         → HasTexts (effects m (swept m book.now) (entries_of verdict))
-        → r ≡ with_nonce (nonce_text (book.now.meta.counters.nonces + 1) random) (verdict_reply true (effects m (swept m book.now) (entries_of verdict)) verdict)) }
+        → r ≡ with_nonce (nonce_text (book.now.meta.counters.nonces + 1) random)
+        (verdict_reply true (effects m (swept m book.now) (entries_of verdict)) verdict)) }
 {
     let reply = act(alloc, book, recording, verdict, true)?;
     let reply = with_nonce(alloc, book.meta().counters.nonces + 1, random, reply)?;
@@ -169,7 +170,8 @@ fn signed_verdict(
     signed: &Signed,
 ) -> Result<Verdict, CoreFault>
     ensures judged { let asked = verdict_of (swept moment book.now) (drop 16 random.now) signed.now in
-        MatchResult result (λ v. (v ≡ asked) × NumbersLeft book.now.meta.counters v × BytesLeft random.now v) (λ e. IsNeedFault book.now.meta.counters random.now asked e) }
+        MatchResult result (λ v. (v ≡ asked) × NumbersLeft book.now.meta.counters v × BytesLeft random.now v)
+        (λ e. IsNeedFault book.now.meta.counters random.now asked e) }
     ensures there { IfOk result (λ v. NamesRows (swept moment book.now) v) }
 {
     judge_signed(alloc, &At::new(book, moment), random, signed)

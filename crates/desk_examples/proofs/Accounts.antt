@@ -1,7 +1,8 @@
 -- The first requests to a new desk: nonces and accounts (RFC 8555, 6.5, 7.2, 7.3).
 use Rattle.std.specs.Prelude.{refl}
 use Rattle.desk_examples.proofs.Computing.{computing}
-use Rattle.desk_examples.specs.Accounts.{FirstNonce, FirstNonceByHead, FirstAccount, NonceTwice, SameKeyOtherSpelling, KnownKey, OnlyExisting, OnlyExistingTwice}
+use Rattle.desk_examples.specs.Accounts.{FirstNonce, FirstNonceByHead, FirstAccount, NonceTwice, SameKeyOtherSpelling, KnownKey}
+use Rattle.desk_examples.specs.Accounts.{OnlyExisting, OnlyExistingTwice}
 
 -- a nonce by GET
 pub first_nonce : FirstNonce

@@ -1,7 +1,10 @@
 -- Contacts of accounts (RFC 8555, 7.3).
 use Rattle.std.specs.Prelude.{refl}
 use Rattle.desk_examples.proofs.Computing.{computing}
-use Rattle.desk_examples.specs.Contacts.{EmptyAddress, TwoAddresses, HeaderFields, NoScheme, Telephone, UpperCaseScheme, LongestContact, TooLongContact, TenContacts, ElevenContacts, FirstFault, TelephoneRefused, EmptyAddressRefused, ContactsReplaced, ContactsNotReplaced, ContactsLeft, ExistingBeforeContacts, NotOnlyExisting}
+use Rattle.desk_examples.specs.Contacts.{EmptyAddress, TwoAddresses, HeaderFields, NoScheme, Telephone, UpperCaseScheme}
+use Rattle.desk_examples.specs.Contacts.{LongestContact, TooLongContact, TenContacts, ElevenContacts, FirstFault}
+use Rattle.desk_examples.specs.Contacts.{TelephoneRefused, EmptyAddressRefused, ContactsReplaced, ContactsNotReplaced}
+use Rattle.desk_examples.specs.Contacts.{ContactsLeft, ExistingBeforeContacts, NotOnlyExisting}
 
 -- nothing stands behind the scheme
 pub empty_address : EmptyAddress

@@ -2,7 +2,9 @@
 use Rattle.std.specs.Prelude.{refl}
 use Rattle.std.proofs.Common.{inl}
 use Rattle.desk_examples.proofs.Computing.{computing}
-use Rattle.desk_examples.specs.Documents.{KeyRead, EdwardsKeyRead, EdwardsKeyText, RsaKeyText, PaddedNumber, EmptyNumber, LongNumber, LongestNumber, CurveDocument, RsaDocument, EdwardsDocument, TwoContacts, InvalidAuthorization}
+use Rattle.desk_examples.specs.Documents.{KeyRead, EdwardsKeyRead, EdwardsKeyText, RsaKeyText, PaddedNumber, EmptyNumber}
+use Rattle.desk_examples.specs.Documents.{LongNumber, LongestNumber, CurveDocument, RsaDocument, EdwardsDocument, TwoContacts}
+use Rattle.desk_examples.specs.Documents.{InvalidAuthorization}
 
 -- a key is read whatever stands beside its members, and in any order
 pub key_read : KeyRead

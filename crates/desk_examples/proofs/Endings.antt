@@ -1,7 +1,11 @@
 -- The end of an account, and of what it has (RFC 8555, 7.1.6, 7.3.6).
 use Rattle.std.specs.Prelude.{refl}
 use Rattle.desk_examples.proofs.Computing.{computing}
-use Rattle.desk_examples.specs.Endings.{OrdersBefore, AuthorizationsBefore, OrdersListed, AccountDeactivated, OrdersAfter, AuthorizationsAfter, NextRequest, NextNewAccount, AccountRevoked, AuthorizationsOfRevoked, AccountRevokedAgain, DeactivatedIsNotRevoked, UnknownAccountRevoked, AuthorizationRevoked, AuthorizationRevokedAgain, InvalidIsNotRevoked, ExpiredIsNotRevoked, UnknownAuthorizationRevoked}
+use Rattle.desk_examples.specs.Endings.{OrdersBefore, AuthorizationsBefore, OrdersListed, AccountDeactivated, OrdersAfter}
+use Rattle.desk_examples.specs.Endings.{AuthorizationsAfter, NextRequest, NextNewAccount, AccountRevoked, AuthorizationsOfRevoked}
+use Rattle.desk_examples.specs.Endings.{AccountRevokedAgain, DeactivatedIsNotRevoked, UnknownAccountRevoked, AuthorizationRevoked}
+use Rattle.desk_examples.specs.Endings.{AuthorizationRevokedAgain, InvalidIsNotRevoked, ExpiredIsNotRevoked}
+use Rattle.desk_examples.specs.Endings.{UnknownAuthorizationRevoked}
 
 -- the statuses of the orders while the account is valid
 pub orders_before : OrdersBefore

@@ -2,7 +2,8 @@
 use Rattle.std.specs.Prelude.{refl}
 use Rattle.desk_examples.proofs.FiftyNames.{all_fifty, no_subproblems, names_taken, fifty_steps}
 use Rattle.desk_examples.proofs.Computing.{computing}
-use Rattle.desk_examples.specs.Fifty.{FiftyIdentifiers, FiftyNames, FiftyFaultless, FiftyTaken, FiftyKept, FiftyWanted, FiftyOrdered, FiftyPieces, FiftyFollow, names}
+use Rattle.desk_examples.specs.Fifty.{FiftyIdentifiers, FiftyNames, FiftyFaultless, FiftyTaken, FiftyKept, FiftyWanted}
+use Rattle.desk_examples.specs.Fifty.{FiftyOrdered, FiftyPieces, FiftyFollow, names}
 
 -- the payload says fifty identifiers
 pub fifty_identifiers : FiftyIdentifiers

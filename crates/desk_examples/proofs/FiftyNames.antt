@@ -56,7 +56,8 @@ names_taken [] h = refl
 names_taken (x ∷ xs) h = rw (h.0, names_taken xs h.1) refl
 
 -- fifty identifiers are not too many
-in_number : given (Some (map identifier (names 50))) refusal.Malformed (new_order_verdict (zeros 1600) 1) ≡ order_of (zeros 1600) 1 (map identifier (names 50)) (subproblems (map identifier (names 50)))
+in_number : given (Some (map identifier (names 50))) refusal.Malformed (new_order_verdict (zeros 1600) 1)
+    ≡ order_of (zeros 1600) 1 (map identifier (names 50)) (subproblems (map identifier (names 50)))
 unfolding check given
 in_number = refl
 

@@ -1,7 +1,20 @@
 -- Which entries may follow a history: each kind where it may, and where each of its conditions fails.
 use Rattle.std.specs.Prelude.{refl}
 use Rattle.desk_examples.proofs.Computing.{computing}
-use Rattle.desk_examples.specs.Following.{MadeFirst, MadeTwice, MadeWithoutLife, MadeForever, MadeOverHttp, MadeOverFtp, MadeOnScheme, MadeOnLongBase, MadeOnTooLongBase, MadeOnSlash, MadeOnSpace, Issues, IssuesTooShort, Spends, SpendsTooLate, SpendsTwice, SpendsUnknown, Opens, OpensTwice, OpensWithBadContact, ChangesContacts, ChangesToBadContact, ChangesEnded, ChangesUnknown, EndsAccount, EndsAccountTwice, EndsUnknownAccount, Orders, OrdersFifty, OrdersFiftyOne, OrdersNothing, OrdersTwice, OrdersWildcard, OrdersWithoutToken, OrdersShortToken, OrdersNoName, OrdersForEnded, OrdersForUnknown, AnswersPending, AnswersTooLate, AnswersUnknown, AnswersTwice, AnswersProved, Reports, ReportsTooLate, ReportsUnanswered, ReportsTwice, ReportsDeactivated, EndsPending, EndsValid, EndsTooLate, EndsFailed, EndsUnknown, Finalizing, FinalizingTooLate, FinalizingTooMuch, FinalizingNothing, FinalizingPending, FinalizingUnknown, FinalizingTwice, Certifying, CertifyingTooLate, CertifyingTooMuch, CertifyingNothing, CertifyingReady, CertifyingFallen, CertifyingTwice, Failing, FailingInside, FailingByDns, FailingWithoutDetail, FailingAtLength, FailingReady, FailingTwice}
+use Rattle.desk_examples.specs.Following.{MadeFirst, MadeTwice, MadeWithoutLife, MadeForever, MadeOverHttp, MadeOverFtp}
+use Rattle.desk_examples.specs.Following.{MadeOnScheme, MadeOnLongBase, MadeOnTooLongBase, MadeOnSlash, MadeOnSpace, Issues}
+use Rattle.desk_examples.specs.Following.{IssuesTooShort, Spends, SpendsTooLate, SpendsTwice, SpendsUnknown, Opens, OpensTwice}
+use Rattle.desk_examples.specs.Following.{OpensWithBadContact, ChangesContacts, ChangesToBadContact, ChangesEnded, ChangesUnknown}
+use Rattle.desk_examples.specs.Following.{EndsAccount, EndsAccountTwice, EndsUnknownAccount, Orders, OrdersFifty, OrdersFiftyOne}
+use Rattle.desk_examples.specs.Following.{OrdersNothing, OrdersTwice, OrdersWildcard, OrdersWithoutToken, OrdersShortToken}
+use Rattle.desk_examples.specs.Following.{OrdersNoName, OrdersForEnded, OrdersForUnknown, AnswersPending, AnswersTooLate}
+use Rattle.desk_examples.specs.Following.{AnswersUnknown, AnswersTwice, AnswersProved, Reports, ReportsTooLate, ReportsUnanswered}
+use Rattle.desk_examples.specs.Following.{ReportsTwice, ReportsDeactivated, EndsPending, EndsValid, EndsTooLate, EndsFailed}
+use Rattle.desk_examples.specs.Following.{EndsUnknown, Finalizing, FinalizingTooLate, FinalizingTooMuch, FinalizingNothing}
+use Rattle.desk_examples.specs.Following.{FinalizingPending, FinalizingUnknown, FinalizingTwice, Certifying, CertifyingTooLate}
+use Rattle.desk_examples.specs.Following.{CertifyingTooMuch, CertifyingNothing, CertifyingReady, CertifyingFallen}
+use Rattle.desk_examples.specs.Following.{CertifyingTwice, Failing, FailingInside, FailingByDns, FailingWithoutDetail}
+use Rattle.desk_examples.specs.Following.{FailingAtLength, FailingReady, FailingTwice}
 
 -- a desk is made where nothing is
 pub made_first : MadeFirst

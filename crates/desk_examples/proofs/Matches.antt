@@ -1,7 +1,9 @@
 -- Which findings match what a challenge asks for, and which texts are nonces (RFC 8555, 6.5, 8.3, 8.4).
 use Rattle.std.specs.Prelude.{refl}
 use Rattle.desk_examples.proofs.Computing.{computing}
-use Rattle.desk_examples.specs.Matches.{LineEnd, Blanks, SpaceInFront, Beginning, MoreText, EmptyBody, OneRecord, NoRecords, RecordWithSpace, NonceRead, LastNonce, LastNonceRead, ShortNonceText, LongNonceText, OtherAlphabet, TokenText, UnusedBits, Padding}
+use Rattle.desk_examples.specs.Matches.{LineEnd, Blanks, SpaceInFront, Beginning, MoreText, EmptyBody, OneRecord, NoRecords}
+use Rattle.desk_examples.specs.Matches.{RecordWithSpace, NonceRead, LastNonce, LastNonceRead, ShortNonceText, LongNonceText}
+use Rattle.desk_examples.specs.Matches.{OtherAlphabet, TokenText, UnusedBits, Padding}
 
 -- a body with a line end behind the expected text
 pub line_end : LineEnd

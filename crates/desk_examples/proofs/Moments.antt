@@ -1,7 +1,9 @@
 -- Moments: how long a nonce serves, at which moment a call acts, and which moments are faults (RFC 8555, 6.5).
 use Rattle.std.specs.Prelude.{refl}
 use Rattle.desk_examples.proofs.Computing.{computing}
-use Rattle.desk_examples.specs.Moments.{NonceToTheEndOfItsLife, NoncePastItsLife, EarlierMoment, LaterMoment, PastAtTheClock, LastMoment, MomentFault, MomentBeforeRandom, ShortNonce, ShortRefusal, DirectoryWithoutRandom, FirstText, LeapDay, NoLeapDay, TimeOfDay, LastText}
+use Rattle.desk_examples.specs.Moments.{NonceToTheEndOfItsLife, NoncePastItsLife, EarlierMoment, LaterMoment, PastAtTheClock}
+use Rattle.desk_examples.specs.Moments.{LastMoment, MomentFault, MomentBeforeRandom, ShortNonce, ShortRefusal}
+use Rattle.desk_examples.specs.Moments.{DirectoryWithoutRandom, FirstText, LeapDay, NoLeapDay, TimeOfDay, LastText}
 
 -- a nonce serves to the end of its life
 pub nonce_to_the_end_of_its_life : NonceToTheEndOfItsLife

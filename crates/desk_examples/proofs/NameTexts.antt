@@ -2,7 +2,10 @@
 use Rattle.std.specs.Prelude.{refl}
 use Rattle.desk_examples.proofs.Naming.{naming}
 use Rattle.desk_examples.proofs.PlainNames.{plain_name}
-use Rattle.desk_examples.specs.NameTexts.{Star, TwoStars, StarWithin, StarOfNothing, NoText, EmptyLabel, FinalDot, Address, FalsePunycode, OneLabel, WildcardOfLabel, HyphenInFront, HyphenAtEnd, LowLine, LongLabel, LongName, LongestLabel, LongestName, LongestWildcard, UpperCase, Books, IdeographicStop, InnerHyphens, DigitsInFront, WildcardShown}
+use Rattle.desk_examples.specs.NameTexts.{Star, TwoStars, StarWithin, StarOfNothing, NoText, EmptyLabel, FinalDot, Address}
+use Rattle.desk_examples.specs.NameTexts.{FalsePunycode, OneLabel, WildcardOfLabel, HyphenInFront, HyphenAtEnd, LowLine}
+use Rattle.desk_examples.specs.NameTexts.{LongLabel, LongName, LongestLabel, LongestName, LongestWildcard, UpperCase, Books}
+use Rattle.desk_examples.specs.NameTexts.{IdeographicStop, InnerHyphens, DigitsInFront, WildcardShown}
 
 -- a star alone
 pub star : Star

@@ -2,7 +2,13 @@
 use Rattle.std.specs.Prelude.{refl}
 use Rattle.desk_examples.proofs.Computing.{computing}
 use Rattle.desk_examples.proofs.Hashing.{hashing}
-use Rattle.desk_examples.specs.Offices.{NoChallengeWork, HttpWork, BothWork, NoExpiredWork, WrongBody, RightBody, RightRecord, NoConnection, NoRecordsFound, WrongBodyAgain, OtherOutcome, RecordsForHttp, BodyForDns, UnknownChallenge, NoOrderWork, Certifies, EmptyCertificate, EmptyForUnknown, SameCertificate, OtherCertificate, UnreadyCertificate, Fails, FailsInside, FailsAgain, FailsOtherwise, FailsByDns, FailsAtLength, FailsWithoutDetail, FailsUnknown, FailsUnready, KeyOfAccount, KeyOfUnknown, Directory, ConnectionAgain, DnsAgain, DnsAfterConnection, OwnKeyWork}
+use Rattle.desk_examples.specs.Offices.{NoChallengeWork, HttpWork, BothWork, NoExpiredWork, WrongBody, RightBody, RightRecord}
+use Rattle.desk_examples.specs.Offices.{NoConnection, NoRecordsFound, WrongBodyAgain, OtherOutcome, RecordsForHttp, BodyForDns}
+use Rattle.desk_examples.specs.Offices.{UnknownChallenge, NoOrderWork, Certifies, EmptyCertificate, EmptyForUnknown}
+use Rattle.desk_examples.specs.Offices.{SameCertificate, OtherCertificate, UnreadyCertificate, Fails, FailsInside, FailsAgain}
+use Rattle.desk_examples.specs.Offices.{FailsOtherwise, FailsByDns, FailsAtLength, FailsWithoutDetail, FailsUnknown, FailsUnready}
+use Rattle.desk_examples.specs.Offices.{KeyOfAccount, KeyOfUnknown, Directory, ConnectionAgain, DnsAgain, DnsAfterConnection}
+use Rattle.desk_examples.specs.Offices.{OwnKeyWork}
 
 -- no challenge was answered
 pub no_challenge_work : NoChallengeWork

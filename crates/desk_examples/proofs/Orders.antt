@@ -16,7 +16,9 @@ use Rattle.desk_examples.specs.Calls.{zeros}
 use Rattle.desk_examples.specs.Computed.{computed}
 use Rattle.desk_examples.specs.Entries.{History}
 use Rattle.desk_examples.specs.Fifty.{identifier}
-use Rattle.desk_examples.specs.Orders.{ordering, example_org, any_example_org, FirstOrder, EnoughRandom, ShortRandomKeepsNonce, ShortRandomRecordsNothing, FirstAuthorization, WildcardAuthorization, WildcardChallenge, FirstCalls}
+use Rattle.desk_examples.specs.Orders.{ordering, example_org, any_example_org, FirstOrder, EnoughRandom, ShortRandomKeepsNonce}
+use Rattle.desk_examples.specs.Orders.{ShortRandomRecordsNothing, FirstAuthorization, WildcardAuthorization, WildcardChallenge}
+use Rattle.desk_examples.specs.Orders.{FirstCalls}
 
 -- each spelling is read
 upper_case : name_of (codes "Example.ORG") ≡ Some example_org
@@ -29,7 +31,9 @@ wildcard : name_of (codes "*.example.org") ≡ Some any_example_org
 wildcard = plain_name _ refl
 
 -- so the order is taken: names that are equal keep their first place, a wildcard stands apart
-taken : (random : List ℕ) → new_order_verdict random 1 (map identifier (codes "Example.ORG" ∷ codes "example.org" ∷ codes "*.example.org" ∷ [])) ≡ orders 1 (wanted (example_org ∷ any_example_org ∷ []) random)
+taken : (random : List ℕ)
+    → new_order_verdict random 1 (map identifier (codes "Example.ORG" ∷ codes "example.org" ∷ codes "*.example.org" ∷ []))
+    ≡ orders 1 (wanted (example_org ∷ any_example_org ∷ []) random)
 unfolding computing
 taken random = simp (upper_case, lower_case, wildcard)
 

@@ -1,7 +1,11 @@
 -- Payloads that have not the form that their route reads (RFC 8555, 6.3, 7.3, 7.4, 7.5).
 use Rattle.std.specs.Prelude.{refl}
 use Rattle.desk_examples.proofs.Computing.{computing}
-use Rattle.desk_examples.specs.Payloads.{AccountOfList, AccountOfNothing, ContactNoList, ContactNoString, ContactNull, ExistingNoTruth, KnownKeyMalformed, AccountChangeOfList, AccountChangeContact, OrdersWithPayload, OrderWithPayload, CertificateWithPayload, AuthorizationOtherStatus, ChallengeOfList, CsrNoString, NoIdentifiers, EmptyIdentifiers, IdentifierWithoutValue, IdentifierNoString, NotBefore, NotAfter}
+use Rattle.desk_examples.specs.Payloads.{AccountOfList, AccountOfNothing, ContactNoList, ContactNoString, ContactNull}
+use Rattle.desk_examples.specs.Payloads.{ExistingNoTruth, KnownKeyMalformed, AccountChangeOfList, AccountChangeContact}
+use Rattle.desk_examples.specs.Payloads.{OrdersWithPayload, OrderWithPayload, CertificateWithPayload, AuthorizationOtherStatus}
+use Rattle.desk_examples.specs.Payloads.{ChallengeOfList, CsrNoString, NoIdentifiers, EmptyIdentifiers, IdentifierWithoutValue}
+use Rattle.desk_examples.specs.Payloads.{IdentifierNoString, NotBefore, NotAfter}
 
 -- newAccount wants an object
 pub account_of_list : AccountOfList

@@ -1,7 +1,9 @@
 -- The document of each refusal (RFC 7807; RFC 8555, 6.7, 6.7.1).
 use Rattle.std.specs.Prelude.{refl}
 use Rattle.desk_examples.proofs.Computing.{computing}
-use Rattle.desk_examples.specs.Problems.{Malformed, NothingHere, WrongMethod, BadNonce, BadPublicKey, NoAccount, Unauthorized, UnsupportedContact, InvalidContact, UnsupportedIdentifier, RejectedIdentifier, OrderNotReady, BadCsr, UnfitReport, CouldNotAct, TooLarge, OneSubproblem}
+use Rattle.desk_examples.specs.Problems.{Malformed, NothingHere, WrongMethod, BadNonce, BadPublicKey, NoAccount, Unauthorized}
+use Rattle.desk_examples.specs.Problems.{UnsupportedContact, InvalidContact, UnsupportedIdentifier, RejectedIdentifier}
+use Rattle.desk_examples.specs.Problems.{OrderNotReady, BadCsr, UnfitReport, CouldNotAct, TooLarge, OneSubproblem}
 
 -- the request is not well formed
 pub malformed : Malformed

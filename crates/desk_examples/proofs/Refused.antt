@@ -1,7 +1,11 @@
 -- Refusals of signed requests: which test answers, and that the nonce is spent (RFC 8555, 6.2, 6.5, 6.7).
 use Rattle.std.specs.Prelude.{refl}
 use Rattle.desk_examples.proofs.Computing.{computing}
-use Rattle.desk_examples.specs.Refused.{WithoutNonce, UnknownNonce, GuessedNonce, NoNonceText, BadKey, BadKeyWithoutNonce, KeyWithoutAccount, EndedAccount, EndedKey, UnknownOrder, FormBeforeStatus, StatusBeforeCsr, AnotherAccount, AnotherOrders, AnotherOrder, MissingOrder, AnotherFinalize, AnotherCertificate, AnotherAuthorization, AnotherChallenge, MissingChallenge, NoCertificate, OwnOrders}
+use Rattle.desk_examples.specs.Refused.{WithoutNonce, UnknownNonce, GuessedNonce, NoNonceText, BadKey, BadKeyWithoutNonce}
+use Rattle.desk_examples.specs.Refused.{KeyWithoutAccount, EndedAccount, EndedKey, UnknownOrder, FormBeforeStatus}
+use Rattle.desk_examples.specs.Refused.{StatusBeforeCsr, AnotherAccount, AnotherOrders, AnotherOrder, MissingOrder}
+use Rattle.desk_examples.specs.Refused.{AnotherFinalize, AnotherCertificate, AnotherAuthorization, AnotherChallenge}
+use Rattle.desk_examples.specs.Refused.{MissingChallenge, NoCertificate, OwnOrders}
 
 -- without a nonce a fresh one is issued, and nothing is spent (6.5)
 pub without_nonce : WithoutNonce

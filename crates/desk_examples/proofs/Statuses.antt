@@ -2,7 +2,13 @@
 use Rattle.std.specs.Prelude.{refl}
 use Rattle.desk_examples.proofs.Computing.{computing}
 use Rattle.desk_examples.proofs.Hashing.{hashing}
-use Rattle.desk_examples.specs.Statuses.{ChallengeAnswered, AnswersAgain, ReportInTime, ValidAuthorization, ReadyOrder, ReportTooLate, ExpiredOrder, ExpiredAuthorization, ValidExpires, AnswerTooLate, LateEnd, ReportAgain, ReportContradicts, ReportUnasked, NoCertificateYet, Deactivates, DeactivatesAgain, ProcessingFalls, FallenIsNotCertified, FallenIsNotListed, ValidStays, ValidNeverExpires, CertificateGiven, OneOfTwo, PendingIsNotFinalized, BothOfTwo, EmptyCsr, NoCsr, Finalizes, FinalizesOnce, OrderWork, OtherChallengeAnswered, DeactivatesPending}
+use Rattle.desk_examples.specs.Statuses.{ChallengeAnswered, AnswersAgain, ReportInTime, ValidAuthorization, ReadyOrder}
+use Rattle.desk_examples.specs.Statuses.{ReportTooLate, ExpiredOrder, ExpiredAuthorization, ValidExpires, AnswerTooLate, LateEnd}
+use Rattle.desk_examples.specs.Statuses.{ReportAgain, ReportContradicts, ReportUnasked, NoCertificateYet, Deactivates}
+use Rattle.desk_examples.specs.Statuses.{DeactivatesAgain, ProcessingFalls, FallenIsNotCertified, FallenIsNotListed, ValidStays}
+use Rattle.desk_examples.specs.Statuses.{ValidNeverExpires, CertificateGiven, OneOfTwo, PendingIsNotFinalized, BothOfTwo}
+use Rattle.desk_examples.specs.Statuses.{EmptyCsr, NoCsr, Finalizes, FinalizesOnce, OrderWork, OtherChallengeAnswered}
+use Rattle.desk_examples.specs.Statuses.{DeactivatesPending}
 
 -- the client says that a challenge can be validated (7.5.1)
 pub challenge_answered : ChallengeAnswered

@@ -1,7 +1,13 @@
 -- The rows that a call touches, by their numbers.
 use Rattle.std.specs.Prelude.{refl}
 use Rattle.desk_examples.proofs.Computing.{computing}
-use Rattle.desk_examples.specs.TouchedRows.{Directory, ChallengeWork, OrderWork, NewNonce, NewAccount, BadKey, GuessedNonce, UnknownNonce, NoNonceText, AccountEnds, AccountOfAnother, AccountRevoked, OrdersOfAccount, OrdersOfAnother, KeyOfAccount, NewOrder, OneOrder, WholeRows, OrderOfAnother, UnknownOrder, Finalize, Certificate, Certifies, Fails, OneAuthorization, OneChallenge, AuthorizationRevoked, Report, SharedReport, SharedOrder, SharedAccount, NoOrders, LastSecond, OrdersEnd, RequestAtEnd, EarlierMoment, FallenOnce, AuthorizationsLast, AuthorizationsEnd}
+use Rattle.desk_examples.specs.TouchedRows.{Directory, ChallengeWork, OrderWork, NewNonce, NewAccount, BadKey, GuessedNonce}
+use Rattle.desk_examples.specs.TouchedRows.{UnknownNonce, NoNonceText, AccountEnds, AccountOfAnother, AccountRevoked}
+use Rattle.desk_examples.specs.TouchedRows.{OrdersOfAccount, OrdersOfAnother, KeyOfAccount, NewOrder, OneOrder, WholeRows}
+use Rattle.desk_examples.specs.TouchedRows.{OrderOfAnother, UnknownOrder, Finalize, Certificate, Certifies, Fails}
+use Rattle.desk_examples.specs.TouchedRows.{OneAuthorization, OneChallenge, AuthorizationRevoked, Report, SharedReport}
+use Rattle.desk_examples.specs.TouchedRows.{SharedOrder, SharedAccount, NoOrders, LastSecond, OrdersEnd, RequestAtEnd}
+use Rattle.desk_examples.specs.TouchedRows.{EarlierMoment, FallenOnce, AuthorizationsLast, AuthorizationsEnd}
 
 -- the directory touches the meta row alone, whatever is past its end
 pub directory : Directory

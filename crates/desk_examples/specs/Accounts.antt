@@ -6,7 +6,8 @@ use Rattle.desk_model.specs.declared.call.Call.{Call}
 use Rattle.desk_model.specs.declared.call.Ask.TheVariants as ask
 use Rattle.desk_model.specs.declared.call.Target.TheVariants as to
 use Rattle.desk_examples.specs.Computed.{Gives, plain, located, renewed, refuses, Nothing, Json}
-use Rattle.desk_examples.specs.Calls.{on, zeros, new_desk, first_key, second_key, asked, signed, nonce_one, nonce_two, nonce_three, nonce_four, nonce_five, nonce_six}
+use Rattle.desk_examples.specs.Calls.{on, zeros, new_desk, first_key, second_key, asked, signed, nonce_one, nonce_two}
+use Rattle.desk_examples.specs.Calls.{nonce_three, nonce_four, nonce_five, nonce_six}
 
 -- a nonce by GET
 abbrev pub FirstNonce : Type 0

@@ -76,7 +76,8 @@ ContactsReplaced =
 -- and pass the same test
 abbrev pub ContactsNotReplaced : Type 0
 ContactsNotReplaced =
-    Gives account_desk (request (to.Account 1) (codes "{\"contact\":[\"tel:+1\"]}")) (refuses 400 unsupported_contact nonce_two) (spent 1 ∷ issued (zeros 16) ∷ [])
+    Gives account_desk (request (to.Account 1) (codes "{\"contact\":[\"tel:+1\"]}")) (refuses 400 unsupported_contact nonce_two)
+    (spent 1 ∷ issued (zeros 16) ∷ [])
 
 -- without contacts nothing is changed
 abbrev pub ContactsLeft : Type 0
@@ -88,11 +89,13 @@ ContactsLeft =
 -- where only an existing account is asked for, contacts are not looked at
 abbrev pub ExistingBeforeContacts : Type 0
 ExistingBeforeContacts =
-    Gives nonce_desk (request to.NewAccount (codes "{\"contact\":[\"abc\"],\"onlyReturnExisting\":true}")) (refuses 400 no_account nonce_two) (spent 1 ∷ issued (zeros 16) ∷ [])
+    Gives nonce_desk (request to.NewAccount (codes "{\"contact\":[\"abc\"],\"onlyReturnExisting\":true}"))
+    (refuses 400 no_account nonce_two) (spent 1 ∷ issued (zeros 16) ∷ [])
 
 -- any account may be asked for expressly
 abbrev pub NotOnlyExisting : Type 0
 NotOnlyExisting =
     Gives nonce_desk (request to.NewAccount (codes "{\"onlyReturnExisting\":false}"))
-    (located (codes "https://ca.example/account/1") (renewed nonce_two (plain 201 (Json (codes "{\"contact\":[],\"orders\":\"https://ca.example/account/1/orders\",\"status\":\"valid\"}")))))
+    (located (codes "https://ca.example/account/1")
+    (renewed nonce_two (plain 201 (Json (codes "{\"contact\":[],\"orders\":\"https://ca.example/account/1/orders\",\"status\":\"valid\"}")))))
     (spent 1 ∷ issued (zeros 16) ∷ opened first_key [] ∷ [])

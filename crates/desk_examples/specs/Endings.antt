@@ -9,7 +9,9 @@ use Rattle.desk_model.specs.declared.call.Ask.TheVariants as ask
 use Rattle.desk_model.specs.declared.call.OfficeAsk.TheVariants as office
 use Rattle.desk_model.specs.declared.call.Target.TheVariants as to
 use Rattle.desk_examples.specs.Computed.{Gives, refuses, plain, renewed, shows, Json, Problem}
-use Rattle.desk_examples.specs.Entries.{Entry, issued, spent, account_ended, ordered, answered, reported, good, incorrect_response, authorization_ended, finalized, certified, deactivated, revoked, History}
+use Rattle.desk_examples.specs.Entries.{Entry, issued, spent, account_ended, ordered, answered, reported, good}
+use Rattle.desk_examples.specs.Entries.{incorrect_response, authorization_ended, finalized, certified, deactivated, revoked}
+use Rattle.desk_examples.specs.Entries.{History}
 use Rattle.desk_examples.specs.Calls.{on, zeros, account_desk, asked, request, nonce_two, wants}
 use Rattle.desk_examples.specs.Texts.{unauthorized, unfit_report, nothing_here}
 
@@ -46,7 +48,10 @@ AuthorizationsBefore = authorization_statuses busy_desk ≡ authz.Pending ∷ au
 abbrev pub OrdersListed : Type 0
 OrdersListed =
     Gives busy_desk (request (to.Orders 1) [])
-    (renewed nonce_two (plain 200 (Json (codes "{\"orders\":[\"https://ca.example/order/1\",\"https://ca.example/order/2\",\"https://ca.example/order/4\",\"https://ca.example/order/5\"]}"))))
+    (renewed nonce_two
+    (plain 200
+    (Json (codes
+    "{\"orders\":[\"https://ca.example/order/1\",\"https://ca.example/order/2\",\"https://ca.example/order/4\",\"https://ca.example/order/5\"]}"))))
     (spent 1 ∷ issued (zeros 16) ∷ [])
 
 -- the account is deactivated by its client
@@ -66,7 +71,8 @@ OrdersAfter = order_statuses deactivated_desk ≡ order.Invalid ∷ order.Invali
 
 -- its pending and valid authorizations are deactivated
 abbrev pub AuthorizationsAfter : Type 0
-AuthorizationsAfter = authorization_statuses deactivated_desk ≡ authz.Deactivated ∷ authz.Deactivated ∷ authz.Invalid ∷ authz.Deactivated ∷ authz.Deactivated ∷ []
+AuthorizationsAfter = authorization_statuses deactivated_desk ≡ authz.Deactivated ∷ authz.Deactivated ∷ authz.Invalid ∷ authz.Deactivated
+    ∷ authz.Deactivated ∷ []
 
 -- its next request is refused
 abbrev pub NextRequest : Type 0
@@ -112,14 +118,16 @@ UnknownAccountRevoked = Gives busy_desk (asked 0 0 (ask.Office (office.RevokeAcc
 abbrev pub AuthorizationRevoked : Type 0
 AuthorizationRevoked =
     Gives busy_desk (asked 0 0 (ask.Office (office.RevokeAuthz 2)))
-    (shows (codes "{\"challenges\":[{\"status\":\"valid\",\"token\":\"AAAAAAAAAAAAAAAAAAAAAA\",\"type\":\"http-01\",\"url\":\"https://ca.example/chall/3\",\"validated\":\"1970-01-01T00:00:00Z\"}],\"expires\":\"1970-01-31T00:00:00Z\",\"identifier\":{\"type\":\"dns\",\"value\":\"b.example\"},\"status\":\"revoked\"}"))
+    (shows (codes
+    "{\"challenges\":[{\"status\":\"valid\",\"token\":\"AAAAAAAAAAAAAAAAAAAAAA\",\"type\":\"http-01\",\"url\":\"https://ca.example/chall/3\",\"validated\":\"1970-01-01T00:00:00Z\"}],\"expires\":\"1970-01-31T00:00:00Z\",\"identifier\":{\"type\":\"dns\",\"value\":\"b.example\"},\"status\":\"revoked\"}"))
     (authorization_ended 2 revoked ∷ [])
 
 -- again: nothing changes
 abbrev pub AuthorizationRevokedAgain : Type 0
 AuthorizationRevokedAgain =
     Gives (on 0 (authorization_ended 2 revoked) ∷ busy_desk) (asked 0 0 (ask.Office (office.RevokeAuthz 2)))
-    (shows (codes "{\"challenges\":[{\"status\":\"valid\",\"token\":\"AAAAAAAAAAAAAAAAAAAAAA\",\"type\":\"http-01\",\"url\":\"https://ca.example/chall/3\",\"validated\":\"1970-01-01T00:00:00Z\"}],\"expires\":\"1970-01-31T00:00:00Z\",\"identifier\":{\"type\":\"dns\",\"value\":\"b.example\"},\"status\":\"revoked\"}"))
+    (shows (codes
+    "{\"challenges\":[{\"status\":\"valid\",\"token\":\"AAAAAAAAAAAAAAAAAAAAAA\",\"type\":\"http-01\",\"url\":\"https://ca.example/chall/3\",\"validated\":\"1970-01-01T00:00:00Z\"}],\"expires\":\"1970-01-31T00:00:00Z\",\"identifier\":{\"type\":\"dns\",\"value\":\"b.example\"},\"status\":\"revoked\"}"))
     []
 
 -- one that ended otherwise is not revoked

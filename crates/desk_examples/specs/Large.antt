@@ -21,7 +21,8 @@ certifying n = asked 0 0 (ask.Office (office.Certify 1 (replicate n 65)))
 abbrev pub LargestCertificate : Type 0
 LargestCertificate =
     Gives processing_desk (certifying 65536)
-    (shows (codes "{\"authorizations\":[\"https://ca.example/authz/1\"],\"certificate\":\"https://ca.example/cert/1\",\"expires\":\"1970-01-08T00:00:00Z\",\"finalize\":\"https://ca.example/order/1/finalize\",\"identifiers\":[{\"type\":\"dns\",\"value\":\"a.example\"}],\"status\":\"valid\"}"))
+    (shows (codes
+    "{\"authorizations\":[\"https://ca.example/authz/1\"],\"certificate\":\"https://ca.example/cert/1\",\"expires\":\"1970-01-08T00:00:00Z\",\"finalize\":\"https://ca.example/order/1/finalize\",\"identifiers\":[{\"type\":\"dns\",\"value\":\"a.example\"}],\"status\":\"valid\"}"))
     (certified 1 (replicate 65536 65) ∷ [])
 
 -- and one more

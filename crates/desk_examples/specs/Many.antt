@@ -19,14 +19,17 @@ FiftyOneNames = Gives account_desk (ordering 51) (refuses 400 malformed nonce_tw
 -- identifiers are counted as they come: fifty-one of one name are too many
 abbrev pub OneNameTooOften : Type 0
 OneNameTooOften =
-    Gives account_desk (request to.NewOrder (order_text (map (λ name. codes "a.example") (names 51)))) (refuses 400 malformed nonce_two) (spent 1 ∷ issued (zeros 16) ∷ [])
+    Gives account_desk (request to.NewOrder (order_text (map (λ name. codes "a.example") (names 51)))) (refuses 400 malformed nonce_two)
+    (spent 1 ∷ issued (zeros 16) ∷ [])
 
 -- ---- identifiers that are refused
 
 -- the first identifier that is refused gives the refusal, and each is listed
 abbrev pub TwoFaultyIdentifiers : Type 0
 TwoFaultyIdentifiers =
-    Gives account_desk (request to.NewOrder (codes "{\"identifiers\":[{\"type\":\"ip\",\"value\":\"a.example\"},{\"type\":\"dns\",\"value\":\"a..b\"},{\"type\":\"dns\",\"value\":\"c.example\"}]}"))
+    Gives account_desk
+    (request to.NewOrder
+    (codes "{\"identifiers\":[{\"type\":\"ip\",\"value\":\"a.example\"},{\"type\":\"dns\",\"value\":\"a..b\"},{\"type\":\"dns\",\"value\":\"c.example\"}]}"))
     (refuses 400
     (codes "{\"detail\":\"the identifier type is not supported\",\"status\":400,\"subproblems\":[{\"detail\":\"the identifier type is not supported\",\"identifier\":{\"type\":\"ip\",\"value\":\"a.example\"},\"type\":\"urn:ietf:params:acme:error:unsupportedIdentifier\"},{\"detail\":\"the name is not accepted\",\"identifier\":{\"type\":\"dns\",\"value\":\"a..b\"},\"type\":\"urn:ietf:params:acme:error:rejectedIdentifier\"}],\"type\":\"urn:ietf:params:acme:error:unsupportedIdentifier\"}")
     nonce_two)

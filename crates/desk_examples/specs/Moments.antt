@@ -20,7 +20,8 @@ known_at at = asked at 16 (signed first_key nonce_one to.NewAccount (codes "{}")
 abbrev pub NonceToTheEndOfItsLife : Type 0
 NonceToTheEndOfItsLife =
     Gives account_desk (known_at 3600)
-    (located (codes "https://ca.example/account/1") (renewed nonce_two (plain 200 (Json (codes "{\"contact\":[],\"orders\":\"https://ca.example/account/1/orders\",\"status\":\"valid\"}")))))
+    (located (codes "https://ca.example/account/1")
+    (renewed nonce_two (plain 200 (Json (codes "{\"contact\":[],\"orders\":\"https://ca.example/account/1/orders\",\"status\":\"valid\"}")))))
     (spent 1 ∷ issued (zeros 16) ∷ [])
 
 -- and no later

@@ -66,35 +66,40 @@ report finding = office.Report 1 finding
 abbrev pub WrongBody : Type 0
 WrongBody =
     Gives http_desk (handed (report (found.Body [])))
-    (shows (codes "{\"error\":{\"detail\":\"the response did not match\",\"status\":403,\"type\":\"urn:ietf:params:acme:error:incorrectResponse\"},\"status\":\"invalid\",\"token\":\"AAAAAAAAAAAAAAAAAAAAAA\",\"type\":\"http-01\",\"url\":\"https://ca.example/chall/1\"}"))
+    (shows (codes
+    "{\"error\":{\"detail\":\"the response did not match\",\"status\":403,\"type\":\"urn:ietf:params:acme:error:incorrectResponse\"},\"status\":\"invalid\",\"token\":\"AAAAAAAAAAAAAAAAAAAAAA\",\"type\":\"http-01\",\"url\":\"https://ca.example/chall/1\"}"))
     (reported 1 incorrect_response ∷ [])
 
 -- the right one, with a line end
 abbrev pub RightBody : Type 0
 RightBody =
     Gives http_desk (handed (report (found.Body (codes "AAAAAAAAAAAAAAAAAAAAAA.NzbLsXh8uDCcd-6MNwXF4W_7noWXFZAfHkxZsRGC9Xs" ++ 10 ∷ []))))
-    (shows (codes "{\"status\":\"valid\",\"token\":\"AAAAAAAAAAAAAAAAAAAAAA\",\"type\":\"http-01\",\"url\":\"https://ca.example/chall/1\",\"validated\":\"1970-01-01T00:00:00Z\"}"))
+    (shows (codes
+    "{\"status\":\"valid\",\"token\":\"AAAAAAAAAAAAAAAAAAAAAA\",\"type\":\"http-01\",\"url\":\"https://ca.example/chall/1\",\"validated\":\"1970-01-01T00:00:00Z\"}"))
     (reported 1 good ∷ [])
 
 -- the right record among others
 abbrev pub RightRecord : Type 0
 RightRecord =
     Gives (on 0 (answered 2) ∷ waiting_desk) (handed (office.Report 2 (found.Records (codes "x" ∷ codes "6H4FhzYmR97XkCWAT_eXR2sP0qjpSQae4RcMSVuj2EU" ∷ []))))
-    (shows (codes "{\"status\":\"valid\",\"token\":\"AAAAAAAAAAAAAAAAAAAAAA\",\"type\":\"dns-01\",\"url\":\"https://ca.example/chall/2\",\"validated\":\"1970-01-01T00:00:00Z\"}"))
+    (shows (codes
+    "{\"status\":\"valid\",\"token\":\"AAAAAAAAAAAAAAAAAAAAAA\",\"type\":\"dns-01\",\"url\":\"https://ca.example/chall/2\",\"validated\":\"1970-01-01T00:00:00Z\"}"))
     (reported 2 good ∷ [])
 
 -- no connection
 abbrev pub NoConnection : Type 0
 NoConnection =
     Gives http_desk (handed (report (found.Error fetch.Connection)))
-    (shows (codes "{\"error\":{\"detail\":\"the validator could not connect\",\"status\":400,\"type\":\"urn:ietf:params:acme:error:connection\"},\"status\":\"invalid\",\"token\":\"AAAAAAAAAAAAAAAAAAAAAA\",\"type\":\"http-01\",\"url\":\"https://ca.example/chall/1\"}"))
+    (shows (codes
+    "{\"error\":{\"detail\":\"the validator could not connect\",\"status\":400,\"type\":\"urn:ietf:params:acme:error:connection\"},\"status\":\"invalid\",\"token\":\"AAAAAAAAAAAAAAAAAAAAAA\",\"type\":\"http-01\",\"url\":\"https://ca.example/chall/1\"}"))
     (reported 1 connection ∷ [])
 
 -- no records
 abbrev pub NoRecordsFound : Type 0
 NoRecordsFound =
     Gives http_desk (handed (report (found.Error fetch.Dns)))
-    (shows (codes "{\"error\":{\"detail\":\"the validator found no records\",\"status\":400,\"type\":\"urn:ietf:params:acme:error:dns\"},\"status\":\"invalid\",\"token\":\"AAAAAAAAAAAAAAAAAAAAAA\",\"type\":\"http-01\",\"url\":\"https://ca.example/chall/1\"}"))
+    (shows (codes
+    "{\"error\":{\"detail\":\"the validator found no records\",\"status\":400,\"type\":\"urn:ietf:params:acme:error:dns\"},\"status\":\"invalid\",\"token\":\"AAAAAAAAAAAAAAAAAAAAAA\",\"type\":\"http-01\",\"url\":\"https://ca.example/chall/1\"}"))
     (reported 1 dns ∷ [])
 
 -- the challenge failed
@@ -139,7 +144,8 @@ certify bytes = office.Certify 1 bytes
 
 -- the document of the order with its certificate
 abbrev pub valid_order : List ℕ
-valid_order = codes "{\"authorizations\":[\"https://ca.example/authz/1\"],\"certificate\":\"https://ca.example/cert/1\",\"expires\":\"1970-01-08T00:00:00Z\",\"finalize\":\"https://ca.example/order/1/finalize\",\"identifiers\":[{\"type\":\"dns\",\"value\":\"example.org\"}],\"status\":\"valid\"}"
+valid_order =
+    codes "{\"authorizations\":[\"https://ca.example/authz/1\"],\"certificate\":\"https://ca.example/cert/1\",\"expires\":\"1970-01-08T00:00:00Z\",\"finalize\":\"https://ca.example/order/1/finalize\",\"identifiers\":[{\"type\":\"dns\",\"value\":\"example.org\"}],\"status\":\"valid\"}"
 
 -- a certificate makes the order valid
 abbrev pub Certifies : Type 0
@@ -179,7 +185,8 @@ short_key = record { kind = codes "badCSR"; detail = codes "key too short" }
 
 -- the document of the order with that problem
 abbrev pub failed_order : List ℕ
-failed_order = codes "{\"authorizations\":[\"https://ca.example/authz/1\"],\"error\":{\"detail\":\"key too short\",\"status\":400,\"type\":\"urn:ietf:params:acme:error:badCSR\"},\"expires\":\"1970-01-08T00:00:00Z\",\"finalize\":\"https://ca.example/order/1/finalize\",\"identifiers\":[{\"type\":\"dns\",\"value\":\"example.org\"}],\"status\":\"invalid\"}"
+failed_order =
+    codes "{\"authorizations\":[\"https://ca.example/authz/1\"],\"error\":{\"detail\":\"key too short\",\"status\":400,\"type\":\"urn:ietf:params:acme:error:badCSR\"},\"expires\":\"1970-01-08T00:00:00Z\",\"finalize\":\"https://ca.example/order/1/finalize\",\"identifiers\":[{\"type\":\"dns\",\"value\":\"example.org\"}],\"status\":\"invalid\"}"
 
 -- the office says why it makes no certificate
 abbrev pub Fails : Type 0
@@ -189,7 +196,8 @@ Fails = Gives processing_desk (handed (fails (codes "badCSR") (codes "key too sh
 abbrev pub FailsInside : Type 0
 FailsInside =
     Gives processing_desk (handed (fails (codes "serverInternal") (codes "no signer")))
-    (shows (codes "{\"authorizations\":[\"https://ca.example/authz/1\"],\"error\":{\"detail\":\"no signer\",\"status\":500,\"type\":\"urn:ietf:params:acme:error:serverInternal\"},\"expires\":\"1970-01-08T00:00:00Z\",\"finalize\":\"https://ca.example/order/1/finalize\",\"identifiers\":[{\"type\":\"dns\",\"value\":\"example.org\"}],\"status\":\"invalid\"}"))
+    (shows (codes
+    "{\"authorizations\":[\"https://ca.example/authz/1\"],\"error\":{\"detail\":\"no signer\",\"status\":500,\"type\":\"urn:ietf:params:acme:error:serverInternal\"},\"expires\":\"1970-01-08T00:00:00Z\",\"finalize\":\"https://ca.example/order/1/finalize\",\"identifiers\":[{\"type\":\"dns\",\"value\":\"example.org\"}],\"status\":\"invalid\"}"))
     (failed 1 (record { kind = codes "serverInternal"; detail = codes "no signer" }) ∷ [])
 
 -- the order failed by it

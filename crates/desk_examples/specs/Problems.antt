@@ -7,7 +7,9 @@ use Rattle.desk_model.specs.declared.refusal.Refusal.TheVariants as refusal
 use Rattle.desk_model.specs.declared.reply.Problem.{Problem}
 use Rattle.desk_model.specs.declared.reply.Subproblem.{Subproblem}
 use Rattle.desk_model.specs.declared.reply.Allow.TheVariants as allow
-use Rattle.desk_examples.specs.Texts.{malformed, nothing_here, wrong_method, bad_nonce, bad_public_key, no_account, unauthorized, unsupported_contact, invalid_contact, unsupported_identifier, rejected_identifier, order_not_ready, bad_csr, unfit_report, could_not_act, too_large}
+use Rattle.desk_examples.specs.Texts.{malformed, nothing_here, wrong_method, bad_nonce, bad_public_key, no_account, unauthorized}
+use Rattle.desk_examples.specs.Texts.{unsupported_contact, invalid_contact, unsupported_identifier, rejected_identifier}
+use Rattle.desk_examples.specs.Texts.{order_not_ready, bad_csr, unfit_report, could_not_act, too_large}
 
 -- this refusal, with these subproblems
 abbrev pub problem : Refusal → List Subproblem → Problem
@@ -84,5 +86,7 @@ TooLarge = Says 16 refusal.TooLarge too_large
 -- a subproblem has its identifier as received, and no status
 abbrev pub OneSubproblem : Type 0
 OneSubproblem =
-    compact_text (problem_document (problem refusal.RejectedIdentifier ((record { refusal = refusal.RejectedIdentifier; kind = codes "dns"; value = codes "A..b" }) ∷ [])))
+    compact_text
+    (problem_document
+    (problem refusal.RejectedIdentifier ((record { refusal = refusal.RejectedIdentifier; kind = codes "dns"; value = codes "A..b" }) ∷ [])))
     ≡ codes "{\"detail\":\"the name is not accepted\",\"status\":400,\"subproblems\":[{\"detail\":\"the name is not accepted\",\"identifier\":{\"type\":\"dns\",\"value\":\"A..b\"},\"type\":\"urn:ietf:params:acme:error:rejectedIdentifier\"}],\"type\":\"urn:ietf:params:acme:error:rejectedIdentifier\"}"

@@ -121,7 +121,10 @@ with_statuses T =
     record T {
       accounts = map (λ (a : AccountRow). record a { status = account.Revoked }) T.accounts;
       authorizations =
-          map (λ (a : AuthorizationRow). record a { status = authz.Expired; challenges = map (λ (c : ChallengeRow). record c { status = chall.Valid }) a.challenges })
+          map (λ (a : AuthorizationRow). record a {
+            status = authz.Expired;
+            challenges = map (λ (c : ChallengeRow). record c { status = chall.Valid }) a.challenges;
+          })
           T.authorizations;
     }
 

@@ -10,7 +10,8 @@ use Rattle.desk_model.specs.declared.call.Target.{Target}
 use Rattle.desk_model.specs.declared.call.Target.TheVariants as to
 use Rattle.desk_examples.specs.Computed.{Gives, refuses, plain, renewed, shows, located, below, Json, Problem, Certificate}
 use Rattle.desk_examples.specs.Entries.{issued, spent, ordered, answered, reported, good, authorization_ended, finalized, certified, deactivated, History}
-use Rattle.desk_examples.specs.Calls.{on, zeros, order_desk, account_desk, terms_of, default_terms, first_key, asked, signed, request, nonce_one, nonce_two, wants}
+use Rattle.desk_examples.specs.Calls.{on, zeros, order_desk, account_desk, terms_of, default_terms, first_key, asked, signed}
+use Rattle.desk_examples.specs.Calls.{request, nonce_one, nonce_two, wants}
 use Rattle.desk_examples.specs.Texts.{nothing_here, unfit_report, order_not_ready, bad_csr}
 
 -- nonces live 3600 seconds, orders and authorizations 100
@@ -43,7 +44,10 @@ Unfit F call = Gives F call (plain 409 (Problem false unfit_report)) []
 abbrev pub ChallengeAnswered : Type 0
 ChallengeAnswered =
     Gives (order_desk short_terms) (asked 10 16 (signed first_key nonce_one (to.Chall 1) (codes "{}")))
-    (below (codes "https://ca.example/authz/1") (renewed nonce_two (plain 200 (Json (codes "{\"status\":\"processing\",\"token\":\"AAAAAAAAAAAAAAAAAAAAAA\",\"type\":\"http-01\",\"url\":\"https://ca.example/chall/1\"}")))))
+    (below (codes "https://ca.example/authz/1")
+    (renewed nonce_two
+    (plain 200
+    (Json (codes "{\"status\":\"processing\",\"token\":\"AAAAAAAAAAAAAAAAAAAAAA\",\"type\":\"http-01\",\"url\":\"https://ca.example/chall/1\"}")))))
     (spent 1 ∷ issued (zeros 16) ∷ answered 1 ∷ [])
 
 -- the first challenge was answered at 10
@@ -54,14 +58,18 @@ answered_desk = on 10 (answered 1) ∷ order_desk short_terms
 abbrev pub AnswersAgain : Type 0
 AnswersAgain =
     Gives answered_desk (asked 11 16 (signed first_key nonce_one (to.Chall 1) (codes "{}")))
-    (below (codes "https://ca.example/authz/1") (renewed nonce_two (plain 200 (Json (codes "{\"status\":\"processing\",\"token\":\"AAAAAAAAAAAAAAAAAAAAAA\",\"type\":\"http-01\",\"url\":\"https://ca.example/chall/1\"}")))))
+    (below (codes "https://ca.example/authz/1")
+    (renewed nonce_two
+    (plain 200
+    (Json (codes "{\"status\":\"processing\",\"token\":\"AAAAAAAAAAAAAAAAAAAAAA\",\"type\":\"http-01\",\"url\":\"https://ca.example/chall/1\"}")))))
     (spent 1 ∷ issued (zeros 16) ∷ [])
 
 -- a matching report in the authorization's last second
 abbrev pub ReportInTime : Type 0
 ReportInTime =
     Gives answered_desk (matching 100)
-    (shows (codes "{\"status\":\"valid\",\"token\":\"AAAAAAAAAAAAAAAAAAAAAA\",\"type\":\"http-01\",\"url\":\"https://ca.example/chall/1\",\"validated\":\"1970-01-01T00:01:40Z\"}"))
+    (shows (codes
+    "{\"status\":\"valid\",\"token\":\"AAAAAAAAAAAAAAAAAAAAAA\",\"type\":\"http-01\",\"url\":\"https://ca.example/chall/1\",\"validated\":\"1970-01-01T00:01:40Z\"}"))
     (reported 1 good ∷ [])
 
 -- and proved at 100
@@ -106,14 +114,20 @@ ValidExpires =
 abbrev pub AnswerTooLate : Type 0
 AnswerTooLate =
     Gives (order_desk short_terms) (asked 101 16 (signed first_key nonce_one (to.Chall 1) (codes "{}")))
-    (below (codes "https://ca.example/authz/1") (renewed nonce_two (plain 200 (Json (codes "{\"status\":\"pending\",\"token\":\"AAAAAAAAAAAAAAAAAAAAAA\",\"type\":\"http-01\",\"url\":\"https://ca.example/chall/1\"}")))))
+    (below (codes "https://ca.example/authz/1")
+    (renewed nonce_two
+    (plain 200
+    (Json (codes "{\"status\":\"pending\",\"token\":\"AAAAAAAAAAAAAAAAAAAAAA\",\"type\":\"http-01\",\"url\":\"https://ca.example/chall/1\"}")))))
     (spent 1 ∷ issued (zeros 16) ∷ [])
 
 -- an end that comes past the authorization's moment does not show: it has expired
 abbrev pub LateEnd : Type 0
 LateEnd =
     Gives answered_desk (asked 101 16 (signed first_key nonce_one (to.Authz 1) (codes "{\"status\":\"deactivated\"}")))
-    (renewed nonce_two (plain 200 (Json (codes "{\"challenges\":[{\"status\":\"processing\",\"token\":\"AAAAAAAAAAAAAAAAAAAAAA\",\"type\":\"http-01\",\"url\":\"https://ca.example/chall/1\"},{\"status\":\"pending\",\"token\":\"AAAAAAAAAAAAAAAAAAAAAA\",\"type\":\"dns-01\",\"url\":\"https://ca.example/chall/2\"}],\"expires\":\"1970-01-01T00:01:40Z\",\"identifier\":{\"type\":\"dns\",\"value\":\"a.example\"},\"status\":\"expired\"}"))))
+    (renewed nonce_two
+    (plain 200
+    (Json (codes
+    "{\"challenges\":[{\"status\":\"processing\",\"token\":\"AAAAAAAAAAAAAAAAAAAAAA\",\"type\":\"http-01\",\"url\":\"https://ca.example/chall/1\"},{\"status\":\"pending\",\"token\":\"AAAAAAAAAAAAAAAAAAAAAA\",\"type\":\"dns-01\",\"url\":\"https://ca.example/chall/2\"}],\"expires\":\"1970-01-01T00:01:40Z\",\"identifier\":{\"type\":\"dns\",\"value\":\"a.example\"},\"status\":\"expired\"}"))))
     (spent 1 ∷ issued (zeros 16) ∷ [])
 
 -- ---- the same report again, and others
@@ -122,7 +136,8 @@ LateEnd =
 abbrev pub ReportAgain : Type 0
 ReportAgain =
     Gives ready_desk (matching 100)
-    (shows (codes "{\"status\":\"valid\",\"token\":\"AAAAAAAAAAAAAAAAAAAAAA\",\"type\":\"http-01\",\"url\":\"https://ca.example/chall/1\",\"validated\":\"1970-01-01T00:01:40Z\"}"))
+    (shows (codes
+    "{\"status\":\"valid\",\"token\":\"AAAAAAAAAAAAAAAAAAAAAA\",\"type\":\"http-01\",\"url\":\"https://ca.example/chall/1\",\"validated\":\"1970-01-01T00:01:40Z\"}"))
     []
 
 -- another finding contradicts it
@@ -151,7 +166,10 @@ deactivating = request (to.Authz 1) (codes "{\"status\":\"deactivated\"}")
 abbrev pub Deactivates : Type 0
 Deactivates =
     Gives processing_desk deactivating
-    (renewed nonce_two (plain 200 (Json (codes "{\"challenges\":[{\"status\":\"valid\",\"token\":\"AAAAAAAAAAAAAAAAAAAAAA\",\"type\":\"http-01\",\"url\":\"https://ca.example/chall/1\",\"validated\":\"1970-01-01T00:00:00Z\"}],\"expires\":\"1970-01-31T00:00:00Z\",\"identifier\":{\"type\":\"dns\",\"value\":\"a.example\"},\"status\":\"deactivated\"}"))))
+    (renewed nonce_two
+    (plain 200
+    (Json (codes
+    "{\"challenges\":[{\"status\":\"valid\",\"token\":\"AAAAAAAAAAAAAAAAAAAAAA\",\"type\":\"http-01\",\"url\":\"https://ca.example/chall/1\",\"validated\":\"1970-01-01T00:00:00Z\"}],\"expires\":\"1970-01-31T00:00:00Z\",\"identifier\":{\"type\":\"dns\",\"value\":\"a.example\"},\"status\":\"deactivated\"}"))))
     (spent 1 ∷ issued (zeros 16) ∷ authorization_ended 1 deactivated ∷ [])
 
 -- the desk after it
@@ -255,7 +273,8 @@ FinalizesOnce = Gives finalized_desk (finalizing (codes "{\"csr\":\"AQID\"}")) (
 
 -- the signing office sees its CSR and its names
 abbrev pub OrderWork : Type 0
-OrderWork = Gives finalized_desk (asked 0 0 (ask.Office office.OrderWork)) (shows (codes "{\"orders\":[{\"csr\":\"AQID\",\"names\":[\"a.example\",\"b.example\"],\"order\":1}]}")) []
+OrderWork = Gives finalized_desk (asked 0 0 (ask.Office office.OrderWork))
+    (shows (codes "{\"orders\":[{\"csr\":\"AQID\",\"names\":[\"a.example\",\"b.example\"],\"order\":1}]}")) []
 
 -- ---- what the client of a proved or pending authorization may do
 
@@ -263,12 +282,18 @@ OrderWork = Gives finalized_desk (asked 0 0 (ask.Office office.OrderWork)) (show
 abbrev pub OtherChallengeAnswered : Type 0
 OtherChallengeAnswered =
     Gives ready_desk (asked 100 16 (signed first_key nonce_one (to.Chall 2) (codes "{}")))
-    (below (codes "https://ca.example/authz/1") (renewed nonce_two (plain 200 (Json (codes "{\"status\":\"pending\",\"token\":\"AAAAAAAAAAAAAAAAAAAAAA\",\"type\":\"dns-01\",\"url\":\"https://ca.example/chall/2\"}")))))
+    (below (codes "https://ca.example/authz/1")
+    (renewed nonce_two
+    (plain 200
+    (Json (codes "{\"status\":\"pending\",\"token\":\"AAAAAAAAAAAAAAAAAAAAAA\",\"type\":\"dns-01\",\"url\":\"https://ca.example/chall/2\"}")))))
     (spent 1 ∷ issued (zeros 16) ∷ [])
 
 -- a pending authorization is deactivated in its last second
 abbrev pub DeactivatesPending : Type 0
 DeactivatesPending =
     Gives (order_desk short_terms) (asked 100 16 (signed first_key nonce_one (to.Authz 1) (codes "{\"status\":\"deactivated\"}")))
-    (renewed nonce_two (plain 200 (Json (codes "{\"challenges\":[{\"status\":\"pending\",\"token\":\"AAAAAAAAAAAAAAAAAAAAAA\",\"type\":\"http-01\",\"url\":\"https://ca.example/chall/1\"},{\"status\":\"pending\",\"token\":\"AAAAAAAAAAAAAAAAAAAAAA\",\"type\":\"dns-01\",\"url\":\"https://ca.example/chall/2\"}],\"expires\":\"1970-01-01T00:01:40Z\",\"identifier\":{\"type\":\"dns\",\"value\":\"a.example\"},\"status\":\"deactivated\"}"))))
+    (renewed nonce_two
+    (plain 200
+    (Json (codes
+    "{\"challenges\":[{\"status\":\"pending\",\"token\":\"AAAAAAAAAAAAAAAAAAAAAA\",\"type\":\"http-01\",\"url\":\"https://ca.example/chall/1\"},{\"status\":\"pending\",\"token\":\"AAAAAAAAAAAAAAAAAAAAAA\",\"type\":\"dns-01\",\"url\":\"https://ca.example/chall/2\"}],\"expires\":\"1970-01-01T00:01:40Z\",\"identifier\":{\"type\":\"dns\",\"value\":\"a.example\"},\"status\":\"deactivated\"}"))))
     (spent 1 ∷ issued (zeros 16) ∷ authorization_ended 1 deactivated ∷ [])

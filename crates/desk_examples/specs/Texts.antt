@@ -29,7 +29,8 @@ abbrev pub invalid_contact : List ℕ
 invalid_contact = codes "{\"detail\":\"the contact is not accepted\",\"status\":400,\"type\":\"urn:ietf:params:acme:error:invalidContact\"}"
 
 abbrev pub unsupported_identifier : List ℕ
-unsupported_identifier = codes "{\"detail\":\"the identifier type is not supported\",\"status\":400,\"type\":\"urn:ietf:params:acme:error:unsupportedIdentifier\"}"
+unsupported_identifier =
+    codes "{\"detail\":\"the identifier type is not supported\",\"status\":400,\"type\":\"urn:ietf:params:acme:error:unsupportedIdentifier\"}"
 
 abbrev pub rejected_identifier : List ℕ
 rejected_identifier = codes "{\"detail\":\"the name is not accepted\",\"status\":400,\"type\":\"urn:ietf:params:acme:error:rejectedIdentifier\"}"

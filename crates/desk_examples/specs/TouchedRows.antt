@@ -11,7 +11,8 @@ use Rattle.desk_model.specs.declared.call.FetchError.TheVariants as fetch
 use Rattle.desk_model.specs.declared.call.Finding.TheVariants as found
 use Rattle.desk_model.specs.declared.call.Target.TheVariants as to
 use Rattle.desk_examples.specs.Entries.{issued, opened, ordered, History}
-use Rattle.desk_examples.specs.Calls.{on, zeros, account_desk, default_terms, first_key, second_key, asked, signed, request, nonce_one, nonce_two, nonce_four, nonce_seven, wants}
+use Rattle.desk_examples.specs.Calls.{on, zeros, account_desk, default_terms, first_key, second_key, asked, signed, request}
+use Rattle.desk_examples.specs.Calls.{nonce_one, nonce_two, nonce_four, nonce_seven, wants}
 use Rattle.desk_examples.specs.Endings.{order_of, busy_desk}
 use Rattle.desk_examples.specs.Keys.{rsa_key}
 use Rattle.desk_examples.specs.Offices.{handed}
@@ -345,7 +346,9 @@ RequestAtEnd = Touches ending_rows (asked 604801 16 (signed second_key nonce_fou
 
 -- a call with an earlier moment acts at the clock
 abbrev pub EarlierMoment : Type 0
-EarlierMoment = Touches (record ending_rows { meta = record ending_rows.meta { counters = record ending_rows.meta.counters { clock = 604801 } } }) (nonce_at 0) fallen_rows
+EarlierMoment =
+    Touches (record ending_rows { meta = record ending_rows.meta { counters = record ending_rows.meta.counters { clock = 604801 } } })
+    (nonce_at 0) fallen_rows
 
 -- what has fallen falls no more
 abbrev pub FallenOnce : Type 0

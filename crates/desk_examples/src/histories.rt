@@ -1,7 +1,22 @@
 //! What may be recorded, and the rows that are kept of it.
-ghost use Rattle.desk_examples.specs.Following.{MadeFirst, MadeTwice, MadeWithoutLife, MadeForever, MadeOverHttp, MadeOverFtp, MadeOnScheme, MadeOnLongBase, MadeOnTooLongBase, MadeOnSlash, MadeOnSpace, Issues, IssuesTooShort, Spends, SpendsTooLate, SpendsTwice, SpendsUnknown, Opens, OpensTwice, OpensWithBadContact, ChangesContacts, ChangesToBadContact, ChangesEnded, ChangesUnknown, EndsAccount, EndsAccountTwice, EndsUnknownAccount, Orders, OrdersFifty, OrdersFiftyOne, OrdersNothing, OrdersTwice, OrdersWildcard, OrdersWithoutToken, OrdersShortToken, OrdersNoName, OrdersForEnded, OrdersForUnknown, AnswersPending, AnswersTooLate, AnswersUnknown, AnswersTwice, AnswersProved, Reports, ReportsTooLate, ReportsUnanswered, ReportsTwice, ReportsDeactivated, EndsPending, EndsValid, EndsTooLate, EndsFailed, EndsUnknown, Finalizing, FinalizingTooLate, FinalizingTooMuch, FinalizingNothing, FinalizingPending, FinalizingUnknown, FinalizingTwice, Certifying, CertifyingTooLate, CertifyingTooMuch, CertifyingNothing, CertifyingReady, CertifyingFallen, CertifyingTwice, Failing, FailingInside, FailingByDns, FailingWithoutDetail, FailingAtLength, FailingReady, FailingTwice};
+ghost use Rattle.desk_examples.specs.Following.{MadeFirst, MadeTwice, MadeWithoutLife, MadeForever, MadeOverHttp, MadeOverFtp};
+ghost use Rattle.desk_examples.specs.Following.{MadeOnScheme, MadeOnLongBase, MadeOnTooLongBase, MadeOnSlash, MadeOnSpace};
+ghost use Rattle.desk_examples.specs.Following.{Issues, IssuesTooShort, Spends, SpendsTooLate, SpendsTwice, SpendsUnknown, Opens};
+ghost use Rattle.desk_examples.specs.Following.{OpensTwice, OpensWithBadContact, ChangesContacts, ChangesToBadContact};
+ghost use Rattle.desk_examples.specs.Following.{ChangesEnded, ChangesUnknown, EndsAccount, EndsAccountTwice, EndsUnknownAccount};
+ghost use Rattle.desk_examples.specs.Following.{Orders, OrdersFifty, OrdersFiftyOne, OrdersNothing, OrdersTwice, OrdersWildcard};
+ghost use Rattle.desk_examples.specs.Following.{OrdersWithoutToken, OrdersShortToken, OrdersNoName, OrdersForEnded};
+ghost use Rattle.desk_examples.specs.Following.{OrdersForUnknown, AnswersPending, AnswersTooLate, AnswersUnknown, AnswersTwice};
+ghost use Rattle.desk_examples.specs.Following.{AnswersProved, Reports, ReportsTooLate, ReportsUnanswered, ReportsTwice};
+ghost use Rattle.desk_examples.specs.Following.{ReportsDeactivated, EndsPending, EndsValid, EndsTooLate, EndsFailed, EndsUnknown};
+ghost use Rattle.desk_examples.specs.Following.{Finalizing, FinalizingTooLate, FinalizingTooMuch, FinalizingNothing};
+ghost use Rattle.desk_examples.specs.Following.{FinalizingPending, FinalizingUnknown, FinalizingTwice, Certifying};
+ghost use Rattle.desk_examples.specs.Following.{CertifyingTooLate, CertifyingTooMuch, CertifyingNothing, CertifyingReady};
+ghost use Rattle.desk_examples.specs.Following.{CertifyingFallen, CertifyingTwice, Failing, FailingInside, FailingByDns};
+ghost use Rattle.desk_examples.specs.Following.{FailingWithoutDetail, FailingAtLength, FailingReady, FailingTwice};
 ghost use Rattle.desk_examples.specs.Formed.{ChangesToText, ChangesToLatin, OpensWithLatin, FailsByLatin};
-ghost use Rattle.desk_examples.specs.Rows.{FirstRows, AuthorizationRows, OrderRows, NonceGone, EndRow, FirstEndRow, LateEndRow, NoFaults, OrderFault, AllFaults};
+ghost use Rattle.desk_examples.specs.Rows.{FirstRows, AuthorizationRows, OrderRows, NonceGone, EndRow, FirstEndRow, LateEndRow};
+ghost use Rattle.desk_examples.specs.Rows.{NoFaults, OrderFault, AllFaults};
 
 /// Which entries may follow a history, and where each of their conditions fails.
 pub fn entries_follow()

@@ -1,9 +1,24 @@
 //! Requests to a new desk, and those that are refused.
-ghost use Rattle.desk_examples.specs.Accounts.{FirstNonce, FirstNonceByHead, FirstAccount, NonceTwice, SameKeyOtherSpelling, KnownKey, OnlyExisting, OnlyExistingTwice};
-ghost use Rattle.desk_examples.specs.Contacts.{EmptyAddress, TwoAddresses, HeaderFields, NoScheme, Telephone, UpperCaseScheme, LongestContact, TooLongContact, TenContacts, ElevenContacts, FirstFault, TelephoneRefused, EmptyAddressRefused, ContactsReplaced, ContactsNotReplaced, ContactsLeft, ExistingBeforeContacts, NotOnlyExisting};
-ghost use Rattle.desk_examples.specs.Moments.{NonceToTheEndOfItsLife, NoncePastItsLife, EarlierMoment, LaterMoment, PastAtTheClock, LastMoment, MomentFault, MomentBeforeRandom, ShortNonce, ShortRefusal, DirectoryWithoutRandom, FirstText, LeapDay, NoLeapDay, TimeOfDay, LastText};
-ghost use Rattle.desk_examples.specs.Payloads.{AccountOfList, AccountOfNothing, ContactNoList, ContactNoString, ContactNull, ExistingNoTruth, KnownKeyMalformed, AccountChangeOfList, AccountChangeContact, OrdersWithPayload, OrderWithPayload, CertificateWithPayload, AuthorizationOtherStatus, ChallengeOfList, CsrNoString, NoIdentifiers, EmptyIdentifiers, IdentifierWithoutValue, IdentifierNoString, NotBefore, NotAfter};
-ghost use Rattle.desk_examples.specs.Refused.{WithoutNonce, UnknownNonce, GuessedNonce, NoNonceText, BadKey, BadKeyWithoutNonce, KeyWithoutAccount, EndedAccount, EndedKey, UnknownOrder, FormBeforeStatus, StatusBeforeCsr, AnotherAccount, AnotherOrders, AnotherOrder, MissingOrder, AnotherFinalize, AnotherCertificate, AnotherAuthorization, AnotherChallenge, MissingChallenge, NoCertificate, OwnOrders};
+ghost use Rattle.desk_examples.specs.Accounts.{FirstNonce, FirstNonceByHead, FirstAccount, NonceTwice, SameKeyOtherSpelling};
+ghost use Rattle.desk_examples.specs.Accounts.{KnownKey, OnlyExisting, OnlyExistingTwice};
+ghost use Rattle.desk_examples.specs.Contacts.{EmptyAddress, TwoAddresses, HeaderFields, NoScheme, Telephone, UpperCaseScheme};
+ghost use Rattle.desk_examples.specs.Contacts.{LongestContact, TooLongContact, TenContacts, ElevenContacts, FirstFault};
+ghost use Rattle.desk_examples.specs.Contacts.{TelephoneRefused, EmptyAddressRefused, ContactsReplaced, ContactsNotReplaced};
+ghost use Rattle.desk_examples.specs.Contacts.{ContactsLeft, ExistingBeforeContacts, NotOnlyExisting};
+ghost use Rattle.desk_examples.specs.Moments.{NonceToTheEndOfItsLife, NoncePastItsLife, EarlierMoment, LaterMoment};
+ghost use Rattle.desk_examples.specs.Moments.{PastAtTheClock, LastMoment, MomentFault, MomentBeforeRandom, ShortNonce};
+ghost use Rattle.desk_examples.specs.Moments.{ShortRefusal, DirectoryWithoutRandom, FirstText, LeapDay, NoLeapDay, TimeOfDay};
+ghost use Rattle.desk_examples.specs.Moments.{LastText};
+ghost use Rattle.desk_examples.specs.Payloads.{AccountOfList, AccountOfNothing, ContactNoList, ContactNoString, ContactNull};
+ghost use Rattle.desk_examples.specs.Payloads.{ExistingNoTruth, KnownKeyMalformed, AccountChangeOfList, AccountChangeContact};
+ghost use Rattle.desk_examples.specs.Payloads.{OrdersWithPayload, OrderWithPayload, CertificateWithPayload};
+ghost use Rattle.desk_examples.specs.Payloads.{AuthorizationOtherStatus, ChallengeOfList, CsrNoString, NoIdentifiers};
+ghost use Rattle.desk_examples.specs.Payloads.{EmptyIdentifiers, IdentifierWithoutValue, IdentifierNoString, NotBefore, NotAfter};
+ghost use Rattle.desk_examples.specs.Refused.{WithoutNonce, UnknownNonce, GuessedNonce, NoNonceText, BadKey, BadKeyWithoutNonce};
+ghost use Rattle.desk_examples.specs.Refused.{KeyWithoutAccount, EndedAccount, EndedKey, UnknownOrder, FormBeforeStatus};
+ghost use Rattle.desk_examples.specs.Refused.{StatusBeforeCsr, AnotherAccount, AnotherOrders, AnotherOrder, MissingOrder};
+ghost use Rattle.desk_examples.specs.Refused.{AnotherFinalize, AnotherCertificate, AnotherAuthorization, AnotherChallenge};
+ghost use Rattle.desk_examples.specs.Refused.{MissingChallenge, NoCertificate, OwnOrders};
 
 /// The first nonce and account of a desk, and whose account a key finds (RFC 8555, 6.5, 7.2, 7.3).
 pub fn nonces_and_accounts_hold()

@@ -1,9 +1,19 @@
 //! Texts that are read and written.
-ghost use Rattle.desk_examples.specs.Documents.{KeyRead, EdwardsKeyRead, EdwardsKeyText, RsaKeyText, PaddedNumber, EmptyNumber, LongNumber, LongestNumber, CurveDocument, RsaDocument, EdwardsDocument, TwoContacts, InvalidAuthorization};
+ghost use Rattle.desk_examples.specs.Documents.{KeyRead, EdwardsKeyRead, EdwardsKeyText, RsaKeyText, PaddedNumber, EmptyNumber};
+ghost use Rattle.desk_examples.specs.Documents.{LongNumber, LongestNumber, CurveDocument, RsaDocument, EdwardsDocument};
+ghost use Rattle.desk_examples.specs.Documents.{TwoContacts, InvalidAuthorization};
 ghost use Rattle.desk_examples.specs.Keys.{RsaThumbprint, DnsValue};
-ghost use Rattle.desk_examples.specs.Matches.{LineEnd, Blanks, SpaceInFront, Beginning, MoreText, EmptyBody, OneRecord, NoRecords, RecordWithSpace, NonceRead, LastNonce, LastNonceRead, ShortNonceText, LongNonceText, OtherAlphabet, TokenText, UnusedBits, Padding};
-ghost use Rattle.desk_examples.specs.NameTexts.{Star, TwoStars, StarWithin, StarOfNothing, NoText, EmptyLabel, FinalDot, Address, FalsePunycode, OneLabel, WildcardOfLabel, HyphenInFront, HyphenAtEnd, LowLine, LongLabel, LongName, LongestLabel, LongestName, LongestWildcard, UpperCase, Books, IdeographicStop, InnerHyphens, DigitsInFront, WildcardShown};
-ghost use Rattle.desk_examples.specs.Problems.{Malformed, NothingHere, WrongMethod, BadNonce, BadPublicKey, NoAccount, Unauthorized, UnsupportedContact, InvalidContact, UnsupportedIdentifier, RejectedIdentifier, OrderNotReady, BadCsr, UnfitReport, CouldNotAct, TooLarge, OneSubproblem};
+ghost use Rattle.desk_examples.specs.Matches.{LineEnd, Blanks, SpaceInFront, Beginning, MoreText, EmptyBody, OneRecord};
+ghost use Rattle.desk_examples.specs.Matches.{NoRecords, RecordWithSpace, NonceRead, LastNonce, LastNonceRead, ShortNonceText};
+ghost use Rattle.desk_examples.specs.Matches.{LongNonceText, OtherAlphabet, TokenText, UnusedBits, Padding};
+ghost use Rattle.desk_examples.specs.NameTexts.{Star, TwoStars, StarWithin, StarOfNothing, NoText, EmptyLabel, FinalDot, Address};
+ghost use Rattle.desk_examples.specs.NameTexts.{FalsePunycode, OneLabel, WildcardOfLabel, HyphenInFront, HyphenAtEnd, LowLine};
+ghost use Rattle.desk_examples.specs.NameTexts.{LongLabel, LongName, LongestLabel, LongestName, LongestWildcard, UpperCase};
+ghost use Rattle.desk_examples.specs.NameTexts.{Books, IdeographicStop, InnerHyphens, DigitsInFront, WildcardShown};
+ghost use Rattle.desk_examples.specs.Problems.{Malformed, NothingHere, WrongMethod, BadNonce, BadPublicKey, NoAccount};
+ghost use Rattle.desk_examples.specs.Problems.{Unauthorized, UnsupportedContact, InvalidContact, UnsupportedIdentifier};
+ghost use Rattle.desk_examples.specs.Problems.{RejectedIdentifier, OrderNotReady, BadCsr, UnfitReport, CouldNotAct, TooLarge};
+ghost use Rattle.desk_examples.specs.Problems.{OneSubproblem};
 
 /// Thumbprints and the texts that challenges ask for (RFC 7638, 3.1; RFC 8555, 8.1, 8.4).
 pub fn keys_hold()

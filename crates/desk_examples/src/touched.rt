@@ -1,5 +1,11 @@
 //! The rows that a call touches.
-ghost use Rattle.desk_examples.specs.TouchedRows.{Directory, ChallengeWork, OrderWork, NewNonce, NewAccount, BadKey, GuessedNonce, UnknownNonce, NoNonceText, AccountEnds, AccountOfAnother, AccountRevoked, OrdersOfAccount, OrdersOfAnother, KeyOfAccount, NewOrder, OneOrder, WholeRows, OrderOfAnother, UnknownOrder, Finalize, Certificate, Certifies, Fails, OneAuthorization, OneChallenge, AuthorizationRevoked, Report, SharedReport, SharedOrder, SharedAccount, NoOrders, LastSecond, OrdersEnd, RequestAtEnd, EarlierMoment, FallenOnce, AuthorizationsLast, AuthorizationsEnd};
+ghost use Rattle.desk_examples.specs.TouchedRows.{Directory, ChallengeWork, OrderWork, NewNonce, NewAccount, BadKey};
+ghost use Rattle.desk_examples.specs.TouchedRows.{GuessedNonce, UnknownNonce, NoNonceText, AccountEnds, AccountOfAnother};
+ghost use Rattle.desk_examples.specs.TouchedRows.{AccountRevoked, OrdersOfAccount, OrdersOfAnother, KeyOfAccount, NewOrder};
+ghost use Rattle.desk_examples.specs.TouchedRows.{OneOrder, WholeRows, OrderOfAnother, UnknownOrder, Finalize, Certificate};
+ghost use Rattle.desk_examples.specs.TouchedRows.{Certifies, Fails, OneAuthorization, OneChallenge, AuthorizationRevoked, Report};
+ghost use Rattle.desk_examples.specs.TouchedRows.{SharedReport, SharedOrder, SharedAccount, NoOrders, LastSecond, OrdersEnd};
+ghost use Rattle.desk_examples.specs.TouchedRows.{RequestAtEnd, EarlierMoment, FallenOnce, AuthorizationsLast, AuthorizationsEnd};
 
 /// Which rows a call touches: what it names, what falls by the passing of time, and what hangs on these.
 pub fn rows_are_touched()

@@ -27,7 +27,8 @@ in_file image trees T holds desk = record {
 }
 
 -- what a stop leaves of the same connection
-pub left_of : {D : Type 0} {g : disk.Ghosts D} (trees : Trees) (conn same : Held (FileStore D g)) → conn ≡ same → recovers conn.store trees → recovers same.store trees
+pub left_of : {D : Type 0} {g : disk.Ghosts D} (trees : Trees) (conn same : Held (FileStore D g)) → conn ≡ same → recovers conn.store trees
+    → recovers same.store trees
 left_of {D} {g} trees conn same is = subst (λ (h : Held (FileStore D g)). recovers h.store trees) is
 
 module _ {D : Type 0} {g : disk.Ghosts D} (store : Store (FileStore D g)) (files : Files D) (copied : IsCopied store.conn files) where

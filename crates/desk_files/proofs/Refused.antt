@@ -25,7 +25,8 @@ none_more old new was is more =
 
 -- where they hold a database and the disk met no fault, memory was refused or the file is full
 pub refuses_no_database : {D : Type 0} {g : disk.Ghosts D} (files : Files D) (left : Leftover D g) (image : Image) (e : Error) → image_of g files ≡ image
-    → faults_of g files ≡ 0 → FailsToOpenFiles files left e → faults_left left ≡ 0 → (found : LeftFiles) → found.image ≡ image → IsOfStorage (fault_of_refusal e)
+    → faults_of g files ≡ 0 → FailsToOpenFiles files left e → faults_left left ≡ 0 → (found : LeftFiles) → found.image ≡ image
+    → IsOfStorage (fault_of_refusal e)
 refuses_no_database files left image e seen none (inl memory) still found same = (fault.Memory, ap fault_of_refusal memory)
 refuses_no_database files left image e seen none (inr (inl refused)) still found same =
     absurd (refused.1 (inl (found.trees, subst (λ i. HoldsDatabase i found.trees) (same ∙ sym seen) found.holds)))

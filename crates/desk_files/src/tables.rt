@@ -24,7 +24,8 @@ pub(crate) fn open_tables<A: Alter>(
     ensures honest { MatchResult result
         (λ store. doubt (state A.Store conn).is_clean ≤ doubt (state A.Store store.conn).is_clean)
         (λ un. doubt (state A.Store conn).is_clean ≤ doubt (state A.Store un.conn).is_clean) }
-    ensures opened { IfOk result (λ store. HasCleanDisk (state A.Store store.conn) → (T : Tables) → HasDesk (state A.Store conn) T → Keeps (store_sight A.Store) store T) }
+    ensures opened { IfOk result (λ store. HasCleanDisk (state A.Store store.conn) → (T : Tables) → HasDesk (state A.Store conn) T
+        → Keeps (store_sight A.Store) store T) }
     ensures unopened { IfErr result (λ un. HasCleanDisk (state A.Store un.conn) → (T : Tables) → HasDesk (state A.Store conn) T → IsOfStorage un.fault) }
     ensures left { IfErr result (λ un. HasCleanDisk (state A.Store un.conn) → IsTrue (state A.Store conn).is_open → (trees : Trees)
         → (state A.Store un.conn).may_leave trees → trees ≡ (state A.Store conn).committed.trees) }
@@ -49,7 +50,8 @@ pub(crate) fn make_tables<A: Alter>(
     ensures made { IfOk result (λ store. HasCleanDisk (state A.Store store.conn) → (state A.Store conn).now.schema ≡ no_schema
         → (state A.Store conn).step_limit ≡ None → Keeps (store_sight A.Store) store (picture (first_history policy at))) }
     ensures unmade { IfErr result (λ un. HasCleanDisk (state A.Store un.conn) → (state A.Store conn).now.schema ≡ no_schema
-        → IsTrue (state A.Store conn).is_open → LeavesNewDesk policy at (λ trees. trees ≡ (state A.Store conn).committed.trees) un.fault (state A.Store un.conn)) }
+        → IsTrue (state A.Store conn).is_open → LeavesNewDesk policy at
+        (λ trees. trees ≡ (state A.Store conn).committed.trees) un.fault (state A.Store un.conn)) }
 {
     match Store::make(alloc, conn, policy, at) {
         Ok(store) => Ok(store),

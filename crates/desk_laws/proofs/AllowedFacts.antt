@@ -12,14 +12,19 @@ use Rattle.desk_model.specs.Account.{accounts, is_valid as is_valid_account}
 use Rattle.desk_model.specs.Authorization.{authorizations, authorization_of, has_challenge, authorization_status, challenge_status, is_pending, is_valid}
 use Rattle.desk_model.specs.Order.{orders, is_ready, is_processing}
 use Rattle.desk_model.specs.History.{clock}
-use Rattle.desk_model.specs.Legal.{EachFollows, IsFormed, may_follow, is_pending_challenge, is_processing_challenge, has_length, all_different, is_wanted, wanted_name, is_problem}
+use Rattle.desk_model.specs.Legal.{EachFollows, IsFormed, may_follow, is_pending_challenge, is_processing_challenge, has_length}
+use Rattle.desk_model.specs.Legal.{all_different, is_wanted, wanted_name, is_problem}
 use Rattle.desk_model.specs.Limits.{last_moment, longest_certificate, longest_csr, most_names}
 use Rattle.desk_model.specs.Tables.{account_row, challenge_row, authorization_row, order_row, tables_at}
 use Rattle.desk_model.specs.Effect.{has_row}
 use Rattle.desk_model.specs.Allowed.{may_on, challenge_passes}
 use Rattle.desk_model.specs.declared.status.ChallengeStatus.{ChallengeStatus}
 use Rattle.desk_model.specs.declared.entry.Entry.{Entry}
-use Rattle.desk_model.specs.declared.entry.Entry.TheVariants.{Made as made, Issued as issued, Spent as spent, Opened as opened, ContactsChanged as contacts_changed, AccountEnded as account_ended, Ordered as ordered, Answered as answered, Reported as reported, AuthorizationEnded as authorization_ended, Finalized as finalized, Certified as certified, Failed as failed}
+use Rattle.desk_model.specs.declared.entry.Entry.TheVariants.{Made as made, Issued as issued, Spent as spent, Opened as opened}
+use Rattle.desk_model.specs.declared.entry.Entry.TheVariants.{ContactsChanged as contacts_changed, AccountEnded as account_ended}
+use Rattle.desk_model.specs.declared.entry.Entry.TheVariants.{Ordered as ordered, Answered as answered, Reported as reported}
+use Rattle.desk_model.specs.declared.entry.Entry.TheVariants.{AuthorizationEnded as authorization_ended, Finalized as finalized}
+use Rattle.desk_model.specs.declared.entry.Entry.TheVariants.{Certified as certified, Failed as failed}
 use Rattle.desk_model.specs.declared.objects.Authorization.{Authorization}
 use Rattle.desk_model.specs.declared.objects.Challenge.{Challenge}
 use Rattle.desk_model.specs.declared.objects.Nonce.{Nonce}

@@ -8,7 +8,9 @@ use Rattle.desk_model.specs.Account.{opened_by}
 use Rattle.desk_model.specs.Order.{ordered_by}
 use Rattle.desk_model.specs.Tables.{Tables, picture}
 use Rattle.desk_model.specs.Derived.{numbers_of, restated_authorization, restated_order}
-use Rattle.desk_model.specs.Effect.{noted_account, noted_order, touches_account, touches_order, moved_account, moved_authorization, moved_order, fresh_account, fresh_authorization, fresh_order, not_spent, new_authorizations, authorizations_after, effect, effects, swept}
+use Rattle.desk_model.specs.Effect.{noted_account, noted_order, touches_account, touches_order, moved_account}
+use Rattle.desk_model.specs.Effect.{moved_authorization, moved_order, fresh_account, fresh_authorization, fresh_order, not_spent}
+use Rattle.desk_model.specs.Effect.{new_authorizations, authorizations_after, effect, effects, swept}
 use Rattle.desk_model.specs.Change.{all_changes, recorded_changes, applied}
 use Rattle.desk_model.specs.Kept.{Kept, restricted, EachOf, IsClosed, CoversSweep}
 use Rattle.desk_model.specs.declared.entry.Entry.{Entry}
@@ -22,7 +24,8 @@ use Rattle.desk_laws.specs.Parts.{FreshKept, CoversAll}
 use Rattle.desk_laws.proofs.Basics.{each, each_all}
 use Rattle.desk_laws.proofs.Recorded.{issued_up, opened_up, ordered_up, made_up, recorded}
 use Rattle.desk_laws.proofs.Step.{filter-append}
-use Rattle.desk_laws.proofs.Local.{filters_swap, filter_all, moved_part, restated_same, kept_after, moved_number, touches_same, changes_local, sweep_changes_local, swept_part}
+use Rattle.desk_laws.proofs.Local.{filters_swap, filter_all, moved_part, restated_same, kept_after, moved_number, touches_same}
+use Rattle.desk_laws.proofs.Local.{changes_local, sweep_changes_local, swept_part}
 
 -- new rows are kept
 pub up_kept : {X : Type 0} (number : X → ℕ) (kept : ℕ → Bool) (count : ℕ) → ((n : ℕ) → count < n → kept n ≡ true) → (n : ℕ) → count < n →
@@ -82,7 +85,8 @@ effect_part k T m e closed fresh =
           part_on (λ (a : AuthorizationRow). a.number) k.authorizations (moved_authorization e m) (moved_authorization e m) T.authorizations _
           (map (λ a. restated_authorization m (fresh_authorization a)) (new_authorizations T e m)) (moved_number e m)
           (each_all _ T.authorizations (λ a yes. refl)) refl
-          (up_kept (λ (a : AuthorizationRow). a.number) k.authorizations T.meta.counters.authorizations closed.new_authorizations (T.meta.counters.authorizations + 1)
+          (up_kept (λ (a : AuthorizationRow). a.number) k.authorizations T.meta.counters.authorizations closed.new_authorizations
+          (T.meta.counters.authorizations + 1)
           (omega arith) _ (made_up e m T.meta.policy.authz_life (T.meta.counters.authorizations + 1) (T.meta.counters.challenges + 1))) i;
       orders =
           part_on (λ (o : OrderRow). o.number) k.orders (moved_order e m (restricted k T).authorizations (authorizations_after (restricted k T) e m))

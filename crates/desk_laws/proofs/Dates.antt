@@ -13,7 +13,10 @@ use Rattle.desk_model.specs.Order.{certifying, failing, finalizing, ordered_by, 
 use Rattle.desk_model.specs.Tables.{account_row, authorization_row, challenge_row, order_row, tables_at}
 use Rattle.desk_model.specs.declared.entry.Dated.{Dated}
 use Rattle.desk_model.specs.declared.entry.Entry.{Entry}
-use Rattle.desk_model.specs.declared.entry.Entry.TheVariants.{Issued as issued, Opened as opened, AccountEnded as account_ended, Ordered as ordered, Answered as answered, Reported as reported, AuthorizationEnded as authorization_ended, Finalized as finalized, Certified as certified, Failed as failed}
+use Rattle.desk_model.specs.declared.entry.Entry.TheVariants.{Issued as issued, Opened as opened, AccountEnded as account_ended}
+use Rattle.desk_model.specs.declared.entry.Entry.TheVariants.{Ordered as ordered, Answered as answered, Reported as reported}
+use Rattle.desk_model.specs.declared.entry.Entry.TheVariants.{AuthorizationEnded as authorization_ended, Finalized as finalized}
+use Rattle.desk_model.specs.declared.entry.Entry.TheVariants.{Certified as certified, Failed as failed}
 use Rattle.desk_model.specs.declared.entry.Wanted.{Wanted}
 use Rattle.desk_model.specs.declared.entry.Wanted.TheVariants.{New}
 use Rattle.desk_model.specs.declared.objects.Authorization.{Authorization}

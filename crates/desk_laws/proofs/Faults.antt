@@ -9,7 +9,8 @@ use Rattle.desk_model.specs.Authorization.{authorizations}
 use Rattle.desk_model.specs.Order.{orders}
 use Rattle.desk_model.specs.Legal.{EachFollows}
 use Rattle.desk_model.specs.Tables.{account_row, challenge_row, authorization_row, order_row, tables_at}
-use Rattle.desk_model.specs.Derived.{unless, order_code, authz_code, account_faults, order_faults, authorization_faults, challenge_faults, insert_challenge, sorted_challenges, status_faults}
+use Rattle.desk_model.specs.Derived.{unless, order_code, authz_code, account_faults, order_faults, authorization_faults}
+use Rattle.desk_model.specs.Derived.{challenge_faults, insert_challenge, sorted_challenges, status_faults}
 use Rattle.desk_model.specs.Kept.{EachOf}
 use Rattle.desk_model.specs.declared.objects.Authorization.{Authorization}
 use Rattle.desk_model.specs.declared.objects.Challenge.{Challenge}

@@ -7,8 +7,11 @@ use Rattle.desk_model.specs.Entry.{History}
 use Rattle.desk_model.specs.History.{terms, first, latest, earlier}
 use Rattle.desk_model.specs.Lookup.{holds}
 use Rattle.desk_model.specs.Nonce.{spending}
-use Rattle.desk_model.specs.Account.{accounts, opened_by, account_by_number, account_end, account_status, changing, ends as account_ends, status_of as account_status_of, is_valid as is_valid_account}
-use Rattle.desk_model.specs.Authorization.{authorizations, has_challenge, made_for, kinds_of, challenges_from, count_challenges, authorization_end, ends, in_time, is_good, kind_of, answering, reporting, when_answered, report, challenge_status_by}
+use Rattle.desk_model.specs.Account.{accounts, opened_by, account_by_number, account_end, account_status, changing}
+use Rattle.desk_model.specs.Account.{ends as account_ends, status_of as account_status_of, is_valid as is_valid_account}
+use Rattle.desk_model.specs.Authorization.{authorizations, has_challenge, made_for, kinds_of, challenges_from, count_challenges}
+use Rattle.desk_model.specs.Authorization.{authorization_end, ends, in_time, is_good, kind_of, answering, reporting}
+use Rattle.desk_model.specs.Authorization.{when_answered, report, challenge_status_by}
 use Rattle.desk_model.specs.Order.{orders, ordered_by, csr, certificate, failure, finalizing, certifying, failing}
 use Rattle.desk_model.specs.Legal.{EachFollows}
 use Rattle.desk_model.specs.Tables.{account_row, challenge_row, authorization_row, order_row}
@@ -21,7 +24,11 @@ use Rattle.desk_model.specs.declared.entry.Dated.{Dated}
 use Rattle.desk_model.specs.declared.entry.Ending.{Ending}
 use Rattle.desk_model.specs.declared.entry.Ending.TheVariants.{Deactivated as deactivated, Revoked as revoked}
 use Rattle.desk_model.specs.declared.entry.Entry.{Entry}
-use Rattle.desk_model.specs.declared.entry.Entry.TheVariants.{Spent as spent, Opened as opened, ContactsChanged as contacts_changed, AccountEnded as account_ended, Ordered as ordered, Answered as answered, Reported as reported, AuthorizationEnded as authorization_ended, Finalized as finalized, Certified as certified, Failed as failed}
+use Rattle.desk_model.specs.declared.entry.Entry.TheVariants.{Spent as spent, Opened as opened}
+use Rattle.desk_model.specs.declared.entry.Entry.TheVariants.{ContactsChanged as contacts_changed, AccountEnded as account_ended}
+use Rattle.desk_model.specs.declared.entry.Entry.TheVariants.{Ordered as ordered, Answered as answered, Reported as reported}
+use Rattle.desk_model.specs.declared.entry.Entry.TheVariants.{AuthorizationEnded as authorization_ended, Finalized as finalized}
+use Rattle.desk_model.specs.declared.entry.Entry.TheVariants.{Certified as certified, Failed as failed}
 use Rattle.desk_model.specs.declared.entry.Wanted.{Wanted}
 use Rattle.desk_model.specs.declared.entry.Wanted.TheVariants.{New}
 use Rattle.desk_model.specs.declared.objects.Account.{Account}
@@ -207,7 +214,14 @@ challenges_fresh F n (c ∷ cs) h lt numbered =
     no_first (λ d. answering c.number d.entry d.date) F (each _ _ F (new_challenge_answer (counts F) c.number new) named) in
     let reported_none : report c.number F ≡ None =
     no_first (λ d. reporting c.number d.entry d.date) F (each _ _ F (new_challenge_report (counts F) c.number new) named) in (
-      (λ i. record { number = c.number; kind = c.kind; token = c.token; answered = answered_none i; reported = reported_none i; status = challenge_status_by (reported_none i) (answered_none i) }),
+      (λ i. record {
+        number = c.number;
+        kind = c.kind;
+        token = c.token;
+        answered = answered_none i;
+        reported = reported_none i;
+        status = challenge_status_by (reported_none i) (answered_none i);
+      }),
       challenges_fresh F (n + 1) cs h (omega arith) numbered.1,
     )
 

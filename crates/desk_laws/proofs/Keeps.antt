@@ -1,5 +1,6 @@
 -- What every legal history keeps.
-use Rattle.std.proofs.Common.{◌≡◌, ◌≢◌, ◌≤◌, ℕ, ◌+◌, List, [], ◌∷◌, length, map, filter, Option, Some, None, refl, ap, ◌∙◌, subst, true, false, Bool, cond, arith}
+use Rattle.std.proofs.Common.{◌≡◌, ◌≢◌, ◌≤◌, ℕ, ◌+◌, List, [], ◌∷◌, length, map, filter, Option, Some, None, refl, ap, ◌∙◌, subst}
+use Rattle.std.proofs.Common.{true, false, Bool, cond, arith}
 use Rattle.std.specs.Prelude.{◌==◌, ◌&&◌, nat_le, IsTrue, find, is_none, is_some, bytes_eq}
 use Rattle.std.specs.List.{list_all}
 use Rattle.std.proofs.lemmas.Bool.{leb-true, le-leb, eqb-true, and_parts, and_from}
@@ -11,7 +12,8 @@ use Rattle.desk_model.specs.Contact.{contacts_pass}
 use Rattle.desk_model.specs.Entry.{History}
 use Rattle.desk_model.specs.History.{terms}
 use Rattle.desk_model.specs.Keys.{IsKeyText}
-use Rattle.desk_model.specs.Legal.{EachFollows, Follows, IsFormed, BeginsMade, IsMade, Legal, all_different, has_length, is_empty, is_processing_challenge, is_wanted, may_follow, numbers_fit, wanted_name}
+use Rattle.desk_model.specs.Legal.{EachFollows, Follows, IsFormed, BeginsMade, IsMade, Legal, all_different, has_length, is_empty}
+use Rattle.desk_model.specs.Legal.{is_processing_challenge, is_wanted, may_follow, numbers_fit, wanted_name}
 use Rattle.desk_model.specs.Limits.{last_end, last_moment, last_number, longest_life, most_names}
 use Rattle.desk_model.specs.Nonce.{is_open, issued_by, nonces}
 use Rattle.desk_model.specs.Order.{ordered_by, orders}

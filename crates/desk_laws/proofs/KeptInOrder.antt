@@ -6,8 +6,11 @@ use Rattle.desk_model.specs.History.{clock, record_all}
 use Rattle.desk_model.specs.Legal.{EachFollows}
 use Rattle.desk_model.specs.Tables.{Tables, tables_at, picture}
 use Rattle.desk_model.specs.Derived.{restated_authorization, restated_order}
-use Rattle.desk_model.specs.Effect.{noted_authorization, noted_order, touches_authorization, touches_order, authorizations_after, new_authorizations, effect, effects, swept, is_overdue, falls}
-use Rattle.desk_model.specs.Change.{put, authorization_differs, order_differs, applied, applied_one, spent_by, nonces_put, accounts_put, authorizations_put, orders_put, changes, nonces_gone, authorizations_expired, orders_fallen, sweep_changes, all_changes, recorded_changes}
+use Rattle.desk_model.specs.Effect.{noted_authorization, noted_order, touches_authorization, touches_order, authorizations_after}
+use Rattle.desk_model.specs.Effect.{new_authorizations, effect, effects, swept, is_overdue, falls}
+use Rattle.desk_model.specs.Change.{put, authorization_differs, order_differs, applied, applied_one, spent_by, nonces_put}
+use Rattle.desk_model.specs.Change.{accounts_put, authorizations_put, orders_put, changes, nonces_gone, authorizations_expired}
+use Rattle.desk_model.specs.Change.{orders_fallen, sweep_changes, all_changes, recorded_changes}
 use Rattle.desk_model.specs.Kept.{EachOf}
 use Rattle.desk_model.specs.declared.entry.Entry.{Entry}
 use Rattle.desk_model.specs.declared.objects.Nonce.{Nonce}
@@ -57,12 +60,14 @@ removing [] cs T h = h
 removing (n ∷ ns) cs T h = (tt, removing ns cs (applied_one (RemoveNonce n) T) h)
 
 -- nonces have none
-putting_nonces : (xs : List Nonce) (cs : List Change) (T : Tables) → AreKept (record T { nonces = puts (λ n. n.serial) xs T.nonces }) cs → AreKept T (map PutNonce xs ++ cs)
+putting_nonces : (xs : List Nonce) (cs : List Change) (T : Tables) → AreKept (record T { nonces = puts (λ n. n.serial) xs T.nonces }) cs
+    → AreKept T (map PutNonce xs ++ cs)
 putting_nonces [] cs T h = h
 putting_nonces (x ∷ xs) cs T h = (tt, putting_nonces xs cs (applied_one (PutNonce x) T) h)
 
 -- nor have accounts
-putting_accounts : (xs : List AccountRow) (cs : List Change) (T : Tables) → AreKept (record T { accounts = puts (λ a. a.number) xs T.accounts }) cs → AreKept T (map PutAccount xs ++ cs)
+putting_accounts : (xs : List AccountRow) (cs : List Change) (T : Tables)
+    → AreKept (record T { accounts = puts (λ a. a.number) xs T.accounts }) cs → AreKept T (map PutAccount xs ++ cs)
 putting_accounts [] cs T h = h
 putting_accounts (x ∷ xs) cs T h = (tt, putting_accounts xs cs (applied_one (PutAccount x) T) h)
 
@@ -85,7 +90,8 @@ putting_orders k [] T up kept = tt
 putting_orders k (x ∷ xs) T up kept = (
   kept.0,
   putting_orders (x.number + 1) xs (applied_one (PutOrder x) T) up.1
-      (still_kept (λ o. o.number) (λ o y. o.listed ≡ y.listed) x T.orders xs (ascends_above (λ o. o.number) x.number (x.number + 1) xs (omega arith) up.1) kept.1),
+      (still_kept (λ o. o.number) (λ o y. o.listed ≡ y.listed) x T.orders xs
+      (ascends_above (λ o. o.number) x.number (x.number + 1) xs (omega arith) up.1) kept.1),
 )
 
 -- changes after changes

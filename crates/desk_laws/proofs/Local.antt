@@ -9,8 +9,13 @@ use Rattle.desk_model.specs.Authorization.{is_over, is_valid}
 use Rattle.desk_model.specs.Order.{ordered_by, order_status_by}
 use Rattle.desk_model.specs.Tables.{Tables}
 use Rattle.desk_model.specs.Derived.{numbers_of, authorization_numbered, stored_statuses, and_status, restated_authorization, restated_order}
-use Rattle.desk_model.specs.Effect.{noted_account, noted_authorization, noted_order, touches_account, touches_authorization, touches_order, names_order, lists_one, moved_authorization, fresh_account, fresh_authorization, fresh_order, new_authorizations, authorizations_after, lasts, swept, swept_authorization, swept_order, is_overdue, falls, is_live_order}
-use Rattle.desk_model.specs.Change.{moved_rows, account_differs, authorization_differs, order_differs, spent_by, nonces_put, accounts_put, authorizations_put, changes, sweep_changes, nonces_gone, authorizations_expired, orders_fallen}
+use Rattle.desk_model.specs.Effect.{noted_account, noted_authorization, noted_order, touches_account, touches_authorization}
+use Rattle.desk_model.specs.Effect.{touches_order, names_order, lists_one, moved_authorization, fresh_account}
+use Rattle.desk_model.specs.Effect.{fresh_authorization, fresh_order, new_authorizations, authorizations_after, lasts, swept}
+use Rattle.desk_model.specs.Effect.{swept_authorization, swept_order, is_overdue, falls, is_live_order}
+use Rattle.desk_model.specs.Change.{moved_rows, account_differs, authorization_differs, order_differs, spent_by, nonces_put}
+use Rattle.desk_model.specs.Change.{accounts_put, authorizations_put, changes, sweep_changes, nonces_gone, authorizations_expired}
+use Rattle.desk_model.specs.Change.{orders_fallen}
 use Rattle.desk_model.specs.Kept.{Kept, restricted, EachOf, IsClosed, Covers, CoversSweep}
 use Rattle.desk_model.specs.declared.status.AuthzStatus.TheVariants as authz
 use Rattle.desk_model.specs.declared.status.OrderStatus.TheVariants as order

@@ -7,8 +7,13 @@ use Rattle.desk_model.specs.History.{clock, record_all}
 use Rattle.desk_model.specs.Legal.{EachFollows}
 use Rattle.desk_model.specs.Tables.{Tables, tables_at, picture}
 use Rattle.desk_model.specs.Derived.{restated_authorization, restated_order}
-use Rattle.desk_model.specs.Effect.{noted_account, noted_authorization, noted_order, touches_account, touches_authorization, touches_order, authorizations_after, new_authorizations, effect, effects, swept, is_overdue, falls}
-use Rattle.desk_model.specs.Change.{put, remove, moved_rows, account_differs, authorization_differs, order_differs, applied, applied_one, spent_by, nonces_put, accounts_put, authorizations_put, orders_put, changes, nonces_gone, authorizations_expired, orders_fallen, sweep_changes, all_changes, recorded_changes}
+use Rattle.desk_model.specs.Effect.{noted_account, noted_authorization, noted_order, touches_account, touches_authorization}
+use Rattle.desk_model.specs.Effect.{touches_order, authorizations_after, new_authorizations, effect, effects, swept, is_overdue}
+use Rattle.desk_model.specs.Effect.{falls}
+use Rattle.desk_model.specs.Change.{put, remove, moved_rows, account_differs, authorization_differs, order_differs, applied}
+use Rattle.desk_model.specs.Change.{applied_one, spent_by, nonces_put, accounts_put, authorizations_put, orders_put, changes}
+use Rattle.desk_model.specs.Change.{nonces_gone, authorizations_expired, orders_fallen, sweep_changes, all_changes}
+use Rattle.desk_model.specs.Change.{recorded_changes}
 use Rattle.desk_model.specs.Kept.{EachOf}
 use Rattle.desk_model.specs.declared.entry.Entry.{Entry}
 use Rattle.desk_model.specs.declared.objects.Nonce.{Nonce}

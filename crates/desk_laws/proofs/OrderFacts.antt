@@ -7,11 +7,13 @@ use Rattle.desk_model.specs.Entry.{History}
 use Rattle.desk_model.specs.History.{clock, terms, earlier}
 use Rattle.desk_model.specs.Lookup.{holds}
 use Rattle.desk_model.specs.Authorization.{authorizations, authorization, made_by, made_for, count_challenges, authorization_status, is_over, is_valid, is_live}
-use Rattle.desk_model.specs.Order.{orders, ordered_by, order_status, order_status_by, csr, certificate, failure, finalizing, certifying, failing, has_lost, all_valid}
+use Rattle.desk_model.specs.Order.{orders, ordered_by, order_status, order_status_by, csr, certificate, failure, finalizing}
+use Rattle.desk_model.specs.Order.{certifying, failing, has_lost, all_valid}
 use Rattle.desk_model.specs.Legal.{EachFollows}
 use Rattle.desk_model.specs.Tables.{authorization_row, order_row, listed_from}
 use Rattle.desk_model.specs.Derived.{stored_statuses, and_status, authorization_numbered, numbers_of, restated_order}
-use Rattle.desk_model.specs.Effect.{noted_order, touches_authorization, names_order, lists_one, touches_order, moved_order, is_overdue, is_live_order, falls, swept_order}
+use Rattle.desk_model.specs.Effect.{noted_order, touches_authorization, names_order, lists_one, touches_order, moved_order}
+use Rattle.desk_model.specs.Effect.{is_overdue, is_live_order, falls, swept_order}
 use Rattle.desk_model.specs.declared.status.AuthzStatus.{AuthzStatus}
 use Rattle.desk_model.specs.declared.status.AuthzStatus.TheVariants as authz
 use Rattle.desk_model.specs.declared.status.OrderStatus.{OrderStatus}
@@ -28,7 +30,8 @@ use Rattle.desk_model.specs.declared.rows.AuthorizationRow.{AuthorizationRow}
 use Rattle.desk_model.specs.declared.rows.DatedBytes.{DatedBytes}
 use Rattle.desk_model.specs.declared.rows.DatedProblem.{DatedProblem}
 use Rattle.desk_model.specs.declared.rows.OrderRow.{OrderRow}
-use Rattle.desk_laws.proofs.Basics.{or_false, list_any-map, list_all-map, list_any-same, any_or, each, each-append, each_after, map-each, find-map, find-append, IsNumbered, numbered-append}
+use Rattle.desk_laws.proofs.Basics.{or_false, list_any-map, list_all-map, list_any-same, any_or, each, each-append, each_after}
+use Rattle.desk_laws.proofs.Basics.{map-each, find-map, find-append, IsNumbered, numbered-append}
 use Rattle.desk_laws.proofs.RowLists.{ascends_found, numbered_ascends}
 use Rattle.desk_laws.proofs.RowFacts.{authorization_kept, authorization_later, past_later}
 
@@ -188,7 +191,12 @@ order_untouched F e m o each_follows le found h =
     (is_some (failure_other F e m o.number parts.0 i) || (nat_lt o.expires m || list_any is_over (statuses i)))
     (is_some (csr_other F e m o.number parts.0 i)) (list_all is_valid (statuses i)))
     ∙ sym (status_by_listed F m o) in
-    λ i. record (order_row F m o) { finalized = csr_other F e m o.number parts.0 i; certified = certificate_other F e m o.number parts.0 i; failed = failure_other F e m o.number parts.0 i; status = status i }
+    λ i. record (order_row F m o) {
+      finalized = csr_other F e m o.number parts.0 i;
+      certified = certificate_other F e m o.number parts.0 i;
+      failed = failure_other F e m o.number parts.0 i;
+      status = status i;
+    }
 
 -- the row of an order after an entry
 pub order_moves : (F : History) (e : Entry) (m : ℕ) (o : Order) → EachFollows (record { date = m; entry = e } ∷ F) → clock F ≤ m → AreFound F o →

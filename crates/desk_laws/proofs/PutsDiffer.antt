@@ -1,12 +1,17 @@
 -- What is put, beside what stands there.
-use Rattle.std.proofs.Common.{subst, ◌≡◌, ◌≢◌, ◌≤◌, ◌<◌, ℕ, ◌+◌, List, [], ◌∷◌, ◌++◌, map, filter, Some, None, refl, sym, ap, ◌∙◌, true, false, Bool, cond, arith}
+use Rattle.std.proofs.Common.{subst, ◌≡◌, ◌≢◌, ◌≤◌, ◌<◌, ℕ, ◌+◌, List, [], ◌∷◌, ◌++◌, map, filter, Some, None, refl, sym, ap, ◌∙◌}
+use Rattle.std.proofs.Common.{true, false, Bool, cond, arith}
 use Rattle.std.specs.Prelude.{IfSome, ◌==◌, ◌&&◌, find, unwrap_or}
 use Rattle.std.proofs.lemmas.Bool.{and_parts}
 use Rattle.desk_model.specs.Tables.{Tables}
 use Rattle.desk_model.specs.Derived.{restated_authorization, restated_order}
 use Rattle.desk_model.specs.Authorization.{is_live}
-use Rattle.desk_model.specs.Effect.{noted_challenge, answered_challenge, reported_challenge, noted_account, noted_authorization, noted_order, touches_account, touches_authorization, touches_order, new_authorizations, authorizations_after, is_live_order, is_overdue, falls}
-use Rattle.desk_model.specs.Change.{moved_rows, account_differs, authorization_differs, order_differs, spent_by, nonces_put, accounts_put, authorizations_put, orders_put, changes, nonces_gone, authorizations_expired, orders_fallen, sweep_changes}
+use Rattle.desk_model.specs.Effect.{noted_challenge, answered_challenge, reported_challenge, noted_account, noted_authorization}
+use Rattle.desk_model.specs.Effect.{noted_order, touches_account, touches_authorization, touches_order, new_authorizations}
+use Rattle.desk_model.specs.Effect.{authorizations_after, is_live_order, is_overdue, falls}
+use Rattle.desk_model.specs.Change.{moved_rows, account_differs, authorization_differs, order_differs, spent_by, nonces_put}
+use Rattle.desk_model.specs.Change.{accounts_put, authorizations_put, orders_put, changes, nonces_gone, authorizations_expired}
+use Rattle.desk_model.specs.Change.{orders_fallen, sweep_changes}
 use Rattle.desk_model.specs.Kept.{EachOf}
 use Rattle.desk_model.specs.declared.entry.Entry.{Entry}
 use Rattle.desk_model.specs.declared.entry.Entry.TheVariants.{Answered as answered, Reported as reported}
@@ -170,13 +175,15 @@ orders_differ T m e h =
 -- what an entry puts differs from what stands there
 pub puts_differ : (T : Tables) (m : ℕ) (e : Entry) → IsOrdered T → EachOf (IsNews T) (changes m T e)
 puts_differ T m e h =
-    each_change (IsNews T) T m e (each_all _ (spent_by e) (λ n. tt)) (nonces_differ T m e T.nonces h.nonces.1) (accounts_differ T m e h) (authorizations_differ T m e h)
+    each_change (IsNews T) T m e (each_all _ (spent_by e) (λ n. tt)) (nonces_differ T m e T.nonces h.nonces.1) (accounts_differ T m e h)
+    (authorizations_differ T m e h)
     (orders_differ T m e h)
 
 -- what an entry puts keeps the children of what stands there
 pub puts_keep_children : (T : Tables) (m : ℕ) (e : Entry) → IsOrdered T → EachOf (KeepsChildren T) (changes m T e)
 puts_keep_children T m e h =
-    each_change (KeepsChildren T) T m e (each_all _ (spent_by e) (λ n. tt)) (each_all _ (nonces_put T e m) (λ x. tt)) (each_all _ (accounts_put T e m) (λ x. tt))
+    each_change (KeepsChildren T) T m e (each_all _ (spent_by e) (λ n. tt)) (each_all _ (nonces_put T e m) (λ x. tt))
+    (each_all _ (accounts_put T e m) (λ x. tt))
     (each_put (λ a. a.number) (touches_authorization e) authorization_differs
     (λ r. restated_authorization m (noted_authorization e m r)) T.meta.counters.authorizations T.authorizations _ _
     (λ x d.

@@ -12,8 +12,12 @@ use Rattle.desk_model.specs.Terms.{Terms}
 use Rattle.desk_model.specs.Legal.{EachFollows}
 use Rattle.desk_model.specs.Tables.{challenge_row, Tables, account_row, authorization_row, order_row, tables_at, picture}
 use Rattle.desk_model.specs.Derived.{restated_authorization, restated_order}
-use Rattle.desk_model.specs.Effect.{noted_account, noted_authorization, noted_order, touches_account, touches_authorization, touches_order, fresh_account, fresh_authorization, fresh_order, not_spent, new_authorizations, authorizations_after, effect, effects, lasts, swept, is_overdue, falls}
-use Rattle.desk_model.specs.Change.{moved_rows, account_differs, authorization_differs, order_differs, applied_one, applied, spent_by, nonces_put, accounts_put, authorizations_put, orders_put, changes, sweep_changes, all_changes, recorded_changes, nonces_gone, authorizations_expired, orders_fallen}
+use Rattle.desk_model.specs.Effect.{noted_account, noted_authorization, noted_order, touches_account, touches_authorization}
+use Rattle.desk_model.specs.Effect.{touches_order, fresh_account, fresh_authorization, fresh_order, not_spent, new_authorizations}
+use Rattle.desk_model.specs.Effect.{authorizations_after, effect, effects, lasts, swept, is_overdue, falls}
+use Rattle.desk_model.specs.Change.{moved_rows, account_differs, authorization_differs, order_differs, applied_one, applied}
+use Rattle.desk_model.specs.Change.{spent_by, nonces_put, accounts_put, authorizations_put, orders_put, changes, sweep_changes}
+use Rattle.desk_model.specs.Change.{all_changes, recorded_changes, nonces_gone, authorizations_expired, orders_fallen}
 use Rattle.desk_model.specs.declared.status.OrderStatus.TheVariants as order
 use Rattle.desk_model.specs.declared.status.AuthzStatus.TheVariants as authz
 use Rattle.desk_model.specs.declared.entry.Entry.{Entry}
@@ -28,7 +32,8 @@ use Rattle.desk_model.specs.declared.rows.Meta.{Meta}
 use Rattle.desk_model.specs.declared.rows.OrderRow.{OrderRow}
 use Rattle.desk_laws.proofs.Basics.{numbered-append, IsNumbered}
 use Rattle.desk_laws.specs.Ordered.{Ascends, Below, IsTable, IsOrdered}
-use Rattle.desk_laws.proofs.RowLists.{puts, removes, numbered_ascends, ascends_map, ascends_filter, puts_moved, puts_differing, puts_last, puts-append, removes_filter}
+use Rattle.desk_laws.proofs.RowLists.{puts, removes, numbered_ascends, ascends_map, ascends_filter, puts_moved, puts_differing}
+use Rattle.desk_laws.proofs.RowLists.{puts_last, puts-append, removes_filter}
 use Rattle.desk_laws.proofs.OrderFacts.{authorizations_numbered, made_by_numbered}
 use Rattle.desk_laws.proofs.Numbers.{AreNumbered, challenges_count, nonces_numbered, accounts_numbered, orders_numbered}
 use Rattle.desk_laws.proofs.Differing.{account_unmoved, authorization_unmoved, order_unmoved}
@@ -201,7 +206,8 @@ spent_removed _ rows = all_kept rows
 -- ---- the changes of an entry make its effect
 
 -- the changes of an entry make its effect, beside any meta row
-pub changes_make : (T : Tables) (m : ℕ) (e : Entry) (M : Meta) → IsOrdered T → applied (changes m T e) (record T { meta = M }) ≡ record (effect m T e) { meta = M }
+pub changes_make : (T : Tables) (m : ℕ) (e : Entry) (M : Meta) → IsOrdered T
+    → applied (changes m T e) (record T { meta = M }) ≡ record (effect m T e) { meta = M }
 changes_make T m e M h =
     removing (spent_by e) _ (record T { meta = M })
     ∙ putting_nonces (nonces_put T e m) _ _

@@ -6,17 +6,21 @@ use Rattle.std.proofs.lemmas.Bool.{leb-true, le-leb, ltb-true, lt-ltb, eqb-true,
 use Rattle.desk_model.specs.Entry.{History}
 use Rattle.desk_model.specs.History.{clock, first, earlier}
 use Rattle.desk_model.specs.Lookup.{holds}
-use Rattle.desk_model.specs.Authorization.{ends, in_time, authorization_end, authorization_status, authorization_status_by, when_proved, proving, reporting, when_answered, report, challenge_status, challenge_status_by, is_good, has_challenge, status_of, kind_of, is_live}
+use Rattle.desk_model.specs.Authorization.{ends, in_time, authorization_end, authorization_status, authorization_status_by}
+use Rattle.desk_model.specs.Authorization.{when_proved, proving, reporting, when_answered, report, challenge_status}
+use Rattle.desk_model.specs.Authorization.{challenge_status_by, is_good, has_challenge, status_of, kind_of, is_live}
 use Rattle.desk_model.specs.Legal.{may_follow, is_processing_challenge, EachFollows}
 use Rattle.desk_model.specs.Tables.{challenge_row, authorization_row}
 use Rattle.desk_model.specs.Derived.{is_proved, restated_authorization}
-use Rattle.desk_model.specs.Effect.{noted_challenge, answered_challenge, reported_challenge, noted_authorization, row_ends, has_row, touches_authorization, moved_authorization, is_overdue, swept_authorization}
+use Rattle.desk_model.specs.Effect.{noted_challenge, answered_challenge, reported_challenge, noted_authorization, row_ends}
+use Rattle.desk_model.specs.Effect.{has_row, touches_authorization, moved_authorization, is_overdue, swept_authorization}
 use Rattle.desk_model.specs.declared.objects.EndKind.TheVariants as kind
 use Rattle.desk_model.specs.declared.status.AuthzStatus.TheVariants as authz
 use Rattle.desk_model.specs.declared.status.ChallengeStatus.TheVariants as chall
 use Rattle.desk_model.specs.Kept.{EachOf}
 use Rattle.desk_model.specs.declared.entry.Entry.{Entry}
-use Rattle.desk_model.specs.declared.entry.Entry.TheVariants.{AccountEnded as account_ended, Answered as answered, Reported as reported, AuthorizationEnded as authorization_ended}
+use Rattle.desk_model.specs.declared.entry.Entry.TheVariants.{AccountEnded as account_ended, Answered as answered}
+use Rattle.desk_model.specs.declared.entry.Entry.TheVariants.{Reported as reported, AuthorizationEnded as authorization_ended}
 use Rattle.desk_model.specs.declared.entry.Outcome.{Outcome}
 use Rattle.desk_model.specs.declared.objects.Authorization.{Authorization}
 use Rattle.desk_model.specs.declared.objects.AuthorizationEnd.{AuthorizationEnd}
@@ -52,7 +56,14 @@ challenge_moves F (reported n o) m c = by (n == c.number)
   where
     by : (b : Bool) → (let r : Option Report = earlier (report c.number F) (cond b (Some (record { date = m; outcome = o })) None) in
         let x : ChallengeRow =
-        record { number = c.number; kind = c.kind; token = c.token; answered = when_answered c.number F; reported = r; status = challenge_status_by r (when_answered c.number F) } in
+        record {
+          number = c.number;
+          kind = c.kind;
+          token = c.token;
+          answered = when_answered c.number F;
+          reported = r;
+          status = challenge_status_by r (when_answered c.number F);
+        } in
         x ≡ cond b (reported_challenge o m (challenge_row F c)) (challenge_row F c))
     by true = refl
     by false = refl

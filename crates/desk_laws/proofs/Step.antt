@@ -1,5 +1,6 @@
 -- The tables of a longer history, and those of a later moment.
-use Rattle.std.proofs.Common.{◌≡◌, ◌≤◌, ℕ, ◌+◌, List, [], ◌∷◌, ◌++◌, length, map, filter, Option, Some, None, refl, sym, ap, ◌∙◌, true, false, Bool, cond, arith, leb, not, length-append}
+use Rattle.std.proofs.Common.{◌≡◌, ◌≤◌, ℕ, ◌+◌, List, [], ◌∷◌, ◌++◌, length, map, filter, Option, Some, None, refl, sym, ap, ◌∙◌}
+use Rattle.std.proofs.Common.{true, false, Bool, cond, arith, leb, not, length-append}
 use Rattle.std.specs.Prelude.{nat_le, ◌==◌, ◌&&◌, is_none, unwrap_or}
 use Rattle.std.proofs.lemmas.List.{map-append}
 use Rattle.std.proofs.lemmas.Bool.{leb-true, le-leb, and_parts}
@@ -13,11 +14,14 @@ use Rattle.desk_model.specs.Order.{orders}
 use Rattle.desk_model.specs.Legal.{EachFollows, is_empty}
 use Rattle.desk_model.specs.Tables.{account_row, authorization_row, order_row, tables_at, picture}
 use Rattle.desk_model.specs.Derived.{restated_authorization, restated_order}
-use Rattle.desk_model.specs.Effect.{noted_account, touches_account, moved_account, moved_authorization, moved_order, fresh_account, fresh_authorization, fresh_order, not_spent, effect, effects, lasts, swept, swept_authorization, swept_order}
+use Rattle.desk_model.specs.Effect.{noted_account, touches_account, moved_account, moved_authorization, moved_order}
+use Rattle.desk_model.specs.Effect.{fresh_account, fresh_authorization, fresh_order, not_spent, effect, effects, lasts, swept}
+use Rattle.desk_model.specs.Effect.{swept_authorization, swept_order}
 use Rattle.desk_model.specs.Kept.{EachOf}
 use Rattle.desk_model.specs.declared.entry.Dated.{Dated}
 use Rattle.desk_model.specs.declared.entry.Entry.{Entry}
-use Rattle.desk_model.specs.declared.entry.Entry.TheVariants.{Made as made, Issued as issued, Spent as spent, ContactsChanged as contacts_changed, AccountEnded as account_ended}
+use Rattle.desk_model.specs.declared.entry.Entry.TheVariants.{Made as made, Issued as issued, Spent as spent}
+use Rattle.desk_model.specs.declared.entry.Entry.TheVariants.{ContactsChanged as contacts_changed, AccountEnded as account_ended}
 use Rattle.desk_model.specs.declared.objects.Account.{Account}
 use Rattle.desk_model.specs.declared.objects.AccountEnd.{AccountEnd}
 use Rattle.desk_model.specs.declared.objects.Nonce.{Nonce}

@@ -6,7 +6,11 @@ use Rattle.desk_model.specs.Entry.{History}
 use Rattle.desk_model.specs.Nonce.{nonces}
 use Rattle.desk_model.specs.Order.{orders}
 use Rattle.desk_model.specs.declared.entry.Entry.{Entry}
-use Rattle.desk_model.specs.declared.entry.Entry.TheVariants.{Spent as spent, ContactsChanged as contacts_changed, AccountEnded as account_ended, Ordered as ordered, Answered as answered, Reported as reported, AuthorizationEnded as authorization_ended, Finalized as finalized, Certified as certified, Failed as failed}
+use Rattle.desk_model.specs.declared.entry.Entry.TheVariants.{Spent as spent, ContactsChanged as contacts_changed}
+use Rattle.desk_model.specs.declared.entry.Entry.TheVariants.{AccountEnded as account_ended, Ordered as ordered}
+use Rattle.desk_model.specs.declared.entry.Entry.TheVariants.{Answered as answered, Reported as reported}
+use Rattle.desk_model.specs.declared.entry.Entry.TheVariants.{AuthorizationEnded as authorization_ended, Finalized as finalized}
+use Rattle.desk_model.specs.declared.entry.Entry.TheVariants.{Certified as certified, Failed as failed}
 
 -- how many objects of each kind were made
 pub record Counts : Type 0 where

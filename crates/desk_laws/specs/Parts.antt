@@ -6,7 +6,11 @@ use Rattle.desk_model.specs.Order.{ordered_by}
 use Rattle.desk_model.specs.Tables.{Tables}
 use Rattle.desk_model.specs.Kept.{Covers, EachOf, IsClosed, Kept}
 use Rattle.desk_model.specs.declared.entry.Entry.{Entry}
-use Rattle.desk_model.specs.declared.entry.Entry.TheVariants.{Spent as spent, Opened as opened, ContactsChanged as contacts_changed, AccountEnded as account_ended, Ordered as ordered, Answered as answered, Reported as reported, AuthorizationEnded as authorization_ended, Finalized as finalized, Certified as certified, Failed as failed}
+use Rattle.desk_model.specs.declared.entry.Entry.TheVariants.{Spent as spent, Opened as opened}
+use Rattle.desk_model.specs.declared.entry.Entry.TheVariants.{ContactsChanged as contacts_changed, AccountEnded as account_ended}
+use Rattle.desk_model.specs.declared.entry.Entry.TheVariants.{Ordered as ordered, Answered as answered, Reported as reported}
+use Rattle.desk_model.specs.declared.entry.Entry.TheVariants.{AuthorizationEnded as authorization_ended, Finalized as finalized}
+use Rattle.desk_model.specs.declared.entry.Entry.TheVariants.{Certified as certified, Failed as failed}
 
 -- the rows that are read to tell whether the entry may follow are kept
 abbrev pub ReadsKept : Kept → Tables → Entry → Type 0

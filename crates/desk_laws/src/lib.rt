@@ -1,11 +1,17 @@
 //! The laws that tie the tables of a desk to its history.
 #![tactic(auto)]
 
-ghost use Rattle.desk_laws.specs.ChangeLaws.{TablesAreOrdered, ChallengesAreOrdered, SweepKeepsChildren, EntryKeepsChildren, SweepIsMade, EffectIsMade, PicturesAreMade, SweepPutsDiffer, EntryPutsDiffer, RecordsPutNews, RecordsKeepChildren, RecordsBringNewChildren};
+ghost use Rattle.desk_laws.specs.ChangeLaws.{TablesAreOrdered, ChallengesAreOrdered, SweepKeepsChildren, EntryKeepsChildren};
+ghost use Rattle.desk_laws.specs.ChangeLaws.{SweepIsMade, EffectIsMade, PicturesAreMade, SweepPutsDiffer, EntryPutsDiffer};
+ghost use Rattle.desk_laws.specs.ChangeLaws.{RecordsPutNews, RecordsKeepChildren, RecordsBringNewChildren};
 ghost use Rattle.desk_laws.specs.DateLaws.{ClockIsInTime, NoDateIsLater};
-ghost use Rattle.desk_laws.specs.LegalLaws.{OnlyGivenAreNamed, ReportedOnce, ProvedByReports, KeysDiffer, NumbersFitCounters, CountersFitNumbers, TermsAreInLimits, AllEndInTime, KeysAreFormed, NamesAreFormed, TextsAreUtf8};
-ghost use Rattle.desk_laws.specs.PartLaws.{FindsAreLocal, FiltersAreLocal, MayFollowIsLocal, PartsAreSwept, PartsHaveEffect, PartsHaveEffects, SweepChangesAreLocal, ChangesAreLocal, PartsRecord};
-ghost use Rattle.desk_laws.specs.TableLaws.{TablesAreSwept, EntryHasEffect, EntriesHaveEffects, PicturesGrow, TablesHaveNoFaults, TablesSayWhatMayFollow, LegalGrows};
+ghost use Rattle.desk_laws.specs.LegalLaws.{OnlyGivenAreNamed, ReportedOnce, ProvedByReports, KeysDiffer, NumbersFitCounters};
+ghost use Rattle.desk_laws.specs.LegalLaws.{CountersFitNumbers, TermsAreInLimits, AllEndInTime, KeysAreFormed, NamesAreFormed};
+ghost use Rattle.desk_laws.specs.LegalLaws.{TextsAreUtf8};
+ghost use Rattle.desk_laws.specs.PartLaws.{FindsAreLocal, FiltersAreLocal, MayFollowIsLocal, PartsAreSwept, PartsHaveEffect};
+ghost use Rattle.desk_laws.specs.PartLaws.{PartsHaveEffects, SweepChangesAreLocal, ChangesAreLocal, PartsRecord};
+ghost use Rattle.desk_laws.specs.TableLaws.{TablesAreSwept, EntryHasEffect, EntriesHaveEffects, PicturesGrow, TablesHaveNoFaults};
+ghost use Rattle.desk_laws.specs.TableLaws.{TablesSayWhatMayFollow, LegalGrows};
 
 /// The tables of a history change as `swept` says by the passing of time, and as `effect` says by each entry.
 pub fn tables_follow_facts()

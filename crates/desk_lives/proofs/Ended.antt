@@ -17,7 +17,10 @@ use Rattle.desk_model.specs.declared.rows.ChallengeRow.{ChallengeRow}
 use Rattle.desk_model.specs.declared.rows.AuthorizationRow.{AuthorizationRow}
 use Rattle.desk_model.specs.declared.rows.OrderRow.{OrderRow}
 use Rattle.desk_model.specs.Derived.{restated_authorization, restated_order, numbers_of}
-use Rattle.desk_model.specs.Effect.{authorizations_after, effect, falls, has_row, is_live_order, is_overdue, lists_one, moved_account, moved_authorization, moved_order, noted_account, noted_authorization, noted_challenge, noted_order, swept, swept_authorization, swept_order, touches_account, touches_authorization, touches_order}
+use Rattle.desk_model.specs.Effect.{authorizations_after, effect, falls, has_row, is_live_order, is_overdue, lists_one}
+use Rattle.desk_model.specs.Effect.{moved_account, moved_authorization, moved_order, noted_account, noted_authorization}
+use Rattle.desk_model.specs.Effect.{noted_challenge, noted_order, swept, swept_authorization, swept_order, touches_account}
+use Rattle.desk_model.specs.Effect.{touches_authorization, touches_order}
 use Rattle.desk_model.specs.Life.{history, is_final_account, is_final_challenge, is_final_order, challenge_in_rows, challenge_on, EndedRowsStay, EndedStays}
 use Rattle.desk_model.specs.declared.status.AuthzStatus.{AuthzStatus}
 use Rattle.desk_model.specs.declared.status.AuthzStatus.TheVariants as authz

@@ -46,21 +46,24 @@ unnamed T (finalized k csr) n row may found ended = by (k == row.number) refl
   where
     by : (b : Bool) → (k == row.number) ≡ b → b ≡ false
     by true e =
-        absurd (shut (λ (o : OrderRow). o.number) (λ o. is_ready o.status) (λ o. is_final_order o.status) (λ o. ready_lasts o.status) T.orders k n row found ended
+        absurd (shut (λ (o : OrderRow). o.number) (λ o. is_ready o.status) (λ o. is_final_order o.status)
+        (λ o. ready_lasts o.status) T.orders k n row found ended
         e (and_parts _ _ may).0)
     by false e = refl
 unnamed T (certified k bytes) n row may found ended = by (k == row.number) refl
   where
     by : (b : Bool) → (k == row.number) ≡ b → b ≡ false
     by true e =
-        absurd (shut (λ (o : OrderRow). o.number) (λ o. is_processing o.status) (λ o. is_final_order o.status) (λ o. processing_lasts o.status) T.orders k n row found
+        absurd (shut (λ (o : OrderRow). o.number) (λ o. is_processing o.status) (λ o. is_final_order o.status)
+        (λ o. processing_lasts o.status) T.orders k n row found
         ended e (and_parts _ _ may).0)
     by false e = refl
 unnamed T (failed k problem) n row may found ended = by (k == row.number) refl
   where
     by : (b : Bool) → (k == row.number) ≡ b → b ≡ false
     by true e =
-        absurd (shut (λ (o : OrderRow). o.number) (λ o. is_processing o.status) (λ o. is_final_order o.status) (λ o. processing_lasts o.status) T.orders k n row found
+        absurd (shut (λ (o : OrderRow). o.number) (λ o. is_processing o.status) (λ o. is_final_order o.status)
+        (λ o. processing_lasts o.status) T.orders k n row found
         ended e (and_parts _ _ may).0)
     by false e = refl
 unnamed T _ n row may found ended = refl

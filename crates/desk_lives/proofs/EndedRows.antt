@@ -6,7 +6,9 @@ use Rattle.std.proofs.lemmas.Bool.{eqb-true, and_parts, leb-true, ltb-true}
 use Rattle.desk_model.specs.Lookup.{holds}
 use Rattle.desk_model.specs.declared.entry.Entry.{Entry}
 use Rattle.desk_model.specs.declared.entry.Ending.{Ending}
-use Rattle.desk_model.specs.declared.entry.Entry.TheVariants.{ContactsChanged as contacts_changed, AccountEnded as account_ended, Answered as answered, Reported as reported, AuthorizationEnded as authorization_ended}
+use Rattle.desk_model.specs.declared.entry.Entry.TheVariants.{ContactsChanged as contacts_changed, AccountEnded as account_ended}
+use Rattle.desk_model.specs.declared.entry.Entry.TheVariants.{Answered as answered, Reported as reported}
+use Rattle.desk_model.specs.declared.entry.Entry.TheVariants.{AuthorizationEnded as authorization_ended}
 use Rattle.desk_model.specs.History.{earlier}
 use Rattle.desk_model.specs.Account.{is_valid as is_valid_account}
 use Rattle.desk_model.specs.Authorization.{authorization_status_by, in_time, is_over, is_pending, is_valid, kind_of}
@@ -19,7 +21,8 @@ use Rattle.desk_model.specs.declared.rows.AccountRow.{AccountRow}
 use Rattle.desk_model.specs.declared.rows.ChallengeRow.{ChallengeRow}
 use Rattle.desk_model.specs.declared.rows.AuthorizationRow.{AuthorizationRow}
 use Rattle.desk_model.specs.Derived.{derived_authorization, derived_order, is_proved, restated_authorization}
-use Rattle.desk_model.specs.Effect.{answered_challenge, has_row, moved_account, moved_authorization, noted_account, noted_authorization, noted_challenge, reported_challenge, row_ends}
+use Rattle.desk_model.specs.Effect.{answered_challenge, has_row, moved_account, moved_authorization, noted_account}
+use Rattle.desk_model.specs.Effect.{noted_authorization, noted_challenge, reported_challenge, row_ends}
 use Rattle.desk_model.specs.Life.{is_final_account, is_final_challenge}
 use Rattle.desk_model.specs.Kept.{EachOf}
 use Rattle.desk_model.specs.declared.status.AccountStatus.{AccountStatus}
@@ -65,14 +68,16 @@ account_stays T (contacts_changed k cs) m n row may found ended = by (k == row.n
   where
     by : (b : Bool) → (k == row.number) ≡ b → cond b (noted_account (contacts_changed k cs) m row) row ≡ row
     by true e =
-        absurd (shut (λ (a : AccountRow). a.number) (λ a. is_valid_account a.status) (λ a. is_final_account a.status) (λ a. valid_lasts a.status) T.accounts k n row found
+        absurd (shut (λ (a : AccountRow). a.number) (λ a. is_valid_account a.status) (λ a. is_final_account a.status)
+        (λ a. valid_lasts a.status) T.accounts k n row found
         ended e (and_parts _ _ may).0)
     by false e = refl
 account_stays T (account_ended k s) m n row may found ended = by (k == row.number) refl
   where
     by : (b : Bool) → (k == row.number) ≡ b → cond b (noted_account (account_ended k s) m row) row ≡ row
     by true e =
-        absurd (shut (λ (a : AccountRow). a.number) (λ a. is_valid_account a.status) (λ a. is_final_account a.status) (λ a. valid_lasts a.status) T.accounts k n row found
+        absurd (shut (λ (a : AccountRow). a.number) (λ a. is_valid_account a.status) (λ a. is_final_account a.status)
+        (λ a. valid_lasts a.status) T.accounts k n row found
         ended e may)
     by false e = refl
 account_stays T _ m n row may found ended = refl
@@ -152,7 +157,8 @@ authorization_stays T (authorization_ended k s) m n row stated may found ended =
   where
     by : (b : Bool) → (k == row.number) ≡ b → cond b (restated_authorization m (noted_authorization (authorization_ended k s) m row)) row ≡ row
     by true e =
-        absurd (shut (λ (a : AuthorizationRow). a.number) (λ a. is_pending a.status || is_valid a.status) (λ a. is_over a.status) (λ a. live_lasts a.status) T.authorizations
+        absurd (shut (λ (a : AuthorizationRow). a.number) (λ a. is_pending a.status || is_valid a.status) (λ a. is_over a.status)
+        (λ a. live_lasts a.status) T.authorizations
         k n row found ended e may)
     by false e = refl
 authorization_stays T (account_ended k s) m n row stated may found ended = by (k == row.account)

@@ -5,7 +5,8 @@ use Rattle.desk_model.specs.declared.entry.Entry.{Entry}
 use Rattle.desk_model.specs.declared.entry.Dated.{Dated}
 use Rattle.desk_model.specs.History.{record_all, moment_of, first, earlier}
 use Rattle.desk_model.specs.Decide.{decide, after}
-use Rattle.desk_model.specs.Life.{Event, Replied, Faulted, Stopped, Reopened, history, kept_calls, made_by, IsLife, HistoriesAreLegal, HistoriesAreOfCalls, AcknowledgedStays, RepliesAreDecided}
+use Rattle.desk_model.specs.Life.{Event, Replied, Faulted, Stopped, Reopened, history, kept_calls, made_by, IsLife}
+use Rattle.desk_model.specs.Life.{HistoriesAreLegal, HistoriesAreOfCalls, AcknowledgedStays, RepliesAreDecided}
 use Rattle.desk_model.specs.declared.call.Call.{Call}
 use Rattle.desk_laws.proofs.Basics.{earlier-some}
 use Rattle.desk_lives.proofs.SoundCalls.{legal_after}

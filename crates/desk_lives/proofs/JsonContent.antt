@@ -1,12 +1,14 @@
 -- What a string of a UTF-8 text stands for is UTF-8 (RFC 8259, 7).
-use Rattle.std.proofs.Common.{◌≡◌, ℕ, zero, suc, ◌+◌, ◌*◌, ◌<◌, ◌≤◌, List, [], ◌∷◌, ◌++◌, length, Option, Some, None, IsUtf8, IfSome, refl, sym, subst, Bool, true, false, cond, arith, append-nil, append_assoc, encode_utf8}
+use Rattle.std.proofs.Common.{◌≡◌, ℕ, zero, suc, ◌+◌, ◌*◌, ◌<◌, ◌≤◌, List, [], ◌∷◌, ◌++◌, length, Option, Some, None, IsUtf8}
+use Rattle.std.proofs.Common.{IfSome, refl, sym, subst, Bool, true, false, cond, arith, append-nil, append_assoc, encode_utf8}
 use Rattle.std.specs.Prelude.{◌==◌, ◌&&◌, ◌||◌, nat_lt, option_and_then}
 use Rattle.std.specs.Char.{IsScalar, digit_value, is_digit}
 use Rattle.std.proofs.lemmas.Bool.Decides.{nat_tests}
 use Rattle.std.proofs.lemmas.Bool.{and_parts, eqb-true, ltb-true, lt-ltb}
 use Rattle.std.proofs.lemmas.Str.{IsUtf8-append, IsUtf8-encode}
 use Rattle.desk_laws.proofs.AsciiTexts.{ascii_text, parted}
-use Rattle.json.specs.Text.{content, plain, after_backslash, after_u, after_high, code_unit, short_escape, is_high_surrogate, is_low_surrogate, surrogate_pair, prepend}
+use Rattle.json.specs.Text.{content, plain, after_backslash, after_u, after_high, code_unit, short_escape, is_high_surrogate}
+use Rattle.json.specs.Text.{is_low_surrogate, surrogate_pair, prepend}
 
 -- what follows an ASCII byte is a text
 after_ascii : (b : ℕ) (rest : List ℕ) → IsUtf8 (b ∷ rest) → b < 128 → IsUtf8 rest
@@ -42,7 +44,9 @@ unfolding short_escape
 short_ascii x = by ((x == 34) || (x == 92) || (x == 47)) refl
   where
     by : (b : Bool) → ((x == 34) || (x == 92) || (x == 47)) ≡ b →
-        IfSome (cond b (Some x) (cond (x == 98) (Some 8) (cond (x == 102) (Some 12) (cond (x == 110) (Some 10) (cond (x == 114) (Some 13) (cond (x == 116) (Some 9) None))))))
+        IfSome (cond b (Some x)
+        (cond (x == 98) (Some 8)
+        (cond (x == 102) (Some 12) (cond (x == 110) (Some 10) (cond (x == 114) (Some 13) (cond (x == 116) (Some 9) None))))))
         (λ c. (x < 128) × (c < 128))
     by true is = let low : x < 128 = grind (arith, nat_tests) in (low, low)
     by false is =

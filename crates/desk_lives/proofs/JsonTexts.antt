@@ -1,5 +1,6 @@
 -- The strings of a value that is read in a UTF-8 text are UTF-8.
-use Rattle.std.proofs.Common.{ℕ, zero, suc, List, [], ◌∷◌, length, Option, Some, None, option_map, option_and_then, IsUtf8, IfSome, Ordering, Less, Equal, Greater}
+use Rattle.std.proofs.Common.{ℕ, zero, suc, List, [], ◌∷◌, length, Option, Some, None, option_map, option_and_then, IsUtf8}
+use Rattle.std.proofs.Common.{IfSome, Ordering, Less, Equal, Greater}
 use Rattle.std.specs.Ordering.{match_ordering}
 use Rattle.desk_model.specs.Kept.{EachOf}
 use Rattle.json.specs.Token.{Token}

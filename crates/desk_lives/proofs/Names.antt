@@ -1,5 +1,6 @@
 -- The names and tokens of a new order.
-use Rattle.std.proofs.Common.{◌≡◌, ◌≤◌, ◌*◌, ℕ, suc, zero, List, [], ◌∷◌, length, take, drop, map, Option, Some, None, refl, sym, ap, ◌∙◌, Bool, true, false, cond, not, arith, length-take, length-drop}
+use Rattle.std.proofs.Common.{◌≡◌, ◌≤◌, ◌*◌, ℕ, suc, zero, List, [], ◌∷◌, length, take, drop, map, Option, Some, None, refl, sym}
+use Rattle.std.proofs.Common.{ap, ◌∙◌, Bool, true, false, cond, not, arith, length-take, length-drop}
 use Rattle.std.specs.Prelude.{◌&&◌, ◌||◌, ◌==◌, nat_eq, is_none, codes, option_and_then, if◌then◌else◌}
 use Rattle.std.specs.List.{filter, list_any, list_all, starts_with}
 use Rattle.std.proofs.lemmas.Bool.{eq-eqb, and_from, and_parts, leb-true, le-leb}
@@ -67,7 +68,8 @@ identifier_named : (i : Identifier) → fault_of i ≡ None → (name : Name) ×
 identifier_named i h = by (is_dns i) (name_of i.value) h
   where
     by : (b : Bool) (o : Option Name) →
-        cond {A = Option Refusal} b (cond {A = Option Refusal} (is_none o) (Some refusal.RejectedIdentifier) None) (Some refusal.UnsupportedIdentifier) ≡ None → (name : Name) × (o ≡ Some name)
+        cond {A = Option Refusal} b (cond {A = Option Refusal} (is_none o) (Some refusal.RejectedIdentifier) None)
+        (Some refusal.UnsupportedIdentifier) ≡ None → (name : Name) × (o ≡ Some name)
     by true (Some name) k = (name, refl)
     by true None k = cc
     by false o k = cc

@@ -6,7 +6,8 @@ use Rattle.serde_json.specs.Data.{Data, null, boolean, number, string, array, ob
 use Rattle.serde_json.specs.Find.{as_array, as_bool, as_str, get, get_member}
 use Rattle.serde_json.specs.Read.{read}
 use Rattle.desk_model.specs.Texts.{AreTexts}
-use Rattle.desk_model.specs.Payload.{account_change, account_change_in, and_each, each_in, if_object, is_object, new_account, new_account_by, new_account_in, object_in, optional, says_deactivated, texts_in}
+use Rattle.desk_model.specs.Payload.{account_change, account_change_in, and_each, each_in, if_object, is_object, new_account}
+use Rattle.desk_model.specs.Payload.{new_account_by, new_account_in, object_in, optional, says_deactivated, texts_in}
 use Rattle.desk_model.specs.declared.payload.AccountChange.{AccountChange}
 use Rattle.desk_model.specs.declared.payload.AccountChange.TheVariants as change
 use Rattle.desk_model.specs.declared.payload.NewAccount.{NewAccount}

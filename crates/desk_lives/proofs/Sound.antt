@@ -40,7 +40,11 @@ use Rattle.desk_model.specs.Verdict.{check, given, unless_fault, choose}
 use Rattle.desk_model.specs.declared.verdict.Verdict.TheVariants.{Answers as answers, Opens as opens, Orders as orders, Moves as moves, Refused as refused}
 use Rattle.desk_model.specs.declared.verdict.Verdict.{Verdict}
 use Rattle.desk_model.specs.declared.verdict.Shows.{Shows}
-use Rattle.desk_model.specs.Rules.{open_account, new_account_verdict, account_verdict, order_of, new_order_verdict, subproblems, if_fits, csr_in, finalize_verdict, authorization_verdict, stands_open, challenge_verdict, own, target_verdict, holder_verdict, key_verdict, signed_verdict, if_spelled, open_nonce_in, open_nonce, outcome_verdict, report_verdict, certify_verdict, fail_verdict, revoke_authorization, revoke_account, office_verdict}
+use Rattle.desk_model.specs.Rules.{open_account, new_account_verdict, account_verdict, order_of, new_order_verdict, subproblems}
+use Rattle.desk_model.specs.Rules.{if_fits, csr_in, finalize_verdict, authorization_verdict, stands_open, challenge_verdict, own}
+use Rattle.desk_model.specs.Rules.{target_verdict, holder_verdict, key_verdict, signed_verdict, if_spelled, open_nonce_in}
+use Rattle.desk_model.specs.Rules.{open_nonce, outcome_verdict, report_verdict, certify_verdict, fail_verdict}
+use Rattle.desk_model.specs.Rules.{revoke_authorization, revoke_account, office_verdict}
 use Rattle.desk_model.specs.declared.reply.Subproblem.{Subproblem}
 use Rattle.desk_model.specs.declared.call.OfficeAsk.{OfficeAsk}
 use Rattle.desk_model.specs.declared.call.OfficeAsk.TheVariants as office
@@ -82,7 +86,8 @@ none_sound : {r : List ℕ} {T : Tables} (what : Shows) → IsSound r T (answers
 none_sound what = record { records = tt }
 
 -- a move that may follow
-move_sound : {r : List ℕ} {T : Tables} (move : Move) → IsLater (entry_of move) → IsFormed (entry_of move) → may_on T (entry_of move) ≡ true → IsSound r T (moves move)
+move_sound : {r : List ℕ} {T : Tables} (move : Move) → IsLater (entry_of move) → IsFormed (entry_of move) → may_on T (entry_of move) ≡ true
+    → IsSound r T (moves move)
 move_sound move later formed may = record { records = record { later = later; formed = formed; allowed = may } }
 
 -- a refusal
@@ -120,7 +125,8 @@ open_sound r T key p formed texts unknown =
 new_account_sound : (r : List ℕ) (T : Tables) (key : List ℕ) (o : Option AccountRow) (p : Option NewAccount) → IsKeyText key →
     IfSome p AsksWithTexts → account_with_key T key ≡ o →
     IsSound r T (new_account_verdict key o p)
-new_account_sound r T key (Some a) p formed texts is = check_sound r T _ refusal.Unauthorized _ (λ _. given_sound r T p refusal.Malformed _ (λ _ _. none_sound _))
+new_account_sound r T key (Some a) p formed texts is = check_sound r T _ refusal.Unauthorized _
+    (λ _. given_sound r T p refusal.Malformed _ (λ _ _. none_sound _))
 new_account_sound r T key None p formed texts is =
     given_sound r T p refusal.Malformed _ (λ x asked. open_sound r T key x formed (subst (λ o. IfSome o AsksWithTexts) asked texts) is)
 
@@ -227,7 +233,8 @@ key_number T key a in_order found =
 -- a request of a key that has an account
 holder_sound : (r : List ℕ) (T : Tables) (key p : List ℕ) (t : Target) → IsOrdered T → IsUtf8 p → IsSound r T (holder_verdict T r p t (account_with_key T key))
 holder_sound r T key p t in_order text =
-    given_sound r T _ refusal.AccountDoesNotExist _ (λ a is. check_sound r T _ refusal.Unauthorized _ (λ valid. target_sound r T a.number a p t text (key_number T key a in_order is) valid))
+    given_sound r T _ refusal.AccountDoesNotExist _
+    (λ a is. check_sound r T _ refusal.Unauthorized _ (λ valid. target_sound r T a.number a p t text (key_number T key a in_order is) valid))
 
 -- a request of a key
 key_sound : (r : List ℕ) (T : Tables) (key p : List ℕ) (t : Target) → IsOrdered T → IsKeyText key → IsUtf8 p → IsSound r T (key_verdict T r key p t)
@@ -247,7 +254,8 @@ signed_sound r T s in_order formed = by s.key formed.key
 -- ---- the other asks
 
 -- a report on a challenge that waits for it
-outcome_sound : (r : List ℕ) (T : Tables) (n : ℕ) (a : AuthorizationRow) (c : ChallengeRow) (outcome : Outcome) → owner_on T n ≡ Some a → challenge_of n a ≡ Some c →
+outcome_sound : (r : List ℕ) (T : Tables) (n : ℕ) (a : AuthorizationRow) (c : ChallengeRow) (outcome : Outcome) → owner_on T n ≡ Some a
+    → challenge_of n a ≡ Some c →
     IsSound r T (outcome_verdict n a.status c outcome)
 outcome_sound r T n a c outcome found own =
     choose_sound r T _ _ _ (λ _. none_sound _)
@@ -256,7 +264,8 @@ outcome_sound r T n a c outcome found own =
 -- a report
 report_sound : (r : List ℕ) (T : Tables) (n : ℕ) (finding : Finding) → IsSound r T (report_verdict T n finding)
 report_sound r T n finding =
-    given_sound r T _ refusal.NotFound _ (λ a is. given_sound r T _ refusal.NotFound _ (λ c own. given_sound r T _ refusal.Malformed _ (λ o _. outcome_sound r T n a c o is own)))
+    given_sound r T _ refusal.NotFound _ (λ a is. given_sound r T _ refusal.NotFound _
+    (λ c own. given_sound r T _ refusal.Malformed _ (λ o _. outcome_sound r T n a c o is own)))
 
 -- a certificate
 certify_sound : (r : List ℕ) (T : Tables) (n : ℕ) (bytes : List ℕ) (o : OrderRow) → order_on T n ≡ Some o → IsSound r T (certify_verdict n bytes o)

@@ -1,5 +1,6 @@
 -- What a call records may follow the history, and keeps it legal.
-use Rattle.std.proofs.Common.{◌≡◌, ◌≤◌, ◌*◌, ℕ, List, [], ◌∷◌, length, take, drop, Option, Some, None, refl, Bool, true, false, cond, not, arith, length-take, length-drop}
+use Rattle.std.proofs.Common.{◌≡◌, ◌≤◌, ◌*◌, ℕ, List, [], ◌∷◌, length, take, drop, Option, Some, None, refl, Bool, true, false}
+use Rattle.std.proofs.Common.{cond, not, arith, length-take, length-drop}
 use Rattle.std.specs.Prelude.{IsTrue, nat_lt}
 use Rattle.std.proofs.lemmas.Bool.{eq-eqb, ltb-false}
 use Rattle.desk_model.specs.Entry.{History, entry_of}
@@ -13,7 +14,8 @@ use Rattle.desk_model.specs.Limits.{last_moment}
 use Rattle.desk_model.specs.declared.verdict.Verdict.{Verdict}
 use Rattle.desk_model.specs.declared.verdict.Verdict.TheVariants.{Refused as refused, Answers as answers, Opens as opens, Orders as orders, Moves as moves}
 use Rattle.desk_model.specs.Rules.{office_verdict, open_nonce}
-use Rattle.desk_model.specs.Decide.{Decision, entries_of, nonce_entries, signed_decision, office_decision, passed_decision, tables_after, decide, decide_at, after}
+use Rattle.desk_model.specs.Decide.{Decision, entries_of, nonce_entries, signed_decision, office_decision, passed_decision}
+use Rattle.desk_model.specs.Decide.{tables_after, decide, decide_at, after}
 use Rattle.desk_model.specs.Run.{fault, count_pieces, IsFormedAsk, IsFormedOfficeAsk, IsFormedCall, IsFormedSigned}
 use Rattle.desk_model.specs.declared.call.Call.{Call}
 use Rattle.desk_model.specs.declared.call.Ask.{Ask}

@@ -12,7 +12,8 @@ check_keeps P true n v r h = h refl
 check_keeps P false n v r h = r
 
 -- a value that is there
-pub given_keeps : {X : Type 0} (P : Verdict → Type 0) (o : Option X) (n : Refusal) (f : X → Verdict) → P (refused n []) → ((x : X) → o ≡ Some x → P (f x)) → P (given o n f)
+pub given_keeps : {X : Type 0} (P : Verdict → Type 0) (o : Option X) (n : Refusal) (f : X → Verdict) → P (refused n [])
+    → ((x : X) → o ≡ Some x → P (f x)) → P (given o n f)
 unfolding given
 given_keeps P None n f r h = r
 given_keeps P (Some x) n f r h = h x refl

@@ -17,7 +17,8 @@ use Rattle.desk_laws.specs.Distinct.{Distinct}
 use Rattle.desk_laws.proofs.Basics.{each, each_both, each-append, list_any-map}
 use Rattle.desk_laws.proofs.Recorded.{below_filter}
 use Rattle.desk_laws.proofs.RowLists.{ascends_filter}
-use Rattle.desk_model.specs.Touched.{is_first_authorization, is_named_account, is_touched_account, is_touched_authorization, is_touched_nonce, is_touched_order, lists, only_meta, touched, touched_at, touched_rows}
+use Rattle.desk_model.specs.Touched.{is_first_authorization, is_named_account, is_touched_account, is_touched_authorization}
+use Rattle.desk_model.specs.Touched.{is_touched_nonce, is_touched_order, lists, only_meta, touched, touched_at, touched_rows}
 use Rattle.desk_parts.proofs.Lists.{each_member, filtered_each, found_passes, or_right, turned}
 
 -- ---- lists
@@ -111,10 +112,12 @@ rows_refer T m a h =
           or_right (is_named_account a x) _ (or_left_of _ _ (p.1 (λ y. is_touched_order T m a y && (y.account == x.number)) (and_from _ _ yes same)))))
           (each_both _ _ T.orders h.orders (each_member T.orders)));
       listed = filtered_each _ (is_touched_order T m a) T.orders
-          (each _ _ T.orders (λ o p yes. each _ _ o.listed (λ l q. some_filter (λ r. r.number == l.authorization) (is_touched_authorization T m a) T.authorizations q.0
+          (each _ _ T.orders
+          (λ o p yes. each _ _ o.listed (λ l q. some_filter (λ r. r.number == l.authorization) (is_touched_authorization T m a) T.authorizations q.0
           (λ r found. or_right (is_first_authorization T m a r) _ (p.1 (λ y. is_touched_order T m a y && lists y r.number)
           (and_from _ _ yes (list_any-map (λ j. j == r.number) (λ (k : Listed). k.authorization) o.listed
-          ∙ q.1 (λ k. k.authorization == r.number) (turned r.number l.authorization (found_passes (λ y. y.number == l.authorization) T.authorizations r found)))))))
+          ∙ q.1 (λ k. k.authorization == r.number)
+          (turned r.number l.authorization (found_passes (λ y. y.number == l.authorization) T.authorizations r found)))))))
           (each_both _ _ o.listed p.0 (each_member o.listed)))
           (each_both _ _ T.orders h.listed (each_member T.orders)));
     }
@@ -140,7 +143,8 @@ rows_book T m a b =
         counters = record {
           nonces = below_filter (λ n. n.serial) (is_touched_nonce T m a) (T.meta.counters.nonces + 1) T.nonces b.sound.counters.nonces;
           accounts = below_filter (λ a. a.number) (is_touched_account T m a) (T.meta.counters.accounts + 1) T.accounts b.sound.counters.accounts;
-          authorizations = below_filter (λ a. a.number) (is_touched_authorization T m a) (T.meta.counters.authorizations + 1) T.authorizations b.sound.counters.authorizations;
+          authorizations = below_filter (λ a. a.number) (is_touched_authorization T m a) (T.meta.counters.authorizations + 1)
+              T.authorizations b.sound.counters.authorizations;
           challenges = filtered_each _ (is_touched_authorization T m a) T.authorizations (each _ _ T.authorizations (λ r f yes. f) b.sound.counters.challenges);
           orders = below_filter (λ o. o.number) (is_touched_order T m a) (T.meta.counters.orders + 1) T.orders b.sound.counters.orders;
         };

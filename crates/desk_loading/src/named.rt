@@ -1,7 +1,11 @@
 //! What an ask names, by numbers.
 ghost use Rattle.std.specs.Prelude.{◌≡◌, ◌∷◌, [], IfOk};
 ghost use Rattle.desk_model.specs.Tokens.{nonce_in};
-ghost use Rattle.desk_parts.specs.Loaded.{account_numbers as account_numbers_of, authorization_numbers as authorization_numbers_of, challenge_numbers as challenge_numbers_of, of_text, order_numbers as order_numbers_of, serials as serials_of, target_accounts, target_authorization_numbers, target_challenge_numbers, target_order_numbers};
+ghost use Rattle.desk_parts.specs.Loaded.{account_numbers as account_numbers_of};
+ghost use Rattle.desk_parts.specs.Loaded.{authorization_numbers as authorization_numbers_of};
+ghost use Rattle.desk_parts.specs.Loaded.{challenge_numbers as challenge_numbers_of, of_text, order_numbers as order_numbers_of};
+ghost use Rattle.desk_parts.specs.Loaded.{serials as serials_of, target_accounts, target_authorization_numbers};
+ghost use Rattle.desk_parts.specs.Loaded.{target_challenge_numbers, target_order_numbers};
 ghost use Rattle.desk_model.specs.Asked.{asks_authorizations as asks_authorizations_of, asks_orders as asks_orders_of};
 
 use desk_model::{Ask, OfficeAsk, Target};

@@ -2,7 +2,9 @@
 ghost use Rattle.std.specs.Prelude.{◌≡◌, ◌++◌, List, IfOk, OnOk};
 ghost use Rattle.std.specs.List.{flat_map};
 ghost use Rattle.desk_laws.specs.Ordered.{IsOrdered};
-ghost use Rattle.desk_parts.specs.Loaded.{accounts_once, all_put, authorizations_once, first_authorizations, found_authorizations, found_orders, keys as keys_of, loaded_rows, named_accounts, named_orders, own_authorizations, own_orders, orders_once, past_orders};
+ghost use Rattle.desk_parts.specs.Loaded.{accounts_once, all_put, authorizations_once, first_authorizations};
+ghost use Rattle.desk_parts.specs.Loaded.{found_authorizations, found_orders, keys as keys_of, loaded_rows, named_accounts};
+ghost use Rattle.desk_parts.specs.Loaded.{named_orders, own_authorizations, own_orders, orders_once, past_orders};
 ghost use Rattle.desk_parts.specs.LookUps.{accounts_numbered, accounts_with_key};
 ghost use Rattle.desk_storage.specs.Sight.{ForTables, Reads};
 

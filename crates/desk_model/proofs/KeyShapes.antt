@@ -13,7 +13,9 @@ two_whole head between text h =
 one_whole : (head text : List ℕ) (h : HasOneNumber head text) → text ≡ head ++ (h.2.0 ++ 34 ∷ codes "}")
 one_whole head text h = h.1 ∙ ap (λ l. head ++ l) h.2.2
 
-ec_text : (curve text : List ℕ) → IsCurve curve → (h : HasTwoNumbers (ec_head curve) (codes ",\"y\":\"") text) → (ec_head curve ++ (h.2.1.0 ++ 34 ∷ (codes ",\"y\":\"" ++ (h.2.2.2.0 ++ 34 ∷ codes "}"))) ≡ canonical_text (ec curve h.2.1.0 h.2.2.2.0)) → IsKeyText text
+ec_text : (curve text : List ℕ) → IsCurve curve → (h : HasTwoNumbers (ec_head curve) (codes ",\"y\":\"") text)
+    → (ec_head curve ++ (h.2.1.0 ++ 34 ∷ (codes ",\"y\":\"" ++ (h.2.2.2.0 ++ 34 ∷ codes "}")))
+    ≡ canonical_text (ec curve h.2.1.0 h.2.2.2.0)) → IsKeyText text
 ec_text curve text on h whole = record {
   key = ec curve h.2.1.0 h.2.2.2.0;
   formed = (on, h.2.1.1, h.2.2.2.1);
@@ -41,11 +43,15 @@ key_of_shape text (inr (inr h)) = record {
 }
 
 -- two numbers behind a head, from their texts
-two_numbers : (head between text x y : List ℕ) → IsTrue (is_number_text x) → IsTrue (is_number_text y) → text ≡ head ++ (x ++ 34 ∷ (between ++ (y ++ 34 ∷ codes "}"))) → HasTwoNumbers head between text
-two_numbers head between text x y p q e = (x ++ 34 ∷ (between ++ (y ++ 34 ∷ codes "}")), e, (between ++ (y ++ 34 ∷ codes "}"), (x, p, refl), (y ++ 34 ∷ codes "}", refl, (y, q, refl))))
+two_numbers : (head between text x y : List ℕ) → IsTrue (is_number_text x) → IsTrue (is_number_text y)
+    → text ≡ head ++ (x ++ 34 ∷ (between ++ (y ++ 34 ∷ codes "}"))) → HasTwoNumbers head between text
+two_numbers head between text x y p q e =
+    (x ++ 34 ∷ (between ++ (y ++ 34 ∷ codes "}")), e, (between ++ (y ++ 34 ∷ codes "}"), (x, p, refl), (y ++ 34 ∷ codes "}", refl, (y, q, refl))))
 
 -- the canonical text of a key on this curve has the curve's shape
-ec_shape : (curve text crv x y : List ℕ) → crv ≡ curve → IsTrue (is_number_text x) → IsTrue (is_number_text y) → text ≡ canonical_text (ec crv x y) → (canonical_text (ec curve x y) ≡ ec_head curve ++ (x ++ 34 ∷ (codes ",\"y\":\"" ++ (y ++ 34 ∷ codes "}")))) → HasTwoNumbers (ec_head curve) (codes ",\"y\":\"") text
+ec_shape : (curve text crv x y : List ℕ) → crv ≡ curve → IsTrue (is_number_text x) → IsTrue (is_number_text y)
+    → text ≡ canonical_text (ec crv x y) → (canonical_text (ec curve x y)
+    ≡ ec_head curve ++ (x ++ 34 ∷ (codes ",\"y\":\"" ++ (y ++ 34 ∷ codes "}")))) → HasTwoNumbers (ec_head curve) (codes ",\"y\":\"") text
 ec_shape curve text crv x y on p q e whole = two_numbers (ec_head curve) (codes ",\"y\":\"") text x y p q (e ∙ ap (λ l. canonical_text (ec l x y)) on ∙ whole)
 
 -- the canonical text of a key is of one of the shapes

@@ -34,7 +34,8 @@ same_front (x ∷ xs) [] r s p q e =
 same_front (x ∷ xs) (y ∷ ys) r s p q e =
     let h : x ≡ y = cc e in
     let t : xs ++ 34 ∷ r ≡ ys ++ 34 ∷ s = cc e in
-    let rest = same_front xs ys r s (and-second (is_base64url_byte x) (list_all is_base64url_byte xs) p) (and-second (is_base64url_byte y) (list_all is_base64url_byte ys) q) t in
+    let rest = same_front xs ys r s (and-second (is_base64url_byte x) (list_all is_base64url_byte xs) p)
+    (and-second (is_base64url_byte y) (list_all is_base64url_byte ys) q) t in
     let u = rest.0 in
     (cc (h, u), rest.1)
 
@@ -66,7 +67,8 @@ no_mark_no_number [] none (x ∷ xs) rest e = absurd (cc e)
 no_mark_no_number (y ∷ ys) none (x ∷ xs) rest e = no_mark_no_number ys (λ i l. none (suc i) (omega arith)) xs rest (cc e)
 
 -- a number in front is the part before the first quotation mark
-pub number_is_first : (text a r n rest : List ℕ) → (text ≡ a ++ 34 ∷ r) × ((i : ℕ) → i < length a → get_or a i 0 ≢ 34) → IsTrue (is_number_text n) → text ≡ n ++ 34 ∷ rest → IsTrue (is_number_text a)
+pub number_is_first : (text a r n rest : List ℕ) → (text ≡ a ++ 34 ∷ r) × ((i : ℕ) → i < length a → get_or a i 0 ≢ 34)
+    → IsTrue (is_number_text n) → text ≡ n ++ 34 ∷ rest → IsTrue (is_number_text a)
 number_is_first text a r n rest m num e =
     let same : a ≡ n = front_without a n r rest m.1 (number_bytes n num) (sym m.0 ∙ e) in
     subst (λ (l : List ℕ). IsTrue (is_number_text l)) (sym same) num

@@ -11,7 +11,9 @@ use Rattle.desk_model.specs.Tables.{AccountRow, AuthorizationRow, ChallengeRow, 
 use Rattle.desk_model.specs.Derived.{account_code, chall_code, authz_code, order_code, restated_authorization, restated_order}
 pub use Rattle.desk_model.specs.declared.rows.Change.{Change}
 pub use Rattle.desk_model.specs.declared.rows.Change.TheVariants.{PutMeta, PutNonce, RemoveNonce, PutAccount, PutAuthorization, PutOrder}
-use Rattle.desk_model.specs.Effect.{noted_account, noted_authorization, noted_order, touches_account, touches_authorization, touches_order, fresh_account, fresh_authorization, fresh_order, new_authorizations, authorizations_after, lasts, is_overdue, falls, effect, effects, swept}
+use Rattle.desk_model.specs.Effect.{noted_account, noted_authorization, noted_order, touches_account, touches_authorization}
+use Rattle.desk_model.specs.Effect.{touches_order, fresh_account, fresh_authorization, fresh_order, new_authorizations}
+use Rattle.desk_model.specs.Effect.{authorizations_after, lasts, is_overdue, falls, effect, effects, swept}
 use Rattle.desk_model.specs.declared.status.OrderStatus.TheVariants as order
 use Rattle.desk_model.specs.declared.status.AuthzStatus.TheVariants as authz
 
@@ -94,7 +96,8 @@ authorizations_put T e m =
 abbrev pub orders_put : Tables → Entry → ℕ → List OrderRow
 orders_put T e m =
     moved_rows (touches_order e T.authorizations) order_differs (λ r. restated_order m (authorizations_after T e m) (noted_order e m r)) T.orders
-    ++ map (λ o. restated_order m (authorizations_after T e m) (fresh_order o)) (ordered_by e m T.meta.policy (new_authorizations T e m) (T.meta.counters.orders + 1))
+    ++ map (λ o. restated_order m (authorizations_after T e m) (fresh_order o))
+    (ordered_by e m T.meta.policy (new_authorizations T e m) (T.meta.counters.orders + 1))
 
 -- all of them, and the nonce that is removed
 abbrev pub changes : ℕ → Tables → Entry → List Change

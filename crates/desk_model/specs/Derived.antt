@@ -100,7 +100,8 @@ abbrev pub order_faults : ℕ → List AuthorizationRow → OrderRow → List St
 order_faults t rows row = unless (order_code row.status == order_code (derived_order t rows row)) (fault.Order row.number row.status (derived_order t rows row))
 
 abbrev pub authorization_faults : ℕ → AuthorizationRow → List StatusFault
-authorization_faults t row = unless (authz_code row.status == authz_code (derived_authorization t row)) (fault.Authz row.number row.status (derived_authorization t row))
+authorization_faults t row = unless (authz_code row.status == authz_code (derived_authorization t row))
+    (fault.Authz row.number row.status (derived_authorization t row))
 
 abbrev pub challenge_faults : ChallengeRow → List StatusFault
 challenge_faults row = unless (chall_code row.status == chall_code (derived_challenge row)) (fault.Chall row.number row.status (derived_challenge row))

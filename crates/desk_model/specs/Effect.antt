@@ -1,13 +1,16 @@
 -- What an entry, and what the passing of time, does to the rows.
-use Rattle.std.specs.Prelude.{ℕ, ◌+◌, List, [], ◌∷◌, ◌++◌, length, map, Bool, true, false, not, cond, ◌&&◌, ◌||◌, ◌==◌, nat_lt, nat_le, Option, Some, None, unwrap_or, if◌then◌else◌}
+use Rattle.std.specs.Prelude.{ℕ, ◌+◌, List, [], ◌∷◌, ◌++◌, length, map, Bool, true, false, not, cond, ◌&&◌, ◌||◌, ◌==◌, nat_lt}
+use Rattle.std.specs.Prelude.{nat_le, Option, Some, None, unwrap_or, if◌then◌else◌}
 use Rattle.std.specs.List.{filter, list_any}
 use Rattle.desk_model.specs.Terms.{Terms}
 use Rattle.desk_model.specs.Lookup.{holds}
-use Rattle.desk_model.specs.Entry.{Entry, spent, contacts_changed, account_ended, answered, reported, authorization_ended, finalized, certified, failed, Outcome}
+use Rattle.desk_model.specs.Entry.{Entry, spent, contacts_changed, account_ended, answered, reported, authorization_ended}
+use Rattle.desk_model.specs.Entry.{finalized, certified, failed, Outcome}
 use Rattle.desk_model.specs.History.{terms_after, earlier}
 use Rattle.desk_model.specs.Nonce.{Nonce, issued_by}
 use Rattle.desk_model.specs.Account.{Account, opened_by, AccountEnd, changing, ends as account_ends, status_of as account_status_of}
-use Rattle.desk_model.specs.Authorization.{Authorization, Challenge, AuthorizationEnd, Report, made_by, count_challenges, in_time, is_good, is_live, kind_of, challenge_status_by}
+use Rattle.desk_model.specs.Authorization.{Authorization, Challenge, AuthorizationEnd, Report, made_by, count_challenges, in_time}
+use Rattle.desk_model.specs.Authorization.{is_good, is_live, kind_of, challenge_status_by}
 use Rattle.desk_model.specs.Order.{Order, ordered_by, finalizing, certifying, failing}
 use Rattle.desk_model.specs.Tables.{AccountRow, ChallengeRow, AuthorizationRow, OrderRow, Tables, listed_from}
 use Rattle.desk_model.specs.Derived.{authorization_numbered, numbers_of, restated_authorization, restated_order}

@@ -8,7 +8,13 @@ pub use Rattle.desk_model.specs.declared.call.OrderProblem.{OrderProblem}
 pub use Rattle.desk_model.specs.declared.entry.Wanted.{Wanted}
 pub use Rattle.desk_model.specs.declared.entry.Wanted.TheVariants.{New as new}
 pub use Rattle.desk_model.specs.declared.entry.Entry.{Entry}
-pub use Rattle.desk_model.specs.declared.entry.Entry.TheVariants.{Made as made, Issued as issued, Spent as spent, Opened as opened, ContactsChanged as contacts_changed, AccountEnded as account_ended, Ordered as ordered, Answered as answered, Reported as reported, AuthorizationEnded as authorization_ended, Finalized as finalized, Certified as certified, Failed as failed}
+pub use Rattle.desk_model.specs.declared.entry.Entry.TheVariants.{Made as made, Issued as issued, Spent as spent}
+pub use Rattle.desk_model.specs.declared.entry.Entry.TheVariants.{Opened as opened, ContactsChanged as contacts_changed}
+pub use Rattle.desk_model.specs.declared.entry.Entry.TheVariants.{AccountEnded as account_ended, Ordered as ordered}
+pub use Rattle.desk_model.specs.declared.entry.Entry.TheVariants.{Answered as answered, Reported as reported}
+pub use Rattle.desk_model.specs.declared.entry.Entry.TheVariants.{AuthorizationEnded as authorization_ended}
+pub use Rattle.desk_model.specs.declared.entry.Entry.TheVariants.{Finalized as finalized, Certified as certified}
+pub use Rattle.desk_model.specs.declared.entry.Entry.TheVariants.{Failed as failed}
 pub use Rattle.desk_model.specs.declared.entry.Dated.{Dated}
 pub use Rattle.desk_model.specs.declared.moves.Move.{Move}
 use Rattle.desk_model.specs.declared.moves.Move.TheVariants as move

@@ -19,7 +19,9 @@ four_digits n = (48 + n / 1000 % 10) ∷ (48 + n / 100 % 10) ∷ (48 + n / 10 % 
 
 abbrev pub civil_text : ℕ → ℕ → ℕ → ℕ → ℕ → ℕ → List ℕ
 civil_text year month day hour minute second =
-    four_digits year ++ (45 ∷ (two_digits month ++ (45 ∷ (two_digits day ++ (84 ∷ (two_digits hour ++ (58 ∷ (two_digits minute ++ (58 ∷ (two_digits second ++ (90 ∷ [])))))))))))
+    four_digits year
+    ++ (45 ∷ (two_digits month
+    ++ (45 ∷ (two_digits day ++ (84 ∷ (two_digits hour ++ (58 ∷ (two_digits minute ++ (58 ∷ (two_digits second ++ (90 ∷ [])))))))))))
 
 -- the text of the moment t
 abbrev pub IsMomentText : ℕ → List ℕ → Type 0

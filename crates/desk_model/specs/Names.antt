@@ -1,5 +1,6 @@
 -- The name that a text of an identifier stands for (RFC 8555, 7.1.3 and 7.1.4; UTS 46).
-use Rattle.std.specs.Prelude.{◌≡◌, ℕ, Bool, true, false, ◌==◌, ◌≢◌, List, [], ◌++◌, drop, codes, Option, Some, None, IsTrue, All, option_and_then, nat_eq, if◌then◌else◌}
+use Rattle.std.specs.Prelude.{◌≡◌, ℕ, Bool, true, false, ◌==◌, ◌≢◌, List, [], ◌++◌, drop, codes, Option, Some, None, IsTrue, All}
+use Rattle.std.specs.Prelude.{option_and_then, nat_eq, if◌then◌else◌}
 use Rattle.std.specs.List.{list_any, starts_with}
 use Rattle.idna.specs.Uts46.{to_ascii}
 use Rattle.idna.specs.declared.deny_list.TheConstants.AsciiDenyList.{EMPTY}

@@ -1,5 +1,6 @@
 -- The rules on requests: which are refused, and what the others record and show, by the tables at their moment.
-use Rattle.std.specs.Prelude.{ℕ, suc, zero, ◌*◌, List, [], ◌∷◌, length, take, drop, filter, Bool, false, true, not, ◌&&◌, ◌==◌, nat_le, Option, Some, None, Ok, Err, is_none, if◌then◌else◌, bytes_eq, codes, option_and_then}
+use Rattle.std.specs.Prelude.{ℕ, suc, zero, ◌*◌, List, [], ◌∷◌, length, take, drop, filter, Bool, false, true, not, ◌&&◌, ◌==◌}
+use Rattle.std.specs.Prelude.{nat_le, Option, Some, None, Ok, Err, is_none, if◌then◌else◌, bytes_eq, codes, option_and_then}
 use Rattle.desk_model.specs.Lookup.{holds}
 use Rattle.desk_model.specs.Name.{Name, same_name}
 use Rattle.desk_model.specs.Names.{name_of}
@@ -14,7 +15,8 @@ use Rattle.desk_model.specs.Legal.{is_problem, has_length, is_pending_challenge,
 use Rattle.desk_model.specs.Limits.{longest_certificate, longest_csr, most_names}
 use Rattle.desk_model.specs.Tables.{Tables, AccountRow, ChallengeRow, AuthorizationRow, OrderRow}
 use Rattle.desk_model.specs.Questions.{nonce_on, account_on, account_with_key, order_on, authorization_on, owner_on, challenge_of}
-use Rattle.desk_model.specs.Payload.{NewAccount, new_account, AccountChange, account_change, AuthorizationChange, authorization_change, ChallengeChange, challenge_change, Identifier, new_order, finalize}
+use Rattle.desk_model.specs.Payload.{NewAccount, new_account, AccountChange, account_change, AuthorizationChange}
+use Rattle.desk_model.specs.Payload.{authorization_change, ChallengeChange, challenge_change, Identifier, new_order, finalize}
 use Rattle.desk_model.specs.Payload as payload
 use Rattle.desk_model.specs.Document.{expected}
 use Rattle.desk_model.specs.declared.refusal.Refusal.{Refusal}
@@ -46,7 +48,8 @@ open_account key p =
 
 -- of the payload of a known key only the form is looked at (7.3.1)
 abbrev pub known_account_verdict : AccountRow → Option NewAccount → Verdict
-known_account_verdict a payload = check (is_valid_account a.status) refusal.Unauthorized (given payload refusal.Malformed (λ p. answers (show.KnownAccount a.number)))
+known_account_verdict a payload = check (is_valid_account a.status) refusal.Unauthorized
+    (given payload refusal.Malformed (λ p. answers (show.KnownAccount a.number)))
 
 -- newAccount (7.3)
 abbrev pub new_account_verdict : List ℕ → Option AccountRow → Option NewAccount → Verdict
@@ -161,9 +164,12 @@ target_verdict T random n p to.NewAccount = answers (show.KnownAccount n)
 target_verdict T random n p to.NewOrder = given (new_order p) refusal.Malformed (new_order_verdict random n)
 target_verdict T random n p (to.Account k) = check (k == n) refusal.NotFound (given (account_change p) refusal.Malformed (account_verdict n))
 target_verdict T random n p (to.Orders k) = check (k == n) refusal.NotFound (check (nothing p) refusal.Malformed (answers (show.List (list.Orders n))))
-target_verdict T random n p (to.Order k) = given (own (λ o. o.account) n (order_on T k)) refusal.NotFound (λ o. check (nothing p) refusal.Malformed (answers (show.Order k)))
-target_verdict T random n p (to.Finalize k) = given (own (λ o. o.account) n (order_on T k)) refusal.NotFound (λ o. given (finalize p) refusal.Malformed (finalize_verdict k o))
-target_verdict T random n p (to.Cert k) = given (own (λ o. o.account) n (order_on T k)) refusal.NotFound (λ o. check (nothing p) refusal.Malformed (certificate_verdict k o))
+target_verdict T random n p (to.Order k) = given (own (λ o. o.account) n (order_on T k)) refusal.NotFound
+    (λ o. check (nothing p) refusal.Malformed (answers (show.Order k)))
+target_verdict T random n p (to.Finalize k) = given (own (λ o. o.account) n (order_on T k)) refusal.NotFound
+    (λ o. given (finalize p) refusal.Malformed (finalize_verdict k o))
+target_verdict T random n p (to.Cert k) = given (own (λ o. o.account) n (order_on T k)) refusal.NotFound
+    (λ o. check (nothing p) refusal.Malformed (certificate_verdict k o))
 target_verdict T random n p (to.Authz k) =
     given (own (λ a. a.account) n (authorization_on T k)) refusal.NotFound (λ a. given (authorization_change p) refusal.Malformed (authorization_verdict k a))
 target_verdict T random n p (to.Chall k) =

@@ -5,7 +5,8 @@ use Rattle.desk_model.specs.Entry.{History}
 use Rattle.desk_model.specs.History.{clock, terms}
 use Rattle.desk_model.specs.Nonce.{Nonce, nonces, is_open}
 use Rattle.desk_model.specs.Account.{Account, accounts, account_end, account_status, contacts, key_of}
-use Rattle.desk_model.specs.Authorization.{Authorization, Challenge, authorizations, authorization_end, authorization_status, report, when_answered, challenge_status, count_challenges}
+use Rattle.desk_model.specs.Authorization.{Authorization, Challenge, authorizations, authorization_end, authorization_status}
+use Rattle.desk_model.specs.Authorization.{report, when_answered, challenge_status, count_challenges}
 use Rattle.desk_model.specs.Order.{Order, orders, csr, certificate, failure, order_status}
 pub use Rattle.desk_model.specs.declared.rows.Counters.{Counters}
 pub use Rattle.desk_model.specs.declared.rows.Meta.{Meta}

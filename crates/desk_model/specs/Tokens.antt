@@ -1,5 +1,6 @@
 -- The texts of nonces and tokens (RFC 8555, 6.5, 8), and the answers that challenges ask for (8.1, 8.3, 8.4).
-use Rattle.std.specs.Prelude.{◌≡◌, ℕ, ◌+◌, ◌*◌, Bool, ◌||◌, ◌==◌, List, [], ◌∷◌, ◌++◌, length, take, drop, take_while, reverse, Option, Some, None, Ok, Err, IsTrue, All, bytes_eq, option_and_then, if◌then◌else◌}
+use Rattle.std.specs.Prelude.{◌≡◌, ℕ, ◌+◌, ◌*◌, Bool, ◌||◌, ◌==◌, List, [], ◌∷◌, ◌++◌, length, take, drop, take_while, reverse}
+use Rattle.std.specs.Prelude.{Option, Some, None, Ok, Err, IsTrue, All, bytes_eq, option_and_then, if◌then◌else◌}
 use Rattle.std.specs.Int.{w64, to_be_bytes}
 use Rattle.std.specs.List.{list_any}
 use Rattle.base64.specs.Engines.{url_safe_no_pad}

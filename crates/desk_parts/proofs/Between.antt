@@ -35,7 +35,10 @@ use Rattle.desk_model.specs.Change.{recorded_changes}
 use Rattle.desk_parts.specs.AnswersAs.{AnswersAs, CarriesOutAs, IssuesAs, PassesAs, SettlesAs}
 use Rattle.desk_parts.specs.IsPart.{IsPartFor, Keeps}
 use Rattle.desk_model.specs.Asked.{asks_authorizations, asks_orders}
-use Rattle.desk_model.specs.Touched.{is_first_authorization, is_named_account, is_named_authorization, is_named_order, is_own_authorization, is_own_order, is_past_order, is_touched_account, is_touched_authorization, is_touched_nonce, is_touched_order, lists, only_meta, touched_at, touched_rows}
+use Rattle.desk_model.specs.Touched.{is_first_authorization, is_named_account, is_named_authorization, is_named_order}
+use Rattle.desk_model.specs.Touched.{is_own_authorization, is_own_order, is_past_order, is_touched_account}
+use Rattle.desk_model.specs.Touched.{is_touched_authorization, is_touched_nonce, is_touched_order, lists, only_meta, touched_at}
+use Rattle.desk_model.specs.Touched.{touched_rows}
 use Rattle.desk_parts.proofs.Cut.{kept_by, no_part, no_rows, numbered, same_authorizations, touched_kept, touched_listed}
 use Rattle.desk_parts.proofs.Enough.{answers_at, restricted_ordered, work_as}
 use Rattle.desk_parts.proofs.Grown.{grown, grown_closed, grown_part}
@@ -57,40 +60,52 @@ any_part p q kept (x ∷ xs) f h = by (kept x) h (any_part p q kept xs f)
 own_order_wider : (k : Kept) (T : Tables) (a : Ask) (o : OrderRow) → is_own_order (restricted k T) a o ≡ true → is_own_order T a o ≡ true
 own_order_wider k T a o h =
     let p = and_parts (asks_orders a) _ h in
-    and_from _ _ p.0 (any_part (λ x. is_named_account a x && (o.account == x.number)) (λ x. is_named_account a x && (o.account == x.number)) (λ x. k.accounts x.number) T.accounts (λ x e. e) p.1)
+    and_from _ _ p.0 (any_part (λ x. is_named_account a x && (o.account == x.number)) (λ x. is_named_account a x && (o.account == x.number))
+    (λ x. k.accounts x.number) T.accounts (λ x e. e) p.1)
 
-own_authorization_wider : (k : Kept) (T : Tables) (a : Ask) (r : AuthorizationRow) → is_own_authorization (restricted k T) a r ≡ true → is_own_authorization T a r ≡ true
+own_authorization_wider : (k : Kept) (T : Tables) (a : Ask) (r : AuthorizationRow) → is_own_authorization (restricted k T) a r ≡ true
+    → is_own_authorization T a r ≡ true
 own_authorization_wider k T a r h =
     let p = and_parts (asks_authorizations a) _ h in
-    and_from _ _ p.0 (any_part (λ x. is_named_account a x && (r.account == x.number)) (λ x. is_named_account a x && (r.account == x.number)) (λ x. k.accounts x.number) T.accounts (λ x e. e) p.1)
+    and_from _ _ p.0 (any_part (λ x. is_named_account a x && (r.account == x.number)) (λ x. is_named_account a x && (r.account == x.number))
+    (λ x. k.accounts x.number) T.accounts (λ x e. e) p.1)
 
-first_wider : (k : Kept) (T : Tables) (m : ℕ) (a : Ask) (r : AuthorizationRow) → is_first_authorization (restricted k T) m a r ≡ true → is_first_authorization T m a r ≡ true
+first_wider : (k : Kept) (T : Tables) (m : ℕ) (a : Ask) (r : AuthorizationRow) → is_first_authorization (restricted k T) m a r ≡ true
+    → is_first_authorization T m a r ≡ true
 first_wider k T m a r h =
     or_cases (is_named_authorization a r) _ h (λ e. or_left _ _ e) (λ e. or_right (is_named_authorization a r) _
-    (or_cases (is_own_authorization (restricted k T) a r) _ e (λ f. or_left _ _ (own_authorization_wider k T a r f)) (λ f. or_right (is_own_authorization T a r) _ f)))
+    (or_cases (is_own_authorization (restricted k T) a r) _ e (λ f. or_left _ _ (own_authorization_wider k T a r f))
+    (λ f. or_right (is_own_authorization T a r) _ f)))
 
 order_wider : (k : Kept) (T : Tables) (m : ℕ) (a : Ask) (o : OrderRow) → is_touched_order (restricted k T) m a o ≡ true → is_touched_order T m a o ≡ true
 order_wider k T m a o h =
     or_cases (is_named_order a o || (is_own_order (restricted k T) a o || is_past_order m o)) _ h
     (λ e. or_left _ _ (or_cases (is_named_order a o) _ e (λ f. or_left _ _ f) (λ f. or_right (is_named_order a o) _
     (or_cases (is_own_order (restricted k T) a o) _ f (λ g. or_left _ _ (own_order_wider k T a o g)) (λ g. or_right (is_own_order T a o) _ g)))))
-    (λ e. or_right _ _ (any_part (λ r. is_first_authorization (restricted k T) m a r && lists o r.number) (λ r. is_first_authorization T m a r && lists o r.number) (λ r. k.authorizations r.number) T.authorizations
+    (λ e. or_right _ _ (any_part (λ r. is_first_authorization (restricted k T) m a r && lists o r.number)
+    (λ r. is_first_authorization T m a r && lists o r.number) (λ r. k.authorizations r.number) T.authorizations
     (λ r f. let p = and_parts (is_first_authorization (restricted k T) m a r) _ f in and_from _ _ (first_wider k T m a r p.0) p.1) e))
 
-authorization_wider : (k : Kept) (T : Tables) (m : ℕ) (a : Ask) (r : AuthorizationRow) → is_touched_authorization (restricted k T) m a r ≡ true → is_touched_authorization T m a r ≡ true
+authorization_wider : (k : Kept) (T : Tables) (m : ℕ) (a : Ask) (r : AuthorizationRow)
+    → is_touched_authorization (restricted k T) m a r ≡ true → is_touched_authorization T m a r ≡ true
 authorization_wider k T m a r h =
     or_cases (is_first_authorization (restricted k T) m a r) _ h (λ e. or_left _ _ (first_wider k T m a r e))
-    (λ e. or_right (is_first_authorization T m a r) _ (any_part (λ o. is_touched_order (restricted k T) m a o && lists o r.number) (λ o. is_touched_order T m a o && lists o r.number) (λ o. k.orders o.number) T.orders
+    (λ e. or_right (is_first_authorization T m a r) _
+    (any_part (λ o. is_touched_order (restricted k T) m a o && lists o r.number) (λ o. is_touched_order T m a o && lists o r.number)
+    (λ o. k.orders o.number) T.orders
     (λ o f. let p = and_parts (is_touched_order (restricted k T) m a o) _ f in and_from _ _ (order_wider k T m a o p.0) p.1) e))
 
-account_wider : (k : Kept) (T : Tables) (m : ℕ) (a : Ask) (x : AccountRow) → is_touched_account (restricted k T) m a x ≡ true → is_touched_account T m a x ≡ true
+account_wider : (k : Kept) (T : Tables) (m : ℕ) (a : Ask) (x : AccountRow) → is_touched_account (restricted k T) m a x ≡ true
+    → is_touched_account T m a x ≡ true
 account_wider k T m a x h =
     or_cases (is_named_account a x) _ h (λ e. or_left _ _ e) (λ e. or_right (is_named_account a x) _
     (or_cases (list_any (λ o. is_touched_order (restricted k T) m a o && (o.account == x.number)) (restricted k T).orders) _ e
-    (λ f. or_left _ _ (any_part (λ o. is_touched_order (restricted k T) m a o && (o.account == x.number)) (λ o. is_touched_order T m a o && (o.account == x.number)) (λ o. k.orders o.number) T.orders
+    (λ f. or_left _ _ (any_part (λ o. is_touched_order (restricted k T) m a o && (o.account == x.number))
+    (λ o. is_touched_order T m a o && (o.account == x.number)) (λ o. k.orders o.number) T.orders
     (λ o g. let p = and_parts (is_touched_order (restricted k T) m a o) _ g in and_from _ _ (order_wider k T m a o p.0) p.1) f))
     (λ f. or_right (list_any (λ o. is_touched_order T m a o && (o.account == x.number)) T.orders) _
-    (any_part (λ r. is_touched_authorization (restricted k T) m a r && (r.account == x.number)) (λ r. is_touched_authorization T m a r && (r.account == x.number)) (λ r. k.authorizations r.number) T.authorizations
+    (any_part (λ r. is_touched_authorization (restricted k T) m a r && (r.account == x.number))
+    (λ r. is_touched_authorization T m a r && (r.account == x.number)) (λ r. k.authorizations r.number) T.authorizations
     (λ r g. let p = and_parts (is_touched_authorization (restricted k T) m a r) _ g in and_from _ _ (authorization_wider k T m a r p.0) p.1) f))))
 
 -- so the numbers of what is touched in the whole keep what is touched in the part
@@ -98,16 +113,19 @@ keeps_wider : (k : Kept) (T : Tables) (m : ℕ) (a : Ask) → IsOrdered T → Ke
 keeps_wider k T m a h =
     record {
       nonces = filtered_each _ (is_touched_nonce (restricted k T) m a) (restricted k T).nonces
-          (filtered_each _ (λ (x : Nonce). k.nonces x.serial) T.nonces (each _ _ T.nonces (λ x e kept yes. e ∙ yes) (numbered (λ (x : Nonce). x.serial) (is_touched_nonce T m a) 1 T.nonces h.nonces.0)));
+          (filtered_each _ (λ (x : Nonce). k.nonces x.serial) T.nonces
+          (each _ _ T.nonces (λ x e kept yes. e ∙ yes) (numbered (λ (x : Nonce). x.serial) (is_touched_nonce T m a) 1 T.nonces h.nonces.0)));
       accounts = filtered_each _ (is_touched_account (restricted k T) m a) (restricted k T).accounts
           (filtered_each _ (λ (x : AccountRow). k.accounts x.number) T.accounts
-          (each _ _ T.accounts (λ x e kept yes. e ∙ account_wider k T m a x yes) (numbered (λ (x : AccountRow). x.number) (is_touched_account T m a) 1 T.accounts h.accounts.0)));
+          (each _ _ T.accounts (λ x e kept yes. e ∙ account_wider k T m a x yes)
+          (numbered (λ (x : AccountRow). x.number) (is_touched_account T m a) 1 T.accounts h.accounts.0)));
       authorizations = filtered_each _ (is_touched_authorization (restricted k T) m a) (restricted k T).authorizations
           (filtered_each _ (λ (r : AuthorizationRow). k.authorizations r.number) T.authorizations
           (each _ _ T.authorizations (λ r e kept yes. e ∙ authorization_wider k T m a r yes) (same_authorizations T m a h)));
       orders = filtered_each _ (is_touched_order (restricted k T) m a) (restricted k T).orders
           (filtered_each _ (λ (o : OrderRow). k.orders o.number) T.orders
-          (each _ _ T.orders (λ o e kept yes. e ∙ order_wider k T m a o yes) (numbered (λ (o : OrderRow). o.number) (is_touched_order T m a) 1 T.orders h.orders.0)));
+          (each _ _ T.orders (λ o e kept yes. e ∙ order_wider k T m a o yes)
+          (numbered (λ (o : OrderRow). o.number) (is_touched_order T m a) 1 T.orders h.orders.0)));
     }
 
 -- ---- a part of a part
@@ -124,18 +142,27 @@ filter_narrow p q (x ∷ xs) h = by (q x) refl (p x) refl (filter_narrow p q xs 
     by false e false f ih = ih
 
 -- the touched rows of the whole are those numbers in the part
-same_touched : (k : Kept) (T : Tables) (m : ℕ) (a : Ask) → IsOrdered T → Keeps k (touched_rows T m a) → restricted (kept_by T m a) (restricted k T) ≡ restricted (kept_by T m a) T
+same_touched : (k : Kept) (T : Tables) (m : ℕ) (a : Ask) → IsOrdered T → Keeps k (touched_rows T m a)
+    → restricted (kept_by T m a) (restricted k T) ≡ restricted (kept_by T m a) T
 same_touched k T m a h holds =
     λ i. record {
       meta = T.meta;
       nonces = filter_narrow _ (λ (x : Nonce). k.nonces x.serial) T.nonces
-          (each _ _ T.nonces (λ x e yes. e.1 (sym e.0 ∙ yes)) (each_both _ _ T.nonces (numbered (λ (x : Nonce). x.serial) (is_touched_nonce T m a) 1 T.nonces h.nonces.0) (each_filtered _ (is_touched_nonce T m a) T.nonces holds.nonces))) i;
+          (each _ _ T.nonces (λ x e yes. e.1 (sym e.0 ∙ yes))
+          (each_both _ _ T.nonces (numbered (λ (x : Nonce). x.serial) (is_touched_nonce T m a) 1 T.nonces h.nonces.0)
+          (each_filtered _ (is_touched_nonce T m a) T.nonces holds.nonces))) i;
       accounts = filter_narrow _ (λ (x : AccountRow). k.accounts x.number) T.accounts
-          (each _ _ T.accounts (λ x e yes. e.1 (sym e.0 ∙ yes)) (each_both _ _ T.accounts (numbered (λ (x : AccountRow). x.number) (is_touched_account T m a) 1 T.accounts h.accounts.0) (each_filtered _ (is_touched_account T m a) T.accounts holds.accounts))) i;
+          (each _ _ T.accounts (λ x e yes. e.1 (sym e.0 ∙ yes))
+          (each_both _ _ T.accounts (numbered (λ (x : AccountRow). x.number) (is_touched_account T m a) 1 T.accounts h.accounts.0)
+          (each_filtered _ (is_touched_account T m a) T.accounts holds.accounts))) i;
       authorizations = filter_narrow _ (λ (r : AuthorizationRow). k.authorizations r.number) T.authorizations
-          (each _ _ T.authorizations (λ r e yes. e.1 (sym e.0 ∙ yes)) (each_both _ _ T.authorizations (same_authorizations T m a h) (each_filtered _ (is_touched_authorization T m a) T.authorizations holds.authorizations))) i;
+          (each _ _ T.authorizations (λ r e yes. e.1 (sym e.0 ∙ yes))
+          (each_both _ _ T.authorizations (same_authorizations T m a h)
+          (each_filtered _ (is_touched_authorization T m a) T.authorizations holds.authorizations))) i;
       orders = filter_narrow _ (λ (o : OrderRow). k.orders o.number) T.orders
-          (each _ _ T.orders (λ o e yes. e.1 (sym e.0 ∙ yes)) (each_both _ _ T.orders (numbered (λ (o : OrderRow). o.number) (is_touched_order T m a) 1 T.orders h.orders.0) (each_filtered _ (is_touched_order T m a) T.orders holds.orders))) i;
+          (each _ _ T.orders (λ o e yes. e.1 (sym e.0 ∙ yes))
+          (each_both _ _ T.orders (numbered (λ (o : OrderRow). o.number) (is_touched_order T m a) 1 T.orders h.orders.0)
+          (each_filtered _ (is_touched_order T m a) T.orders holds.orders))) i;
     }
 
 listed_part : (k j : Kept) (T : Tables) → KeepsListed k T → KeepsListed k (restricted j T)
@@ -162,10 +189,12 @@ entry_stands : (k : Kept) (T : Tables) (m : ℕ) (e : Entry) → IsOrdered T →
 entry_stands k T m e h =
     let closed : IsClosed (open_kept k T) (swept m (bare T)) = swept_closed (open_kept k T) (bare T) m (grown_closed k (bare T) (bare_ordered T h) tt) in
     ap (λ (E : Tables). (effect m E e).authorizations) (swept_bare k T m h)
-    ∙ ap (λ (E : Tables). E.authorizations) (effect_part (open_kept k T) (swept m (bare T)) m e closed (fresh_kept (open_kept k T) (swept m (bare T)) m e closed))
+    ∙ ap (λ (E : Tables). E.authorizations)
+    (effect_part (open_kept k T) (swept m (bare T)) m e closed (fresh_kept (open_kept k T) (swept m (bare T)) m e closed))
 
 authorizations_stand : (k : Kept) (T : Tables) (m : ℕ) (v : Verdict) → IsOrdered T →
-    (effects m (swept m (restricted k T)) (entries_of v)).authorizations ≡ filter (λ r. (open_kept k T).authorizations r.number) (effects m (swept m T) (entries_of v)).authorizations
+    (effects m (swept m (restricted k T)) (entries_of v)).authorizations
+    ≡ filter (λ r. (open_kept k T).authorizations r.number) (effects m (swept m T) (entries_of v)).authorizations
 authorizations_stand k T m (refused n ss) h = ap (λ (E : Tables). E.authorizations) (swept_bare k T m h)
 authorizations_stand k T m (answers what) h = ap (λ (E : Tables). E.authorizations) (swept_bare k T m h)
 authorizations_stand k T m (opens key contacts) h = entry_stands k T m (opened key contacts) h
@@ -200,7 +229,8 @@ each_front P [] ys h = tt
 each_front P (x ∷ xs) ys h = (h.0, each_front P xs ys h.1)
 
 -- orders that a map which keeps ends leaves
-ends_kept : (n : ℕ) (f g : OrderRow → OrderRow) (kept : OrderRow → Bool) (xs : List OrderRow) → ((o : OrderRow) → (f o).expires ≡ o.expires) → ((o : OrderRow) → (g o).expires ≡ o.expires) →
+ends_kept : (n : ℕ) (f g : OrderRow → OrderRow) (kept : OrderRow → Bool) (xs : List OrderRow) → ((o : OrderRow) → (f o).expires ≡ o.expires)
+    → ((o : OrderRow) → (g o).expires ≡ o.expires) →
     EachOf (EndBy n) (map f xs) → EachOf (EndBy n) (map g (filter kept xs))
 ends_kept n f g kept xs same other h =
     each-map (EndBy n) g (filter kept xs)
@@ -216,35 +246,43 @@ map_twice : {X Y Z : Type 0} (f : Y → Z) (g : X → Y) (xs : List X) → map f
 map_twice f g [] = refl
 map_twice f g (x ∷ xs) = ap (λ l. f (g x) ∷ l) (map_twice f g xs)
 
-entry_ends : (k : Kept) (T : Tables) (m : ℕ) (e : Entry) (n : ℕ) → EachOf (EndBy n) (effect m (swept m T) e).orders → EachOf (EndBy n) (effect m (swept m (restricted k T)) e).orders
+entry_ends : (k : Kept) (T : Tables) (m : ℕ) (e : Entry) (n : ℕ) → EachOf (EndBy n) (effect m (swept m T) e).orders
+    → EachOf (EndBy n) (effect m (swept m (restricted k T)) e).orders
 entry_ends k T m e n h =
     let S : Tables = swept m T in
     let P : Tables = swept m (restricted k T) in
     let f : OrderRow → OrderRow = λ o. moved_order e m S.authorizations (effect m S e).authorizations (swept_order m T.authorizations o) in
     let g : OrderRow → OrderRow = λ o. moved_order e m P.authorizations (effect m P e).authorizations (swept_order m (restricted k T).authorizations o) in
     each-append (EndBy n) (map (moved_order e m P.authorizations (effect m P e).authorizations) P.orders) _
-    (subst (EachOf (EndBy n)) (sym (map_twice (moved_order e m P.authorizations (effect m P e).authorizations) (swept_order m (restricted k T).authorizations) (restricted k T).orders))
+    (subst (EachOf (EndBy n))
+    (sym (map_twice (moved_order e m P.authorizations (effect m P e).authorizations) (swept_order m (restricted k T).authorizations)
+    (restricted k T).orders))
     (ends_kept n f g (λ o. k.orders o.number) T.orders
     (λ o. moved_end e m S.authorizations (effect m S e).authorizations (swept_order m T.authorizations o) ∙ swept_end m T.authorizations o)
-    (λ o. moved_end e m P.authorizations (effect m P e).authorizations (swept_order m (restricted k T).authorizations o) ∙ swept_end m (restricted k T).authorizations o)
+    (λ o. moved_end e m P.authorizations (effect m P e).authorizations (swept_order m (restricted k T).authorizations o)
+    ∙ swept_end m (restricted k T).authorizations o)
     (subst (EachOf (EndBy n)) (map_twice (moved_order e m S.authorizations (effect m S e).authorizations) (swept_order m T.authorizations) T.orders)
     (each_front (EndBy n) (map (moved_order e m S.authorizations (effect m S e).authorizations) S.orders) _ h))))
-    (made_ends n m (effect m S e).authorizations (effect m P e).authorizations (ordered_by e m S.meta.policy (new_authorizations S e m) (S.meta.counters.orders + 1))
+    (made_ends n m (effect m S e).authorizations (effect m P e).authorizations
+    (ordered_by e m S.meta.policy (new_authorizations S e m) (S.meta.counters.orders + 1))
     (each_after (EndBy n) (map (moved_order e m S.authorizations (effect m S e).authorizations) S.orders) _ h))
 
 orders_end : (k : Kept) (T : Tables) (m : ℕ) (v : Verdict) (n : ℕ) → EachOf (EndBy n) (effects m (swept m T) (entries_of v)).orders →
     EachOf (EndBy n) (effects m (swept m (restricted k T)) (entries_of v)).orders
 orders_end k T m (refused j ss) n h =
-    ends_kept n (swept_order m T.authorizations) (swept_order m (restricted k T).authorizations) (λ o. k.orders o.number) T.orders (swept_end m T.authorizations) (swept_end m (restricted k T).authorizations) h
+    ends_kept n (swept_order m T.authorizations) (swept_order m (restricted k T).authorizations)
+    (λ o. k.orders o.number) T.orders (swept_end m T.authorizations) (swept_end m (restricted k T).authorizations) h
 orders_end k T m (answers what) n h =
-    ends_kept n (swept_order m T.authorizations) (swept_order m (restricted k T).authorizations) (λ o. k.orders o.number) T.orders (swept_end m T.authorizations) (swept_end m (restricted k T).authorizations) h
+    ends_kept n (swept_order m T.authorizations) (swept_order m (restricted k T).authorizations)
+    (λ o. k.orders o.number) T.orders (swept_end m T.authorizations) (swept_end m (restricted k T).authorizations) h
 orders_end k T m (opens key contacts) n h = entry_ends k T m (opened key contacts) n h
 orders_end k T m (orders account wanted) n h = entry_ends k T m (ordered account wanted) n h
 orders_end k T m (moves move) n h = entry_ends k T m (entry_of move) n h
 
 -- ---- from the touched rows to the part
 
-carries_between : (k : Kept) (T Q : Tables) (m : ℕ) (v : Verdict) → IsOrdered T → CarriesOutAs m T Q v → CarriesOutAs m (restricted k T) Q v → CarriesOutAs m T (restricted k T) v
+carries_between : (k : Kept) (T Q : Tables) (m : ℕ) (v : Verdict) → IsOrdered T → CarriesOutAs m T Q v → CarriesOutAs m (restricted k T) Q v
+    → CarriesOutAs m T (restricted k T) v
 carries_between k T Q m v h low high =
     record {
       standing = λ r. (open_kept k T).authorizations r.number;
@@ -256,7 +294,8 @@ carries_between k T Q m v h low high =
 issues_between : (k : Kept) (T Q : Tables) (m : ℕ) → IssuesAs m T Q → IssuesAs m (restricted k T) Q → IssuesAs m T (restricted k T)
 issues_between k T Q m low high = record { records = λ r. sym (high.records r) ∙ low.records r }
 
-settles_between : (k : Kept) (T Q : Tables) (m : ℕ) (a : OfficeAsk) → IsOrdered T → SettlesAs m a T Q → SettlesAs m a (restricted k T) Q → SettlesAs m a T (restricted k T)
+settles_between : (k : Kept) (T Q : Tables) (m : ℕ) (a : OfficeAsk) → IsOrdered T → SettlesAs m a T Q → SettlesAs m a (restricted k T) Q
+    → SettlesAs m a T (restricted k T)
 settles_between k T Q m a h low high =
     let judged : office_verdict (swept m (restricted k T)) a ≡ office_verdict (swept m T) a = sym high.judged ∙ low.judged in
     record {
@@ -265,20 +304,24 @@ settles_between k T Q m a h low high =
       records = sym (subst (λ v. recorded_changes m Q (entries_of v) ≡ recorded_changes m (restricted k T) (entries_of v)) judged high.records) ∙ low.records;
     }
 
-passes_between : (k : Kept) (T Q : Tables) (m : ℕ) (s : Signed) → IsOrdered T → PassesAs m s T Q → PassesAs m s (restricted k T) Q → PassesAs m s T (restricted k T)
+passes_between : (k : Kept) (T Q : Tables) (m : ℕ) (s : Signed) → IsOrdered T → PassesAs m s T Q → PassesAs m s (restricted k T) Q
+    → PassesAs m s T (restricted k T)
 passes_between k T Q m s h low high =
     let judged : (r : List ℕ) → signed_verdict (swept m (restricted k T)) r s ≡ signed_verdict (swept m T) r s = λ r. sym (high.judged r) ∙ low.judged r in
     record {
       nonce = sym high.nonce ∙ low.nonce;
       issues = issues_between k T Q m low.issues high.issues;
       judged = judged;
-      verdict = λ r. carries_between k T Q m (signed_verdict (swept m T) r s) h (low.verdict r) (subst (CarriesOutAs m (restricted k T) Q) (judged r) (high.verdict r));
+      verdict = λ r. carries_between k T Q m (signed_verdict (swept m T) r s) h (low.verdict r)
+          (subst (CarriesOutAs m (restricted k T) Q) (judged r) (high.verdict r));
       records = λ r n fresh.
-          sym (subst (λ v. recorded_changes m Q (spent n ∷ issued fresh ∷ entries_of v) ≡ recorded_changes m (restricted k T) (spent n ∷ issued fresh ∷ entries_of v)) (judged r) (high.records r n fresh))
+          sym (subst (λ v. recorded_changes m Q (spent n ∷ issued fresh ∷ entries_of v)
+          ≡ recorded_changes m (restricted k T) (spent n ∷ issued fresh ∷ entries_of v)) (judged r) (high.records r n fresh))
           ∙ low.records r n fresh;
     }
 
-answers_between : (k : Kept) (T Q : Tables) (m : ℕ) (a : Ask) → IsOrdered T → AnswersAs m a T Q → AnswersAs m a (restricted k T) Q → AnswersAs m a T (restricted k T)
+answers_between : (k : Kept) (T Q : Tables) (m : ℕ) (a : Ask) → IsOrdered T → AnswersAs m a T Q → AnswersAs m a (restricted k T) Q
+    → AnswersAs m a T (restricted k T)
 answers_between k T Q m (ask.NewNonce head) h low high = issues_between k T Q m low high
 answers_between k T Q m (ask.Signed s) h low high = passes_between k T Q m s h low high
 answers_between k T Q m (ask.Office a) h low high = settles_between k T Q m a h low high
@@ -320,4 +363,5 @@ part_answers k T m (ask.Office (office.KeyOf n)) h holds = rows_answer k T m (as
 -- a part for a call answers it as the whole
 pub parts_answer : (T P : Tables) (call : Call) → IsOrdered T → IsPartFor call T P → AnswersAs (max call.at T.meta.counters.clock) call.ask T P
 parts_answer T P call h part =
-    subst (AnswersAs (max call.at T.meta.counters.clock) call.ask T) (sym part.cut) (part_answers part.kept T (max call.at T.meta.counters.clock) call.ask h part.holds)
+    subst (AnswersAs (max call.at T.meta.counters.clock) call.ask T) (sym part.cut)
+    (part_answers part.kept T (max call.at T.meta.counters.clock) call.ask h part.holds)

@@ -18,7 +18,8 @@ use Rattle.desk_laws.specs.Ordered.{Ascends, IsOrdered}
 use Rattle.desk_laws.proofs.Basics.{each, each_both, less_differs, more_differs, or_none}
 use Rattle.desk_parts.specs.IsPart.{IsPartFor, Keeps}
 use Rattle.desk_parts.proofs.Listed.{KeepsListed}
-use Rattle.desk_model.specs.Touched.{is_first_authorization, is_touched_account, is_touched_authorization, is_touched_nonce, is_touched_order, lists, only_meta, touched, touched_at, touched_rows}
+use Rattle.desk_model.specs.Touched.{is_first_authorization, is_touched_account, is_touched_authorization, is_touched_nonce}
+use Rattle.desk_model.specs.Touched.{is_touched_order, lists, only_meta, touched, touched_at, touched_rows}
 use Rattle.desk_parts.proofs.Enough.{whole_part}
 use Rattle.desk_parts.proofs.Lists.{each_member, filter_same, filtered_each, or_right, same_number}
 
@@ -46,7 +47,8 @@ numbered_from number test n (x ∷ xs) h = (
     h.0,
   ),
   each _ _ xs (λ y p. (
-    (let up : number x + 1 ≤ number y = p.1 in ap (λ b. (b && test x) || at_number number test xs (number y)) (less_differs (number x) (number y) (omega arith)) ∙ p.0),
+    (let up : number x + 1 ≤ number y = p.1 in
+        ap (λ b. (b && test x) || at_number number test xs (number y)) (less_differs (number x) (number y) (omega arith)) ∙ p.0),
     (let up : number x + 1 ≤ number y = p.1 in let low : n ≤ number x = h.0 in omega arith),
   )) (numbered_from number test (number x + 1) xs h.1),
 )
@@ -78,10 +80,14 @@ pub touched_cut : (T : Tables) (m : ℕ) (a : Ask) → IsOrdered T → touched_r
 touched_cut T m a h =
     λ i. record {
       meta = T.meta;
-      nonces = filter_same _ _ T.nonces (each _ _ T.nonces (λ x e. sym e) (numbered (λ (x : Nonce). x.serial) (is_touched_nonce T m a) 1 T.nonces h.nonces.0)) i;
-      accounts = filter_same _ _ T.accounts (each _ _ T.accounts (λ x e. sym e) (numbered (λ (x : AccountRow). x.number) (is_touched_account T m a) 1 T.accounts h.accounts.0)) i;
+      nonces = filter_same _ _ T.nonces (each _ _ T.nonces (λ x e. sym e)
+          (numbered (λ (x : Nonce). x.serial) (is_touched_nonce T m a) 1 T.nonces h.nonces.0)) i;
+      accounts =
+          filter_same _ _ T.accounts (each _ _ T.accounts (λ x e. sym e)
+          (numbered (λ (x : AccountRow). x.number) (is_touched_account T m a) 1 T.accounts h.accounts.0)) i;
       authorizations = filter_same _ _ T.authorizations (each _ _ T.authorizations (λ r e. sym e) (same_authorizations T m a h)) i;
-      orders = filter_same _ _ T.orders (each _ _ T.orders (λ o e. sym e) (numbered (λ (o : OrderRow). o.number) (is_touched_order T m a) 1 T.orders h.orders.0)) i;
+      orders = filter_same _ _ T.orders (each _ _ T.orders (λ o e. sym e)
+          (numbered (λ (o : OrderRow). o.number) (is_touched_order T m a) 1 T.orders h.orders.0)) i;
     }
 
 pub touched_listed : (T : Tables) (m : ℕ) (a : Ask) → IsOrdered T → KeepsListed (kept_by T m a) T
@@ -126,7 +132,8 @@ no_part T =
 pub touched_part : (T : Tables) (call : Call) → IsOrdered T → IsPartFor call T (touched T call)
 touched_part T call h = by call.ask refl
   where
-    rows : (a : Ask) → touched_at T (max call.at T.meta.counters.clock) a ≡ touched_rows T (max call.at T.meta.counters.clock) a → call.ask ≡ a → IsPartFor call T (touched T call)
+    rows : (a : Ask) → touched_at T (max call.at T.meta.counters.clock) a ≡ touched_rows T (max call.at T.meta.counters.clock) a
+        → call.ask ≡ a → IsPartFor call T (touched T call)
     rows a e is =
         let same : touched T call ≡ touched_rows T (max call.at T.meta.counters.clock) a = ap (touched_at T (max call.at T.meta.counters.clock)) is ∙ e in
         record {

@@ -104,7 +104,8 @@ carried_out k T m v closed h =
       standing = λ r. k.authorizations r.number;
       authorizations = ap (λ (E : Tables). E.authorizations) after;
       ends = λ n all. subst (EachOf (λ o. o.expires ≤ n)) (sym (ap (λ (E : Tables). E.orders) after))
-          (filtered_each _ (λ (o : OrderRow). k.orders o.number) (effects m (swept m T) (entries_of v)).orders (each _ _ (effects m (swept m T) (entries_of v)).orders (λ o e kept. e) all));
+          (filtered_each _ (λ (o : OrderRow). k.orders o.number) (effects m (swept m T) (entries_of v)).orders
+          (each _ _ (effects m (swept m T) (entries_of v)).orders (λ o e kept. e) all));
       shows = λ index. ap (λ E. verdict_reply index E v) after ∙ reply_same k m (swept m T) v index h;
     }
 
@@ -113,7 +114,10 @@ carried_out k T m v closed h =
 issues_as : (k : Kept) (T : Tables) (m : ℕ) (a : Ask) → IsReady k T m a → IssuesAs m T (restricted k T)
 issues_as k T m a ready =
     let closed : IsClosed k (swept m T) = swept_closed k T m ready.closed in
-    record { records = λ r. recorded_local k T m (issued r ∷ []) ready.closed (keeps_falling k T m a ready.touched) (closed, covers_issued k (swept m T) r, tt, tt) }
+    record {
+      records = λ r. recorded_local k T m (issued r
+          ∷ []) ready.closed (keeps_falling k T m a ready.touched) (closed, covers_issued k (swept m T) r, tt, tt);
+    }
 
 settles_as : (k : Kept) (T : Tables) (m : ℕ) (a : OfficeAsk) → IsNoWork a → IsReady k T m (ask.Office a) → SettlesAs m a T (restricted k T)
 settles_as k T m a none ready =
@@ -135,7 +139,8 @@ passes_as k T m s ready =
       judged = λ r. ap (λ P. signed_verdict P r s) (swept_part k T m ready.closed) ∙ signed_same k (swept m T) r s named;
       verdict = λ r. carried_out k T m (signed_verdict (swept m T) r s) ready.closed (signed_answered k T m r s ready);
       records = λ r n fresh.
-          recorded_local k T m (spent n ∷ issued fresh ∷ entries_of (signed_verdict (swept m T) r s)) ready.closed (keeps_falling k T m (ask.Signed s) ready.touched)
+          recorded_local k T m (spent n ∷ issued fresh ∷ entries_of (signed_verdict (swept m T) r s)) ready.closed
+          (keeps_falling k T m (ask.Signed s) ready.touched)
           (nonce_covered k m (swept m T) n fresh (signed_verdict (swept m T) r s) (swept_closed k T m ready.closed) (signed_answered k T m r s ready));
     }
 
@@ -172,7 +177,9 @@ whole_settles T m a =
       judged = refl;
       verdict = record {
         standing = λ r. true;
-        authorizations = sym (filter_keeps (λ r. true) (effects m (swept m T) (entries_of v)).authorizations (each_all _ (effects m (swept m T) (entries_of v)).authorizations (λ r. refl)));
+        authorizations =
+            sym (filter_keeps (λ r. true) (effects m (swept m T) (entries_of v)).authorizations
+            (each_all _ (effects m (swept m T) (entries_of v)).authorizations (λ r. refl)));
         ends = λ n all. all;
         shows = λ index. refl;
       };
@@ -198,7 +205,8 @@ rows_settle k T m a none ordered listed h =
 pub answers_at : (k : Kept) (T : Tables) (m : ℕ) (a : Ask) → IsOrdered T → KeepsListed k T → Keeps k (touched_at T m a) → AnswersAs m a T (restricted k T)
 answers_at k T m (ask.NewNonce head) ordered listed h =
     subst (IssuesAs m T) (grown_part k T) (issues_as (grown k T) T m (ask.NewNonce head) (ready_by k T m (ask.NewNonce head) ordered listed h))
-answers_at k T m (ask.Signed s) ordered listed h = subst (PassesAs m s T) (grown_part k T) (passes_as (grown k T) T m s (ready_by k T m (ask.Signed s) ordered listed h))
+answers_at k T m (ask.Signed s) ordered listed h =
+    subst (PassesAs m s T) (grown_part k T) (passes_as (grown k T) T m s (ready_by k T m (ask.Signed s) ordered listed h))
 answers_at k T m (ask.Office office.Directory) ordered listed h =
     subst (SettlesAs m office.Directory T) (grown_part k T) (directory_as (grown k T) T m (grown_closed k T ordered listed))
 answers_at k T m (ask.Office office.ChallengeWork) ordered listed h = work_as k T m office.ChallengeWork h

@@ -63,7 +63,8 @@ found_both number p q xs ys zs h k =
 pub found_by : {X K : Type 0} (number : X → ℕ) (test : K → X → Bool) (look : K → List X) (xs : List X) → ((k : K) → IsFound number (test k) xs (look k)) →
     (ks : List K) → IsFound number (λ x. list_any (λ k. test k x) ks) xs (flat_map look ks)
 found_by number test look xs h [] = found_none number xs
-found_by number test look xs h (k ∷ ks) = found_both number (test k) (λ x. list_any (λ j. test j x) ks) xs (look k) (flat_map look ks) (h k) (found_by number test look xs h ks)
+found_by number test look xs h (k ∷ ks) = found_both number (test k)
+    (λ x. list_any (λ j. test j x) ks) xs (look k) (flat_map look ks) (h k) (found_by number test look xs h ks)
 
 -- by a test that is the same on each row
 pub found_same : {X : Type 0} (number : X → ℕ) (p q : X → Bool) (xs ys : List X) → EachOf (λ x. p x ≡ q x) xs → IsFound number p xs ys → IsFound number q xs ys
@@ -115,7 +116,8 @@ put_filter number y p n (x ∷ xs) h e =
     by (number x == number y) refl (p x) e (put_filter number y p (number x + 1) xs h.1) (ascends_above number (number x) (number x + 1) xs (omega arith) h.1)
   where
     rest : (y' : _) → Above number (number y') xs → filter p xs ≡ filter (λ z. (number y' == number z) || p z) xs
-    rest y' above = filter_same p (λ z. (number y' == number z) || p z) xs (each _ _ xs (λ z lt. ap (λ b. b || p z) (sym (less_differs (number y') (number z) lt))) above)
+    rest y' above = filter_same p (λ z. (number y' == number z) || p z) xs
+        (each _ _ xs (λ z lt. ap (λ b. b || p z) (sym (less_differs (number y') (number z) lt))) above)
 
     by : (c : Bool) → (number x == number y) ≡ c → (b : Bool) → cond c (Some x) (find (λ z. number z == number y) xs) ≡ Some y →
         (find (λ z. number z == number y) xs ≡ Some y → put number y (filter p xs) ≡ filter (λ z. (number y == number z) || p z) xs) →
@@ -146,11 +148,13 @@ put_filter number y p n (x ∷ xs) h e =
     by false apart true f ih above =
         let lt : number x < number y = found_above number y (number x) xs above f in
         put_later number y x (filter p xs) lt ∙ ap (λ l. x ∷ l) (ih f)
-        ∙ ap (λ c. cond (c || true) (x ∷ filter (λ z. (number y == number z) || p z) xs) (filter (λ z. (number y == number z) || p z) xs)) (sym (more_differs (number y) (number x) lt))
+        ∙ ap (λ c. cond (c || true) (x ∷ filter (λ z. (number y == number z) || p z) xs) (filter (λ z. (number y == number z) || p z) xs))
+        (sym (more_differs (number y) (number x) lt))
     by false apart false f ih above =
         let lt : number x < number y = found_above number y (number x) xs above f in
         ih f
-        ∙ ap (λ c. cond (c || false) (x ∷ filter (λ z. (number y == number z) || p z) xs) (filter (λ z. (number y == number z) || p z) xs)) (sym (more_differs (number y) (number x) lt))
+        ∙ ap (λ c. cond (c || false) (x ∷ filter (λ z. (number y == number z) || p z) xs) (filter (λ z. (number y == number z) || p z) xs))
+        (sym (more_differs (number y) (number x) lt))
 
 -- rows of these, put among some of them
 all_put_filter : {X : Type 0} (number : X → ℕ) (n : ℕ) (xs : List X) → Ascends number n xs → (found : List X) → (p : X → Bool) →

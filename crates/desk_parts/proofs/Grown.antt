@@ -17,7 +17,9 @@ use Rattle.desk_model.specs.declared.rows.OrderRow.{OrderRow}
 use Rattle.desk_laws.specs.Ordered.{Below, IsOrdered}
 use Rattle.desk_laws.proofs.Basics.{each, each_both, less_differs}
 use Rattle.desk_model.specs.Asked.{carries, has_key, names_account, names_order, names_authorization, names_owner, asks_orders}
-use Rattle.desk_model.specs.Touched.{is_touched_nonce, is_touched_account, is_touched_authorization, is_touched_order, is_named_account, is_named_order, is_named_authorization, is_own_order, is_own_authorization, is_first_authorization, lists, touched_rows}
+use Rattle.desk_model.specs.Touched.{is_touched_nonce, is_touched_account, is_touched_authorization, is_touched_order}
+use Rattle.desk_model.specs.Touched.{is_named_account, is_named_order, is_named_authorization, is_own_order, is_own_authorization}
+use Rattle.desk_model.specs.Touched.{is_first_authorization, lists, touched_rows}
 use Rattle.desk_parts.specs.IsPart.{Keeps}
 use Rattle.desk_parts.proofs.Listed.{KeepsListed}
 use Rattle.desk_parts.proofs.Lists.{or_left, or_right, or_cases, same_number, each_member, any_gives, each_filtered, filter_same, found_passes, found_each}
@@ -85,7 +87,8 @@ grown_closed k T ordered listed =
           (each_both _ _ T.orders (same_kept (λ (o : OrderRow). o.number) T.orders k.orders) listed);
       new_nonces = new_kept (λ (n : Nonce). n.serial) T.meta.counters.nonces T.nonces k.nonces ordered.nonces.1;
       new_accounts = new_kept (λ (a : AccountRow). a.number) T.meta.counters.accounts T.accounts k.accounts ordered.accounts.1;
-      new_authorizations = new_kept (λ (a : AuthorizationRow). a.number) T.meta.counters.authorizations T.authorizations k.authorizations ordered.authorizations.1;
+      new_authorizations = new_kept (λ (a : AuthorizationRow). a.number) T.meta.counters.authorizations T.authorizations k.authorizations
+          ordered.authorizations.1;
       new_orders = new_kept (λ (o : OrderRow). o.number) T.meta.counters.orders T.orders k.orders ordered.orders.1;
     }
 
@@ -103,7 +106,8 @@ keeps_touched k T m a h =
     record {
       nonces = each _ _ T.nonces (λ x f yes. or_left _ _ (f yes)) (each_filtered _ (is_touched_nonce T m a) T.nonces h.nonces);
       accounts = each _ _ T.accounts (λ x f yes. or_left _ _ (f yes)) (each_filtered _ (is_touched_account T m a) T.accounts h.accounts);
-      authorizations = each _ _ T.authorizations (λ x f yes. or_left _ _ (f yes)) (each_filtered _ (is_touched_authorization T m a) T.authorizations h.authorizations);
+      authorizations = each _ _ T.authorizations (λ x f yes. or_left _ _ (f yes))
+          (each_filtered _ (is_touched_authorization T m a) T.authorizations h.authorizations);
       orders = each _ _ T.orders (λ x f yes. or_left _ _ (f yes)) (each_filtered _ (is_touched_order T m a) T.orders h.orders);
     }
 
@@ -129,7 +133,8 @@ pub record KeepsNamed (k : Kept) (T : Tables) (a : Ask) : Type 0 where
   pub authorization : (n : ℕ) → names_authorization a n ≡ true → k.authorizations n ≡ true
   pub owner : EachOf (λ r. names_owner a r ≡ true → k.authorizations r.number ≡ true) T.authorizations
   pub holder : EachOf (λ r. names_owner a r ≡ true → k.accounts r.account ≡ true) T.authorizations
-  pub orders : EachOf (λ x. is_named_account a x ≡ true → EachOf (λ o. asks_orders a ≡ true → (o.account == x.number) ≡ true → k.orders o.number ≡ true) T.orders) T.accounts
+  pub orders : EachOf (λ x. is_named_account a x ≡ true → EachOf
+      (λ o. asks_orders a ≡ true → (o.account == x.number) ≡ true → k.orders o.number ≡ true) T.orders) T.accounts
 
 pub keeps_named : (k : Kept) (T : Tables) (m : ℕ) (a : Ask) → KeepsTouched (grown k T) T m a → KeepsNamed (grown k T) T a
 keeps_named k T m a h =
@@ -202,7 +207,8 @@ keeps_falling k T m a h =
     record {
       nonces = each _ _ T.nonces (λ x f yes. f (or_right (carries a x.serial) _ yes)) h.nonces;
       authorizations = each _ _ T.authorizations (λ r f yes. f (overdue r yes)) (keeps_first k T m a h);
-      orders = each _ _ T.orders (λ o f yes. by o (is_live_order o.status) refl f.0 f.1 yes) (each_both _ _ T.orders h.orders (keeps_listing k T m a h (is_overdue m) overdue));
+      orders = each _ _ T.orders (λ o f yes. by o (is_live_order o.status) refl f.0 f.1 yes)
+          (each_both _ _ T.orders h.orders (keeps_listing k T m a h (is_overdue m) overdue));
     }
   where
     overdue : (r : AuthorizationRow) → is_overdue m r ≡ true → is_first_authorization T m a r ≡ true

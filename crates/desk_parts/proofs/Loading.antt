@@ -1,5 +1,6 @@
 -- What the look-ups find is what the call touches, rule by rule.
-use Rattle.std.proofs.Common.{◌≡◌, ℕ, ◌+◌, ◌-◌, max, List, [], ◌∷◌, map, filter, Option, Some, None, refl, sym, ap, ◌∙◌, true, false, Bool, not, arith, Result, Ok, Err}
+use Rattle.std.proofs.Common.{◌≡◌, ℕ, ◌+◌, ◌-◌, max, List, [], ◌∷◌, map, filter, Option, Some, None, refl, sym, ap, ◌∙◌, true}
+use Rattle.std.proofs.Common.{false, Bool, not, arith, Result, Ok, Err}
 use Rattle.std.specs.Prelude.{◌==◌, ◌&&◌, ◌||◌, nat_lt, nat_le, bytes_eq, option_and_then}
 use Rattle.std.specs.List.{list_any, flat_map}
 use Rattle.std.proofs.lemmas.Bool.{eqb-true, eq-eqb}
@@ -29,10 +30,21 @@ use Rattle.desk_model.specs.declared.status.OrderStatus.{OrderStatus}
 use Rattle.desk_model.specs.declared.status.OrderStatus.TheVariants as order
 use Rattle.desk_laws.specs.Ordered.{IsOrdered}
 use Rattle.desk_laws.proofs.Basics.{each, each_all, list_any-map, list_any-same, or_none}
-use Rattle.desk_parts.specs.Loaded.{accounts_once, authorizations_once, orders_once, account_numbers, authorization_numbers, challenge_numbers, first_authorizations, found_accounts, found_authorizations, found_nonces, found_orders, keys, listed_authorizations, listing_orders, loaded, loaded_at, loaded_rows, named_accounts, named_authorizations, named_orders, of_text, order_numbers, own_authorizations, own_orders, past_authorizations, past_orders, serials, target_accounts, target_authorization_numbers, target_challenge_numbers, target_order_numbers}
-use Rattle.desk_parts.specs.LookUps.{accounts_numbered, accounts_with_key, authorizations_numbered, authorizations_of, challenges, listed_by, nonces_numbered, orders_listing, orders_numbered, orders_of, orders_past, owners_of, places}
-use Rattle.desk_model.specs.Asked.{asks_authorizations, asks_orders, carries, has_key, names_account, names_authorization, names_order, names_owner, target_account, target_authorization, target_order, target_owner}
-use Rattle.desk_model.specs.Touched.{is_first_authorization, is_named_account, is_named_authorization, is_named_order, is_own_authorization, is_own_order, is_past_order, is_touched_account, is_touched_authorization, is_touched_nonce, is_touched_order, lists, touched, touched_at, touched_rows}
+use Rattle.desk_parts.specs.Loaded.{accounts_once, authorizations_once, orders_once, account_numbers, authorization_numbers}
+use Rattle.desk_parts.specs.Loaded.{challenge_numbers, first_authorizations, found_accounts, found_authorizations, found_nonces}
+use Rattle.desk_parts.specs.Loaded.{found_orders, keys, listed_authorizations, listing_orders, loaded, loaded_at, loaded_rows}
+use Rattle.desk_parts.specs.Loaded.{named_accounts, named_authorizations, named_orders, of_text, order_numbers}
+use Rattle.desk_parts.specs.Loaded.{own_authorizations, own_orders, past_authorizations, past_orders, serials, target_accounts}
+use Rattle.desk_parts.specs.Loaded.{target_authorization_numbers, target_challenge_numbers, target_order_numbers}
+use Rattle.desk_parts.specs.LookUps.{accounts_numbered, accounts_with_key, authorizations_numbered, authorizations_of, challenges}
+use Rattle.desk_parts.specs.LookUps.{listed_by, nonces_numbered, orders_listing, orders_numbered, orders_of, orders_past}
+use Rattle.desk_parts.specs.LookUps.{owners_of, places}
+use Rattle.desk_model.specs.Asked.{asks_authorizations, asks_orders, carries, has_key, names_account, names_authorization}
+use Rattle.desk_model.specs.Asked.{names_order, names_owner, target_account, target_authorization, target_order, target_owner}
+use Rattle.desk_model.specs.Touched.{is_first_authorization, is_named_account, is_named_authorization, is_named_order}
+use Rattle.desk_model.specs.Touched.{is_own_authorization, is_own_order, is_past_order, is_touched_account}
+use Rattle.desk_model.specs.Touched.{is_touched_authorization, is_touched_nonce, is_touched_order, lists, touched, touched_at}
+use Rattle.desk_model.specs.Touched.{touched_rows}
 use Rattle.desk_parts.proofs.Cut.{numbered}
 use Rattle.desk_parts.proofs.Found.{IsFound, any_filter, found_both, found_by, found_filter, found_if, found_once, found_same, found_table}
 
@@ -224,27 +236,34 @@ accounts_named T a h =
     found_same of_account _ (is_named_account a) T.accounts (named_accounts T a)
     (each_all _ T.accounts (λ x i. keyed a x.key i || account_listed a x.number i))
     (found_both of_account (λ x. list_any (λ k. bytes_eq x.key k) (keys a)) (λ x. list_any (λ k. x.number == k) (account_numbers a)) T.accounts _ _
-    (found_by of_account (λ k x. bytes_eq x.key k) (accounts_with_key T) T.accounts (λ k. found_filter of_account (λ x. bytes_eq x.key k) 1 T.accounts h.accounts.0) (keys a))
-    (found_by of_account (λ k x. x.number == k) (accounts_numbered T) T.accounts (λ k. found_filter of_account (λ x. x.number == k) 1 T.accounts h.accounts.0) (account_numbers a)))
+    (found_by of_account (λ k x. bytes_eq x.key k) (accounts_with_key T) T.accounts
+    (λ k. found_filter of_account (λ x. bytes_eq x.key k) 1 T.accounts h.accounts.0) (keys a))
+    (found_by of_account (λ k x. x.number == k) (accounts_numbered T) T.accounts
+    (λ k. found_filter of_account (λ x. x.number == k) 1 T.accounts h.accounts.0) (account_numbers a)))
 
 accounts_once_named : (T : Tables) (a : Ask) → IsOrdered T → IsFound of_account (is_named_account a) T.accounts (accounts_once (named_accounts T a))
 accounts_once_named T a h = found_once of_account (is_named_account a) 1 T.accounts (named_accounts T a) h.accounts.0 (accounts_named T a h)
 
 orders_at : (T : Tables) → IsOrdered T → (ns : List ℕ) → IsFound of_order (λ o. list_any (λ k. o.number == k) ns) T.orders (flat_map (orders_numbered T) ns)
-orders_at T h ns = found_by of_order (λ k o. o.number == k) (orders_numbered T) T.orders (λ k. found_filter of_order (λ o. o.number == k) 1 T.orders h.orders.0) ns
+orders_at T h ns = found_by of_order (λ k o. o.number == k) (orders_numbered T) T.orders
+    (λ k. found_filter of_order (λ o. o.number == k) 1 T.orders h.orders.0) ns
 
-authorizations_at : (T : Tables) → IsOrdered T → (ns : List ℕ) → IsFound of_authorization (λ r. list_any (λ k. r.number == k) ns) T.authorizations (flat_map (authorizations_numbered T) ns)
+authorizations_at : (T : Tables) → IsOrdered T → (ns : List ℕ) → IsFound of_authorization
+    (λ r. list_any (λ k. r.number == k) ns) T.authorizations (flat_map (authorizations_numbered T) ns)
 authorizations_at T h ns =
-    found_by of_authorization (λ k r. r.number == k) (authorizations_numbered T) T.authorizations (λ k. found_filter of_authorization (λ r. r.number == k) 1 T.authorizations h.authorizations.0) ns
+    found_by of_authorization (λ k r. r.number == k) (authorizations_numbered T) T.authorizations
+    (λ k. found_filter of_authorization (λ r. r.number == k) 1 T.authorizations h.authorizations.0) ns
 
 orders_named : (T : Tables) (a : Ask) → IsOrdered T → IsFound of_order (is_named_order a) T.orders (named_orders T a)
-orders_named T a h = found_same of_order _ (is_named_order a) T.orders (named_orders T a) (each_all _ T.orders (λ o. order_listed a o.number)) (orders_at T h (order_numbers a))
+orders_named T a h = found_same of_order _ (is_named_order a) T.orders (named_orders T a)
+    (each_all _ T.orders (λ o. order_listed a o.number)) (orders_at T h (order_numbers a))
 
 authorizations_named : (T : Tables) (a : Ask) → IsOrdered T → IsFound of_authorization (is_named_authorization a) T.authorizations (named_authorizations T a)
 authorizations_named T a h =
     found_same of_authorization _ (is_named_authorization a) T.authorizations (named_authorizations T a)
     (each_all _ T.authorizations (λ r i. authorization_listed a r.number i || challenge_listed a r i))
-    (found_both of_authorization (λ r. list_any (λ k. r.number == k) (authorization_numbers a)) (λ r. list_any (λ c. has_row c r) (challenge_numbers a)) T.authorizations _ _
+    (found_both of_authorization (λ r. list_any (λ k. r.number == k) (authorization_numbers a))
+    (λ r. list_any (λ c. has_row c r) (challenge_numbers a)) T.authorizations _ _
     (authorizations_at T h (authorization_numbers a))
     (found_by of_authorization (λ c r. has_row c r) (λ c. flat_map (authorizations_numbered T) (owners_of T c)) T.authorizations
     (λ c. found_same of_authorization _ (has_row c) T.authorizations _ (owner_found T h c) (authorizations_at T h (owners_of T c))) (challenge_numbers a)))
@@ -276,7 +295,8 @@ orders_over T m h =
     one s = found_filter of_order (λ o. (order_code o.status == order_code s) && nat_lt o.expires m) 1 T.orders h.orders.0
 
     by : (s : OrderStatus) (b : Bool) →
-        (((order_code s == order_code order.Pending) && b) || (((order_code s == order_code order.Ready) && b) || ((order_code s == order_code order.Processing) && b)))
+        (((order_code s == order_code order.Pending) && b)
+        || (((order_code s == order_code order.Ready) && b) || ((order_code s == order_code order.Processing) && b)))
         ≡ (is_live_order s && b)
     by order.Pending b = or_none b
     by order.Ready b = or_none b
@@ -286,12 +306,15 @@ orders_over T m h =
 
 authorizations_over : (T : Tables) (m : ℕ) → IsOrdered T → IsFound of_authorization (is_overdue m) T.authorizations (past_authorizations T m)
 authorizations_over T m h =
-    found_same of_authorization _ (is_overdue m) T.authorizations (past_authorizations T m) (each_all _ T.authorizations (λ r. by r.status (nat_lt r.expires m)))
-    (found_both of_authorization (λ r. (authz_code r.status == authz_code authz.Pending) && nat_lt r.expires m) (λ r. (authz_code r.status == authz_code authz.Valid) && nat_lt r.expires m) T.authorizations _ _
+    found_same of_authorization _ (is_overdue m) T.authorizations (past_authorizations T m)
+    (each_all _ T.authorizations (λ r. by r.status (nat_lt r.expires m)))
+    (found_both of_authorization (λ r. (authz_code r.status == authz_code authz.Pending) && nat_lt r.expires m)
+    (λ r. (authz_code r.status == authz_code authz.Valid) && nat_lt r.expires m) T.authorizations _ _
     (found_filter of_authorization (λ r. (authz_code r.status == authz_code authz.Pending) && nat_lt r.expires m) 1 T.authorizations h.authorizations.0)
     (found_filter of_authorization (λ r. (authz_code r.status == authz_code authz.Valid) && nat_lt r.expires m) 1 T.authorizations h.authorizations.0))
   where
-    by : (s : AuthzStatus) (b : Bool) → (((authz_code s == authz_code authz.Pending) && b) || ((authz_code s == authz_code authz.Valid) && b)) ≡ (is_live s && b)
+    by : (s : AuthzStatus) (b : Bool) → (((authz_code s == authz_code authz.Pending) && b)
+        || ((authz_code s == authz_code authz.Valid) && b)) ≡ (is_live s && b)
     by authz.Pending b = or_none b
     by authz.Valid b = refl
     by authz.Invalid b = refl
@@ -299,13 +322,15 @@ authorizations_over T m h =
     by authz.Expired b = refl
     by authz.Revoked b = refl
 
-authorizations_first : (T : Tables) (m : ℕ) (a : Ask) → IsOrdered T → IsFound of_authorization (is_first_authorization T m a) T.authorizations (first_authorizations T m a)
+authorizations_first : (T : Tables) (m : ℕ) (a : Ask) → IsOrdered T
+    → IsFound of_authorization (is_first_authorization T m a) T.authorizations (first_authorizations T m a)
 authorizations_first T m a h =
     found_both of_authorization (is_named_authorization a) (λ r. is_own_authorization T a r || is_overdue m r) T.authorizations _ _ (authorizations_named T a h)
     (found_both of_authorization (is_own_authorization T a) (is_overdue m) T.authorizations _ _ (authorizations_own T a h) (authorizations_over T m h))
 
 -- orders that list one of the rows found
-orders_listed : (T : Tables) (test : AuthorizationRow → Bool) (rows : List AuthorizationRow) → IsOrdered T → IsFound of_authorization test T.authorizations rows →
+orders_listed : (T : Tables) (test : AuthorizationRow → Bool) (rows : List AuthorizationRow) → IsOrdered T
+    → IsFound of_authorization test T.authorizations rows →
     IsFound of_order (λ o. list_any (λ r. test r && lists o r.number) T.authorizations) T.orders (listing_orders T rows)
 orders_listed T test rows h is =
     found_same of_order _ _ T.orders (listing_orders T rows) (each_all _ T.orders (λ o. is.tests (λ r. lists o r.number)))
@@ -314,11 +339,13 @@ orders_listed T test rows h is =
 
 orders_found : (T : Tables) (m : ℕ) (a : Ask) → IsOrdered T → IsFound of_order (is_touched_order T m a) T.orders (found_orders T m a)
 orders_found T m a h =
-    found_both of_order (λ o. is_named_order a o || (is_own_order T a o || is_past_order m o)) (λ o. list_any (λ r. is_first_authorization T m a r && lists o r.number) T.authorizations) T.orders _ _
+    found_both of_order (λ o. is_named_order a o || (is_own_order T a o || is_past_order m o))
+    (λ o. list_any (λ r. is_first_authorization T m a r && lists o r.number) T.authorizations) T.orders _ _
     (found_both of_order (is_named_order a) (λ o. is_own_order T a o || is_past_order m o) T.orders _ _ (orders_named T a h)
     (found_both of_order (is_own_order T a) (is_past_order m) T.orders _ _ (orders_own T a h) (orders_over T m h)))
     (orders_listed T (is_first_authorization T m a) (authorizations_once (first_authorizations T m a)) h
-    (found_once of_authorization (is_first_authorization T m a) 1 T.authorizations (first_authorizations T m a) h.authorizations.0 (authorizations_first T m a h)))
+    (found_once of_authorization (is_first_authorization T m a) 1 T.authorizations (first_authorizations T m a) h.authorizations.0
+    (authorizations_first T m a h)))
 
 orders_once_found : (T : Tables) (m : ℕ) (a : Ask) → IsOrdered T → IsFound of_order (is_touched_order T m a) T.orders (orders_once (found_orders T m a))
 orders_once_found T m a h = found_once of_order (is_touched_order T m a) 1 T.orders (found_orders T m a) h.orders.0 (orders_found T m a h)
@@ -330,28 +357,35 @@ authorizations_listed T test rows h is =
     found_same of_authorization _ _ T.authorizations (listed_authorizations T rows)
     (each_all _ T.authorizations (λ r. is.tests (λ o. list_any (λ n. r.number == n) (listed_by T o.number))
     ∙ any_each _ _ T.orders (each _ _ T.orders (λ o e. ap (λ b. test o && b) e) (listed_found T h r.number))))
-    (found_by of_authorization (λ (o : OrderRow) r. list_any (λ n. r.number == n) (listed_by T o.number)) (λ o. flat_map (authorizations_numbered T) (listed_by T o.number)) T.authorizations
+    (found_by of_authorization (λ (o : OrderRow) r. list_any (λ n. r.number == n) (listed_by T o.number))
+    (λ o. flat_map (authorizations_numbered T) (listed_by T o.number)) T.authorizations
     (λ o. authorizations_at T h (listed_by T o.number)) rows)
 
-authorizations_found : (T : Tables) (m : ℕ) (a : Ask) → IsOrdered T → IsFound of_authorization (is_touched_authorization T m a) T.authorizations (found_authorizations T m a)
+authorizations_found : (T : Tables) (m : ℕ) (a : Ask) → IsOrdered T
+    → IsFound of_authorization (is_touched_authorization T m a) T.authorizations (found_authorizations T m a)
 authorizations_found T m a h =
     found_both of_authorization (is_first_authorization T m a) (λ r. list_any (λ o. is_touched_order T m a o && lists o r.number) T.orders) T.authorizations _ _
     (authorizations_first T m a h) (authorizations_listed T (is_touched_order T m a) (orders_once (found_orders T m a)) h (orders_once_found T m a h))
 
-authorizations_once_found : (T : Tables) (m : ℕ) (a : Ask) → IsOrdered T → IsFound of_authorization (is_touched_authorization T m a) T.authorizations (authorizations_once (found_authorizations T m a))
+authorizations_once_found : (T : Tables) (m : ℕ) (a : Ask) → IsOrdered T
+    → IsFound of_authorization (is_touched_authorization T m a) T.authorizations (authorizations_once (found_authorizations T m a))
 authorizations_once_found T m a h =
-    found_once of_authorization (is_touched_authorization T m a) 1 T.authorizations (found_authorizations T m a) h.authorizations.0 (authorizations_found T m a h)
+    found_once of_authorization (is_touched_authorization T m a) 1 T.authorizations (found_authorizations T m a) h.authorizations.0
+    (authorizations_found T m a h)
 
 accounts_found : (T : Tables) (m : ℕ) (a : Ask) → IsOrdered T → IsFound of_account (is_touched_account T m a) T.accounts (found_accounts T m a)
 accounts_found T m a h =
     found_both of_account (is_named_account a) _ T.accounts _ _ (accounts_named T a h)
-    (found_both of_account (λ x. list_any (λ o. is_touched_order T m a o && (o.account == x.number)) T.orders) (λ x. list_any (λ r. is_touched_authorization T m a r && (r.account == x.number)) T.authorizations) T.accounts _ _
+    (found_both of_account (λ x. list_any (λ o. is_touched_order T m a o && (o.account == x.number)) T.orders)
+    (λ x. list_any (λ r. is_touched_authorization T m a r && (r.account == x.number)) T.authorizations) T.accounts _ _
     (found_same of_account _ _ T.accounts _
-    (each_all _ T.accounts (λ x. (orders_once_found T m a h).tests (λ o. x.number == o.account) ∙ list_any-same _ _ T.orders (λ o. ap (λ b. is_touched_order T m a o && b) (eq_turn x.number o.account))))
+    (each_all _ T.accounts (λ x. (orders_once_found T m a h).tests (λ o. x.number == o.account)
+    ∙ list_any-same _ _ T.orders (λ o. ap (λ b. is_touched_order T m a o && b) (eq_turn x.number o.account))))
     (found_by of_account (λ (o : OrderRow) x. x.number == o.account) (λ o. accounts_numbered T o.account) T.accounts
     (λ o. found_filter of_account (λ x. x.number == o.account) 1 T.accounts h.accounts.0) (orders_once (found_orders T m a))))
     (found_same of_account _ _ T.accounts _
-    (each_all _ T.accounts (λ x. (authorizations_once_found T m a h).tests (λ r. x.number == r.account) ∙ list_any-same _ _ T.authorizations (λ r. ap (λ b. is_touched_authorization T m a r && b) (eq_turn x.number r.account))))
+    (each_all _ T.accounts (λ x. (authorizations_once_found T m a h).tests (λ r. x.number == r.account)
+    ∙ list_any-same _ _ T.authorizations (λ r. ap (λ b. is_touched_authorization T m a r && b) (eq_turn x.number r.account))))
     (found_by of_account (λ (r : AuthorizationRow) x. x.number == r.account) (λ r. accounts_numbered T r.account) T.accounts
     (λ r. found_filter of_account (λ x. x.number == r.account) 1 T.accounts h.accounts.0) (authorizations_once (found_authorizations T m a)))))
 
@@ -363,7 +397,8 @@ rows_loaded T m a h =
       meta = T.meta;
       nonces = found_table of_nonce (is_touched_nonce T m a) 1 T.nonces (found_nonces T m a) h.nonces.0 (nonces_found T m a h) i;
       accounts = found_table of_account (is_touched_account T m a) 1 T.accounts (found_accounts T m a) h.accounts.0 (accounts_found T m a h) i;
-      authorizations = found_table of_authorization (is_touched_authorization T m a) 1 T.authorizations (found_authorizations T m a) h.authorizations.0 (authorizations_found T m a h) i;
+      authorizations = found_table of_authorization (is_touched_authorization T m a) 1 T.authorizations (found_authorizations T m a)
+          h.authorizations.0 (authorizations_found T m a h) i;
       orders = found_table of_order (is_touched_order T m a) 1 T.orders (found_orders T m a) h.orders.0 (orders_found T m a h) i;
     }
 

@@ -6,10 +6,12 @@ use Rattle.serde_json.specs.Data.{Data, string}
 use Rattle.desk_model.specs.Json.{document, list}
 use Rattle.desk_model.specs.Derived.{numbers_of, restated_authorization, restated_order}
 use Rattle.desk_model.specs.Document.{and_row, is_listed, key_document, order_document, order_url, order_with_names, rows_of}
-use Rattle.desk_model.specs.Effect.{effect, fresh_authorization, fresh_order, has_row, moved_authorization, moved_order, new_authorizations, noted_order, touches_order}
+use Rattle.desk_model.specs.Effect.{effect, fresh_authorization, fresh_order, has_row, moved_authorization, moved_order}
+use Rattle.desk_model.specs.Effect.{new_authorizations, noted_order, touches_order}
 use Rattle.desk_model.specs.Order.{ordered_by}
 use Rattle.desk_model.specs.Questions.{order_on}
-use Rattle.desk_model.specs.Shown.{at, account_reply, authorization_reply, certificate_reply, challenge_in, client_challenge_in, located_account, made_account, made_order, moved_reply, ok, reply_of, shown}
+use Rattle.desk_model.specs.Shown.{at, account_reply, authorization_reply, certificate_reply, challenge_in, client_challenge_in}
+use Rattle.desk_model.specs.Shown.{located_account, made_account, made_order, moved_reply, ok, reply_of, shown}
 use Rattle.desk_model.specs.Tables.{Tables}
 use Rattle.desk_model.specs.Kept.{EachOf, IsClosed, Kept, restricted}
 use Rattle.desk_model.specs.declared.entry.Entry.{Entry}
@@ -33,7 +35,8 @@ use Rattle.desk_parts.proofs.Verdicts.{account_same, authorization_same, order_s
 -- ---- what a part keeps after an entry
 
 -- a moved order lists what it listed
-moved_listed : (e : Entry) (m : ℕ) (before after : List AuthorizationRow) (row : OrderRow) → numbers_of (moved_order e m before after row).listed ≡ numbers_of row.listed
+moved_listed : (e : Entry) (m : ℕ) (before after : List AuthorizationRow) (row : OrderRow)
+    → numbers_of (moved_order e m before after row).listed ≡ numbers_of row.listed
 moved_listed e m before after row = by (touches_order e before row)
   where
     by : (b : Bool) → numbers_of (cond b (restated_order m after (noted_order e m row)) row).listed ≡ numbers_of row.listed
@@ -48,18 +51,21 @@ listed_after k S m e closed fresh =
     (each _ _ S.orders (λ o f kept.
     subst (EachOf (λ n. k.authorizations n ≡ true)) (sym (moved_listed e m S.authorizations (effect m S e).authorizations o))
     (f (ap k.orders (sym (order_number e m S.authorizations (effect m S e).authorizations o)) ∙ kept))) closed.listed))
-    (each-map _ (λ o. restated_order m (effect m S e).authorizations (fresh_order o)) (ordered_by e m S.meta.policy (new_authorizations S e m) (S.meta.counters.orders + 1))
+    (each-map _ (λ o. restated_order m (effect m S e).authorizations (fresh_order o))
+    (ordered_by e m S.meta.policy (new_authorizations S e m) (S.meta.counters.orders + 1))
     (each _ _ (ordered_by e m S.meta.policy (new_authorizations S e m) (S.meta.counters.orders + 1)) (λ o f kept. f) fresh))
 
 -- the authorization of a challenge
-pub owner_after : (k : Kept) (S : Tables) (m : ℕ) (e : Entry) (n : ℕ) → IsClosed k S → EachOf (λ r. has_row n r ≡ true → k.authorizations r.number ≡ true) S.authorizations →
+pub owner_after : (k : Kept) (S : Tables) (m : ℕ) (e : Entry) (n : ℕ) → IsClosed k S
+    → EachOf (λ r. has_row n r ≡ true → k.authorizations r.number ≡ true) S.authorizations →
     EachOf (λ r. has_row n r ≡ true → k.authorizations r.number ≡ true) (effect m S e).authorizations
 owner_after k S m e n closed h =
     each-append _ (map (moved_authorization e m) S.authorizations) _
     (each-map _ (moved_authorization e m) S.authorizations
     (each _ _ S.authorizations (λ r f has. ap k.authorizations (moved_number e m r) ∙ f (sym (has_row-moved n e m r) ∙ has)) h))
     (each _ _ (map (λ a. restated_authorization m (fresh_authorization a)) (new_authorizations S e m)) (λ r f has. f)
-    (up_kept (λ (a : AuthorizationRow). a.number) k.authorizations S.meta.counters.authorizations closed.new_authorizations (S.meta.counters.authorizations + 1) (omega arith) _
+    (up_kept (λ (a : AuthorizationRow). a.number) k.authorizations S.meta.counters.authorizations closed.new_authorizations
+    (S.meta.counters.authorizations + 1) (omega arith) _
     (made_up e m S.meta.policy.authz_life (S.meta.counters.authorizations + 1) (S.meta.counters.challenges + 1))))
 
 -- ---- what is shown
@@ -76,7 +82,8 @@ opened_shown k E h = ap (shown (located_account 201 E)) (account_same k E E.meta
 pub key_shown : (k : Kept) (E : Tables) (n : ℕ) → k.accounts n ≡ true → reply_of (restricted k E) (show.Key n) ≡ reply_of E (show.Key n)
 key_shown k E n h = ap (shown (λ (a : AccountRow). ok 200 (key_document a.key))) (account_same k E n h)
 
-pub authorization_shown : (k : Kept) (E : Tables) (n : ℕ) → k.authorizations n ≡ true → reply_of (restricted k E) (show.Authorization n) ≡ reply_of E (show.Authorization n)
+pub authorization_shown : (k : Kept) (E : Tables) (n : ℕ) → k.authorizations n ≡ true
+    → reply_of (restricted k E) (show.Authorization n) ≡ reply_of E (show.Authorization n)
 authorization_shown k E n h = ap (shown (authorization_reply E)) (authorization_same k E n h)
 
 pub challenge_shown : (k : Kept) (E : Tables) (n : ℕ) → EachOf (λ r. has_row n r ≡ true → k.authorizations r.number ≡ true) E.authorizations →

@@ -8,7 +8,11 @@ use Rattle.desk_model.specs.Effect.{has_row}
 use Rattle.desk_model.specs.Lookup.{holds}
 use Rattle.desk_model.specs.Payload.{authorization_change, challenge_change, finalize, new_account}
 use Rattle.desk_model.specs.Questions.{account_on, account_with_key, authorization_on, order_on, owner_on, challenge_of}
-use Rattle.desk_model.specs.Rules.{certificate_verdict, certify_verdict, challenge_verdict, authorization_verdict, fail_verdict, finalize_verdict, finding_verdict, holder_verdict, if_spelled, key_verdict, new_account_verdict, nothing, office_verdict, open_nonce, open_nonce_in, outcome_of, outcome_verdict, own, report_verdict, revoke_account, revoke_authorization, signed_verdict, target_verdict}
+use Rattle.desk_model.specs.Rules.{certificate_verdict, certify_verdict, challenge_verdict, authorization_verdict, fail_verdict}
+use Rattle.desk_model.specs.Rules.{finalize_verdict, finding_verdict, holder_verdict, if_spelled, key_verdict}
+use Rattle.desk_model.specs.Rules.{new_account_verdict, nothing, office_verdict, open_nonce, open_nonce_in, outcome_of}
+use Rattle.desk_model.specs.Rules.{outcome_verdict, own, report_verdict, revoke_account, revoke_authorization, signed_verdict}
+use Rattle.desk_model.specs.Rules.{target_verdict}
 use Rattle.desk_model.specs.Tables.{Tables}
 use Rattle.desk_model.specs.Tokens.{NonceText, authorization_of, nonce_in, token_text}
 use Rattle.sha2.specs.Sha256.{sha256}
@@ -60,7 +64,8 @@ pub nonce_same : (k : Kept) (S : Tables) (s : Signed) → ((n : ℕ) → carries
     open_nonce (restricted k S) s.nonce ≡ open_nonce S s.nonce
 nonce_same k S s h = by (option_and_then nonce_in s.nonce) h
   where
-    by : (t : Option NonceText) → ((n : ℕ) → holds (λ (x : NonceText). n == x.serial) t ≡ true → k.nonces n ≡ true) → open_nonce_in (restricted k S) t ≡ open_nonce_in S t
+    by : (t : Option NonceText) → ((n : ℕ) → holds (λ (x : NonceText). n == x.serial) t ≡ true → k.nonces n ≡ true)
+        → open_nonce_in (restricted k S) t ≡ open_nonce_in S t
     by None f = refl
     by (Some t) f = ap (if_spelled t) (find_kept (λ (n : Nonce). n.serial) k.nonces t.serial S.nonces (f t.serial (same_number t.serial)))
 
@@ -76,15 +81,20 @@ target_same k S r n p to.NewOrder o a c = refl
 target_same k S r n p (to.Account j) o a c = refl
 target_same k S r n p (to.Orders j) o a c = refl
 target_same k S r n p (to.Order j) o a c =
-    ap (λ x. given (own (λ (y : OrderRow). y.account) n x) refusal.NotFound (λ y. check (nothing p) refusal.Malformed (answers (show.Order j)))) (order_same k S j (o j (same_number j)))
+    ap (λ x. given (own (λ (y : OrderRow). y.account) n x) refusal.NotFound
+    (λ y. check (nothing p) refusal.Malformed (answers (show.Order j)))) (order_same k S j (o j (same_number j)))
 target_same k S r n p (to.Finalize j) o a c =
-    ap (λ x. given (own (λ (y : OrderRow). y.account) n x) refusal.NotFound (λ y. given (finalize p) refusal.Malformed (finalize_verdict j y))) (order_same k S j (o j (same_number j)))
+    ap (λ x. given (own (λ (y : OrderRow). y.account) n x) refusal.NotFound
+    (λ y. given (finalize p) refusal.Malformed (finalize_verdict j y))) (order_same k S j (o j (same_number j)))
 target_same k S r n p (to.Cert j) o a c =
-    ap (λ x. given (own (λ (y : OrderRow). y.account) n x) refusal.NotFound (λ y. check (nothing p) refusal.Malformed (certificate_verdict j y))) (order_same k S j (o j (same_number j)))
+    ap (λ x. given (own (λ (y : OrderRow). y.account) n x) refusal.NotFound
+    (λ y. check (nothing p) refusal.Malformed (certificate_verdict j y))) (order_same k S j (o j (same_number j)))
 target_same k S r n p (to.Authz j) o a c =
-    ap (λ x. given (own (λ (y : AuthorizationRow). y.account) n x) refusal.NotFound (λ y. given (authorization_change p) refusal.Malformed (authorization_verdict j y))) (authorization_same k S j (a j (same_number j)))
+    ap (λ x. given (own (λ (y : AuthorizationRow). y.account) n x) refusal.NotFound
+    (λ y. given (authorization_change p) refusal.Malformed (authorization_verdict j y))) (authorization_same k S j (a j (same_number j)))
 target_same k S r n p (to.Chall j) o a c =
-    ap (λ x. given (own (λ (y : AuthorizationRow). y.account) n x) refusal.NotFound (λ y. given (challenge_change p) refusal.Malformed (challenge_verdict j y))) (owner_same k S j c)
+    ap (λ x. given (own (λ (y : AuthorizationRow). y.account) n x) refusal.NotFound
+    (λ y. given (challenge_change p) refusal.Malformed (challenge_verdict j y))) (owner_same k S j c)
 
 holder_same : (k : Kept) (S : Tables) (r p : List ℕ) (t : Target) (x : Option AccountRow) →
     ((n : ℕ) → target_verdict (restricted k S) r n p t ≡ target_verdict S r n p t) →
@@ -133,7 +143,8 @@ pub report_same : (k : Kept) (S : Tables) (n : ℕ) (finding : Finding) → Keep
     report_verdict (restricted k S) n finding ≡ report_verdict S n finding
 unfolding given
 report_same k S n finding h =
-    ap (λ x. given x refusal.NotFound (λ a. given (challenge_of n a) refusal.NotFound (finding_verdict (restricted k S) n finding a))) (owner_same k S n h.owner)
+    ap (λ x. given x refusal.NotFound (λ a. given (challenge_of n a) refusal.NotFound (finding_verdict (restricted k S) n finding a)))
+    (owner_same k S n h.owner)
     ∙ by (owner_on S n) refl
   where
     in_row : (a : AuthorizationRow) → k.accounts a.account ≡ true → (c : Option ChallengeRow) →
@@ -152,8 +163,10 @@ office_same k S office.Directory h = refl
 office_same k S (office.Report n finding) h = report_same k S n finding h
 office_same k S (office.Certify n bytes) h = ap (λ x. given x refusal.NotFound (certify_verdict n bytes)) (order_same k S n (h.order n (same_number n)))
 office_same k S (office.FailOrder n problem) h = ap (λ x. given x refusal.NotFound (fail_verdict n problem)) (order_same k S n (h.order n (same_number n)))
-office_same k S (office.RevokeAuthz n) h = ap (λ x. given x refusal.NotFound (revoke_authorization n)) (authorization_same k S n (h.authorization n (same_number n)))
+office_same k S (office.RevokeAuthz n) h =
+    ap (λ x. given x refusal.NotFound (revoke_authorization n)) (authorization_same k S n (h.authorization n (same_number n)))
 office_same k S (office.RevokeAccount n) h = ap (λ x. given x refusal.NotFound (revoke_account n)) (account_same k S n (h.account n (same_number n)))
 office_same k S office.ChallengeWork h = refl
 office_same k S office.OrderWork h = refl
-office_same k S (office.KeyOf n) h = ap (λ x. given x refusal.NotFound (λ (y : AccountRow). answers (show.Key n))) (account_same k S n (h.account n (same_number n)))
+office_same k S (office.KeyOf n) h = ap (λ x. given x refusal.NotFound (λ (y : AccountRow). answers (show.Key n)))
+    (account_same k S n (h.account n (same_number n)))

@@ -20,7 +20,11 @@ use Rattle.desk_model.specs.Lookup.{holds}
 use Rattle.desk_model.specs.Order.{is_processing, is_ready}
 use Rattle.desk_model.specs.Payload.{account_change, authorization_change, challenge_change, finalize, new_account, new_order}
 use Rattle.desk_model.specs.Questions.{account_on, account_with_key, authorization_on, challenge_of, order_on, owner_on}
-use Rattle.desk_model.specs.Rules.{account_verdict, authorization_verdict, certify_verdict, challenge_verdict, csr_in, fail_verdict, finalize_verdict, holder_verdict, is_revoked, is_revoked_status, key_verdict, new_account_verdict, nothing, office_verdict, open_account, order_of, outcome_of, own, report_verdict, revoke_account, revoke_authorization, same_outcome, same_problem, signed_verdict, stands_open, subproblems, target_verdict, wanted, kept, names_in}
+use Rattle.desk_model.specs.Rules.{account_verdict, authorization_verdict, certify_verdict, challenge_verdict, csr_in}
+use Rattle.desk_model.specs.Rules.{fail_verdict, finalize_verdict, holder_verdict, is_revoked, is_revoked_status, key_verdict}
+use Rattle.desk_model.specs.Rules.{new_account_verdict, nothing, office_verdict, open_account, order_of, outcome_of, own}
+use Rattle.desk_model.specs.Rules.{report_verdict, revoke_account, revoke_authorization, same_outcome, same_problem}
+use Rattle.desk_model.specs.Rules.{signed_verdict, stands_open, subproblems, target_verdict, wanted, kept, names_in}
 use Rattle.desk_model.specs.Tables.{Tables}
 use Rattle.desk_model.specs.Kept.{EachOf, IsClosed, Kept}
 use Rattle.desk_model.specs.Verdict.{choose, unless_fault}
@@ -34,7 +38,11 @@ use Rattle.desk_model.specs.declared.call.Signed.{Signed}
 use Rattle.desk_model.specs.declared.call.Target.{Target}
 use Rattle.desk_model.specs.declared.call.Target.TheVariants as to
 use Rattle.desk_model.specs.declared.entry.Entry.{Entry}
-use Rattle.desk_model.specs.declared.entry.Entry.TheVariants.{Opened as opened, ContactsChanged as contacts_changed, AccountEnded as account_ended, Ordered as ordered, Answered as answered, Reported as reported, AuthorizationEnded as authorization_ended, Finalized as finalized, Certified as certified, Failed as failed}
+use Rattle.desk_model.specs.declared.entry.Entry.TheVariants.{Opened as opened, ContactsChanged as contacts_changed}
+use Rattle.desk_model.specs.declared.entry.Entry.TheVariants.{AccountEnded as account_ended, Ordered as ordered}
+use Rattle.desk_model.specs.declared.entry.Entry.TheVariants.{Answered as answered, Reported as reported}
+use Rattle.desk_model.specs.declared.entry.Entry.TheVariants.{AuthorizationEnded as authorization_ended, Finalized as finalized}
+use Rattle.desk_model.specs.declared.entry.Entry.TheVariants.{Certified as certified, Failed as failed}
 use Rattle.desk_model.specs.declared.payload.AccountChange.{AccountChange}
 use Rattle.desk_model.specs.declared.payload.AccountChange.TheVariants as change
 use Rattle.desk_model.specs.declared.payload.AuthorizationChange.{AuthorizationChange}
@@ -60,7 +68,9 @@ use Rattle.desk_parts.proofs.Lists.{each_member, found_each, found_passes, or_le
 use Rattle.desk_laws.proofs.Plain.{fresh_kept}
 use Rattle.desk_parts.proofs.Ready.{IsAnswered, IsReady, covered, swept_names}
 use Rattle.desk_parts.proofs.Verdicts.{is_key, verdict_by}
-use Rattle.desk_parts.proofs.Replies.{account_shown, authorization_shown, certificate_shown, challenge_shown, client_challenge_shown, finalized_shown, key_shown, known_shown, listed_after, made_shown, opened_shown, order_shown, orders_shown, owner_after}
+use Rattle.desk_parts.proofs.Replies.{account_shown, authorization_shown, certificate_shown, challenge_shown}
+use Rattle.desk_parts.proofs.Replies.{client_challenge_shown, finalized_shown, key_shown, known_shown, listed_after, made_shown}
+use Rattle.desk_parts.proofs.Replies.{opened_shown, order_shown, orders_shown, owner_after}
 
 -- ---- steps of verdicts
 
@@ -110,7 +120,8 @@ answered_named : (T : Tables) (m : ℕ) (a : Ask) (n : ℕ) → ((r : Authorizat
 answered_named T m a n named =
     record { account = λ x h. cc; authorization = λ r h. or_left _ _ (or_right (names_authorization a r.number) _ (named r h)); order = λ j h. cc }
 
-reported_named : (T : Tables) (m : ℕ) (a : Ask) (n : ℕ) (o : Outcome) → ((r : AuthorizationRow) → has_row n r ≡ true → names_owner a r ≡ true) → IsNamedBy T m a (reported n o)
+reported_named : (T : Tables) (m : ℕ) (a : Ask) (n : ℕ) (o : Outcome)
+    → ((r : AuthorizationRow) → has_row n r ≡ true → names_owner a r ≡ true) → IsNamedBy T m a (reported n o)
 reported_named T m a n o named =
     record { account = λ x h. cc; authorization = λ r h. or_left _ _ (or_right (names_authorization a r.number) _ (named r h)); order = λ j h. cc }
 
@@ -141,7 +152,8 @@ listed_then k T m a e ready =
 
 -- the account that is found owns its authorizations
 owned_by : (T : Tables) (a : Ask) (x : AccountRow) → asks_authorizations a ≡ true → is_named_account a x ≡ true →
-    ((p : AccountRow → Bool) → p x ≡ true → list_any p T.accounts ≡ true) → (r : AuthorizationRow) → (x.number == r.account) ≡ true → is_own_authorization T a r ≡ true
+    ((p : AccountRow → Bool) → p x ≡ true → list_any p T.accounts ≡ true) → (r : AuthorizationRow) → (x.number == r.account) ≡ true
+    → is_own_authorization T a r ≡ true
 owned_by T a x asked named member r h =
     and_from _ _ asked (member (λ y. is_named_account a y && (r.account == y.number)) (and_from _ _ named (turned x.number r.account h)))
 
@@ -168,7 +180,8 @@ certify_answered k T m n bytes ready o =
     check_keeps (IsAnswered k m S) (nat_le (length bytes) longest_certificate) refusal.TooLarge _ tt (λ few.
     either_keeps (IsAnswered k m S) (holds (λ x. bytes_eq x.bytes bytes) o.certified) _ _ (order_shown k S n kept (swept_closed k T m ready.closed).listed)
     (check_keeps (IsAnswered k m S) (is_processing o.status) refusal.Conflict _ tt (λ ready_for. (
-      covered k T m (ask.Office (office.Certify n bytes)) (certified n bytes) ready (certified_named T m (ask.Office (office.Certify n bytes)) n bytes (same_number n)),
+      covered k T m (ask.Office (office.Certify n bytes)) (certified n bytes) ready
+          (certified_named T m (ask.Office (office.Certify n bytes)) n bytes (same_number n)),
       order_shown k (effect m S (certified n bytes)) n kept (listed_then k T m (ask.Office (office.Certify n bytes)) (certified n bytes) ready),
     )))))
 
@@ -180,7 +193,8 @@ fail_answered k T m n problem ready o =
     check_keeps (IsAnswered k m S) (is_problem problem) refusal.Malformed _ tt (λ formed.
     either_keeps (IsAnswered k m S) (holds (λ f. same_problem f.problem problem) o.failed) _ _ (order_shown k S n kept (swept_closed k T m ready.closed).listed)
     (check_keeps (IsAnswered k m S) (is_processing o.status) refusal.Conflict _ tt (λ ready_for. (
-      covered k T m (ask.Office (office.FailOrder n problem)) (failed n problem) ready (failed_named T m (ask.Office (office.FailOrder n problem)) n problem (same_number n)),
+      covered k T m (ask.Office (office.FailOrder n problem)) (failed n problem) ready
+          (failed_named T m (ask.Office (office.FailOrder n problem)) n problem (same_number n)),
       order_shown k (effect m S (failed n problem)) n kept (listed_then k T m (ask.Office (office.FailOrder n problem)) (failed n problem) ready),
     ))))
 
@@ -191,11 +205,13 @@ revoke_authorization_answered k T m n ready r =
     let kept : k.authorizations n ≡ true = ready.named.authorization n (same_number n) in
     either_keeps (IsAnswered k m S) (is_revoked_status r.status) _ _ (authorization_shown k S n kept)
     (check_keeps (IsAnswered k m S) (is_live r.status) refusal.Conflict _ tt (λ stands. (
-      covered k T m (ask.Office (office.RevokeAuthz n)) (authorization_ended n revoked) ready (authorization_named T m (ask.Office (office.RevokeAuthz n)) n revoked (same_number n)),
+      covered k T m (ask.Office (office.RevokeAuthz n)) (authorization_ended n revoked) ready
+          (authorization_named T m (ask.Office (office.RevokeAuthz n)) n revoked (same_number n)),
       authorization_shown k (effect m S (authorization_ended n revoked)) n kept,
     )))
 
-revoke_account_answered : (k : Kept) (T : Tables) (m : ℕ) (n : ℕ) → IsReady k T m (ask.Office (office.RevokeAccount n)) → (x : AccountRow) → account_on T n ≡ Some x →
+revoke_account_answered : (k : Kept) (T : Tables) (m : ℕ) (n : ℕ) → IsReady k T m (ask.Office (office.RevokeAccount n)) → (x : AccountRow)
+    → account_on T n ≡ Some x →
     IsAnswered k m (swept m T) (revoke_account n x)
 revoke_account_answered k T m n ready x found =
     let S : Tables = swept m T in
@@ -205,9 +221,11 @@ revoke_account_answered k T m n ready x found =
     let number : x.number ≡ n = eqb-true x.number n here in
     either_keeps (IsAnswered k m S) (holds (λ e. is_revoked e.ending) x.ended) _ _ (account_shown k S n kept)
     (check_keeps (IsAnswered k m S) (is_valid_account x.status) refusal.Conflict _ tt (λ stands. (
-      covered k T m (ask.Office (office.RevokeAccount n)) (account_ended n revoked) ready (ended_named T m (ask.Office (office.RevokeAccount n)) n revoked (same_number n)
+      covered k T m (ask.Office (office.RevokeAccount n)) (account_ended n revoked) ready
+          (ended_named T m (ask.Office (office.RevokeAccount n)) n revoked (same_number n)
           (λ r h. owned_by T (ask.Office (office.RevokeAccount n)) x refl here
-          (found_each (λ y. (p : AccountRow → Bool) → p y ≡ true → list_any p T.accounts ≡ true) (λ y. y.number == n) T.accounts x (each_member T.accounts) found)
+          (found_each (λ y. (p : AccountRow → Bool) → p y ≡ true → list_any p T.accounts ≡ true)
+          (λ y. y.number == n) T.accounts x (each_member T.accounts) found)
           r (ap (λ j. j == r.account) number ∙ h))),
       account_shown k (effect m S (account_ended n revoked)) n kept,
     )))
@@ -218,17 +236,25 @@ IsNoWork office.ChallengeWork = ⊥
 IsNoWork office.OrderWork = ⊥
 IsNoWork _ = Unit {0}
 
-pub office_answered : (k : Kept) (T : Tables) (m : ℕ) (a : OfficeAsk) → IsNoWork a → IsReady k T m (ask.Office a) → IsAnswered k m (swept m T) (office_verdict (swept m T) a)
+pub office_answered : (k : Kept) (T : Tables) (m : ℕ) (a : OfficeAsk) → IsNoWork a → IsReady k T m (ask.Office a)
+    → IsAnswered k m (swept m T) (office_verdict (swept m T) a)
 office_answered k T m office.Directory w ready = refl
 office_answered k T m (office.Report n finding) w ready = report_answered k T m n finding ready
-office_answered k T m (office.Certify n bytes) w ready = given_keeps (IsAnswered k m (swept m T)) (order_on (swept m T) n) refusal.NotFound _ tt (λ o found. certify_answered k T m n bytes ready o)
-office_answered k T m (office.FailOrder n problem) w ready = given_keeps (IsAnswered k m (swept m T)) (order_on (swept m T) n) refusal.NotFound _ tt (λ o found. fail_answered k T m n problem ready o)
-office_answered k T m (office.RevokeAuthz n) w ready = given_keeps (IsAnswered k m (swept m T)) (authorization_on (swept m T) n) refusal.NotFound _ tt (λ r found. revoke_authorization_answered k T m n ready r)
-office_answered k T m (office.RevokeAccount n) w ready = given_keeps (IsAnswered k m (swept m T)) (account_on (swept m T) n) refusal.NotFound _ tt (λ x found. revoke_account_answered k T m n ready x found)
+office_answered k T m (office.Certify n bytes) w ready =
+    given_keeps (IsAnswered k m (swept m T)) (order_on (swept m T) n) refusal.NotFound _ tt (λ o found. certify_answered k T m n bytes ready o)
+office_answered k T m (office.FailOrder n problem) w ready =
+    given_keeps (IsAnswered k m (swept m T)) (order_on (swept m T) n) refusal.NotFound _ tt (λ o found. fail_answered k T m n problem ready o)
+office_answered k T m (office.RevokeAuthz n) w ready =
+    given_keeps (IsAnswered k m (swept m T)) (authorization_on (swept m T) n) refusal.NotFound _ tt
+    (λ r found. revoke_authorization_answered k T m n ready r)
+office_answered k T m (office.RevokeAccount n) w ready =
+    given_keeps (IsAnswered k m (swept m T)) (account_on (swept m T) n) refusal.NotFound _ tt
+    (λ x found. revoke_account_answered k T m n ready x found)
 office_answered k T m office.ChallengeWork w ready = absurd w
 office_answered k T m office.OrderWork w ready = absurd w
 office_answered k T m (office.KeyOf n) w ready =
-    given_keeps (IsAnswered k m (swept m T)) (account_on (swept m T) n) refusal.NotFound _ tt (λ x found. key_shown k (swept m T) n (ready.named.account n (same_number n)))
+    given_keeps (IsAnswered k m (swept m T)) (account_on (swept m T) n) refusal.NotFound _ tt
+    (λ x found. key_shown k (swept m T) n (ready.named.account n (same_number n)))
 
 -- ---- signed requests
 
@@ -267,7 +293,8 @@ account_answered k T m s j x change.Deactivate ready kept named member here = (
 account_answered k T m s j x (change.Update None) ready kept named member here = account_shown k (swept m T) x.number kept
 account_answered k T m s j x (change.Update (Some contacts)) ready kept named member here =
     no_fault_keeps (IsAnswered k m (swept m T)) (contacts_fault contacts) _ (λ n. tt) (
-      covered k T m (sent s (to.Account j)) (contacts_changed x.number contacts) ready (contacts_named T m (sent s (to.Account j)) x.number contacts (turned j x.number here)),
+      covered k T m (sent s (to.Account j)) (contacts_changed x.number contacts) ready
+          (contacts_named T m (sent s (to.Account j)) x.number contacts (turned j x.number here)),
       account_shown k (effect m (swept m T) (contacts_changed x.number contacts)) x.number kept,
     )
 
@@ -277,7 +304,8 @@ new_order_answered k T m a r n ids ready (s ∷ ss) = tt
 new_order_answered k T m a r n ids ready [] =
     let ws = wanted (kept (names_in ids)) r in (
       covered k T m a (ordered n ws) ready (ordered_named T m a n ws),
-      made_shown k (effect m (swept m T) (ordered n ws)) (ready.closed.new_orders (T.meta.counters.orders + 1) (omega arith)) (listed_then k T m a (ordered n ws) ready),
+      made_shown k (effect m (swept m T) (ordered n ws)) (ready.closed.new_orders (T.meta.counters.orders + 1) (omega arith))
+          (listed_then k T m a (ordered n ws) ready),
     )
 
 finalize_answered : (k : Kept) (T : Tables) (m : ℕ) (s : Signed) (j : ℕ) (o : OrderRow) (text : List ℕ) → IsReady k T m (sent s (to.Finalize j)) →
@@ -286,15 +314,18 @@ finalize_answered k T m s j o text ready =
     check_keeps (IsAnswered k m (swept m T)) (is_ready o.status) refusal.OrderNotReady _ tt (λ stands.
     given_keeps (IsAnswered k m (swept m T)) (csr_in text) refusal.BadCsr _ tt (λ csr is. (
       covered k T m (sent s (to.Finalize j)) (finalized j csr) ready (finalized_named T m (sent s (to.Finalize j)) j csr (same_number j)),
-      finalized_shown k (effect m (swept m T) (finalized j csr)) j csr (ready.named.order j (same_number j)) (listed_then k T m (sent s (to.Finalize j)) (finalized j csr) ready),
+      finalized_shown k (effect m (swept m T) (finalized j csr)) j csr (ready.named.order j (same_number j))
+          (listed_then k T m (sent s (to.Finalize j)) (finalized j csr) ready),
     )))
 
-authorization_answered : (k : Kept) (T : Tables) (m : ℕ) (s : Signed) (j : ℕ) (r : AuthorizationRow) (p : AuthorizationChange) → IsReady k T m (sent s (to.Authz j)) →
+authorization_answered : (k : Kept) (T : Tables) (m : ℕ) (s : Signed) (j : ℕ) (r : AuthorizationRow) (p : AuthorizationChange)
+    → IsReady k T m (sent s (to.Authz j)) →
     IsAnswered k m (swept m T) (authorization_verdict j r p)
 authorization_answered k T m s j r authz_change.Read ready = authorization_shown k (swept m T) j (ready.named.authorization j (same_number j))
 authorization_answered k T m s j r authz_change.Deactivate ready =
     either_keeps (IsAnswered k m (swept m T)) (is_live r.status) _ _ (
-      covered k T m (sent s (to.Authz j)) (authorization_ended j deactivated) ready (authorization_named T m (sent s (to.Authz j)) j deactivated (same_number j)),
+      covered k T m (sent s (to.Authz j)) (authorization_ended j deactivated) ready
+          (authorization_named T m (sent s (to.Authz j)) j deactivated (same_number j)),
       authorization_shown k (effect m (swept m T) (authorization_ended j deactivated)) j (ready.named.authorization j (same_number j)),
     )
     (authorization_shown k (swept m T) j (ready.named.authorization j (same_number j)))
@@ -318,7 +349,8 @@ target_answered : (k : Kept) (T : Tables) (m : ℕ) (s : Signed) (r : List ℕ) 
 target_answered k T m s r x p to.NewAccount ready kept named member owned = known_shown k (swept m T) x.number kept
 target_answered k T m s r x p to.NewOrder ready kept named member owned =
     given_keeps (IsAnswered k m (swept m T)) (new_order p) refusal.Malformed _ tt (λ ids is.
-    check_keeps (IsAnswered k m (swept m T)) (has_length 1 most_names ids) refusal.Malformed _ tt (λ few. new_order_answered k T m (sent s to.NewOrder) r x.number ids ready (subproblems ids)))
+    check_keeps (IsAnswered k m (swept m T)) (has_length 1 most_names ids) refusal.Malformed _ tt
+    (λ few. new_order_answered k T m (sent s to.NewOrder) r x.number ids ready (subproblems ids)))
 target_answered k T m s r x p (to.Account j) ready kept named member owned =
     check_keeps (IsAnswered k m (swept m T)) (j == x.number) refusal.NotFound _ tt (λ here.
     given_keeps (IsAnswered k m (swept m T)) (account_change p) refusal.Malformed _ tt (λ q is. account_answered k T m s j x q ready kept named member here))
@@ -336,9 +368,11 @@ target_answered k T m s r x p (to.Finalize j) ready kept named member owned =
 target_answered k T m s r x p (to.Cert j) ready kept named member owned =
     given_keeps (IsAnswered k m (swept m T)) (own (λ (y : OrderRow). y.account) x.number (order_on (swept m T) j)) refusal.NotFound _ tt (λ o is.
     check_keeps (IsAnswered k m (swept m T)) (nothing p) refusal.Malformed _ tt (λ none.
-    given_keeps (IsAnswered k m (swept m T)) o.certified refusal.NotFound _ tt (λ c there. certificate_shown k (swept m T) j (ready.named.order j (same_number j)))))
+    given_keeps (IsAnswered k m (swept m T)) o.certified refusal.NotFound _ tt
+    (λ c there. certificate_shown k (swept m T) j (ready.named.order j (same_number j)))))
 target_answered k T m s r x p (to.Authz j) ready kept named member owned =
-    given_keeps (IsAnswered k m (swept m T)) (own (λ (y : AuthorizationRow). y.account) x.number (authorization_on (swept m T) j)) refusal.NotFound _ tt (λ a is.
+    given_keeps (IsAnswered k m (swept m T)) (own (λ (y : AuthorizationRow). y.account) x.number (authorization_on (swept m T) j))
+    refusal.NotFound _ tt (λ a is.
     given_keeps (IsAnswered k m (swept m T)) (authorization_change p) refusal.Malformed _ tt (λ q says. authorization_answered k T m s j a q ready))
 target_answered k T m s r x p (to.Chall j) ready kept named member owned =
     given_keeps (IsAnswered k m (swept m T)) (own (λ (y : AuthorizationRow). y.account) x.number (owner_on (swept m T) j)) refusal.NotFound _ tt (λ a is.
@@ -363,7 +397,8 @@ keyed_answered k T m s r key t ready named kept = rest t ready named
         target_answered k T m s r x s.payload u ready
         (found_each _ (λ a. bytes_eq a.key key) T.accounts x kept found is)
         (named x is)
-        (found_each (λ y. (p : AccountRow → Bool) → p y ≡ true → list_any p T.accounts ≡ true) (λ a. bytes_eq a.key key) T.accounts x (each_member T.accounts) found)
+        (found_each (λ y. (p : AccountRow → Bool) → p y ≡ true → list_any p T.accounts ≡ true)
+        (λ a. bytes_eq a.key key) T.accounts x (each_member T.accounts) found)
         (found_each _ (λ a. bytes_eq a.key key) T.accounts x (swept_names k T m (sent s u) ready.named).orders found (named x is))))
 
 pub signed_answered : (k : Kept) (T : Tables) (m : ℕ) (r : List ℕ) (s : Signed) → IsReady k T m (ask.Signed s) →

@@ -23,14 +23,17 @@ pub record IssuesAs (m : ℕ) (whole part : Tables) : Type 0 where
 pub record CarriesOutAs (m : ℕ) (whole part : Tables) (v : Verdict) : Type 0 where
   pub standing : AuthorizationRow → Bool
   pub authorizations : (effects m (swept m part) (entries_of v)).authorizations ≡ filter standing (effects m (swept m whole) (entries_of v)).authorizations
-  pub ends : (n : ℕ) → EachOf (λ o. o.expires ≤ n) (effects m (swept m whole) (entries_of v)).orders → EachOf (λ o. o.expires ≤ n) (effects m (swept m part) (entries_of v)).orders
-  pub shows : (index : Bool) → verdict_reply index (effects m (swept m part) (entries_of v)) v ≡ verdict_reply index (effects m (swept m whole) (entries_of v)) v
+  pub ends : (n : ℕ) → EachOf (λ o. o.expires ≤ n) (effects m (swept m whole) (entries_of v)).orders
+      → EachOf (λ o. o.expires ≤ n) (effects m (swept m part) (entries_of v)).orders
+  pub shows : (index : Bool) → verdict_reply index (effects m (swept m part) (entries_of v)) v
+      ≡ verdict_reply index (effects m (swept m whole) (entries_of v)) v
 
 -- a request without a nonce
 pub record SettlesAs (m : ℕ) (a : OfficeAsk) (whole part : Tables) : Type 0 where
   pub judged : office_verdict (swept m part) a ≡ office_verdict (swept m whole) a
   pub verdict : CarriesOutAs m whole part (office_verdict (swept m whole) a)
-  pub records : recorded_changes m part (entries_of (office_verdict (swept m whole) a)) ≡ recorded_changes m whole (entries_of (office_verdict (swept m whole) a))
+  pub records : recorded_changes m part (entries_of (office_verdict (swept m whole) a))
+      ≡ recorded_changes m whole (entries_of (office_verdict (swept m whole) a))
 
 -- a signed request
 pub record PassesAs (m : ℕ) (s : Signed) (whole part : Tables) : Type 0 where

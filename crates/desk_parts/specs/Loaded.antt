@@ -16,7 +16,9 @@ use Rattle.desk_model.specs.declared.rows.AuthorizationRow.{AuthorizationRow}
 use Rattle.desk_model.specs.declared.rows.OrderRow.{OrderRow}
 use Rattle.desk_model.specs.declared.status.AuthzStatus.TheVariants as authz
 use Rattle.desk_model.specs.declared.status.OrderStatus.TheVariants as order
-use Rattle.desk_parts.specs.LookUps.{accounts_numbered, accounts_with_key, authorizations_numbered, authorizations_of, authorizations_past, listed_by, nonces_before, nonces_numbered, orders_listing, orders_numbered, orders_of, orders_past, owners_of}
+use Rattle.desk_parts.specs.LookUps.{accounts_numbered, accounts_with_key, authorizations_numbered, authorizations_of}
+use Rattle.desk_parts.specs.LookUps.{authorizations_past, listed_by, nonces_before, nonces_numbered, orders_listing}
+use Rattle.desk_parts.specs.LookUps.{orders_numbered, orders_of, orders_past, owners_of}
 use Rattle.desk_model.specs.Asked.{asks_authorizations, asks_orders}
 use Rattle.desk_model.specs.Touched.{only_meta}
 

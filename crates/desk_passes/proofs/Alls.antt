@@ -44,7 +44,8 @@ kinds_make_all T h =
     let last : flat_map challenge_faults challenges ++ [] ≡ flat_map challenge_faults (sorted_challenges challenges) =
     append-nil (flat_map challenge_faults challenges) ∙ ap (flat_map challenge_faults) (sym (sorted_ascending 1 challenges h.challenges)) in
     ap (λ l. flat_map account_faults T.accounts
-    ++ (flat_map (order_faults T.meta.counters.clock T.authorizations) T.orders ++ (flat_map (authorization_faults T.meta.counters.clock) T.authorizations ++ l))) last
+    ++ (flat_map (order_faults T.meta.counters.clock T.authorizations) T.orders
+    ++ (flat_map (authorization_faults T.meta.counters.clock) T.authorizations ++ l))) last
 
 -- a pass begins with all orders before it
 pub all_orders : (T : Tables) → IsInOrder T → orders_above T 0 ≡ T.orders

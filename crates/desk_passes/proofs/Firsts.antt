@@ -23,7 +23,8 @@ none_stored rows found n are none later =
     ap (λ r. and_status r (stored_statuses rows later)) is
 
 -- the first row of a number has its stored status
-pub first_stored : (rows found : List AuthorizationRow) (n : ℕ) (row : AuthorizationRow) → found ≡ filter (λ a. a.number == n) rows → slice_get found 0 ≡ Some row →
+pub first_stored : (rows found : List AuthorizationRow) (n : ℕ) (row : AuthorizationRow) → found ≡ filter (λ a. a.number == n) rows
+    → slice_get found 0 ≡ Some row →
     (later : List ℕ) → stored_statuses rows (n ∷ later) ≡ row.status ∷ stored_statuses rows later
 first_stored rows found n row are first later =
     let is : authorization_numbered n rows ≡ Some row =

@@ -51,13 +51,15 @@ above_step number n m x (y ∷ ys) h e = by (ltb n (number y)) refl (above_step 
         let here : ltb (number y) (number y) ≡ false = not_above (number y) (number y) (omega arith) in
         let rest : above number n ys ≡ above number (number y) ys =
         all_above number n (number y + 1) ys (omega arith) h.1 ∙ sym (all_above number (number y) (number y + 1) ys (omega arith) h.1) in
-        let skips : above number (number y) (y ∷ ys) ≡ above number (number y) ys = λ i. cond (here i) (y ∷ above number (number y) ys) (above number (number y) ys) in
+        let skips : above number (number y) (y ∷ ys) ≡ above number (number y) ys =
+        λ i. cond (here i) (y ∷ above number (number y) ys) (above number (number y) ys) in
         subst (λ z. y ∷ above number n ys ≡ z ∷ above number (number z) (y ∷ ys)) same (ap (λ l. y ∷ l) (rest ∙ sym skips))
     by false less later is =
         let upper : n < number x = first_is_above number n x ys is in
         let lower : number y ≤ n = not_greater n (number y) less in
         let here : ltb (number x) (number y) ≡ false = not_above (number x) (number y) (omega arith) in
-        let skips : above number (number x) (y ∷ ys) ≡ above number (number x) ys = λ i. cond (here i) (y ∷ above number (number x) ys) (above number (number x) ys) in
+        let skips : above number (number x) (y ∷ ys) ≡ above number (number x) ys =
+        λ i. cond (here i) (y ∷ above number (number x) ys) (above number (number x) ys) in
         later is ∙ ap (λ l. x ∷ l) (sym skips)
 
 -- where there is no first, there is none

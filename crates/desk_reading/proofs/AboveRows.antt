@@ -35,7 +35,8 @@ use Rattle.desk_reading.proofs.Answered.{IsReadingUpTo, by, first_row}
 use Rattle.desk_reading.proofs.FoundRows.{found_first}
 use Rattle.desk_reading.proofs.Lists.{filter-map, first-map, map-id}
 use Rattle.desk_reading.proofs.Tests.{above_bounded, above_test}
-use Rattle.desk_reading.proofs.Told.{account_project, account_spelled, authorization_project, authorization_spelled, challenge_project, challenge_spelled, order_project, order_spelled}
+use Rattle.desk_reading.proofs.Told.{account_project, account_spelled, authorization_project, authorization_spelled}
+use Rattle.desk_reading.proofs.Told.{challenge_project, challenge_spelled, order_project, order_spelled}
 
 -- ---- texts
 

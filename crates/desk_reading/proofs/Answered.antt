@@ -1,5 +1,6 @@
 -- What a query of one table answers: its rows that pass tests, in the order of a number.
-use Rattle.std.proofs.Common.{◌≡◌, ℕ, ◌<◌, ◌+◌, pos, negsuc, ◌++◌, if◌then◌else◌, Bool, true, false, cond, List, [], ◌∷◌, map, filter, flat_map, None, Ordering, Less, Equal, refl, sym, ap, subst, ◌∙◌, arith, inl, inr}
+use Rattle.std.proofs.Common.{◌≡◌, ℕ, ◌<◌, ◌+◌, pos, negsuc, ◌++◌, if◌then◌else◌, Bool, true, false, cond, List, [], ◌∷◌, map}
+use Rattle.std.proofs.Common.{filter, flat_map, None, Ordering, Less, Equal, refl, sym, ap, subst, ◌∙◌, arith, inl, inr}
 use Rattle.std.specs.List.{AllByRecursion, list_all}
 use Rattle.std.specs.List.Sorted.{IsPermutation, IsSorted, IsStrictlySortedBy}
 use Rattle.std.specs.Ordering.{ordering_then}

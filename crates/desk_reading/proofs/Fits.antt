@@ -12,8 +12,10 @@ use Rattle.desk_columns.specs.declared.columns.NonceColumns.{NonceColumns}
 use Rattle.desk_columns.specs.declared.columns.OrderAuthzColumns.{OrderAuthzColumns}
 use Rattle.desk_columns.specs.declared.columns.OrderColumns.{OrderColumns}
 use Rattle.desk_model.specs.Kept.{EachOf}
-use Rattle.desk_tables.specs.Images.{account_params, authorization_params, blob_or_null, challenge_params, int_or_null, listed_params, meta_params, nonce_params, order_params, text_or_null}
-use Rattle.desk_reading.specs.Fitting.{FitsAccount, FitsAuthorization, FitsChallenge, FitsListed, FitsMeta, FitsNonce, FitsOrder, HoldsBlobOrNull, HoldsIntOrNull, HoldsTextOrNull}
+use Rattle.desk_tables.specs.Images.{account_params, authorization_params, blob_or_null, challenge_params, int_or_null}
+use Rattle.desk_tables.specs.Images.{listed_params, meta_params, nonce_params, order_params, text_or_null}
+use Rattle.desk_reading.specs.Fitting.{FitsAccount, FitsAuthorization, FitsChallenge, FitsListed, FitsMeta, FitsNonce, FitsOrder}
+use Rattle.desk_reading.specs.Fitting.{HoldsBlobOrNull, HoldsIntOrNull, HoldsTextOrNull}
 
 -- ---- values
 

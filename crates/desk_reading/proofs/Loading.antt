@@ -1,7 +1,8 @@
 -- The rows of all tables.
 use Rattle.std.proofs.Common.{◌≡◌, ◌∷◌, [], map, sym, ◌∙◌}
 use Rattle.std.specs.List.Sorted.{IsPermutation}
-use Rattle.desk_columns.specs.Columns.{account_columns, authorization_columns, challenge_columns, listed_columns, meta_columns, nonce_columns, order_columns, rows_columns}
+use Rattle.desk_columns.specs.Columns.{account_columns, authorization_columns, challenge_columns, listed_columns, meta_columns}
+use Rattle.desk_columns.specs.Columns.{nonce_columns, order_columns, rows_columns}
 use Rattle.desk_columns.specs.Flat.{challenge_rows, flat, listed_rows, without_challenges, without_listed}
 use Rattle.desk_columns.specs.declared.columns.StoredRows.{StoredRows}
 use Rattle.desk_model.specs.Tables.{Tables}

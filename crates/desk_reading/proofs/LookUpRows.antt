@@ -22,22 +22,33 @@ use Rattle.desk_model.specs.declared.rows.Meta.{Meta}
 use Rattle.desk_model.specs.declared.rows.OrderRow.{OrderRow}
 use Rattle.desk_model.specs.declared.status.AuthzStatus.{AuthzStatus}
 use Rattle.desk_model.specs.declared.status.OrderStatus.{OrderStatus}
-use Rattle.desk_parts.specs.LookUps.{accounts_numbered, accounts_with_key, authorizations_numbered, authorizations_of, authorizations_past, nonces_before, nonces_numbered, orders_numbered, orders_of, orders_past}
+use Rattle.desk_parts.specs.LookUps.{accounts_numbered, accounts_with_key, authorizations_numbered, authorizations_of}
+use Rattle.desk_parts.specs.LookUps.{authorizations_past, nonces_before, nonces_numbered, orders_numbered, orders_of, orders_past}
 use Rattle.desk_tables.specs.Holds.{Holds}
 use Rattle.desk_tables.specs.Layouts.{account_layout, authorization_layout, challenge_layout, meta_layout, nonce_layout, order_layout}
 use Rattle.desk_tables.proofs.Holding.{accounts_held, authorizations_held, challenges_held, meta_held, nonces_held, orders_held}
 use Rattle.desk_reading.specs.Bounded.{bounded}
 use Rattle.desk_reading.specs.Spelled.{account_in, authorization_in, challenge_in, meta_in, nonce_in, order_in}
 use Rattle.desk_reading.specs.StoredBook.{IsStoredBook}
-use Rattle.desk_reading.specs.Texts.{select_accounts, select_accounts_numbered, select_accounts_with_key, select_authorizations, select_authorizations_numbered, select_authorizations_of, select_authorizations_past, select_challenges_numbered, select_challenges_of, select_meta, select_nonces, select_nonces_before, select_nonces_numbered, select_orders, select_orders_numbered, select_orders_of, select_orders_past}
+use Rattle.desk_reading.specs.Texts.{select_accounts, select_accounts_numbered, select_accounts_with_key, select_authorizations}
+use Rattle.desk_reading.specs.Texts.{select_authorizations_numbered, select_authorizations_of, select_authorizations_past}
+use Rattle.desk_reading.specs.Texts.{select_challenges_numbered, select_challenges_of, select_meta, select_nonces}
+use Rattle.desk_reading.specs.Texts.{select_nonces_before, select_nonces_numbered, select_orders, select_orders_numbered}
+use Rattle.desk_reading.specs.Texts.{select_orders_of, select_orders_past}
 use Rattle.desk_reading.proofs.Answered.{IsReading, by, passes}
 use Rattle.desk_reading.proofs.FoundRows.{found_keyed}
 use Rattle.desk_reading.proofs.Lists.{filter-all, map-id}
-use Rattle.desk_reading.proofs.LookUpReadings.{accounts_numbered_reading, accounts_with_key_reading, authorizations_numbered_reading, authorizations_of_reading, authorizations_past_reading, challenges_numbered_reading, challenges_of_reading, is_equal, is_lower, nonces_before_reading, nonces_numbered_reading, orders_numbered_reading, orders_of_reading, orders_past_reading, past}
+use Rattle.desk_reading.proofs.LookUpReadings.{accounts_numbered_reading, accounts_with_key_reading}
+use Rattle.desk_reading.proofs.LookUpReadings.{authorizations_numbered_reading, authorizations_of_reading}
+use Rattle.desk_reading.proofs.LookUpReadings.{authorizations_past_reading, challenges_numbered_reading, challenges_of_reading}
+use Rattle.desk_reading.proofs.LookUpReadings.{is_equal, is_lower, nonces_before_reading, nonces_numbered_reading}
+use Rattle.desk_reading.proofs.LookUpReadings.{orders_numbered_reading, orders_of_reading, orders_past_reading, past}
 use Rattle.desk_reading.proofs.Readings.{accounts_reading, authorizations_reading, meta_reading, nonces_reading, orders_reading}
 use Rattle.desk_reading.proofs.StatusTests.{authorization_status_test, order_status_test}
 use Rattle.desk_reading.proofs.Tests.{below_bounded, below_test, number_test, same_bounded, text_below_test, text_test}
-use Rattle.desk_reading.proofs.Told.{account_project, account_spelled, authorization_project, authorization_spelled, challenge_project, challenge_spelled, meta_project, meta_spelled, nonce_project, nonce_spelled, order_project, order_spelled}
+use Rattle.desk_reading.proofs.Told.{account_project, account_spelled, authorization_project, authorization_spelled}
+use Rattle.desk_reading.proofs.Told.{challenge_project, challenge_spelled, meta_project, meta_spelled, nonce_project}
+use Rattle.desk_reading.proofs.Told.{nonce_spelled, order_project, order_spelled}
 
 module _ (old new : State) (T : Tables) (rows : List Row) (values : Row) (has : Holds old.now T) (book : IsStoredBook T) where
   -- ---- the desk

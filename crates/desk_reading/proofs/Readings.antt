@@ -3,7 +3,8 @@ use Rattle.std.proofs.Common.{[], ◌∷◌, codes, refl}
 use Rattle.sqlite_sql.specs.Term.{col}
 use Rattle.sqlite_tied.specs.Compute.{everything}
 use Rattle.sqlite.specs.Listing.{understood}
-use Rattle.desk_reading.specs.Texts.{select_accounts, select_authorizations, select_challenges, select_format, select_listed, select_meta, select_nonces, select_orders}
+use Rattle.desk_reading.specs.Texts.{select_accounts, select_authorizations, select_challenges, select_format, select_listed}
+use Rattle.desk_reading.specs.Texts.{select_meta, select_nonces, select_orders}
 use Rattle.desk_reading.proofs.Answered.{IsReading, by}
 use Rattle.desk_reading.proofs.Told.{account_project, authorization_project, challenge_project, listed_project, meta_project, nonce_project, order_project}
 

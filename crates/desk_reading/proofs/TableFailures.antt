@@ -19,15 +19,19 @@ use Rattle.desk_tables.proofs.Holding.{accounts_held, authorizations_held, chall
 use Rattle.desk_reading.specs.Failures.{FailsToRead, HasTexts, MayRead}
 use Rattle.desk_reading.specs.Fitting.{FitsAccount, FitsAuthorization, FitsChallenge, FitsListed, FitsMeta, FitsNonce, FitsOrder}
 use Rattle.desk_reading.specs.Spelled.{account_in, authorization_in, challenge_in, meta_in, nonce_in, order_in}
-use Rattle.desk_reading.specs.Texts.{select_accounts, select_authorizations, select_challenges, select_format, select_listed, select_meta, select_nonces, select_orders}
+use Rattle.desk_reading.specs.Texts.{select_accounts, select_authorizations, select_challenges, select_format, select_listed}
+use Rattle.desk_reading.specs.Texts.{select_meta, select_nonces, select_orders}
 use Rattle.desk_reading.proofs.Answered.{IsReading, by}
 use Rattle.desk_reading.proofs.Failing.{IsSure, query_fails, reading_fails}
 use Rattle.desk_reading.proofs.Fits.{account_fits, all_fit, authorization_fits, challenge_fits, listed_fits, meta_fits, nonce_fits, order_fits}
 use Rattle.desk_reading.proofs.KeyedReadings.{shown_keyed}
 use Rattle.desk_reading.proofs.Lists.{filter-all, map-map}
-use Rattle.desk_reading.proofs.Readings.{accounts_reading, authorizations_reading, challenges_reading, format_reading, listed_reading, meta_reading, nonces_reading, orders_reading}
+use Rattle.desk_reading.proofs.Readings.{accounts_reading, authorizations_reading, challenges_reading, format_reading}
+use Rattle.desk_reading.proofs.Readings.{listed_reading, meta_reading, nonces_reading, orders_reading}
 use Rattle.desk_reading.proofs.SureTexts.{accounts_sure, authorizations_sure, challenges_sure, format_sure, listed_sure, meta_sure, nonces_sure, orders_sure}
-use Rattle.desk_reading.proofs.Told.{IsSpelled, account_project, account_spelled, authorization_project, authorization_spelled, challenge_project, challenge_spelled, listed_project, meta_project, meta_spelled, nonce_project, nonce_spelled, order_project, order_spelled}
+use Rattle.desk_reading.proofs.Told.{IsSpelled, account_project, account_spelled, authorization_project, authorization_spelled}
+use Rattle.desk_reading.proofs.Told.{challenge_project, challenge_spelled, listed_project, meta_project, meta_spelled}
+use Rattle.desk_reading.proofs.Told.{nonce_project, nonce_spelled, order_project, order_spelled}
 use Rattle.desk_reading.proofs.WholeTables.{listed_cells_shown}
 
 -- the reading of a table by number

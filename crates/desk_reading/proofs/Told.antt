@@ -13,7 +13,8 @@ use Rattle.desk_columns.specs.declared.columns.MetaColumns.{MetaColumns}
 use Rattle.desk_columns.specs.declared.columns.NonceColumns.{NonceColumns}
 use Rattle.desk_columns.specs.declared.columns.OrderAuthzColumns.{OrderAuthzColumns}
 use Rattle.desk_columns.specs.declared.columns.OrderColumns.{OrderColumns}
-use Rattle.desk_tables.specs.Images.{account_params, authorization_params, blob_or_null, challenge_params, int_or_null, listed_params, meta_params, nonce_params, order_params, text_or_null}
+use Rattle.desk_tables.specs.Images.{account_params, authorization_params, blob_or_null, challenge_params, int_or_null}
+use Rattle.desk_tables.specs.Images.{listed_params, meta_params, nonce_params, order_params, text_or_null}
 use Rattle.desk_tables.specs.Layouts.{Layout, account_layout, authorization_layout, challenge_layout, meta_layout, nonce_layout, order_layout}
 use Rattle.desk_reading.specs.Spelled.{account_in, authorization_in, bytes_or_none, challenge_in, listed_in, meta_in, nonce_in, number_or_none, order_in}
 

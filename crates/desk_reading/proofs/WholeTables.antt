@@ -28,8 +28,11 @@ use Rattle.desk_reading.specs.Texts.{select_accounts, select_authorizations, sel
 use Rattle.desk_reading.proofs.Answered.{IsReading, answers, by, shown_somehow, picked}
 use Rattle.desk_reading.proofs.KeyedReadings.{columns_of, reads_keyed}
 use Rattle.desk_reading.proofs.Lists.{filter-all}
-use Rattle.desk_reading.proofs.Readings.{accounts_reading, authorizations_reading, challenges_reading, listed_reading, meta_reading, nonces_reading, orders_reading}
-use Rattle.desk_reading.proofs.Told.{IsSpelled, account_project, account_spelled, authorization_project, authorization_spelled, challenge_project, challenge_spelled, listed_back, listed_project, meta_project, meta_spelled, nonce_project, nonce_spelled, order_project, order_spelled}
+use Rattle.desk_reading.proofs.Readings.{accounts_reading, authorizations_reading, challenges_reading, listed_reading}
+use Rattle.desk_reading.proofs.Readings.{meta_reading, nonces_reading, orders_reading}
+use Rattle.desk_reading.proofs.Told.{IsSpelled, account_project, account_spelled, authorization_project, authorization_spelled}
+use Rattle.desk_reading.proofs.Told.{challenge_project, challenge_spelled, listed_back, listed_project, meta_project}
+use Rattle.desk_reading.proofs.Told.{meta_spelled, nonce_project, nonce_spelled, order_project, order_spelled}
 
 -- all rows of a table, in the order of their keys
 whole : {X C : Type 0} (L : Layout X) (columns : X → C) (spelled : Row → C) (project : List Term) → IsSpelled L columns spelled project

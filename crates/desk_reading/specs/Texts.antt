@@ -55,7 +55,8 @@ select_accounts_with_key = codes "SELECT num, jwk, contacts, opened, ended, end_
 
 -- orders of a number
 abbrev pub select_orders_numbered : List ℕ
-select_orders_numbered = codes "SELECT num, account, made, expires, finalized, csr, certified, cert, failed, problem, status FROM ord WHERE num = ?1 ORDER BY num"
+select_orders_numbered =
+    codes "SELECT num, account, made, expires, finalized, csr, certified, cert, failed, problem, status FROM ord WHERE num = ?1 ORDER BY num"
 
 -- orders of an account
 abbrev pub select_orders_of : List ℕ
@@ -63,7 +64,8 @@ select_orders_of = codes "SELECT num, account, made, expires, finalized, csr, ce
 
 -- orders of a status that expire before a moment
 abbrev pub select_orders_past : List ℕ
-select_orders_past = codes "SELECT num, account, made, expires, finalized, csr, certified, cert, failed, problem, status FROM ord WHERE status = ?1 AND expires < ?2 ORDER BY num"
+select_orders_past =
+    codes "SELECT num, account, made, expires, finalized, csr, certified, cert, failed, problem, status FROM ord WHERE status = ?1 AND expires < ?2 ORDER BY num"
 
 -- authorizations of a number
 abbrev pub select_authorizations_numbered : List ℕ
@@ -75,7 +77,8 @@ select_authorizations_of = codes "SELECT num, account, name, wildcard, made, exp
 
 -- authorizations of a status that expire before a moment
 abbrev pub select_authorizations_past : List ℕ
-select_authorizations_past = codes "SELECT num, account, name, wildcard, made, expires, ended, end_kind, status FROM authz WHERE status = ?1 AND expires < ?2 ORDER BY num"
+select_authorizations_past =
+    codes "SELECT num, account, name, wildcard, made, expires, ended, end_kind, status FROM authz WHERE status = ?1 AND expires < ?2 ORDER BY num"
 
 -- what an order lists
 abbrev pub select_listed_by : List ℕ
@@ -101,7 +104,8 @@ select_account_above = codes "SELECT num, jwk, contacts, opened, ended, end_kind
 
 -- an order
 abbrev pub select_order_above : List ℕ
-select_order_above = codes "SELECT num, account, made, expires, finalized, csr, certified, cert, failed, problem, status FROM ord WHERE num > ?1 ORDER BY num LIMIT 1"
+select_order_above =
+    codes "SELECT num, account, made, expires, finalized, csr, certified, cert, failed, problem, status FROM ord WHERE num > ?1 ORDER BY num LIMIT 1"
 
 -- an authorization
 abbrev pub select_authorization_above : List ℕ

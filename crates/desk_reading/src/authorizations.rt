@@ -27,7 +27,8 @@ fn challenges_under<S: Alter>(
     conn: &mut Connection<S>,
     authorization: u64,
 ) -> Result<Vec<ChallengeRow>, ReadFault>
-    ensures found { ForHeld (state S.Store conn.old) (state S.Store conn.new) (λ T. IsStoredBook T → IfOk result (λ rows. rows.items ≡ rows_under authorization (challenge_rows T.authorizations))) }
+    ensures found { ForHeld (state S.Store conn.old) (state S.Store conn.new) (λ T. IsStoredBook T
+        → IfOk result (λ rows. rows.items ≡ rows_under authorization (challenge_rows T.authorizations))) }
     ensures unchanged { HasCleanDisk (state S.Store conn.new) → OnOk result (IsUnchanged (state S.Store conn.old) (state S.Store conn.new)) }
     ensures asks { Asks (state S.Store conn.old) (state S.Store conn.new) }
 {
@@ -47,8 +48,11 @@ fn nest_challenges<S: Alter>(
     conn: &mut Connection<S>,
     heads: Vec<AuthorizationRow>,
 ) -> Result<Vec<AuthorizationRow>, ReadFault>
-    ensures found { ForHeld (state S.Store conn.old) (state S.Store conn.new) (λ T. IsStoredBook T → IsTrue (state S.Store conn.old).is_open → (rows : List Row) → EachOf (HasItsChallenges T.authorizations) rows → heads.items ≡ map without_challenges rows → IfOk result (λ found. found.items ≡ rows)) }
-    ensures unchanged { HasCleanDisk (state S.Store conn.new) → IsTrue (state S.Store conn.old).is_open → OnOk result (IsUnchanged (state S.Store conn.old) (state S.Store conn.new)) }
+    ensures found { ForHeld (state S.Store conn.old) (state S.Store conn.new) (λ T. IsStoredBook T → IsTrue (state S.Store conn.old).is_open
+        → (rows : List Row) → EachOf (HasItsChallenges T.authorizations) rows → heads.items ≡ map without_challenges rows
+        → IfOk result (λ found. found.items ≡ rows)) }
+    ensures unchanged { HasCleanDisk (state S.Store conn.new) → IsTrue (state S.Store conn.old).is_open
+        → OnOk result (IsUnchanged (state S.Store conn.old) (state S.Store conn.new)) }
     ensures asks { Asks (state S.Store conn.old) (state S.Store conn.new) }
 {
     let mut rows = Vec::new(alloc);
@@ -94,7 +98,8 @@ pub fn authorizations_numbered<S: Alter>(
     conn: &mut Connection<S>,
     number: u64,
 ) -> Result<Vec<AuthorizationRow>, ReadFault>
-    ensures found { ForHeld (state S.Store conn.old) (state S.Store conn.new) (λ T. IsStoredBook T → IfOk result (λ rows. rows.items ≡ authorizations_numbered T number)) }
+    ensures found { ForHeld (state S.Store conn.old) (state S.Store conn.new) (λ T. IsStoredBook T
+        → IfOk result (λ rows. rows.items ≡ authorizations_numbered T number)) }
     ensures unchanged { HasCleanDisk (state S.Store conn.new) → OnOk result (IsUnchanged (state S.Store conn.old) (state S.Store conn.new)) }
     ensures asks { Asks (state S.Store conn.old) (state S.Store conn.new) }
 {
@@ -118,7 +123,8 @@ pub fn authorizations_of<S: Alter>(
     conn: &mut Connection<S>,
     account: u64,
 ) -> Result<Vec<AuthorizationRow>, ReadFault>
-    ensures found { ForHeld (state S.Store conn.old) (state S.Store conn.new) (λ T. IsStoredBook T → IfOk result (λ rows. rows.items ≡ authorizations_of T account)) }
+    ensures found { ForHeld (state S.Store conn.old) (state S.Store conn.new) (λ T. IsStoredBook T
+        → IfOk result (λ rows. rows.items ≡ authorizations_of T account)) }
     ensures unchanged { HasCleanDisk (state S.Store conn.new) → OnOk result (IsUnchanged (state S.Store conn.old) (state S.Store conn.new)) }
     ensures asks { Asks (state S.Store conn.old) (state S.Store conn.new) }
 {
@@ -143,7 +149,8 @@ pub fn authorizations_past<S: Alter>(
     status: AuthzStatus,
     moment: u64,
 ) -> Result<Vec<AuthorizationRow>, ReadFault>
-    ensures found { ForHeld (state S.Store conn.old) (state S.Store conn.new) (λ T. IsStoredBook T → IfOk result (λ rows. rows.items ≡ authorizations_past T status moment)) }
+    ensures found { ForHeld (state S.Store conn.old) (state S.Store conn.new) (λ T. IsStoredBook T
+        → IfOk result (λ rows. rows.items ≡ authorizations_past T status moment)) }
     ensures unchanged { HasCleanDisk (state S.Store conn.new) → OnOk result (IsUnchanged (state S.Store conn.old) (state S.Store conn.new)) }
     ensures asks { Asks (state S.Store conn.old) (state S.Store conn.new) }
 {
@@ -191,7 +198,8 @@ pub fn authorization_above<S: Alter>(
     conn: &mut Connection<S>,
     number: u64,
 ) -> Result<Vec<AuthorizationRow>, ReadFault>
-    ensures found { ForHeld (state S.Store conn.old) (state S.Store conn.new) (λ T. IsStoredBook T → IfOk result (λ rows. rows.items ≡ first_of (authorizations_above T number))) }
+    ensures found { ForHeld (state S.Store conn.old) (state S.Store conn.new) (λ T. IsStoredBook T
+        → IfOk result (λ rows. rows.items ≡ first_of (authorizations_above T number))) }
     ensures unchanged { HasCleanDisk (state S.Store conn.new) → OnOk result (IsUnchanged (state S.Store conn.old) (state S.Store conn.new)) }
     ensures asks { Asks (state S.Store conn.old) (state S.Store conn.new) }
 {
@@ -215,7 +223,8 @@ pub fn challenge_above<S: Alter>(
     conn: &mut Connection<S>,
     number: u64,
 ) -> Result<Vec<ChallengeRow>, ReadFault>
-    ensures found { ForHeld (state S.Store conn.old) (state S.Store conn.new) (λ T. IsStoredBook T → IfOk result (λ rows. rows.items ≡ first_of (challenges_above T number))) }
+    ensures found { ForHeld (state S.Store conn.old) (state S.Store conn.new) (λ T. IsStoredBook T
+        → IfOk result (λ rows. rows.items ≡ first_of (challenges_above T number))) }
     ensures unchanged { HasCleanDisk (state S.Store conn.new) → OnOk result (IsUnchanged (state S.Store conn.old) (state S.Store conn.new)) }
     ensures asks { Asks (state S.Store conn.old) (state S.Store conn.new) }
 {

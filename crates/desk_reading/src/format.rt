@@ -43,7 +43,8 @@ fn is_newer_row(rows: &[Row]) -> bool
 
 // The rows of the format.
 fn formats<S: Alter>(conn: &mut Connection<S>) -> Result<Vec<Row>, Error>
-    ensures shown { HasCleanDisk (state S.Store conn.new) → IfOk result (λ rows. Shown select_format [] (state S.Store conn.old) (state S.Store conn.new) rows.items) }
+    ensures shown { HasCleanDisk (state S.Store conn.new)
+        → IfOk result (λ rows. Shown select_format [] (state S.Store conn.old) (state S.Store conn.new) rows.items) }
     ensures err { HasCleanDisk (state S.Store conn.new) → IfErr result (FailsToQuery select_format [] (state S.Store conn.old) (state S.Store conn.new)) }
     ensures unchanged { HasCleanDisk (state S.Store conn.new) → OnOk result (IsUnchanged (state S.Store conn.old) (state S.Store conn.new)) }
     ensures asks { Asks (state S.Store conn.old) (state S.Store conn.new) }
@@ -57,8 +58,10 @@ fn formats<S: Alter>(conn: &mut Connection<S>) -> Result<Vec<Row>, Error>
 ///
 /// The engine's; the connection is as it was, or what was not committed is undone.
 pub fn is_newer<S: Alter>(conn: &mut Connection<S>) -> Result<bool, Error>
-    ensures newer { HasCleanDisk (state S.Store conn.new) → IfOk result (λ newer. IsTrue newer → ShowsFormats (state S.Store conn.old) (state S.Store conn.new) IsNewer) }
-    ensures known { HasCleanDisk (state S.Store conn.new) → IfOk result (λ newer. newer ≡ false → ShowsFormats (state S.Store conn.old) (state S.Store conn.new) (λ rows. ¬ IsNewer rows)) }
+    ensures newer { HasCleanDisk (state S.Store conn.new)
+        → IfOk result (λ newer. IsTrue newer → ShowsFormats (state S.Store conn.old) (state S.Store conn.new) IsNewer) }
+    ensures known { HasCleanDisk (state S.Store conn.new)
+        → IfOk result (λ newer. newer ≡ false → ShowsFormats (state S.Store conn.old) (state S.Store conn.new) (λ rows. ¬ IsNewer rows)) }
     ensures desk { ForHeld (state S.Store conn.old) (state S.Store conn.new) (λ T. IfOk result (λ newer. newer ≡ false)) }
     ensures fails { ForHeld (state S.Store conn.old) (state S.Store conn.new) (λ T. MayRead (state S.Store conn.old) → IfErr result IsFailure) }
     ensures unchanged { HasCleanDisk (state S.Store conn.new) → OnOk result (IsUnchanged (state S.Store conn.old) (state S.Store conn.new)) }

@@ -46,7 +46,8 @@ pub fn nonces_numbered<S: Alter>(
     conn: &mut Connection<S>,
     serial: u64,
 ) -> Result<Vec<Nonce>, ReadFault>
-    ensures found { ForHeld (state S.Store conn.old) (state S.Store conn.new) (λ T. IsStoredBook T → IfOk result (λ rows. rows.items ≡ nonces_numbered T serial)) }
+    ensures found { ForHeld (state S.Store conn.old) (state S.Store conn.new) (λ T. IsStoredBook T
+        → IfOk result (λ rows. rows.items ≡ nonces_numbered T serial)) }
     ensures unchanged { HasCleanDisk (state S.Store conn.new) → OnOk result (IsUnchanged (state S.Store conn.old) (state S.Store conn.new)) }
     ensures asks { Asks (state S.Store conn.old) (state S.Store conn.new) }
 {
@@ -69,7 +70,8 @@ pub fn nonces_before<S: Alter>(
     conn: &mut Connection<S>,
     moment: u64,
 ) -> Result<Vec<Nonce>, ReadFault>
-    ensures found { ForHeld (state S.Store conn.old) (state S.Store conn.new) (λ T. IsStoredBook T → IfOk result (λ rows. rows.items ≡ nonces_before T moment)) }
+    ensures found { ForHeld (state S.Store conn.old) (state S.Store conn.new) (λ T. IsStoredBook T
+        → IfOk result (λ rows. rows.items ≡ nonces_before T moment)) }
     ensures unchanged { HasCleanDisk (state S.Store conn.new) → OnOk result (IsUnchanged (state S.Store conn.old) (state S.Store conn.new)) }
     ensures asks { Asks (state S.Store conn.old) (state S.Store conn.new) }
 {

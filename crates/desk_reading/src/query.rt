@@ -25,8 +25,10 @@ pub(crate) fn all_rows<S: Alter>(
     params: &[ValueRef<'_>],
 ) -> Result<Vec<Row>, Error>
     requires { IsQuery text.now }
-    ensures shown { HasCleanDisk (state S.Store conn.new) → IfOk result (λ rows. Shown text.now (bound params.now) (state S.Store conn.old) (state S.Store conn.new) rows.items) }
-    ensures err { HasCleanDisk (state S.Store conn.new) → IfErr result (FailsToQuery text.now (bound params.now) (state S.Store conn.old) (state S.Store conn.new)) }
+    ensures shown { HasCleanDisk (state S.Store conn.new)
+        → IfOk result (λ rows. Shown text.now (bound params.now) (state S.Store conn.old) (state S.Store conn.new) rows.items) }
+    ensures err { HasCleanDisk (state S.Store conn.new)
+        → IfErr result (FailsToQuery text.now (bound params.now) (state S.Store conn.old) (state S.Store conn.new)) }
     ensures unchanged { HasCleanDisk (state S.Store conn.new) → OnOk result (IsUnchanged (state S.Store conn.old) (state S.Store conn.new)) }
     ensures asks { Asks (state S.Store conn.old) (state S.Store conn.new) }
 {
@@ -45,8 +47,11 @@ pub(crate) fn read_query<S: Alter, C: Columns>(
     params: &[ValueRef<'_>],
 ) -> Result<Sequence<C>, Error>
     requires { IsQuery text.now }
-    ensures read { HasCleanDisk (state S.Store conn.new) → IfOk result (λ all. (rows : List SqlRow) × Shown text.now (bound params.now) (state S.Store conn.old) (state S.Store conn.new) rows × (all ≡ map C.spelled rows)) }
-    ensures fails { HasCleanDisk (state S.Store conn.new) → IfErr result (FailsToRead text.now (bound params.now) (state S.Store conn.old) (state S.Store conn.new) C.Fits) }
+    ensures read { HasCleanDisk (state S.Store conn.new)
+        → IfOk result (λ all. (rows : List SqlRow)
+        × Shown text.now (bound params.now) (state S.Store conn.old) (state S.Store conn.new) rows × (all ≡ map C.spelled rows)) }
+    ensures fails { HasCleanDisk (state S.Store conn.new)
+        → IfErr result (FailsToRead text.now (bound params.now) (state S.Store conn.old) (state S.Store conn.new) C.Fits) }
     ensures unchanged { HasCleanDisk (state S.Store conn.new) → OnOk result (IsUnchanged (state S.Store conn.old) (state S.Store conn.new)) }
     ensures asks { Asks (state S.Store conn.old) (state S.Store conn.new) }
 {

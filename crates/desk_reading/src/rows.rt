@@ -4,8 +4,10 @@ ghost use Rattle.sqlite.specs.Order.{Row as SqlRow};
 ghost use Rattle.sqlite.specs.State.{HasCleanDisk, IsUnchanged, Shown};
 ghost use Rattle.sqlite.specs.Values.{bound};
 ghost use Rattle.sqlite.specs.Held.{state};
-ghost use Rattle.desk_columns.specs.Columns.{account_columns, authorization_columns, challenge_columns, listed_columns, meta_columns, nonce_columns, order_columns};
-ghost use Rattle.desk_columns.specs.Limits.{IsStoredAccount, IsStoredAuthorization, IsStoredChallenge, IsStoredListed, IsStoredMeta, IsStoredNonce, IsStoredOrder};
+ghost use Rattle.desk_columns.specs.Columns.{account_columns, authorization_columns, challenge_columns, listed_columns};
+ghost use Rattle.desk_columns.specs.Columns.{meta_columns, nonce_columns, order_columns};
+ghost use Rattle.desk_columns.specs.Limits.{IsStoredAccount, IsStoredAuthorization, IsStoredChallenge, IsStoredListed};
+ghost use Rattle.desk_columns.specs.Limits.{IsStoredMeta, IsStoredNonce, IsStoredOrder};
 ghost use Rattle.desk_columns.specs.Reading.{IsRead};
 ghost use Rattle.desk_model.specs.Kept.{EachOf};
 ghost use Rattle.desk_schema.specs.Stays.{Asks};
@@ -74,7 +76,10 @@ pub(crate) fn find_rows<S: Alter, C: Stored>(
     params: &[ValueRef<'_>],
 ) -> Result<Vec<C::Row>, ReadFault>
     requires { IsQuery text.now }
-    ensures read { HasCleanDisk (state S.Store conn.new) → IfOk result (λ found. (rows : List SqlRow) × Shown text.now (bound params.now) (state S.Store conn.old) (state S.Store conn.new) rows × EachOf C.IsStored found.items × (map C.Columns.spelled rows ≡ map C.write found.items)) }
+    ensures read { HasCleanDisk (state S.Store conn.new)
+        → IfOk result (λ found. (rows : List SqlRow)
+        × Shown text.now (bound params.now) (state S.Store conn.old) (state S.Store conn.new) rows × EachOf C.IsStored found.items
+        × (map C.Columns.spelled rows ≡ map C.write found.items)) }
     ensures unchanged { HasCleanDisk (state S.Store conn.new) → OnOk result (IsUnchanged (state S.Store conn.old) (state S.Store conn.new)) }
     ensures asks { Asks (state S.Store conn.old) (state S.Store conn.new) }
 {

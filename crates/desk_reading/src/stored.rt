@@ -3,7 +3,8 @@ ghost use Rattle.std.specs.Prelude.{◌≡◌, [], ◌∷◌, map, IfErr, IfOk, 
 ghost use Rattle.std.specs.List.Sorted.{IsPermutation};
 ghost use Rattle.sqlite.specs.State.{HasCleanDisk, IsUnchanged};
 ghost use Rattle.sqlite.specs.Held.{state};
-ghost use Rattle.desk_columns.specs.Columns.{account_columns, authorization_columns, challenge_columns, listed_columns, meta_columns, nonce_columns, order_columns, rows_columns};
+ghost use Rattle.desk_columns.specs.Columns.{account_columns, authorization_columns, challenge_columns, listed_columns};
+ghost use Rattle.desk_columns.specs.Columns.{meta_columns, nonce_columns, order_columns, rows_columns};
 ghost use Rattle.desk_columns.specs.Flat.{challenge_rows, flat, listed_rows};
 ghost use Rattle.desk_schema.specs.Failing.{IsFailure};
 ghost use Rattle.desk_schema.specs.Stays.{Asks};
@@ -51,7 +52,9 @@ struct AuthorizationRows {
 fn first_rows<S: Alter>(alloc: Global, conn: &mut Connection<S>) -> Result<FirstRows, Error>
     ensures shown { HasCleanDisk (state S.Store conn.new) → IfOk result (λ all. IsShown S.Store select_meta meta_in conn.old all.metas
         × IsShown S.Store select_nonces nonce_in conn.old all.nonces × IsShown S.Store select_accounts account_in conn.old all.accounts) }
-    ensures found { ForHeld (state S.Store conn.old) (state S.Store conn.new) (λ T. IfOk result (λ all. (all.metas ≡ map meta_columns (T.meta ∷ [])) × (all.nonces ≡ map nonce_columns T.nonces) × (all.accounts ≡ map account_columns T.accounts))) }
+    ensures found { ForHeld (state S.Store conn.old) (state S.Store conn.new) (λ T. IfOk result
+        (λ all. (all.metas ≡ map meta_columns (T.meta ∷ [])) × (all.nonces ≡ map nonce_columns T.nonces)
+        × (all.accounts ≡ map account_columns T.accounts))) }
     ensures fails { ForHeld (state S.Store conn.old) (state S.Store conn.new) (λ T. MayRead (state S.Store conn.old) → HasTexts T → IfErr result IsFailure) }
     ensures unchanged { HasCleanDisk (state S.Store conn.new) → OnOk result (IsUnchanged (state S.Store conn.old) (state S.Store conn.new)) }
     ensures asks { Asks (state S.Store conn.old) (state S.Store conn.new) }
@@ -69,7 +72,8 @@ fn first_rows<S: Alter>(alloc: Global, conn: &mut Connection<S>) -> Result<First
 fn order_rows<S: Alter>(alloc: Global, conn: &mut Connection<S>) -> Result<OrderRows, Error>
     ensures shown { HasCleanDisk (state S.Store conn.new) → IfOk result (λ all. IsShown S.Store select_orders order_in conn.old all.orders
         × IsShown S.Store select_listed listed_in conn.old all.listed) }
-    ensures found { ForHeld (state S.Store conn.old) (state S.Store conn.new) (λ T. IfOk result (λ all. (all.orders ≡ map order_columns T.orders) × IsPermutation all.listed (map listed_columns (listed_rows T.orders)))) }
+    ensures found { ForHeld (state S.Store conn.old) (state S.Store conn.new) (λ T. IfOk result
+        (λ all. (all.orders ≡ map order_columns T.orders) × IsPermutation all.listed (map listed_columns (listed_rows T.orders)))) }
     ensures fails { ForHeld (state S.Store conn.old) (state S.Store conn.new) (λ T. MayRead (state S.Store conn.old) → HasTexts T → IfErr result IsFailure) }
     ensures unchanged { HasCleanDisk (state S.Store conn.new) → OnOk result (IsUnchanged (state S.Store conn.old) (state S.Store conn.new)) }
     ensures asks { Asks (state S.Store conn.old) (state S.Store conn.new) }
@@ -83,9 +87,12 @@ fn authorization_rows<S: Alter>(
     alloc: Global,
     conn: &mut Connection<S>,
 ) -> Result<AuthorizationRows, Error>
-    ensures shown { HasCleanDisk (state S.Store conn.new) → IfOk result (λ all. IsShown S.Store select_authorizations authorization_in conn.old all.authorizations
+    ensures shown { HasCleanDisk (state S.Store conn.new)
+        → IfOk result (λ all. IsShown S.Store select_authorizations authorization_in conn.old all.authorizations
         × IsShown S.Store select_challenges challenge_in conn.old all.challenges) }
-    ensures found { ForHeld (state S.Store conn.old) (state S.Store conn.new) (λ T. IfOk result (λ all. (all.authorizations ≡ map authorization_columns T.authorizations) × (all.challenges ≡ map challenge_columns (challenge_rows T.authorizations)))) }
+    ensures found { ForHeld (state S.Store conn.old) (state S.Store conn.new) (λ T. IfOk result
+        (λ all. (all.authorizations ≡ map authorization_columns T.authorizations)
+        × (all.challenges ≡ map challenge_columns (challenge_rows T.authorizations)))) }
     ensures fails { ForHeld (state S.Store conn.old) (state S.Store conn.new) (λ T. MayRead (state S.Store conn.old) → HasTexts T → IfErr result IsFailure) }
     ensures unchanged { HasCleanDisk (state S.Store conn.new) → OnOk result (IsUnchanged (state S.Store conn.old) (state S.Store conn.new)) }
     ensures asks { Asks (state S.Store conn.old) (state S.Store conn.new) }
@@ -105,7 +112,8 @@ fn authorization_rows<S: Alter>(
 /// The engine's; the connection is as it was, or what was not committed is undone.
 pub fn load_stored<S: Alter>(alloc: Global, conn: &mut Connection<S>) -> Result<StoredRows, Error>
     ensures shown { HasCleanDisk (state S.Store conn.new) → IfOk result (AreShown S.Store conn.old) }
-    ensures found { ForHeld (state S.Store conn.old) (state S.Store conn.new) (λ T. IfOk result (λ stored. AreReorderedColumns stored (rows_columns (flat T)))) }
+    ensures found { ForHeld (state S.Store conn.old) (state S.Store conn.new) (λ T. IfOk result
+        (λ stored. AreReorderedColumns stored (rows_columns (flat T)))) }
     ensures fails { ForHeld (state S.Store conn.old) (state S.Store conn.new) (λ T. MayRead (state S.Store conn.old) → HasTexts T → IfErr result IsFailure) }
     ensures unchanged { HasCleanDisk (state S.Store conn.new) → OnOk result (IsUnchanged (state S.Store conn.old) (state S.Store conn.new)) }
     ensures asks { Asks (state S.Store conn.old) (state S.Store conn.new) }

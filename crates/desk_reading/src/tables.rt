@@ -3,7 +3,8 @@ ghost use Rattle.std.specs.Prelude.{◌≡◌, [], ◌∷◌, map, IfErr, IfOk, 
 ghost use Rattle.std.specs.List.Sorted.{IsPermutation};
 ghost use Rattle.sqlite.specs.State.{HasCleanDisk, IsUnchanged};
 ghost use Rattle.sqlite.specs.Held.{state};
-ghost use Rattle.desk_columns.specs.Columns.{account_columns, authorization_columns, challenge_columns, listed_columns, meta_columns, nonce_columns, order_columns};
+ghost use Rattle.desk_columns.specs.Columns.{account_columns, authorization_columns, challenge_columns, listed_columns};
+ghost use Rattle.desk_columns.specs.Columns.{meta_columns, nonce_columns, order_columns};
 ghost use Rattle.desk_columns.specs.Flat.{challenge_rows, listed_rows};
 ghost use Rattle.desk_schema.specs.Failing.{IsFailure};
 ghost use Rattle.desk_schema.specs.Stays.{Asks};
@@ -147,7 +148,8 @@ pub fn listed_table<S: Alter>(
     conn: &mut Connection<S>,
 ) -> Result<Sequence<OrderAuthzColumns>, Error>
     ensures shown { HasCleanDisk (state S.Store conn.new) → IfOk result (IsShown S.Store select_listed listed_in conn.old) }
-    ensures found { ForHeld (state S.Store conn.old) (state S.Store conn.new) (λ T. IfOk result (λ all. IsPermutation all (map listed_columns (listed_rows T.orders)))) }
+    ensures found { ForHeld (state S.Store conn.old) (state S.Store conn.new) (λ T. IfOk result
+        (λ all. IsPermutation all (map listed_columns (listed_rows T.orders)))) }
     ensures fails { ForHeld (state S.Store conn.old) (state S.Store conn.new) (λ T. MayRead (state S.Store conn.old) → HasTexts T → IfErr result IsFailure) }
     ensures unchanged { HasCleanDisk (state S.Store conn.new) → OnOk result (IsUnchanged (state S.Store conn.old) (state S.Store conn.new)) }
     ensures asks { Asks (state S.Store conn.old) (state S.Store conn.new) }
@@ -170,7 +172,8 @@ pub fn challenge_table<S: Alter>(
     conn: &mut Connection<S>,
 ) -> Result<Sequence<ChallColumns>, Error>
     ensures shown { HasCleanDisk (state S.Store conn.new) → IfOk result (IsShown S.Store select_challenges challenge_in conn.old) }
-    ensures found { ForHeld (state S.Store conn.old) (state S.Store conn.new) (λ T. IfOk result (λ all. all ≡ map challenge_columns (challenge_rows T.authorizations))) }
+    ensures found { ForHeld (state S.Store conn.old) (state S.Store conn.new) (λ T. IfOk result
+        (λ all. all ≡ map challenge_columns (challenge_rows T.authorizations))) }
     ensures fails { ForHeld (state S.Store conn.old) (state S.Store conn.new) (λ T. MayRead (state S.Store conn.old) → HasTexts T → IfErr result IsFailure) }
     ensures unchanged { HasCleanDisk (state S.Store conn.new) → OnOk result (IsUnchanged (state S.Store conn.old) (state S.Store conn.new)) }
     ensures asks { Asks (state S.Store conn.old) (state S.Store conn.new) }

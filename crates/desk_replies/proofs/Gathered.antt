@@ -13,7 +13,8 @@ shows-next shown f xs index d value before after more is pushed known =
     ∙ sym (ap (map f) (take_more xs index d more) ∙ map-append f (take index xs) (get_or xs index d ∷ []))
 
 -- one that passes a test is shown
-pub shows-passing : {X V Z : Type 0} (shown : V → Z) (f : X → Z) (test : X → Bool) (x : X) (rest : List X) (value : V) (before after : List V) (whole : List Z) →
+pub shows-passing : {X V Z : Type 0} (shown : V → Z) (f : X → Z) (test : X → Bool) (x : X) (rest : List X) (value : V)
+    (before after : List V) (whole : List Z) →
     test x ≡ true → shown value ≡ f x → after ≡ before ++ value ∷ [] → map shown before ++ map f (filter test (x ∷ rest)) ≡ whole →
     map shown after ++ map f (filter test rest) ≡ whole
 shows-passing shown f test x rest value before after whole passes is pushed known =

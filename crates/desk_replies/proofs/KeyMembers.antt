@@ -30,7 +30,8 @@ unmarked c is = by (c == 34) refl
 parts-of : (first rest : List ℕ) → list_all is_base64url_byte first ≡ true → parts (first ++ 34 ∷ rest) ≡ first ∷ parts rest
 parts-of [] rest each = refl
 parts-of (c ∷ cs) rest each =
-    ap (λ b. cond b ([] ∷ parts (cs ++ 34 ∷ rest)) (onto_first c (parts (cs ++ 34 ∷ rest)))) (unmarked c (and-first (is_base64url_byte c) (list_all is_base64url_byte cs) each))
+    ap (λ b. cond b ([] ∷ parts (cs ++ 34 ∷ rest)) (onto_first c (parts (cs ++ 34 ∷ rest))))
+    (unmarked c (and-first (is_base64url_byte c) (list_all is_base64url_byte cs) each))
     ∙ ap (onto_first c) (parts-of cs rest (and-second (is_base64url_byte c) (list_all is_base64url_byte cs) each))
 
 curve_bytes : (crv : List ℕ) → IsCurve crv → list_all is_base64url_byte crv ≡ true
@@ -60,7 +61,8 @@ parts-are (ec crv x y) formed =
 parts-are (rsa e n) formed =
     ap (λ l. codes "{" ∷ codes "e" ∷ codes ":" ∷ l)
     (parts-of e (codes ",\"kty\":\"RSA\",\"n\":\"" ++ (n ++ codes "\"}")) (number_bytes e formed.0)
-    ∙ ap (λ l. e ∷ codes "," ∷ codes "kty" ∷ codes ":" ∷ codes "RSA" ∷ codes "," ∷ codes "n" ∷ codes ":" ∷ l) (parts-of n (codes "}") (number_bytes n formed.1)))
+    ∙ ap (λ l. e ∷ codes "," ∷ codes "kty" ∷ codes ":" ∷ codes "RSA" ∷ codes "," ∷ codes "n" ∷ codes ":" ∷ l)
+    (parts-of n (codes "}") (number_bytes n formed.1)))
 parts-are (okp x) formed =
     ap (λ l. codes "{" ∷ codes "crv" ∷ codes ":" ∷ codes "Ed25519" ∷ codes "," ∷ codes "kty" ∷ codes ":" ∷ codes "OKP" ∷ codes "," ∷ codes "x" ∷ codes ":" ∷ l)
     (parts-of x (codes "}") (number_bytes x formed))

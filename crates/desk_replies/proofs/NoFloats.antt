@@ -10,7 +10,12 @@ use Rattle.desk_model.specs.Terms.{Terms}
 use Rattle.desk_model.specs.Moment.{moment_text}
 use Rattle.desk_model.specs.Name.{Name}
 use Rattle.desk_model.specs.Names.{shown_name}
-use Rattle.desk_model.specs.Document.{account_document, identifier, order_error, order_status_text, authorization_url, finalize_url, certificate_url, challenge_url, kind_text, challenge_status_text, authorization_status_text, error_of, report_error, validated, validated_by, challenge_document, shown_challenges, authorization_document, order_url, is_listed, orders_document, work_document, work_of, challenge_work, listed_rows, order_work_document, order_work, key_members, key_document, order_with_names}
+use Rattle.desk_model.specs.Document.{account_document, identifier, order_error, order_status_text, authorization_url}
+use Rattle.desk_model.specs.Document.{finalize_url, certificate_url, challenge_url, kind_text, challenge_status_text}
+use Rattle.desk_model.specs.Document.{authorization_status_text, error_of, report_error, validated, validated_by}
+use Rattle.desk_model.specs.Document.{challenge_document, shown_challenges, authorization_document, order_url, is_listed}
+use Rattle.desk_model.specs.Document.{orders_document, work_document, work_of, challenge_work, listed_rows, order_work_document}
+use Rattle.desk_model.specs.Document.{order_work, key_members, key_document, order_with_names}
 use Rattle.desk_model.specs.Authorization.{is_pending}
 use Rattle.desk_model.specs.Order.{is_processing}
 use Rattle.desk_model.specs.Legal.{is_processing_challenge}
@@ -61,12 +66,16 @@ order_plain t names o =
     (each_plain (λ (n : Name). identifier (shown_name n)) (λ n. refl) names)
 
 challenge_plain_by : (r : Option Report) (s t k u : List ℕ) →
-    members_have_float (members (error_of r ++ (codes "status", string s) ∷ (codes "token", string t) ∷ (codes "type", string k) ∷ (codes "url", string u) ∷ validated r)) ≡ false
+    members_have_float
+    (members (error_of r ++ (codes "status", string s) ∷ (codes "token", string t) ∷ (codes "type", string k) ∷ (codes "url", string u)
+    ∷ validated r)) ≡ false
 challenge_plain_by None s t k u = refl
 challenge_plain_by (Some r) s t k u = by r.outcome
   where
     by : (o : Outcome) →
-        members_have_float (members (report_error o ++ (codes "status", string s) ∷ (codes "token", string t) ∷ (codes "type", string k) ∷ (codes "url", string u) ∷ validated_by o r.date)) ≡ false
+        members_have_float
+        (members (report_error o ++ (codes "status", string s) ∷ (codes "token", string t) ∷ (codes "type", string k)
+        ∷ (codes "url", string u) ∷ validated_by o r.date)) ≡ false
     by Good = refl
     by IncorrectResponse = refl
     by Connection = refl
@@ -77,14 +86,17 @@ pub challenge_plain : (t : Terms) (c : ChallengeRow) → has_float (challenge_do
 challenge_plain t c = challenge_plain_by c.reported (challenge_status_text c.status) (token_text c.token) (kind_text c.kind) (challenge_url t c.number)
 
 authorization_plain_by : (wildcard : Bool) (c : Items) (x i s : List ℕ) → items_have_float c ≡ false →
-    members_have_float (members ((codes "challenges", array c) ∷ (codes "expires", string x) ∷ (codes "identifier", identifier i) ∷ (codes "status", string s) ∷ when wildcard (codes "wildcard", boolean true))) ≡ false
+    members_have_float
+    (members ((codes "challenges", array c) ∷ (codes "expires", string x) ∷ (codes "identifier", identifier i)
+    ∷ (codes "status", string s) ∷ when wildcard (codes "wildcard", boolean true))) ≡ false
 authorization_plain_by true c x i s p = ap (λ b. b || false) p
 authorization_plain_by false c x i s p = ap (λ b. b || false) p
 
 -- the document of an authorization
 pub authorization_plain : (t : Terms) (a : AuthorizationRow) → has_float (authorization_document t a) ≡ false
 authorization_plain t a =
-    authorization_plain_by a.name.wildcard (items_of (map (challenge_document t) (shown_challenges a.challenges))) (moment_text a.expires) a.name.base (authorization_status_text a.status)
+    authorization_plain_by a.name.wildcard (items_of (map (challenge_document t) (shown_challenges a.challenges))) (moment_text a.expires)
+    a.name.base (authorization_status_text a.status)
     (each_plain (challenge_document t) (challenge_plain t) (shown_challenges a.challenges))
 
 -- the orders of an account
@@ -92,11 +104,13 @@ pub orders_plain : (T : Tables) (account : ℕ) → has_float (orders_document T
 orders_plain T account =
     ap (λ b. b || false) (each_plain (λ (o : OrderRow). string (order_url T.meta.policy o.number)) (λ o. refl) (filter (is_listed account) T.orders))
 
-joined_plain : (xs ys : List Data) → items_have_float (items_of xs) ≡ false → items_have_float (items_of ys) ≡ false → items_have_float (items_of (xs ++ ys)) ≡ false
+joined_plain : (xs ys : List Data) → items_have_float (items_of xs) ≡ false → items_have_float (items_of ys) ≡ false
+    → items_have_float (items_of (xs ++ ys)) ≡ false
 joined_plain [] ys p q = q
 joined_plain (x ∷ xs) ys p q = by (has_float x) p (λ r. joined_plain xs ys r q)
   where
-    by : (b : Bool) → (b || items_have_float (items_of xs)) ≡ false → (items_have_float (items_of xs) ≡ false → items_have_float (items_of (xs ++ ys)) ≡ false) →
+    by : (b : Bool) → (b || items_have_float (items_of xs)) ≡ false
+        → (items_have_float (items_of xs) ≡ false → items_have_float (items_of (xs ++ ys)) ≡ false) →
         (b || items_have_float (items_of (xs ++ ys))) ≡ false
     by true p more = p
     by false p more = more p
@@ -105,7 +119,8 @@ work_plain : (T : Tables) (rows : List AuthorizationRow) → items_have_float (i
 work_plain T [] = refl
 work_plain T (a ∷ rows) = joined_plain (work_of T a) (flat_map (work_of T) rows) (by (is_pending a.status)) (work_plain T rows)
   where
-    by : (b : Bool) → items_have_float (items_of (if b then map (work_document T a) (filter (λ c. is_processing_challenge c.status) a.challenges) else [])) ≡ false
+    by : (b : Bool)
+        → items_have_float (items_of (if b then map (work_document T a) (filter (λ c. is_processing_challenge c.status) a.challenges) else [])) ≡ false
     by true = each_plain (work_document T a) (λ c. refl) (filter (λ c. is_processing_challenge c.status) a.challenges)
     by false = refl
 

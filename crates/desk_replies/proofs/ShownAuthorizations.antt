@@ -11,7 +11,8 @@ use Rattle.desk_model.specs.declared.rows.AuthorizationRow.{AuthorizationRow}
 use Rattle.desk_model.specs.declared.objects.Report.{Report}
 use Rattle.desk_model.specs.declared.entry.Outcome.{Outcome}
 use Rattle.desk_model.specs.declared.entry.Outcome.TheVariants.{Good, IncorrectResponse, Connection, Dns}
-use Rattle.desk_model.specs.Document.{error_of, report_error, validated, validated_by, authorization_status_text, challenge_document, identifier, or_all, shown_challenges}
+use Rattle.desk_model.specs.Document.{error_of, report_error, validated, validated_by, authorization_status_text}
+use Rattle.desk_model.specs.Document.{challenge_document, identifier, or_all, shown_challenges}
 use Rattle.desk_replies.specs.Shown.{capped, capped_report, capped_challenge, capped_authorization, with_members, HasDatedReport, HasMoments}
 use Rattle.desk_replies.proofs.ShownOrders.{capped-same, map-map}
 
@@ -37,7 +38,8 @@ capped_authorization-same a dated =
 -- ---- challenges
 
 challenge_members-by : (o : Outcome) (date : ℕ) (s t k u : Data) →
-    with_members (validated_by o (capped date)) (with_members (report_error o) (members ((codes "status", s) ∷ (codes "token", t) ∷ (codes "type", k) ∷ (codes "url", u) ∷ [])))
+    with_members (validated_by o (capped date))
+    (with_members (report_error o) (members ((codes "status", s) ∷ (codes "token", t) ∷ (codes "type", k) ∷ (codes "url", u) ∷ [])))
     ≡ members (report_error o ++ (codes "status", s) ∷ (codes "token", t) ∷ (codes "type", k) ∷ (codes "url", u) ∷ validated_by o (capped date))
 challenge_members-by Good date s t k u = refl
 challenge_members-by IncorrectResponse date s t k u = refl
@@ -46,13 +48,15 @@ challenge_members-by Dns date s t k u = refl
 
 -- the error and the date of a report stand in the order of names
 pub challenge_members-put : (r : Option Report) (s t k u : Data) →
-    with_members (validated (capped_report r)) (with_members (error_of r) (members ((codes "status", s) ∷ (codes "token", t) ∷ (codes "type", k) ∷ (codes "url", u) ∷ [])))
+    with_members (validated (capped_report r))
+    (with_members (error_of r) (members ((codes "status", s) ∷ (codes "token", t) ∷ (codes "type", k) ∷ (codes "url", u) ∷ [])))
     ≡ members (error_of (capped_report r) ++ (codes "status", s) ∷ (codes "token", t) ∷ (codes "type", k) ∷ (codes "url", u) ∷ validated (capped_report r))
 challenge_members-put None s t k u = refl
 challenge_members-put (Some r) s t k u = challenge_members-by r.outcome r.date s t k u
 
 -- where no challenge was reported, all are shown
-pub shown-all : {A : Type 0} (f : ChallengeRow → A) (cs : List ChallengeRow) → [] ≡ map f (filter (λ c. is_some c.reported) cs) → map f cs ≡ map f (shown_challenges cs)
+pub shown-all : {A : Type 0} (f : ChallengeRow → A) (cs : List ChallengeRow) → [] ≡ map f (filter (λ c. is_some c.reported) cs)
+    → map f cs ≡ map f (shown_challenges cs)
 shown-all {A} f cs none = by (filter (λ c. is_some c.reported) cs) none
   where
     by : (xs : List ChallengeRow) → [] ≡ map f xs → map f cs ≡ map f (or_all xs cs)
@@ -60,14 +64,16 @@ shown-all {A} f cs none = by (filter (λ c. is_some c.reported) cs) none
     by (x ∷ xs) none = cc none
 
 -- where one was, the reported ones are
-pub shown-some : {A : Type 0} (f : ChallengeRow → A) (cs : List ChallengeRow) (v : A) (vs : List A) → v ∷ vs ≡ map f (filter (λ c. is_some c.reported) cs) → v ∷ vs ≡ map f (shown_challenges cs)
+pub shown-some : {A : Type 0} (f : ChallengeRow → A) (cs : List ChallengeRow) (v : A) (vs : List A)
+    → v ∷ vs ≡ map f (filter (λ c. is_some c.reported) cs) → v ∷ vs ≡ map f (shown_challenges cs)
 shown-some {A} f cs v vs some = by (filter (λ c. is_some c.reported) cs) some
   where
     by : (xs : List ChallengeRow) → v ∷ vs ≡ map f xs → v ∷ vs ≡ map f (or_all xs cs)
     by [] some = cc some
     by (x ∷ xs) some = some
 
-reported-capped : (cs : List ChallengeRow) → filter (λ c. is_some c.reported) (map capped_challenge cs) ≡ map capped_challenge (filter (λ c. is_some c.reported) cs)
+reported-capped : (cs : List ChallengeRow) → filter (λ c. is_some c.reported) (map capped_challenge cs)
+    ≡ map capped_challenge (filter (λ c. is_some c.reported) cs)
 reported-capped [] = refl
 reported-capped (c ∷ cs) = by c.reported (reported-capped cs)
   where
@@ -75,7 +81,8 @@ reported-capped (c ∷ cs) = by c.reported (reported-capped cs)
     rest = filter (λ x. is_some x.reported) cs
 
     by : (r : Option Report) → filter (λ x. is_some x.reported) (map capped_challenge cs) ≡ map capped_challenge rest →
-        cond (is_some (capped_report r)) (capped_challenge c ∷ filter (λ x. is_some x.reported) (map capped_challenge cs)) (filter (λ x. is_some x.reported) (map capped_challenge cs))
+        cond (is_some (capped_report r)) (capped_challenge c ∷ filter (λ x. is_some x.reported) (map capped_challenge cs))
+        (filter (λ x. is_some x.reported) (map capped_challenge cs))
         ≡ map capped_challenge (cond (is_some r) (c ∷ rest) rest)
     by None ih = ih
     by (Some r) ih = ap (λ l. capped_challenge c ∷ l) ih
@@ -95,7 +102,8 @@ shown-capped t cs =
 -- ---- authorizations
 
 authorization_members-by : (wildcard : Bool) (c x i s : Data) →
-    with_members (when wildcard (codes "wildcard", boolean true)) (members ((codes "challenges", c) ∷ (codes "expires", x) ∷ (codes "identifier", i) ∷ (codes "status", s) ∷ []))
+    with_members (when wildcard (codes "wildcard", boolean true))
+    (members ((codes "challenges", c) ∷ (codes "expires", x) ∷ (codes "identifier", i) ∷ (codes "status", s) ∷ []))
     ≡ members ((codes "challenges", c) ∷ (codes "expires", x) ∷ (codes "identifier", i) ∷ (codes "status", s) ∷ when wildcard (codes "wildcard", boolean true))
 authorization_members-by true c x i s = refl
 authorization_members-by false c x i s = refl

@@ -12,7 +12,8 @@ use Rattle.desk_model.specs.Tables.{Tables}
 use Rattle.desk_model.specs.declared.rows.OrderRow.{OrderRow}
 use Rattle.desk_model.specs.declared.rows.DatedBytes.{DatedBytes}
 use Rattle.desk_model.specs.declared.rows.DatedProblem.{DatedProblem}
-use Rattle.desk_model.specs.Document.{order_error, order_status_text, identifier, authorization_url, finalize_url, certificate_url, listed_rows, order_document, order_with_names}
+use Rattle.desk_model.specs.Document.{order_error, order_status_text, identifier, authorization_url, finalize_url}
+use Rattle.desk_model.specs.Document.{certificate_url, listed_rows, order_document, order_with_names}
 use Rattle.desk_replies.specs.Shown.{capped, capped_order, with_members}
 
 -- a moment that has a text is shown as it is
@@ -25,7 +26,8 @@ map-map f g [] = refl
 map-map f g (x ∷ xs) = ap (λ l. f (g x) ∷ l) (map-map f g xs)
 
 -- members with one more put among them
-pub and_put : (member : List ℕ × Data) (before now known : Members) → now ≡ with_members (member ∷ []) before → before ≡ known → now ≡ with_members (member ∷ []) known
+pub and_put : (member : List ℕ × Data) (before now known : Members) → now ≡ with_members (member ∷ []) before → before ≡ known
+    → now ≡ with_members (member ∷ []) known
 and_put member before now known put earlier = put ∙ ap (with_members (member ∷ [])) earlier
 
 -- the certificate and the error of an order stand in the order of names
@@ -68,7 +70,8 @@ order_members-put t names o =
     ∷ [])))) (sym (map-map (λ n. string (authorization_url t n)) (λ l. l.authorization) o.listed))
 
 -- the document of an order whose end has a text
-pub order_with_names-is : (T : Tables) (t : Terms) (names : List Name) (o : OrderRow) → T.meta.policy ≡ t → map (λ a. a.name) (listed_rows T o) ≡ names → o.expires ≤ last_end →
+pub order_with_names-is : (T : Tables) (t : Terms) (names : List Name) (o : OrderRow) → T.meta.policy ≡ t
+    → map (λ a. a.name) (listed_rows T o) ≡ names → o.expires ≤ last_end →
     order_with_names t names (capped_order o) ≡ order_document T o
 order_with_names-is T t names o same named ends =
     ap (λ m. order_with_names t names (record o { expires = m })) (capped-same o.expires ends)

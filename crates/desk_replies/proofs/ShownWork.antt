@@ -47,7 +47,8 @@ map-filter-map f p move g same [] = refl
 map-filter-map {X} f p move g same (x ∷ xs) = by (p (move x)) (map-filter-map f p move g same xs)
   where
     by : (b : Bool) → map f (filter p (map move xs)) ≡ map g (filter (λ y. p (move y)) xs) →
-        map f (cond b (move x ∷ filter p (map move xs)) (filter p (map move xs))) ≡ map g (cond b (x ∷ filter (λ y. p (move y)) xs) (filter (λ y. p (move y)) xs))
+        map f (cond b (move x ∷ filter p (map move xs)) (filter p (map move xs)))
+        ≡ map g (cond b (x ∷ filter (λ y. p (move y)) xs) (filter (λ y. p (move y)) xs))
     by true ih = ap (λ z. z ∷ map f (filter p (map move xs))) (same x) ∙ ap (λ l. g x ∷ l) ih
     by false ih = ih
 
@@ -61,14 +62,16 @@ pub orders-listed : (m account : ℕ) (T : Tables) →
     map (λ o. string (order_url T.meta.policy o.number)) (filter (is_listed account) (swept m T).orders)
     ≡ map (λ o. string (order_url T.meta.policy o.number)) (filter (λ o. is_listed account (swept_order m T.authorizations o)) T.orders)
 orders-listed m account T =
-    map-filter-map (λ (o : OrderRow). string (order_url T.meta.policy o.number)) (is_listed account) (swept_order m T.authorizations) (λ o. string (order_url T.meta.policy o.number))
+    map-filter-map (λ (o : OrderRow). string (order_url T.meta.policy o.number)) (is_listed account) (swept_order m T.authorizations)
+    (λ o. string (order_url T.meta.policy o.number))
     (λ o. sym (ap (λ (r : OrderRow). string (order_url T.meta.policy r.number)) (swept_order-status m T.authorizations o)))
     T.orders
 
 -- the challenges that wait for the validator
 pub challenges-waiting : (m : ℕ) (T : Tables) → flat_map (work_of (swept m T)) (swept m T).authorizations ≡ flat_map (work_at m T) T.authorizations
 challenges-waiting m T =
-    flat_map-map (work_of (swept m T)) (swept_authorization m) (work_at m T) (λ a. sym (ap (work_of (swept m T)) (swept_authorization-status m a))) T.authorizations
+    flat_map-map (work_of (swept m T)) (swept_authorization m) (work_at m T)
+    (λ a. sym (ap (work_of (swept m T)) (swept_authorization-status m a))) T.authorizations
 
 -- the names of an order that waits for the signing office
 names-waiting : (m : ℕ) (T : Tables) (o : OrderRow) →
@@ -82,7 +85,8 @@ order-waiting : (m : ℕ) (T : Tables) (o : OrderRow) → order_work_document (s
 order-waiting m T o =
     sym (ap (order_work_document (swept m T)) (swept_order-status m T.authorizations o))
     ∙ ap
-    (λ names. document ((codes "csr", string (base64url (bytes_of o.finalized))) ∷ (codes "names", list names) ∷ (codes "order", number (unsigned o.number)) ∷ []))
+    (λ names. document ((codes "csr", string (base64url (bytes_of o.finalized))) ∷ (codes "names", list names)
+    ∷ (codes "order", number (unsigned o.number)) ∷ []))
     (names-waiting m T o)
 
 -- the orders that wait for the signing office
@@ -90,4 +94,5 @@ pub orders-waiting : (m : ℕ) (T : Tables) →
     map (order_work_document (swept m T)) (filter (λ o. is_processing o.status) (swept m T).orders)
     ≡ map (order_work_document T) (filter (λ o. is_processing (swept_order m T.authorizations o).status) T.orders)
 orders-waiting m T =
-    map-filter-map (order_work_document (swept m T)) (λ o. is_processing o.status) (swept_order m T.authorizations) (order_work_document T) (order-waiting m T) T.orders
+    map-filter-map (order_work_document (swept m T)) (λ o. is_processing o.status) (swept_order m T.authorizations) (order_work_document T)
+    (order-waiting m T) T.orders

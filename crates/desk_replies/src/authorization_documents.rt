@@ -6,7 +6,9 @@ ghost use Rattle.serde_json.specs.View.{view, members_view};
 ghost use Rattle.desk_model.specs.Json.{members, list, when};
 ghost use Rattle.desk_model.specs.Moment.{moment_text};
 ghost use Rattle.desk_model.specs.Tokens.{token_text};
-ghost use Rattle.desk_model.specs.Document.{authorization_status_text, challenge_status_text, kind_text, challenge_url, identifier, error_of, report_error, validated, validated_by, challenge_document, shown_challenges, authorization_document};
+ghost use Rattle.desk_model.specs.Document.{authorization_status_text, challenge_status_text, kind_text, challenge_url};
+ghost use Rattle.desk_model.specs.Document.{identifier, error_of, report_error, validated, validated_by, challenge_document};
+ghost use Rattle.desk_model.specs.Document.{shown_challenges, authorization_document};
 ghost use Rattle.desk_replies.specs.Shown.{capped, capped_report, capped_challenge, capped_authorization, with_members, HasDatedReport, HasMoments};
 
 use crate::document_values::{
@@ -41,7 +43,8 @@ fn put_date(
     alloc: Global,
     report: Report,
 ) -> Result<(), AllocError>
-    ensures { OnOk result (members_view members.new.entries ≡ with_members (validated_by report.outcome (capped report.date)) (members_view members.old.entries)) }
+    ensures { OnOk result (members_view members.new.entries
+        ≡ with_members (validated_by report.outcome (capped report.date)) (members_view members.old.entries)) }
 {
     if report.outcome != Outcome::Good {
         return Ok(());
@@ -187,7 +190,8 @@ fn put_wildcard(
     alloc: Global,
     wildcard: bool,
 ) -> Result<(), AllocError>
-    ensures { OnOk result (members_view members.new.entries ≡ with_members (when wildcard (codes "wildcard", boolean true)) (members_view members.old.entries)) }
+    ensures { OnOk result (members_view members.new.entries
+        ≡ with_members (when wildcard (codes "wildcard", boolean true)) (members_view members.old.entries)) }
 {
     if !wildcard {
         return Ok(());

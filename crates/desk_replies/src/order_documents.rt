@@ -10,7 +10,9 @@ ghost use Rattle.desk_model.specs.Names.{shown_name};
 ghost use Rattle.desk_model.specs.Moment.{moment_text};
 ghost use Rattle.desk_model.specs.Tables.{Tables};
 ghost use Rattle.desk_model.specs.Effect.{swept, swept_order};
-ghost use Rattle.desk_model.specs.Document.{order_status_text, order_error, identifier, finalize_url, certificate_url, authorization_url, order_url, rows_of, listed_rows, order_document, is_listed, orders_document, order_with_names};
+ghost use Rattle.desk_model.specs.Document.{order_status_text, order_error, identifier, finalize_url, certificate_url};
+ghost use Rattle.desk_model.specs.Document.{authorization_url, order_url, rows_of, listed_rows, order_document, is_listed};
+ghost use Rattle.desk_model.specs.Document.{orders_document, order_with_names};
 ghost use Rattle.desk_replies.specs.Shown.{capped, capped_order, with_members};
 
 use crate::document_values::{
@@ -90,7 +92,8 @@ fn put_certificate(
     row: &OrderRow,
 ) -> Result<(), AllocError>
     ensures { OnOk result (members_view members.new.entries
-        ≡ with_members (when (is_some row.now.certified) (codes "certificate", string (certificate_url policy.now row.now.number))) (members_view members.old.entries)) }
+        ≡ with_members (when (is_some row.now.certified) (codes "certificate", string (certificate_url policy.now row.now.number)))
+        (members_view members.old.entries)) }
 {
     let Some(_certified) = &row.certified else {
         return Ok(());
@@ -197,7 +200,8 @@ fn order_urls(
     account: u64,
 ) -> Result<Vec<Value>, AllocError>
     ensures { IfOk result (λ v. map (λ d. view d) v.items
-        ≡ map (λ o. string (order_url book.now.meta.policy o.number)) (filter (λ o. is_listed account (swept_order moment book.now.authorizations o)) book.now.orders)) }
+        ≡ map (λ o. string (order_url book.now.meta.policy o.number))
+        (filter (λ o. is_listed account (swept_order moment book.now.authorizations o)) book.now.orders)) }
 {
     let mut urls = Vec::new(alloc);
     for row in book.orders().iter() {

@@ -10,7 +10,8 @@ ghost use Rattle.desk_model.specs.Legal.{is_processing_challenge};
 ghost use Rattle.desk_model.specs.Order.{is_processing};
 ghost use Rattle.desk_model.specs.Effect.{swept_order};
 ghost use Rattle.desk_model.specs.declared.rows.ChallengeRow.{ChallengeRow};
-ghost use Rattle.desk_model.specs.Document.{answer_key, expected, bytes_of, listed_rows, work_document, work_of, challenge_work, order_work_document, order_work};
+ghost use Rattle.desk_model.specs.Document.{answer_key, expected, bytes_of, listed_rows, work_document, work_of, challenge_work};
+ghost use Rattle.desk_model.specs.Document.{order_work_document, order_work};
 ghost use Rattle.desk_replies.specs.Shown.{work_at};
 
 use crate::document_values::{list_value, text_value};

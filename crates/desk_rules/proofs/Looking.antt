@@ -14,7 +14,8 @@ none_later number p n k [] h lt = refl
 none_later {X} number p n k (x ∷ xs) h lt = by (p x) (none_later number p (number x + 1) k xs h.1 (let le : n ≤ number x = h.0 in omega arith))
   where
     by : (b : Bool) → find (λ y. number y == k) (filter p xs) ≡ None → find (λ y. number y == k) (cond b (x ∷ filter p xs) (filter p xs)) ≡ None
-    by true ih = ap (λ c. cond c (Some x) (find (λ y. number y == k) (filter p xs))) (more_differs (number x) k (let le : n ≤ number x = h.0 in omega arith)) ∙ ih
+    by true ih = ap (λ c. cond c (Some x) (find (λ y. number y == k) (filter p xs)))
+        (more_differs (number x) k (let le : n ≤ number x = h.0 in omega arith)) ∙ ih
     by false ih = ih
 
 -- a row by its number among those that pass

@@ -80,27 +80,33 @@ kept-last (n ∷ ns) x = by (same_name n x) refl (is_in x (kept ns)) refl (kept-
     by true e false f ih = ap (λ l. n ∷ others n l) ih ∙ ap (λ (l : List Name). n ∷ l) (others-last n x (kept ns) true e ∙ append-nil (others n (kept ns)))
     by false e true f ih =
         ap (λ l. n ∷ others n l) ih
-        ∙ sym (ap (λ d. cond d (n ∷ others n (kept ns)) ((n ∷ others n (kept ns)) ++ x ∷ [])) (any-filter (λ other. same_name other x) (λ other. not (same_name n other)) (kept ns) (apart n x e) ∙ f))
+        ∙ sym (ap (λ d. cond d (n ∷ others n (kept ns)) ((n ∷ others n (kept ns)) ++ x ∷ []))
+        (any-filter (λ other. same_name other x) (λ other. not (same_name n other)) (kept ns) (apart n x e) ∙ f))
     by false e false f ih =
         ap (λ l. n ∷ others n l) ih
         ∙ ap (λ (l : List Name). n ∷ l) (others-last n x (kept ns) false e)
-        ∙ sym (ap (λ d. cond d (n ∷ others n (kept ns)) ((n ∷ others n (kept ns)) ++ x ∷ [])) (any-filter (λ other. same_name other x) (λ other. not (same_name n other)) (kept ns) (apart n x e) ∙ f))
+        ∙ sym (ap (λ d. cond d (n ∷ others n (kept ns)) ((n ∷ others n (kept ns)) ++ x ∷ []))
+        (any-filter (λ other. same_name other x) (λ other. not (same_name n other)) (kept ns) (apart n x e) ∙ f))
 
 -- whether a name is among those kept, by the test that is made
-pub kept-tested : (ns found there : List Name) (x y : Name) (b : Bool) → b ≡ list_any (λ other. same_name other y) there → y ≡ x → there ≡ found → found ≡ kept ns →
+pub kept-tested : (ns found there : List Name) (x y : Name) (b : Bool) → b ≡ list_any (λ other. same_name other y) there → y ≡ x
+    → there ≡ found → found ≡ kept ns →
     kept (ns ++ x ∷ []) ≡ cond b (kept ns) (kept ns ++ x ∷ [])
 kept-tested ns found there x y b e is same known =
     kept-last ns x
-    ∙ sym (ap (λ d. cond d (kept ns) (kept ns ++ x ∷ [])) (e ∙ ap (λ z. list_any (λ other. same_name other z) there) is ∙ ap (λ l. list_any (λ other. same_name other x) l) (same ∙ known)))
+    ∙ sym (ap (λ d. cond d (kept ns) (kept ns ++ x ∷ [])) (e ∙ ap (λ z. list_any (λ other. same_name other z) there) is
+    ∙ ap (λ l. list_any (λ other. same_name other x) l) (same ∙ known)))
 
 -- one that is new is kept
-pub kept-new : (ns found there : List Name) (x y : Name) (b : Bool) → b ≡ list_any (λ other. same_name other y) there → y ≡ x → there ≡ found → found ≡ kept ns → b ≡ false →
+pub kept-new : (ns found there : List Name) (x y : Name) (b : Bool) → b ≡ list_any (λ other. same_name other y) there → y ≡ x
+    → there ≡ found → found ≡ kept ns → b ≡ false →
     found ++ x ∷ [] ≡ kept (ns ++ x ∷ [])
 kept-new ns found there x y b e is same known absent =
     ap (λ l. l ++ x ∷ []) known ∙ sym (kept-tested ns found there x y b e is same known ∙ ap (λ d. cond d (kept ns) (kept ns ++ x ∷ [])) absent)
 
 -- one that is there is not kept again
-pub kept-known : (ns found there : List Name) (x y : Name) (b : Bool) → b ≡ list_any (λ other. same_name other y) there → y ≡ x → there ≡ found → found ≡ kept ns → b ≡ true →
+pub kept-known : (ns found there : List Name) (x y : Name) (b : Bool) → b ≡ list_any (λ other. same_name other y) there → y ≡ x
+    → there ≡ found → found ≡ kept ns → b ≡ true →
     found ≡ kept (ns ++ x ∷ [])
 kept-known ns found there x y b e is same known present =
     known ∙ sym (kept-tested ns found there x y b e is same known ∙ ap (λ d. cond d (kept ns) (kept ns ++ x ∷ [])) present)

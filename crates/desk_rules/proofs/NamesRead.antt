@@ -14,14 +14,16 @@ pub record AreFound (ids : List Identifier) (index : ℕ) (faulty : List Subprob
   pub named : faulty ≡ [] → names ++ names_in (drop index ids) ≡ names_in ids
 
 -- what is left begins with the next one
-subproblems-next : (ids : List Identifier) (index : ℕ) (id : Identifier) (why : Option Refusal) → index < length ids → id ≡ get_or ids index id → fault_of id ≡ why →
+subproblems-next : (ids : List Identifier) (index : ℕ) (id : Identifier) (why : Option Refusal) → index < length ids
+    → id ≡ get_or ids index id → fault_of id ≡ why →
     subproblems (drop index ids) ≡ and_subproblem why id (subproblems (drop (index + 1) ids))
 subproblems-next ids index id why more is known =
     at_drop_more subproblems ids index id more
     ∙ ap (λ i. and_subproblem (fault_of i) i (subproblems (drop (index + 1) ids))) (sym is)
     ∙ ap (λ o. and_subproblem o id (subproblems (drop (index + 1) ids))) known
 
-names-next : (ids : List Identifier) (index : ℕ) (id : Identifier) (name : Option Name) → index < length ids → id ≡ get_or ids index id → name_of id.value ≡ name →
+names-next : (ids : List Identifier) (index : ℕ) (id : Identifier) (name : Option Name) → index < length ids → id ≡ get_or ids index id
+    → name_of id.value ≡ name →
     names_in (drop index ids) ≡ and_name name (names_in (drop (index + 1) ids))
 names-next ids index id name more is known =
     at_drop_more names_in ids index id more
@@ -34,7 +36,8 @@ pub named-next : (ids : List Identifier) (index : ℕ) (id : Identifier) (name :
     AreFound ids index faulty names → AreFound ids (index + 1) faulty_then names_then
 named-next ids index id name faulty faulty_then names names_then more is sound stands same pushed known =
     record {
-      refused = ap (λ l. l ++ subproblems (drop (index + 1) ids)) same ∙ ap (λ l. faulty ++ l) (sym (subproblems-next ids index id None more is sound)) ∙ known.refused;
+      refused = ap (λ l. l ++ subproblems (drop (index + 1) ids)) same
+          ∙ ap (λ l. faulty ++ l) (sym (subproblems-next ids index id None more is sound)) ∙ known.refused;
       named = λ none.
           ap (λ l. l ++ names_in (drop (index + 1) ids)) pushed
           ∙ append_assoc names (name ∷ []) (names_in (drop (index + 1) ids))
@@ -47,8 +50,10 @@ not_empty [] x none = cc
 not_empty (y ∷ ys) x none = cc
 
 -- one more that is faulty
-pub faulty-next : (ids : List Identifier) (index : ℕ) (id : Identifier) (why : Refusal) (found : Subproblem) (faulty faulty_then : List Subproblem) (names names_then : List Name) →
-    index < length ids → id ≡ get_or ids index id → fault_of id ≡ Some why → found ≡ record { refusal = why; kind = id.kind; value = id.value } → faulty_then ≡ faulty ++ found ∷ [] →
+pub faulty-next : (ids : List Identifier) (index : ℕ) (id : Identifier) (why : Refusal) (found : Subproblem)
+    (faulty faulty_then : List Subproblem) (names names_then : List Name) →
+    index < length ids → id ≡ get_or ids index id → fault_of id ≡ Some why
+    → found ≡ record { refusal = why; kind = id.kind; value = id.value } → faulty_then ≡ faulty ++ found ∷ [] →
     AreFound ids index faulty names → AreFound ids (index + 1) faulty_then names_then
 faulty-next ids index id why found faulty faulty_then names names_then more is refused shown pushed known =
     record {

@@ -30,4 +30,10 @@ length-kinds n = by n.wildcard
 pub count_tokens-wanted : (ns : List Name) (random : List ℕ) → count_tokens (wanted ns random) ≡ length ns + count_by (λ n. not n.wildcard) ns
 count_tokens-wanted [] random = refl
 count_tokens-wanted (n ∷ ns) random =
-    omega (arith, sum_by-cons (λ m. cond (not m.wildcard) 1 0) n ns, length-pieces (length (kinds_of n)) random, length-kinds n, count_tokens-wanted ns (drop (16 * length (kinds_of n)) random))
+    omega (
+      arith,
+      sum_by-cons (λ m. cond (not m.wildcard) 1 0) n ns,
+      length-pieces (length (kinds_of n)) random,
+      length-kinds n,
+      count_tokens-wanted ns (drop (16 * length (kinds_of n)) random),
+    )

@@ -55,7 +55,8 @@ order_short C random account ns tokens e as_many is h numbers =
     (numbers, omega (arith, count_tokens-wanted ns (drop 16 random)))
 
 -- the bytes behind the first 16 are enough for its tokens
-pub order_fits : (random rest : List ℕ) (ns : List Name) (tokens : ℕ) → tokens ≡ length ns + count_by (λ n. not n.wildcard) ns → 16 * (1 + tokens) ≤ length random → rest ≡ drop 16 random →
+pub order_fits : (random rest : List ℕ) (ns : List Name) (tokens : ℕ) → tokens ≡ length ns + count_by (λ n. not n.wildcard) ns
+    → 16 * (1 + tokens) ≤ length random → rest ≡ drop 16 random →
     16 * count_tokens (wanted ns rest) ≤ length rest
 order_fits random rest ns tokens as_many h is =
     subst (λ r. 16 * count_tokens (wanted ns r) ≤ length r) (sym is) (omega (arith, count_tokens-wanted ns (drop 16 random), length-drop 16 random))

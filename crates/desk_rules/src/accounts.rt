@@ -28,7 +28,8 @@ pub(crate) fn new_account_verdict(
     payload: &str,
 ) -> Result<Verdict, CoreFault>
     ensures { (random : List ℕ) → (let wanted = new_account_verdict key.now (account_with_key at.now key.now) (new_account payload.now) in
-        MatchResult result (λ v. (v ≡ wanted) × NumbersLeft at.now.meta.counters v × BytesLeft random v) (λ e. IsNeedFault at.now.meta.counters random wanted e)) }
+        MatchResult result (λ v. (v ≡ wanted) × NumbersLeft at.now.meta.counters v × BytesLeft random v)
+        (λ e. IsNeedFault at.now.meta.counters random wanted e)) }
 {
     match at.account_with_key(key.canonical()) {
         Some(row) => Ok(known_account_verdict(alloc, row, payload)?),
@@ -46,7 +47,8 @@ fn known_account_verdict(
     row: &AccountRow,
     payload: &str,
 ) -> Result<Verdict, AllocError>
-    ensures { IfOk result (λ v. (v ≡ known_account_verdict row.now (new_account payload.now)) × ((counters : Counters) (random : List ℕ) → NumbersLeft counters v × BytesLeft random v)) }
+    ensures { IfOk result (λ v. (v ≡ known_account_verdict row.now (new_account payload.now))
+        × ((counters : Counters) (random : List ℕ) → NumbersLeft counters v × BytesLeft random v)) }
 {
     if row.status != AccountStatus::Valid {
         return Ok(refused(alloc, Refusal::Unauthorized));

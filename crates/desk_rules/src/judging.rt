@@ -29,7 +29,8 @@ fn new_order_target(
     payload: &str,
 ) -> Result<Verdict, CoreFault>
     ensures { let asked = given (new_order payload.now) Refusal.Malformed (new_order_verdict (drop 16 random.now) sender) in
-        MatchResult result (λ v. (v ≡ asked) × NumbersLeft at.now.meta.counters v × BytesLeft random.now v) (λ e. IsNeedFault at.now.meta.counters random.now asked e) }
+        MatchResult result (λ v. (v ≡ asked) × NumbersLeft at.now.meta.counters v × BytesLeft random.now v)
+        (λ e. IsNeedFault at.now.meta.counters random.now asked e) }
 {
     match new_order(alloc, payload)? {
         Some(identifiers) => {
@@ -49,7 +50,8 @@ fn target_verdict(
     target: Target,
 ) -> Result<Verdict, CoreFault>
     ensures { let asked = target_verdict at.now (drop 16 random.now) sender payload.now target in
-        MatchResult result (λ v. (v ≡ asked) × NumbersLeft at.now.meta.counters v × BytesLeft random.now v) (λ e. IsNeedFault at.now.meta.counters random.now asked e) }
+        MatchResult result (λ v. (v ≡ asked) × NumbersLeft at.now.meta.counters v × BytesLeft random.now v)
+        (λ e. IsNeedFault at.now.meta.counters random.now asked e) }
 {
     match target {
         Target::NewAccount => Ok(Verdict::Answers(Shows::KnownAccount(sender))),
@@ -75,7 +77,8 @@ fn holder_verdict(
     target: Target,
 ) -> Result<Verdict, CoreFault>
     ensures { let asked = holder_verdict at.now (drop 16 random.now) payload.now target (account_with_key at.now key.now) in
-        MatchResult result (λ v. (v ≡ asked) × NumbersLeft at.now.meta.counters v × BytesLeft random.now v) (λ e. IsNeedFault at.now.meta.counters random.now asked e) }
+        MatchResult result (λ v. (v ≡ asked) × NumbersLeft at.now.meta.counters v × BytesLeft random.now v)
+        (λ e. IsNeedFault at.now.meta.counters random.now asked e) }
 {
     let Some(row) = at.account_with_key(key.canonical()) else {
         return Ok(refused(alloc, Refusal::AccountDoesNotExist));
@@ -100,7 +103,8 @@ pub fn judge_signed(
     signed: &Signed,
 ) -> Result<Verdict, CoreFault>
     ensures { let asked = signed_verdict at.now (drop 16 random.now) signed.now in
-        MatchResult result (λ v. (v ≡ asked) × NumbersLeft at.now.meta.counters v × BytesLeft random.now v) (λ e. IsNeedFault at.now.meta.counters random.now asked e) }
+        MatchResult result (λ v. (v ≡ asked) × NumbersLeft at.now.meta.counters v × BytesLeft random.now v)
+        (λ e. IsNeedFault at.now.meta.counters random.now asked e) }
 {
     let Ok(key) = &signed.key else {
         return Ok(refused(alloc, Refusal::BadPublicKey));

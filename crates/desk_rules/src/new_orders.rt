@@ -111,7 +111,8 @@ fn has_numbers(
 ) -> Result<(), CoreFault>
     ensures { MatchResult result
         (λ _. (counters.orders < last_number) × (counters.authorizations + authorizations ≤ last_number) × (counters.challenges + challenges ≤ last_number))
-        (λ e. (e ≡ CoreFault.Full) × ((last_number ≤ counters.orders) ⊎ ((last_number < counters.authorizations + authorizations) ⊎ (last_number < counters.challenges + challenges)))) }
+        (λ e. (e ≡ CoreFault.Full) × ((last_number ≤ counters.orders)
+        ⊎ ((last_number < counters.authorizations + authorizations) ⊎ (last_number < counters.challenges + challenges)))) }
 {
     has_room(counters.orders)?;
     has_room_for(counters.authorizations, authorizations)?;
@@ -127,7 +128,8 @@ fn order_for(
     names: Vec<DnsName>,
 ) -> Result<Verdict, CoreFault>
     ensures { let asked = orders account (wanted names.items (drop 16 random.now)) in
-        MatchResult result (λ v. (v ≡ asked) × NumbersLeft at.now.meta.counters v × BytesLeft random.now v) (λ e. IsNeedFault at.now.meta.counters random.now asked e) }
+        MatchResult result (λ v. (v ≡ asked) × NumbersLeft at.now.meta.counters v × BytesLeft random.now v)
+        (λ e. IsNeedFault at.now.meta.counters random.now asked e) }
 {
     let counters = at.counters();
     let count = count_tokens(names.as_slice());
@@ -147,7 +149,8 @@ pub(crate) fn new_order_verdict(
     identifiers: &[Identifier],
 ) -> Result<Verdict, CoreFault>
     ensures { let asked = new_order_verdict (drop 16 random.now) account identifiers.now in
-        MatchResult result (λ v. (v ≡ asked) × NumbersLeft at.now.meta.counters v × BytesLeft random.now v) (λ e. IsNeedFault at.now.meta.counters random.now asked e) }
+        MatchResult result (λ v. (v ≡ asked) × NumbersLeft at.now.meta.counters v × BytesLeft random.now v)
+        (λ e. IsNeedFault at.now.meta.counters random.now asked e) }
 {
     if identifiers.is_empty() || identifiers.len() > MOST_NAMES {
         return Ok(refused(alloc, Refusal::Malformed));

@@ -2,7 +2,8 @@
 ghost use Rattle.std.specs.Prelude.{◌≡◌, ◌&&◌, IfOk, bytes_eq};
 ghost use Rattle.desk_model.specs.Lookup.{holds};
 ghost use Rattle.desk_model.specs.Questions.{account_on, authorization_on, order_on};
-ghost use Rattle.desk_model.specs.Rules.{certify_verdict, fail_verdict, is_revoked, is_revoked_status, office_verdict, report_verdict, revoke_account, revoke_authorization, same_problem};
+ghost use Rattle.desk_model.specs.Rules.{certify_verdict, fail_verdict, is_revoked, is_revoked_status, office_verdict};
+ghost use Rattle.desk_model.specs.Rules.{report_verdict, revoke_account, revoke_authorization, same_problem};
 ghost use Rattle.desk_model.specs.Verdict.{given};
 ghost use Rattle.desk_model.specs.declared.call.OfficeAsk.TheVariants.{KeyOf};
 

@@ -39,7 +39,8 @@ pub(crate) fn finalize_verdict(
     status: OrderStatus,
     text: &str,
 ) -> Result<Verdict, AllocError>
-    ensures { IfOk result (λ v. v ≡ check (is_ready status) Refusal.OrderNotReady (given (csr_in text.now) Refusal.BadCsr (λ csr. moves (move.Finalized number csr)))) }
+    ensures { IfOk result (λ v. v ≡ check (is_ready status) Refusal.OrderNotReady
+        (given (csr_in text.now) Refusal.BadCsr (λ csr. moves (move.Finalized number csr)))) }
 {
     if !status.is_ready() {
         return Ok(refused(alloc, Refusal::OrderNotReady));

@@ -1,7 +1,10 @@
 //! The payloads of signed requests: JSON texts in the forms that the routes read.
 ghost use Rattle.std.specs.Prelude.{◌≡◌, Some, Option, option_map, option_and_then, string_bytes, IfOk};
 ghost use Rattle.serde_json.specs.View.{view, items_view};
-ghost use Rattle.desk_model.specs.Payload.{object_in, each_in, texts_in, optional, new_account, new_account_in, is_deactivated_text, says_deactivated, account_change, account_change_in, authorization_change, authorization_change_in, challenge_change, identifier_in, new_order, new_order_in, finalize};
+ghost use Rattle.desk_model.specs.Payload.{object_in, each_in, texts_in, optional, new_account, new_account_in};
+ghost use Rattle.desk_model.specs.Payload.{is_deactivated_text, says_deactivated, account_change, account_change_in};
+ghost use Rattle.desk_model.specs.Payload.{authorization_change, authorization_change_in, challenge_change, identifier_in};
+ghost use Rattle.desk_model.specs.Payload.{new_order, new_order_in, finalize};
 ghost use Rattle.serde_json.specs.Find.{get, as_bool, as_str};
 
 use desk_model::{

@@ -104,7 +104,9 @@ pub(crate) fn order_target(
     number: u64,
     payload: &str,
 ) -> Verdict
-    ensures { result ≡ given (own (λ o. o.account) sender (order_on at.now number)) Refusal.NotFound (λ o. check (nothing payload.now) Refusal.Malformed (answers (show.Order number))) }
+    ensures { result
+        ≡ given (own (λ o. o.account) sender (order_on at.now number)) Refusal.NotFound
+        (λ o. check (nothing payload.now) Refusal.Malformed (answers (show.Order number))) }
 {
     if own_order(at, sender, number).is_none() {
         return refused(alloc, Refusal::NotFound);
@@ -124,7 +126,8 @@ pub(crate) fn finalize_target(
     number: u64,
     payload: &str,
 ) -> Result<Verdict, AllocError>
-    ensures { IfOk result (λ v. v ≡ given (own (λ o. o.account) sender (order_on at.now number)) Refusal.NotFound (λ o. given (finalize payload.now) Refusal.Malformed (finalize_verdict number o))) }
+    ensures { IfOk result (λ v. v ≡ given (own (λ o. o.account) sender (order_on at.now number)) Refusal.NotFound
+        (λ o. given (finalize payload.now) Refusal.Malformed (finalize_verdict number o))) }
 {
     let Some((_row, status)) = own_order(at, sender, number) else {
         return Ok(refused(alloc, Refusal::NotFound));
@@ -144,7 +147,9 @@ pub(crate) fn certificate_target(
     number: u64,
     payload: &str,
 ) -> Verdict
-    ensures { result ≡ given (own (λ o. o.account) sender (order_on at.now number)) Refusal.NotFound (λ o. check (nothing payload.now) Refusal.Malformed (certificate_verdict number o)) }
+    ensures { result
+        ≡ given (own (λ o. o.account) sender (order_on at.now number)) Refusal.NotFound
+        (λ o. check (nothing payload.now) Refusal.Malformed (certificate_verdict number o)) }
 {
     let Some((row, _status)) = own_order(at, sender, number) else {
         return refused(alloc, Refusal::NotFound);
@@ -164,7 +169,8 @@ pub(crate) fn authorization_target(
     number: u64,
     payload: &str,
 ) -> Result<Verdict, AllocError>
-    ensures { IfOk result (λ v. v ≡ given (own (λ a. a.account) sender (authorization_on at.now number)) Refusal.NotFound (λ a. given (authorization_change payload.now) Refusal.Malformed (authorization_verdict number a))) }
+    ensures { IfOk result (λ v. v ≡ given (own (λ a. a.account) sender (authorization_on at.now number)) Refusal.NotFound
+        (λ a. given (authorization_change payload.now) Refusal.Malformed (authorization_verdict number a))) }
 {
     let Some((row, status)) = own_authorization(at, sender, number) else {
         return Ok(refused(alloc, Refusal::NotFound));
@@ -184,7 +190,8 @@ pub(crate) fn challenge_target(
     number: u64,
     payload: &str,
 ) -> Result<Verdict, AllocError>
-    ensures { IfOk result (λ v. v ≡ given (own (λ a. a.account) sender (owner_on at.now number)) Refusal.NotFound (λ a. given (challenge_change payload.now) Refusal.Malformed (challenge_verdict number a))) }
+    ensures { IfOk result (λ v. v ≡ given (own (λ a. a.account) sender (owner_on at.now number)) Refusal.NotFound
+        (λ a. given (challenge_change payload.now) Refusal.Malformed (challenge_verdict number a))) }
 {
     let Some((row, status, challenge)) = at.challenge(number) else {
         return Ok(refused(alloc, Refusal::NotFound));

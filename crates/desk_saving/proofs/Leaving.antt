@@ -52,7 +52,11 @@ module _ {S : Type 0} (g : Ghosts S) (old first last after : Held S) (begins : f
       let clean_last : HasCleanDisk (state g last) = omega (arith, clean, ends.clean) in
       let keeps : KeepsLast (state g (begun old)) (state g last) = rw begins at kept in
       let back = err clean (inside done advances clean_last) in
-      record { now = λ h. (back.undone h).0 ∙ keeps clean_last refl (back.was_open h); committed = λ h. (back.undone h).1 ∙ keeps clean_last refl (back.was_open h) }
+      record {
+        now = λ h. (back.undone h).0 ∙ keeps clean_last refl (back.was_open h);
+        committed = λ h. (back.undone h).1
+            ∙ keeps clean_last refl (back.was_open h);
+      }
     where
       inside : (d : Result (Unit {0}) SaveFault) → OnOk d (Advances (state g first) (state g last) Does) → HasCleanDisk (state g last)
           → OnOk d (IsTrue (state g last).in_transaction)

@@ -19,7 +19,8 @@ use Rattle.desk_tables.specs.Holds.{HoldsListed}
 use Rattle.desk_tables.specs.Images.{challenge_image}
 use Rattle.desk_tables.specs.Layouts.{HasRows, account_layout, authorization_layout, challenge_layout, listed_layout, meta_layout, nonce_layout, order_layout}
 use Rattle.desk_tables.proofs.Holding.{accounts_held, authorizations_held, meta_held, nonces_held, orders_held}
-use Rattle.desk_tables.proofs.NoIndexes.{no_index_account, no_index_authorization, no_index_challenge, no_index_listed, no_index_meta, no_index_nonce, no_index_order}
+use Rattle.desk_tables.proofs.NoIndexes.{no_index_account, no_index_authorization, no_index_challenge, no_index_listed}
+use Rattle.desk_tables.proofs.NoIndexes.{no_index_meta, no_index_nonce, no_index_order}
 
 -- what orders list, in a table that is as it was
 listed_as : (old new : Database) (T : Tables) → new.trees 6 ≡ old.trees 6 → HoldsListed (old.trees 6) (listed_rows T.orders)

@@ -1,5 +1,6 @@
 -- Rows of one table, and changes, made one after the other inside a transaction.
-use Rattle.std.proofs.Common.{zero, suc, arith, ◌≡◌, Result, Ok, Err, OnOk, ℕ, ◌+◌, ◌<◌, ◌++◌, List, [], ◌∷◌, take, get_or, length, refl, sym, ap, subst, ◌∙◌, add-one}
+use Rattle.std.proofs.Common.{zero, suc, arith, ◌≡◌, Result, Ok, Err, OnOk, ℕ, ◌+◌, ◌<◌, ◌++◌, List, [], ◌∷◌, take, get_or}
+use Rattle.std.proofs.Common.{length, refl, sym, ap, subst, ◌∙◌, add-one}
 use Rattle.std.proofs.Math.Seq.{take-suc}
 use Rattle.std.proofs.lemmas.List.{map-append}
 use Rattle.sqlite.specs.Effect.{Database}

@@ -24,7 +24,8 @@ pub(crate) fn put_challenges<S: Alter>(
     rows: &[ChallengeRow],
 ) -> Result<(), SaveFault>
     ensures same_reference { tx.new.conn.ghost_name ≡ tx.old.conn.ghost_name }
-    ensures ok { OnOk result (Advances (state S.Store tx.old.conn.now) (state S.Store tx.new.conn.now) (PutsAll challenge_layout (owned_by authorization rows.now))) }
+    ensures ok { OnOk result (Advances (state S.Store tx.old.conn.now) (state S.Store tx.new.conn.now)
+        (PutsAll challenge_layout (owned_by authorization rows.now))) }
     ensures kept { KeepsLast (state S.Store tx.old.conn.now) (state S.Store tx.new.conn.now) }
     ensures survives { Survives (state S.Store tx.old.conn.now) (state S.Store tx.new.conn.now) (λ _. ⊥) }
     ensures fits { EachOf FitsChallenge (owned_by authorization rows.now) → IfErr result IsNotTooLarge }

@@ -15,10 +15,14 @@ pub(crate) fn end<S: Alter>(
 ) -> Result<(), SaveFault>
     ensures ended { tx.exit.0.now.in_transaction ≡ false }
     ensures done { OnOk result (IsOk done) }
-    ensures ok { HasCleanDisk (state S.Store tx.exit.0.now) → OnOk result (HasCommitted (state S.Store tx.entry.conn.now) (state S.Store tx.exit.0.now) (λ now db. db ≡ now)) }
-    ensures err { HasCleanDisk (state S.Store tx.exit.0.now) → OnErr result (OnOk done (IsTrue (state S.Store tx.entry.conn.now).in_transaction) → IsRolledBack (state S.Store tx.entry.conn.now) (state S.Store tx.exit.0.now)) }
+    ensures ok { HasCleanDisk (state S.Store tx.exit.0.now)
+        → OnOk result (HasCommitted (state S.Store tx.entry.conn.now) (state S.Store tx.exit.0.now) (λ now db. db ≡ now)) }
+    ensures err { HasCleanDisk (state S.Store tx.exit.0.now)
+        → OnErr result (OnOk done (IsTrue (state S.Store tx.entry.conn.now).in_transaction)
+        → IsRolledBack (state S.Store tx.entry.conn.now) (state S.Store tx.exit.0.now)) }
     ensures before { IfErr result (λ why. IsBeforeCommit why → Survives (state S.Store tx.entry.conn.now) (state S.Store tx.exit.0.now) (λ _. ⊥)) }
-    ensures left { Survives (state S.Store tx.entry.conn.now) (state S.Store tx.exit.0.now) (λ db. IsOk done × (db ≡ (state S.Store tx.entry.conn.now).now.trees)) }
+    ensures left { Survives (state S.Store tx.entry.conn.now) (state S.Store tx.exit.0.now) (λ db. IsOk done
+        × (db ≡ (state S.Store tx.entry.conn.now).now.trees)) }
     ensures fits { IfErr done IsNotTooLarge → IfErr result IsNotTooLarge }
 {
     done?;

@@ -131,7 +131,8 @@ pub(crate) fn put_challenge<S: Alter>(
     row: &ChallengeRow,
 ) -> Result<(), SaveFault>
     ensures same_reference { tx.new.conn.ghost_name ≡ tx.old.conn.ghost_name }
-    ensures ok { OnOk result (Advances (state S.Store tx.old.conn.now) (state S.Store tx.new.conn.now) (Puts challenge_layout (record { owner = authorization; row = row.now }))) }
+    ensures ok { OnOk result (Advances (state S.Store tx.old.conn.now) (state S.Store tx.new.conn.now)
+        (Puts challenge_layout (record { owner = authorization; row = row.now }))) }
     ensures kept { KeepsLast (state S.Store tx.old.conn.now) (state S.Store tx.new.conn.now) }
     ensures survives { Survives (state S.Store tx.old.conn.now) (state S.Store tx.new.conn.now) (λ _. ⊥) }
     ensures fits { FitsChallenge (record { owner = authorization; row = row.now }) → IfErr result IsNotTooLarge }

@@ -81,23 +81,33 @@ makes_table schema next text m old new count h has empty =
     let others = subst (λ s. KeepsRows s.tables old.now.trees first.0.trees) has made.others in
     let own : first.0.trees (next_tree schema) ≡ [] = subst (λ s. first.0.trees (next_tree s) ≡ []) has made.empty in
     let kept = kept_empty schema.tables old.now.trees first.0.trees others empty in
-    let all_empty : AreEmpty (created schema m.table) first.0.trees = one_more (λ t. first.0.trees t.tree ≡ []) schema.tables (record m.table { tree = next_tree schema }) kept own in
-    (ap (λ (d : Database). d.schema) now ∙ is ∙ m.next_is, subst (λ (d : Database). AreEmpty next d.trees) (sym now) (subst (λ s. AreEmpty s first.0.trees) m.next_is all_empty))
+    let all_empty : AreEmpty (created schema m.table) first.0.trees =
+    one_more (λ t. first.0.trees t.tree ≡ []) schema.tables (record m.table { tree = next_tree schema }) kept own in (
+      ap (λ (d : Database). d.schema) now ∙ is ∙ m.next_is,
+      subst
+          (λ (d : Database). AreEmpty next d.trees) (sym now) (subst (λ s. AreEmpty s first.0.trees) m.next_is all_empty),
+    )
 
 -- CREATE INDEX
 makes_index : (schema next : Schema) (text : List ℕ) → MakesIndex schema next text → (old new : State) (count : ℕ)
     → Executes text [] old new (Ok count) → MovesOn schema next old.now new.now
 makes_index schema next text m old new count h has empty =
-    let w = subst (λ t. Writes old new None (CreateIndex m.at) t [] count) m.statement (runs_as text [] old new schema has (CreateIndex m.at) m.command m.plain count h) in
-    let d = subst (λ s. Does old.step_limit (mode_of old) [] (record old.now { schema = s }) text None (CreateIndex m.at) (Ok (w.tally, new.now))) has w.changed in
+    let w = subst (λ t. Writes old new None (CreateIndex m.at) t [] count) m.statement
+    (runs_as text [] old new schema has (CreateIndex m.at) m.command m.plain count h) in
+    let d = subst
+    (λ s. Does old.step_limit (mode_of old) [] (record old.now { schema = s }) text None (CreateIndex m.at) (Ok (w.tally, new.now))) has
+    w.changed in
     let all = went (rw (m.found) at d) in
     let made = all.1 in
     let both : Ok made.index ≡ Ok m.index = sym made.defined ∙ m.defined in
     let same : made.index ≡ m.index = cc in
     let is : all.0.schema ≡ indexed schema m.table m.index = made.is ∙ ap (indexed schema m.table) same in
     let now : new.now ≡ all.0 = ap (λ (p : Tally × Database). p.1) (same_value all.2) in
-    let all_empty : AreEmpty (indexed schema m.table m.index) all.0.trees = kept_empty schema.tables old.now.trees all.0.trees made.rows empty in
-    (ap (λ (d : Database). d.schema) now ∙ is ∙ m.next_is, subst (λ (d : Database). AreEmpty next d.trees) (sym now) (subst (λ s. AreEmpty s all.0.trees) m.next_is all_empty))
+    let all_empty : AreEmpty (indexed schema m.table m.index) all.0.trees = kept_empty schema.tables old.now.trees all.0.trees made.rows empty in (
+      ap (λ (d : Database). d.schema) now ∙ is ∙ m.next_is,
+      subst
+          (λ (d : Database). AreEmpty next d.trees) (sym now) (subst (λ s. AreEmpty s all.0.trees) m.next_is all_empty),
+    )
 
 -- the one or the other
 pub makes : (schema next : Schema) (text : List ℕ) → Makes schema next text → (old new : State) (count : ℕ) → Executes text [] old new (Ok count)

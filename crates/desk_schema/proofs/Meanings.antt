@@ -3,7 +3,10 @@ use Rattle.std.proofs.Common.{[], ◌∷◌, codes, refl}
 use Rattle.sqlite.specs.Listing.{understood}
 use Rattle.sqlite_tied.specs.Compute.{everything}
 use Rattle.desk_schema.specs.Schema.{schema_at, index_as, meta_table, nonce_table, account_table, ord_table, authz_table, ord_authz_table, chall_table}
-use Rattle.desk_schema.specs.Definitions.{create_meta, create_nonce, create_account, create_ord, create_authz, create_ord_authz, create_chall, create_nonce_issued, create_ord_account, create_ord_status_expires, create_authz_account_name, create_authz_status_expires, create_ord_authz_authz, create_chall_authz, create_chall_status}
+use Rattle.desk_schema.specs.Definitions.{create_meta, create_nonce, create_account, create_ord, create_authz, create_ord_authz}
+use Rattle.desk_schema.specs.Definitions.{create_chall, create_nonce_issued, create_ord_account, create_ord_status_expires}
+use Rattle.desk_schema.specs.Definitions.{create_authz_account_name, create_authz_status_expires, create_ord_authz_authz}
+use Rattle.desk_schema.specs.Definitions.{create_chall_authz, create_chall_status}
 use Rattle.desk_schema.proofs.Making.{MakesTable, MakesIndex}
 
 -- the table `meta`
@@ -22,7 +25,15 @@ create_nonce_makes =
 pub create_account_makes : MakesTable (schema_at 2) (schema_at 3) create_account
 unfolding understood everything
 create_account_makes =
-    record { table = record account_table { tree = 0 }; command = refl; statement = refl; plain = (refl, refl); defined = refl; next_is = refl; uncounted = refl }
+    record {
+      table = record account_table { tree = 0 };
+      command = refl;
+      statement = refl;
+      plain = (refl, refl);
+      defined = refl;
+      next_is = refl;
+      uncounted = refl;
+    }
 
 -- the table `ord`
 pub create_ord_makes : MakesTable (schema_at 3) (schema_at 4) create_ord
@@ -40,7 +51,15 @@ create_authz_makes =
 pub create_ord_authz_makes : MakesTable (schema_at 5) (schema_at 6) create_ord_authz
 unfolding understood everything
 create_ord_authz_makes =
-    record { table = record ord_authz_table { tree = 0 }; command = refl; statement = refl; plain = (refl, refl); defined = refl; next_is = refl; uncounted = refl }
+    record {
+      table = record ord_authz_table { tree = 0 };
+      command = refl;
+      statement = refl;
+      plain = (refl, refl);
+      defined = refl;
+      next_is = refl;
+      uncounted = refl;
+    }
 
 -- the table `chall`
 pub create_chall_makes : MakesTable (schema_at 6) (schema_at 7) create_chall

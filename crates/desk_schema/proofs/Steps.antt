@@ -8,7 +8,11 @@ use Rattle.desk_schema.specs.Definitions.{definition_at}
 use Rattle.desk_schema.specs.Schema.{schema_at}
 use Rattle.desk_schema.proofs.AdvanceLemmas.{advances_then, performs_advances}
 use Rattle.desk_schema.proofs.Making.{Makes, MovesOn, makes}
-use Rattle.desk_schema.proofs.Meanings.{create_meta_makes, create_nonce_makes, create_account_makes, create_ord_makes, create_authz_makes, create_ord_authz_makes, create_chall_makes, create_nonce_issued_makes, create_ord_account_makes, create_ord_status_expires_makes, create_authz_account_name_makes, create_authz_status_expires_makes, create_ord_authz_authz_makes, create_chall_authz_makes, create_chall_status_makes}
+use Rattle.desk_schema.proofs.Meanings.{create_meta_makes, create_nonce_makes, create_account_makes, create_ord_makes}
+use Rattle.desk_schema.proofs.Meanings.{create_authz_makes, create_ord_authz_makes, create_chall_makes, create_nonce_issued_makes}
+use Rattle.desk_schema.proofs.Meanings.{create_ord_account_makes, create_ord_status_expires_makes}
+use Rattle.desk_schema.proofs.Meanings.{create_authz_account_name_makes, create_authz_status_expires_makes}
+use Rattle.desk_schema.proofs.Meanings.{create_ord_authz_authz_makes, create_chall_authz_makes, create_chall_status_makes}
 
 -- what the statement at each place makes
 each_makes : (step : ℕ) → step < 15 → Makes (schema_at step) (schema_at (step + 1)) (definition_at step)
@@ -43,5 +47,6 @@ pub defines_more : (first old new : State) (step count : ℕ) → step < 15 → 
     → Advances first new (Defines (step + 1))
 defines_more first old new step count low on before ran =
     let Next = MovesOn (schema_at step) (schema_at (step + 1)) in
-    let last = performs_advances (definition_at step) [] old new count Next (makes (schema_at step) (schema_at (step + 1)) (definition_at step) (each_makes step low) old new count) ran in
+    let last = performs_advances (definition_at step) [] old new count Next
+    (makes (schema_at step) (schema_at (step + 1)) (definition_at step) (each_makes step low) old new count) ran in
     advances_then first old new (Defines step) Next (Defines (step + 1)) (defines_next step first.now old.now new.now) on before last

@@ -5,7 +5,8 @@ use Rattle.std.specs.Prelude.{ℕ, List, [], ◌∷◌, codes, slice_index_or}
 
 -- the policy, the clock and the counters
 abbrev pub create_meta : List ℕ
-create_meta = codes "CREATE TABLE meta (id INTEGER PRIMARY KEY, format INTEGER NOT NULL, base TEXT NOT NULL, nonce_life INTEGER NOT NULL, order_life INTEGER NOT NULL, authz_life INTEGER NOT NULL, clock INTEGER NOT NULL, nonces INTEGER NOT NULL, accounts INTEGER NOT NULL, orders INTEGER NOT NULL, authzs INTEGER NOT NULL, challs INTEGER NOT NULL) STRICT"
+create_meta =
+    codes "CREATE TABLE meta (id INTEGER PRIMARY KEY, format INTEGER NOT NULL, base TEXT NOT NULL, nonce_life INTEGER NOT NULL, order_life INTEGER NOT NULL, authz_life INTEGER NOT NULL, clock INTEGER NOT NULL, nonces INTEGER NOT NULL, accounts INTEGER NOT NULL, orders INTEGER NOT NULL, authzs INTEGER NOT NULL, challs INTEGER NOT NULL) STRICT"
 
 -- nonces that are open
 abbrev pub create_nonce : List ℕ
@@ -13,23 +14,28 @@ create_nonce = codes "CREATE TABLE nonce (serial INTEGER PRIMARY KEY, random BLO
 
 -- accounts
 abbrev pub create_account : List ℕ
-create_account = codes "CREATE TABLE account (num INTEGER PRIMARY KEY, jwk TEXT NOT NULL UNIQUE, contacts TEXT NOT NULL, opened INTEGER NOT NULL, ended INTEGER, end_kind TEXT, status TEXT NOT NULL) STRICT"
+create_account =
+    codes "CREATE TABLE account (num INTEGER PRIMARY KEY, jwk TEXT NOT NULL UNIQUE, contacts TEXT NOT NULL, opened INTEGER NOT NULL, ended INTEGER, end_kind TEXT, status TEXT NOT NULL) STRICT"
 
 -- orders
 abbrev pub create_ord : List ℕ
-create_ord = codes "CREATE TABLE ord (num INTEGER PRIMARY KEY, account INTEGER NOT NULL REFERENCES account (num), made INTEGER NOT NULL, expires INTEGER NOT NULL, finalized INTEGER, csr BLOB, certified INTEGER, cert BLOB, failed INTEGER, problem TEXT, status TEXT NOT NULL) STRICT"
+create_ord =
+    codes "CREATE TABLE ord (num INTEGER PRIMARY KEY, account INTEGER NOT NULL REFERENCES account (num), made INTEGER NOT NULL, expires INTEGER NOT NULL, finalized INTEGER, csr BLOB, certified INTEGER, cert BLOB, failed INTEGER, problem TEXT, status TEXT NOT NULL) STRICT"
 
 -- authorizations
 abbrev pub create_authz : List ℕ
-create_authz = codes "CREATE TABLE authz (num INTEGER PRIMARY KEY, account INTEGER NOT NULL REFERENCES account (num), name TEXT NOT NULL, wildcard INTEGER NOT NULL, made INTEGER NOT NULL, expires INTEGER NOT NULL, ended INTEGER, end_kind TEXT, status TEXT NOT NULL) STRICT"
+create_authz =
+    codes "CREATE TABLE authz (num INTEGER PRIMARY KEY, account INTEGER NOT NULL REFERENCES account (num), name TEXT NOT NULL, wildcard INTEGER NOT NULL, made INTEGER NOT NULL, expires INTEGER NOT NULL, ended INTEGER, end_kind TEXT, status TEXT NOT NULL) STRICT"
 
 -- which authorizations an order lists
 abbrev pub create_ord_authz : List ℕ
-create_ord_authz = codes "CREATE TABLE ord_authz (ord INTEGER NOT NULL REFERENCES ord (num), place INTEGER NOT NULL, authz INTEGER NOT NULL REFERENCES authz (num), PRIMARY KEY (ord, place)) STRICT"
+create_ord_authz =
+    codes "CREATE TABLE ord_authz (ord INTEGER NOT NULL REFERENCES ord (num), place INTEGER NOT NULL, authz INTEGER NOT NULL REFERENCES authz (num), PRIMARY KEY (ord, place)) STRICT"
 
 -- challenges
 abbrev pub create_chall : List ℕ
-create_chall = codes "CREATE TABLE chall (num INTEGER PRIMARY KEY, authz INTEGER NOT NULL REFERENCES authz (num), kind TEXT NOT NULL, token BLOB NOT NULL, answered INTEGER, reported INTEGER, outcome TEXT, status TEXT NOT NULL) STRICT"
+create_chall =
+    codes "CREATE TABLE chall (num INTEGER PRIMARY KEY, authz INTEGER NOT NULL REFERENCES authz (num), kind TEXT NOT NULL, token BLOB NOT NULL, answered INTEGER, reported INTEGER, outcome TEXT, status TEXT NOT NULL) STRICT"
 
 -- ---- the indexes
 

@@ -29,7 +29,8 @@ module _ (policy : Terms) (at : ℕ) (book : Tables) (is : book ≡ picture (fir
   desk_left old trees left none = (left.0, left.1, new_desk old.now left.0 left.2 none)
 
   -- what was committed
-  pub desk_made : (old new : State) → new.in_transaction ≡ false → new.step_limit ≡ old.step_limit → HasCommitted old new (MakesDesk book.meta) → Makes policy at old new
+  pub desk_made : (old new : State) → new.in_transaction ≡ false → new.step_limit ≡ old.step_limit
+      → HasCommitted old new (MakesDesk book.meta) → Makes policy at old new
   desk_made old new idle limit it none unlimited =
       let desk = new_desk old.now new.committed it.does none in
       record {

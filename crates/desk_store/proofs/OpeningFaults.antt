@@ -51,7 +51,8 @@ reading_is_known cause.Device why is newer = absurd (let e = sym is ∙ newer in
 reading_is_known cause.Other why is newer = absurd (let e = sym is ∙ newer in cc)
 
 -- neither do rows that no book has
-pub book_is_known : {R : Type 0} (Other : Type 0) (result : Result R OpenFault) → IfErr result (λ why. (why ≡ Storage fault.Memory) ⊎ ((why ≡ NotADesk) × Other))
+pub book_is_known : {R : Type 0} (Other : Type 0) (result : Result R OpenFault)
+    → IfErr result (λ why. (why ≡ Storage fault.Memory) ⊎ ((why ≡ NotADesk) × Other))
     → result ≡ Err NewerFormat → ⊥
 book_is_known Other (Ok book) is newer = absurd cc
 book_is_known Other (Err why) (inl memory) newer = absurd (let e = memory in cc)

@@ -23,7 +23,8 @@ use Rattle.desk_store.specs.Desks.{IsDesk, sight_by}
 use Rattle.desk_tables.specs.Holds.{Holds}
 
 -- a database with the changes is a desk with the longer history's picture
-desk_after : (F G : History) (changes : List Change) (old new : Database) → Leads F G changes → IsDesk old (picture F) → Puts changes old new → IsDesk new (picture G)
+desk_after : (F G : History) (changes : List Change) (old new : Database) → Leads F G changes → IsDesk old (picture F)
+    → Puts changes old new → IsDesk new (picture G)
 desk_after F G changes old new leads was puts = record {
   holds = subst (Holds new) leads.makes (puts (picture F) was.holds (leading_fit F G changes leads.kept leads.makes));
   history = G;
@@ -37,11 +38,13 @@ done = Ok tt
 
 module _ {S X : Type 0} (g : Ghosts S) (conn : X → Held S) where
   -- what a stop may leave of the commit has the changes
-  pub changes_left : (changes : List Change) (old : X) (c : Trees) → IsLeft (Puts changes (state g (conn old)).now) c → HasChanges (sight_by g conn) changes old c
+  pub changes_left : (changes : List Change) (old : X) (c : Trees) → IsLeft (Puts changes (state g (conn old)).now) c
+      → HasChanges (sight_by g conn) changes old c
   changes_left changes old c left F G leads has = (left.0, left.1, desk_after F G changes (state g (conn old)).now left.0 leads has.desk left.2)
 
   -- what was committed has the changes
-  pub saved_by : (changes : List Change) (old new : X) → (state g (conn new)).in_transaction ≡ false → (state g (conn new)).step_limit ≡ (state g (conn old)).step_limit
+  pub saved_by : (changes : List Change) (old new : X) → (state g (conn new)).in_transaction ≡ false
+      → (state g (conn new)).step_limit ≡ (state g (conn old)).step_limit
       → HasCommitted (state g (conn old)) (state g (conn new)) (Puts changes) → HasSaved (sight_by g conn) changes old new
   saved_by changes old new idle limit it F G leads has =
       let desk = desk_after F G changes (state g (conn old)).now (state g (conn new)).committed leads has.desk it.does in
@@ -82,14 +85,16 @@ module _ {S X : Type 0} (g : Ghosts S) (conn : X → Held S) where
       → (HasCleanDisk (state g (conn new)) → why ≡ fault.Memory → IsUnchanged mid (state g (conn new))) → (why ≡ fault.Memory → IsBeforeCommit cause)
       → Saves (sight_by g conn) changes old new (failed (Unit {0}) why)
   saves_err changes old new mid why cause idle survives back early tested same before =
-      let whole = survives_then (state g (conn old)) mid (state g (conn new)) _ _ (IsLeft (Puts changes (state g (conn old)).now)) (λ _ _ left. left) (λ _ _ none. absurd none) survives tested.survives in
+      let whole = survives_then (state g (conn old)) mid (state g (conn new)) _ _ (IsLeft (Puts changes (state g (conn old)).now))
+      (λ _ _ left. left) (λ _ _ none. absurd none) survives tested.survives in
       record {
         honest = honest_by g conn old new whole;
         left = left_of changes old new whole;
         saved = λ clean. tt;
         without_memory = λ memory.
             stands_by g conn old new
-            (survives_then (state g (conn old)) mid (state g (conn new)) _ _ (λ _. ⊥) (λ _ _ none. none) (λ _ _ none. none) (early (before memory)) tested.survives)
+            (survives_then (state g (conn old)) mid (state g (conn new)) _ _ (λ _. ⊥) (λ _ _ none. none)
+            (λ _ _ none. none) (early (before memory)) tested.survives)
             (λ clean T has.
             let unchanged = same clean memory in
             desk_unchanged mid (state g (conn new)) T tested.survives.limit unchanged

@@ -39,7 +39,8 @@ fn opening_fault<S: Alter>(conn: &mut Connection<S>, error: Error) -> OpenFault
 
 // That the tables are not of a later format.
 fn check_format<S: Alter>(conn: &mut Connection<S>) -> Result<(), OpenFault>
-    ensures known { HasCleanDisk (state S.Store conn.new) → OnOk result (ShowsFormats (state S.Store conn.old) (state S.Store conn.new) (λ rows. ¬ IsNewer rows)) }
+    ensures known { HasCleanDisk (state S.Store conn.new)
+        → OnOk result (ShowsFormats (state S.Store conn.old) (state S.Store conn.new) (λ rows. ¬ IsNewer rows)) }
     ensures newer { HasCleanDisk (state S.Store conn.new) → result ≡ Err newer_format → ShowsFormats (state S.Store conn.old) (state S.Store conn.new) IsNewer }
     ensures unchanged { HasCleanDisk (state S.Store conn.new) → OnOk result (IsUnchanged (state S.Store conn.old) (state S.Store conn.new)) }
     ensures desk { HasCleanDisk (state S.Store conn.new) → IfErr result (λ why. (T : Tables) → HasDesk (state S.Store conn.old) T → IsOfStorage why) }

@@ -59,7 +59,8 @@ impl<S: Alter> Store<S> {
         ensures free { uses_names (state S.Store conn).now.schema ≡ false → IfErr result (λ un. IsOfStorage un.fault) }
         ensures idle { MatchResult result (λ store. store.conn.in_transaction ≡ false) (λ un. un.conn.in_transaction ≡ false) }
         ensures made { IfOk result (λ store. HasCleanDisk (state S.Store store.conn) → Makes policy at (state S.Store conn) (state S.Store store.conn)) }
-        ensures back { uses_names (state S.Store conn).now.schema ≡ false → IfErr result (λ un. HasCleanDisk (state S.Store un.conn) → GoesBack (state S.Store conn) (state S.Store un.conn)) }
+        ensures back { uses_names (state S.Store conn).now.schema ≡ false
+            → IfErr result (λ un. HasCleanDisk (state S.Store un.conn) → GoesBack (state S.Store conn) (state S.Store un.conn)) }
         ensures answering { IfErr result (λ un. HasCleanDisk (state S.Store un.conn) → un.fault ≡ of_storage memory → IsTrue (state S.Store un.conn).is_open) }
         ensures left { uses_names (state S.Store conn).now.schema ≡ false → MatchResult result
             (λ store. Survives (state S.Store conn) (state S.Store store.conn) (IsNewDesk policy at (state S.Store conn)))
@@ -88,9 +89,11 @@ impl<S: Alter> Store<S> {
     /// `NewerFormat` where `meta` has one row of a later format; else `NotADesk` where a table, a column or an index is
     /// missing, or where no book has the rows. `Storage` where the store failed.
     pub fn open(alloc: Global, conn: Connection<S>) -> Result<Store<S>, Unopened<S>>
-        ensures asks { MatchResult result (λ store. Asks (state S.Store conn) (state S.Store store.conn)) (λ un. Asks (state S.Store conn) (state S.Store un.conn)) }
+        ensures asks { MatchResult result (λ store. Asks (state S.Store conn) (state S.Store store.conn)) (λ un. Asks (state S.Store conn)
+            (state S.Store un.conn)) }
         ensures unchanged { IfOk result (λ store. HasCleanDisk (state S.Store store.conn) → IsUnchanged (state S.Store conn) (state S.Store store.conn)) }
-        ensures kept { IfOk result (λ store. HasCleanDisk (state S.Store store.conn) → (T : Tables) → HasDesk (state S.Store conn) T → Keeps (store_sight S.Store) store T) }
+        ensures kept { IfOk result (λ store. HasCleanDisk (state S.Store store.conn) → (T : Tables) → HasDesk (state S.Store conn) T
+            → Keeps (store_sight S.Store) store T) }
         ensures newer { IfErr result (λ un. HasCleanDisk (state S.Store un.conn) → un.fault ≡ newer_format → ShowsNewerFormat S.Store conn) }
         ensures known { IfOk result (λ store. HasCleanDisk (state S.Store store.conn) → ShowsKnownFormat S.Store conn) }
         ensures whole { IfOk result (λ store. HasCleanDisk (state S.Store store.conn) → IsWhole S.Store conn) }

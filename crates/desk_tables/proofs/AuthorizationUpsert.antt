@@ -28,7 +28,8 @@ authorization_upsert = record {
   uncounted = refl;
   low = λ _. refl;
   first = λ _. refl;
-  casts = λ _. row_kept authz_table _ _ (cast_null, (cast_int _, (refl, (cast_int _, (cast_int _, (cast_int _, (cast_int_or_null _, (cast_text_or_null _, (refl, tt)))))))));
+  casts = λ _. row_kept authz_table _ _
+      (cast_null, (cast_int _, (refl, (cast_int _, (cast_int _, (cast_int _, (cast_int_or_null _, (cast_text_or_null _, (refl, tt)))))))));
   clash = λ x y. clash_by_key authorization_layout.key authorization_image (λ _. refl) authz_table x y;
   given = λ _. refl;
   sets = λ x y same. ap (λ k. Int (pos (authorization_layout.key y)) ∷ Int (pos k) ∷ drop 1 (authorization_image x)) same;

@@ -28,7 +28,8 @@ challenge_upsert = record {
   uncounted = refl;
   low = λ _. refl;
   first = λ _. refl;
-  casts = λ _. row_kept chall_table _ _ (cast_null, (cast_int _, (refl, (refl, (cast_int_or_null _, (cast_int_or_null _, (cast_text_or_null _, (refl, tt))))))));
+  casts = λ _. row_kept chall_table _ _
+      (cast_null, (cast_int _, (refl, (refl, (cast_int_or_null _, (cast_int_or_null _, (cast_text_or_null _, (refl, tt))))))));
   clash = λ x y. clash_by_key challenge_layout.key challenge_image (λ _. refl) chall_table x y;
   given = λ _. refl;
   sets = λ x y same. ap (λ k. Int (pos (challenge_layout.key y)) ∷ Int (pos k) ∷ drop 1 (challenge_image x)) same;

@@ -1,5 +1,6 @@
 -- A query of one table by its key.
-use Rattle.std.proofs.Common.{◌≡◌, ℕ, ℤ, pos, negsuc, ◌&&◌, ◌++◌, if◌then◌else◌, List, [], ◌∷◌, map, flat_map, Bool, true, false, None, Some, refl, ap, subst, ◌∙◌, cond, int_cmp}
+use Rattle.std.proofs.Common.{◌≡◌, ℕ, ℤ, pos, negsuc, ◌&&◌, ◌++◌, if◌then◌else◌, List, [], ◌∷◌, map, flat_map, Bool, true, false}
+use Rattle.std.proofs.Common.{None, Some, refl, ap, subst, ◌∙◌, cond, int_cmp}
 use Rattle.std.specs.Ordering.{is_eq}
 use Rattle.std.specs.List.{list_all}
 use Rattle.std.specs.List.Sorted.{IsPermutation}
@@ -55,7 +56,8 @@ module _ {X : Type 0} (key : X → ℕ) (row : X → Row) (first : (x : X) → r
 
   -- the rows that the test leaves
   matched : (db : Trees) (params : Row) (at n : ℕ) (ys : List X) → column params at ≡ Int (pos n)
-      → flat_map (λ r. if list_all (holds (params ∷ r ∷ [])) (op2 (Compare Eq Binary) (col 1 0) (col 0 at) ∷ []) then (params ∷ r ∷ []) ∷ [] else []) (map row ys) ≡ map (λ x. params ∷ row x ∷ []) (with_key key n ys)
+      → flat_map (λ r. if list_all (holds (params ∷ r ∷ [])) (op2 (Compare Eq Binary) (col 1 0) (col 0 at) ∷ []) then (params ∷ r ∷ [])
+      ∷ [] else []) (map row ys) ≡ map (λ x. params ∷ row x ∷ []) (with_key key n ys)
   matched db params at n [] given = refl
   matched db params at n (y ∷ ys) given = rw (test_is params at n y given) (go (is_eq (three (key y) n)) (matched db params at n ys given))
     where

@@ -1,7 +1,8 @@
 -- INSERT .. ON CONFLICT (columns) DO UPDATE of one row, over a table whose row number is hidden.
 use Rattle.std.specs.Prelude.{◌+ℤ◌, slice_get, unwrap_or}
 use Rattle.std.specs.Ordering.{is_eq}
-use Rattle.std.proofs.Common.{◌≡◌, ◌≢◌, inl, inr, ℕ, ◌+◌, ℤ, pos, ◌++◌, List, [], ◌∷◌, map, fold, length, ◌/◌, Bool, true, false, Some, Ok, refl, sym, ap, subst, ◌∙◌}
+use Rattle.std.proofs.Common.{◌≡◌, ◌≢◌, inl, inr, ℕ, ◌+◌, ℤ, pos, ◌++◌, List, [], ◌∷◌, map, fold, length, ◌/◌, Bool, true, false}
+use Rattle.std.proofs.Common.{Some, Ok, refl, sym, ap, subst, ◌∙◌}
 use Rattle.sqlite.specs.declared.types.Value.TheVariants.{Int, Null}
 use Rattle.sqlite_value.specs.Order.{Row, column}
 use Rattle.sqlite_trees.specs.Tree.{Trees, rowid}
@@ -62,7 +63,8 @@ abbrev pub clause_on : List ℕ → ℕ → ℕ → List Term → Upsert
 clause_on places tree at project = record { target = Some places; update = Some (record { lets = []; body = by_key tree at project }) }
 
 -- the table has the row in its place, and every other tree is as it was
-pub record IsHiddenPut {X : Type 0} (cells : X → Row) (same : X → X → Bool) (task : Task) (db : Trees) (ts : List (ℕ × X)) (x : X) (next_db : Trees) : Type 0 where
+pub record IsHiddenPut {X : Type 0} (cells : X → Row) (same : X → X → Bool) (task : Task) (db : Trees) (ts : List (ℕ × X)) (x : X)
+    (next_db : Trees) : Type 0 where
   pub after : List (ℕ × X)
   pub placed : IsPlaced same x ts after
   pub has : next_db task.table.tree ≡ map (hidden cells) after
@@ -100,7 +102,8 @@ module _ {X : Type 0} (cells : X → Row) (same : X → X → Bool) (places : Li
           let on = went h in
           let tree = low db ∙ has in
           let rows : on.0 ≡ (Int (pos t.0) ∷ hidden cells (t.0, x)) ∷ [] =
-          answered number (hidden cells) (λ _. refl) (overlay db []) (given_to t.0 (next ts) x) task.table.tree at t.0 project ts on.0 (given t.0 (next ts)) tree t one (on.1.answer Null)
+          answered number (hidden cells) (λ _. refl) (overlay db []) (given_to t.0 (next ts) x) task.table.tree at t.0 project ts on.0
+          (given t.0 (next ts)) tree t one (on.1.answer Null)
           ∙ ap (λ r. r ∷ []) (sets t.0 (next ts) t.1 tied) in
           let did = went on.2 in
           let edit = edit_of db task.table (ids_of on.0) Given 1 on.0 in
@@ -115,7 +118,8 @@ module _ {X : Type 0} (cells : X → Row) (same : X → X → Bool) (places : Li
           }
 
       go : (found : List Row) → AreConflicts (Some places) task.schema.indexes task.table (db task.table.tree) (hidden cells (next ts, x)) found
-          → Meets task (Upserts task Abort (hidden cells (next ts, x)) db []) (hidden cells (next ts, x)) db (clause_on places task.table.tree at project) found (Ok w)
+          → Meets task (Upserts task Abort (hidden cells (next ts, x)) db []) (hidden cells (next ts, x)) db
+          (clause_on places task.table.tree at project) found (Ok w)
           → IsHiddenPut cells same task db ts x w.trees
       go [] none h =
           let stands = λ (t : ℕ × X) (in_it : Has ts t). subst (λ rows. Has rows (hidden cells t)) (sym has) (has_map (hidden cells) ts t in_it) in
@@ -126,11 +130,13 @@ module _ {X : Type 0} (cells : X → Row) (same : X → X → Bool) (places : Li
           let from = row_behind (hidden cells) ts it.0 inside in
           let id : rowid it.0 ≡ Int (pos from.0.0) = ap rowid from.1 in
           let one = one_with number (hidden cells) (λ _. refl) from.0.0 0 ts up it.0 inside id in
-          let tied : same x one.0.1 ≡ true = sym (clash (next ts) one.0) ∙ ap (conflicts (Some places) task.schema.indexes task.table (hidden cells (next ts, x))) (sym one.3) ∙ it.2 in
+          let tied : same x one.0.1 ≡ true = sym (clash (next ts) one.0)
+          ∙ ap (conflicts (Some places) task.schema.indexes task.table (hidden cells (next ts, x))) (sym one.3) ∙ it.2 in
           let read : rowid there ≡ Int (pos one.0.0) = ap rowid it.3 ∙ ap rowid one.3 in
           let alone = subst (λ k. with_key number k ts ≡ one.0 ∷ []) (sym one.1) one.2 in
           over one.0 (with_has ts one.0.0 one.0 alone) tied alone
-          (subst (λ v. Updates task (record { lets = []; body = by_key task.table.tree at project }) (task.params ++ v ∷ shown task.table (hidden cells (next ts, x))) db (Ok w)) read h)
+          (subst (λ v. Updates task (record { lets = []; body = by_key task.table.tree at project })
+          (task.params ++ v ∷ shown task.table (hidden cells (next ts, x))) db (Ok w)) read h)
 
   -- the whole statement
   pub puts_hidden : (db : Trees) (ts : List (ℕ × X)) (x : X) (terms : List Term) (width : ℕ) (done : Written) → task.table.is_counted ≡ false
@@ -147,13 +153,17 @@ module _ {X : Type 0} (cells : X → Row) (same : X → X → Bool) (places : Li
       let counter = went rows.2 in
       let all = went counter.2 in
       let counts = went all.2 in
-      let one = went (subst (λ rs. TriesEach task Abort (clause_on places task.table.tree at project ∷ []) rs (count_of counter.0) (nothing db) (Ok all.0)) (rows.1.1 ∙ source) all.1) in
+      let one =
+      went (subst
+      (λ rs. TriesEach task Abort (clause_on places task.table.tree at project ∷ []) rs (count_of counter.0) (nothing db) (Ok all.0))
+      (rows.1.1 ∙ source) all.1) in
       let top = count_of counter.0 in
       let is_new : with_rowid (rowids_for task.table top) (db task.table.tree) (cast_row task.table (Null ∷ cells x)) ≡ hidden cells (next ts, x) =
       ap (with_rowid (rowids_for task.table top) (db task.table.tree)) cast_new
       ∙ chosen_of task top (db task.table.tree) (cells x) uncounted
       ∙ ap (λ i. Int i ∷ cells x) (ap next_rowid has ∙ next_from cells 1 ts) in
-      let met = subst (λ new. Upserts task Abort new db (clause_on places task.table.tree at project ∷ []) (Ok one.0)) is_new (tried task (clause_on places task.table.tree at project ∷ []) _ db one.0 one.1) in
+      let met = subst (λ new. Upserts task Abort new db (clause_on places task.table.tree at project ∷ []) (Ok one.0)) is_new
+      (tried task (clause_on places task.table.tree at project ∷ []) _ db one.0 one.1) in
       let is_put = upserts_hidden db ts x one.0 has up clash given sets met in
       let last : done.trees ≡ counts.0 = ap (λ (it : Written). it.trees) (same_value counts.2) in
       let after : counts.0 ≡ all.0.0.trees = uncounts task all.0.0.trees counter.0 all.0.1 counts.0 uncounted counts.1 in

@@ -66,13 +66,15 @@ pub listed_in_some_order : (tree : List Row) (listed : List (Owned Listed)) → 
     → IsPermutation (map listed_cells listed) (map (drop 1) tree)
 listed_in_some_order tree listed has =
     subst (λ rows. IsPermutation (map listed_cells listed) rows) (sym (ap (map (drop 1)) has.has ∙ cells_of has.numbered))
-    (IsPermutation-sym (map listed_cells (map row_of has.numbered)) (map listed_cells listed) (IsPermutation-map listed_cells (map row_of has.numbered) listed has.same))
+    (IsPermutation-sym (map listed_cells (map row_of has.numbered)) (map listed_cells listed)
+    (IsPermutation-map listed_cells (map row_of has.numbered) listed has.same))
 
 -- the rows of `chall` are the challenges of all authorizations
 pub challenges_in_some_order : (db : Database) (T : Tables) → Holds db T
     → IsPermutation (map challenge_image (challenge_rows T.authorizations)) (db.trees 8)
 challenges_in_some_order db T has =
-    subst (λ rows. IsPermutation (map challenge_image (challenge_rows T.authorizations)) rows) (sym has.challenges) (IsPermutation-refl (map challenge_image (challenge_rows T.authorizations)))
+    subst (λ rows. IsPermutation (map challenge_image (challenge_rows T.authorizations)) rows) (sym has.challenges)
+    (IsPermutation-refl (map challenge_image (challenge_rows T.authorizations)))
 
 -- ---- the same database
 

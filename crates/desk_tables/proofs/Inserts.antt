@@ -39,7 +39,10 @@ pub no_works : (tree : ℕ) (olds news : List Row) → works desk_schema Enforce
 no_works tree olds news = go (length news == 0)
   where
     go : (deletes : Bool)
-        → flat_map (λ child. filter_map (λ ref. work_by 0 tree (pairs olds news) child ref (deed_for Enforced deletes ref) (parent_key desk_schema.tables ref)) child.references) desk_schema.tables ≡ []
+        → flat_map
+        (λ child. filter_map
+        (λ ref. work_by 0 tree (pairs olds news) child ref (deed_for Enforced deletes ref) (parent_key desk_schema.tables ref))
+        child.references) desk_schema.tables ≡ []
     go true = refl
     go false = refl
 

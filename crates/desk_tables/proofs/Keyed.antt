@@ -1,5 +1,6 @@
 -- Rows in the order of a number, their key.
-use Rattle.std.proofs.Common.{◌≡◌, ◌⊎◌, inl, inr, ℕ, pos, ◌+◌, ◌<◌, ◌≤◌, List, [], ◌∷◌, map, filter, not, Bool, true, false, refl, sym, ap, subst, ◌∙◌, arith, cond, Ordering, Less, Equal, Greater, int_cmp, nat_cmp}
+use Rattle.std.proofs.Common.{◌≡◌, ◌⊎◌, inl, inr, ℕ, pos, ◌+◌, ◌<◌, ◌≤◌, List, [], ◌∷◌, map, filter, not, Bool, true, false, refl}
+use Rattle.std.proofs.Common.{sym, ap, subst, ◌∙◌, arith, cond, Ordering, Less, Equal, Greater, int_cmp, nat_cmp}
 use Rattle.std.specs.Prelude.{◌==◌, nat_lt}
 use Rattle.std.specs.Ordering.{is_eq, MatchOrdering}
 use Rattle.std.proofs.lemmas.Cmp.{ranked as nat_ranked}
@@ -192,7 +193,8 @@ module _ {X : Type 0} (key : X → ℕ) where
     without_as n (x ∷ xs) = rw (has_as n x) (go (n == key x) (without_as n xs))
       where
         go : (b : Bool) → without_rowid (pos n) (map row xs) ≡ map row (remove key n xs)
-            → cond (not b) (row x ∷ without_rowid (pos n) (map row xs)) (without_rowid (pos n) (map row xs)) ≡ map row (cond (not b) (x ∷ remove key n xs) (remove key n xs))
+            → cond (not b) (row x ∷ without_rowid (pos n) (map row xs)) (without_rowid (pos n) (map row xs))
+            ≡ map row (cond (not b) (x ∷ remove key n xs) (remove key n xs))
         go true more = more
         go false more = ap (λ rs. row x ∷ rs) more
 

@@ -96,11 +96,14 @@ places_listed old new x count h before has =
     let command = InsertOr 5 Abort (Values terms 4) (clause_on (1 ∷ 2 ∷ []) 6 3 project ∷ []) in
     let statement = statement_of upsert_listed (understood desk_schema upsert_listed) in
     let w = runs_as upsert_listed params old new desk_schema has.schema command upsert_is upsert_plain count h in
-    let did = subst (λ s. Does old.step_limit (mode_of old) params (record old.now { schema = s }) statement None command (Ok (w.tally, new.now))) has.schema w.changed in
+    let did =
+    subst (λ s. Does old.step_limit (mode_of old) params (record old.now { schema = s }) statement None command (Ok (w.tally, new.now)))
+    has.schema w.changed in
     let done = went did in
     let now = concluded task (mode_of old) done.0 (w.tally, new.now) done.2 in
     let it = puts_hidden listed_cells is_same_place (1 ∷ 2 ∷ []) task (no_works 6) casts (λ _. refl) 3 project old.now.trees before x terms 4 done.0
-    refl has.rows_are has.rising (λ n t. clash n x t) (λ k n. refl) (λ k n y same. sets k x y same) (new_kept ord_authz_table _ (cast_int _, (cast_int _, (cast_int _, tt)))) refl done.1 in (
+    refl has.rows_are has.rising (λ n t. clash n x t) (λ k n. refl)
+    (λ k n y same. sets k x y same) (new_kept ord_authz_table _ (cast_int _, (cast_int _, (cast_int _, tt)))) refl done.1 in (
       it.after,
       it.placed,
       record {

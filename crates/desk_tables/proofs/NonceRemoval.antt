@@ -39,10 +39,13 @@ removes_nonce old new n count h xs has =
     let command = Delete 1 (record { lets = []; body = by_key 1 0 keys }) in
     let statement = statement_of delete_nonce (understood desk_schema delete_nonce) in
     let w = runs_as delete_nonce params old new desk_schema has.schema command delete_is delete_plain count h in
-    let did = subst (λ s. Does old.step_limit (mode_of old) params (record old.now { schema = s }) statement None command (Ok (w.tally, new.now))) has.schema w.changed in
+    let did =
+    subst (λ s. Does old.step_limit (mode_of old) params (record old.now { schema = s }) statement None command (Ok (w.tally, new.now)))
+    has.schema w.changed in
     let done = went did in
     let now = concluded task (mode_of old) done.0 (w.tally, new.now) done.2 in
-    let it = removes nonce_layout.key nonce_layout.image (λ _. refl) task (no_works 1) (λ _. refl) 0 n old.now.trees xs done.0 has.rows_are has.rising refl done.1 in
+    let it = removes nonce_layout.key nonce_layout.image (λ _. refl) task (no_works 1)
+    (λ _. refl) 0 n old.now.trees xs done.0 has.rows_are has.rising refl done.1 in
     record {
       sound = w.sound;
       has = record {

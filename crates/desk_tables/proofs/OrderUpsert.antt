@@ -28,7 +28,13 @@ order_upsert = record {
   uncounted = refl;
   low = λ _. refl;
   first = λ _. refl;
-  casts = λ _. row_kept ord_table _ _ (cast_null, (cast_int _, (cast_int _, (cast_int _, (cast_int_or_null _, (refl, (cast_int_or_null _, (refl, (cast_int_or_null _, (cast_text_or_null _, (refl, tt)))))))))));
+  casts = λ _. row_kept ord_table _ _ (
+    cast_null,
+    (
+      cast_int _,
+      (cast_int _, (cast_int _, (cast_int_or_null _, (refl, (cast_int_or_null _, (refl, (cast_int_or_null _, (cast_text_or_null _, (refl, tt))))))))),
+    ),
+  );
   clash = λ x y. clash_by_key order_layout.key order_image (λ _. refl) ord_table x y;
   given = λ _. refl;
   sets = λ x y same. ap (λ k. Int (pos (order_layout.key y)) ∷ Int (pos k) ∷ drop 1 (order_image x)) same;

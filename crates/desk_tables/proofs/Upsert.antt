@@ -1,5 +1,6 @@
 -- INSERT .. ON CONFLICT (key) DO UPDATE of one row, over a table whose rows are typed.
-use Rattle.std.proofs.Common.{◌≡◌, ◌≢◌, inl, inr, ℕ, ℤ, pos, ◌++◌, List, [], ◌∷◌, map, length, ◌/◌, true, false, None, Some, Option, Ok, refl, sym, ap, subst, ◌∙◌}
+use Rattle.std.proofs.Common.{◌≡◌, ◌≢◌, inl, inr, ℕ, ℤ, pos, ◌++◌, List, [], ◌∷◌, map, length, ◌/◌, true, false, None, Some}
+use Rattle.std.proofs.Common.{Option, Ok, refl, sym, ap, subst, ◌∙◌}
 use Rattle.std.specs.Ordering.{is_eq}
 use Rattle.sqlite.specs.declared.types.Value.TheVariants.{Int, Null}
 use Rattle.sqlite_value.specs.Order.{Row, column}
@@ -16,7 +17,8 @@ use Rattle.sqlite_rules.specs.Keys.{AreConflicts, conflicts}
 use Rattle.sqlite_rules.specs.Cast.{cast_row}
 use Rattle.sqlite_rules.specs.Calls.{ids_of}
 use Rattle.sqlite_rules.specs.Lists.{Has}
-use Rattle.sqlite.specs.Rows.{Task, Written, Puts, Clears, Meets, Updates, Upserts, Tries, TriesEach, InsertsOr, stamped, count_of, nothing, rowids_for, Counts, shown}
+use Rattle.sqlite.specs.Rows.{Task, Written, Puts, Clears, Meets, Updates, Upserts, Tries, TriesEach, InsertsOr, stamped}
+use Rattle.sqlite.specs.Rows.{count_of, nothing, rowids_for, Counts, shown}
 use Rattle.sqlite.specs.Effect.{value_rows}
 use Rattle.sqlite.proofs.Callers.{one_step}
 use Rattle.desk_model.specs.Change.{put, remove}
@@ -58,7 +60,8 @@ tried task clauses new db w (inr (None, judged, h)) = h
 tried task clauses new db w (inr (Some why, judged, h)) = absurd (let e = h in cc)
 
 module _ {X : Type 0} (key : X → ℕ) (row : X → Row) (first : (x : X) → rowid (row x) ≡ Int (pos (key x)))
-    (task : Task) (calm : NoWorks task) (casts : (x : X) → cast_row task.table (row x) ≡ row x) (low : (db : Trees) → overlay db [] task.table.tree ≡ db task.table.tree)
+    (task : Task) (calm : NoWorks task) (casts : (x : X) → cast_row task.table (row x) ≡ row x)
+    (low : (db : Trees) → overlay db [] task.table.tree ≡ db task.table.tree)
     (at : ℕ) (project : List Term) where
   -- what the update is given: the parameters, the key of the row that is there, and the row that is not inserted
   abbrev given_to : X → Row
@@ -77,7 +80,8 @@ module _ {X : Type 0} (key : X → ℕ) (row : X → Row) (first : (x : X) → r
       → edited db (edit_of db task.table (ids_of rows) Given 1 rows) ≡ map row (put key x xs)
   edited_as db xs x k rows same has up is =
       ap (λ rs. edited db (edit_of db task.table (ids_of rs) Given 1 rs)) is
-      ∙ rw (casts x, has, same, without_as key row first (key x) xs) (put_row_as key row first x (remove key (key x) xs) ∙ ap (map row) (put_anew key x 0 xs up))
+      ∙ rw (casts x, has, same, without_as key row first (key x) xs)
+      (put_row_as key row first x (remove key (key x) xs) ∙ ap (map row) (put_anew key x 0 xs up))
 
   -- the one or the other
   pub upserts : (db : Trees) (xs : List X) (x : X) (w : Written) → db task.table.tree ≡ map row xs → IsRising key xs
@@ -96,7 +100,9 @@ module _ {X : Type 0} (key : X → ℕ) (row : X → Row) (first : (x : X) → r
       over y same one h =
           let on = went h in
           let tree = low db ∙ has in
-          let rows : on.0 ≡ (Int (pos (key y)) ∷ row x) ∷ [] = answered key row first (overlay db []) (given_to x) task.table.tree at (key x) project xs on.0 given tree y one (on.1.answer Null) ∙ ap (λ r. r ∷ []) (sets y same) in
+          let rows : on.0 ≡ (Int (pos (key y)) ∷ row x) ∷ [] =
+          answered key row first (overlay db []) (given_to x) task.table.tree at (key x) project xs on.0 given tree y one
+          (on.1.answer Null) ∙ ap (λ r. r ∷ []) (sets y same) in
           let did = went on.2 in
           let edit = edit_of db task.table (ids_of on.0) Given 1 on.0 in
           let a = one_step task.schema task.keys db did.0 edit (calm (taken_by db edit) edit.news) did.1 in
@@ -112,12 +118,15 @@ module _ {X : Type 0} (key : X → ℕ) (row : X → Row) (first : (x : X) → r
           let it = some.sound there (inl refl) in
           let inside : Has (map row xs) it.0 = subst (λ rows. Has rows it.0) has it.1 in
           let from = row_behind row xs it.0 inside in
-          let tied : is_eq (three (key from.0) (key x)) ≡ true = sym (clash from.0) ∙ ap (conflicts (Some (0 ∷ [])) task.schema.indexes task.table (row x)) (sym from.1) ∙ it.2 in
+          let tied : is_eq (three (key from.0) (key x)) ≡ true = sym (clash from.0)
+          ∙ ap (conflicts (Some (0 ∷ [])) task.schema.indexes task.table (row x)) (sym from.1) ∙ it.2 in
           let same = same_of_eq (key from.0) (key x) tied in
           let id : rowid it.0 ≡ Int (pos (key x)) = ap rowid from.1 ∙ first from.0 ∙ ap (λ k. Int (pos k)) same in
           let one = one_with key row first (key x) 0 xs up it.0 inside id in
           let read : rowid there ≡ Int (pos (key x)) = ap rowid it.3 ∙ id in
-          over one.0 one.1 one.2 (subst (λ v. Updates task (record { lets = []; body = by_key task.table.tree at project }) (task.params ++ v ∷ shown task.table (row x)) db (Ok w)) read h)
+          over one.0 one.1 one.2
+          (subst (λ v. Updates task (record { lets = []; body = by_key task.table.tree at project })
+          (task.params ++ v ∷ shown task.table (row x)) db (Ok w)) read h)
 
   -- the whole statement
   pub puts_row : (db : Trees) (xs : List X) (x : X) (terms : List Term) (width : ℕ) (done : Written) → task.table.is_counted ≡ false
@@ -132,11 +141,15 @@ module _ {X : Type 0} (key : X → ℕ) (row : X → Row) (first : (x : X) → r
       let counter = went rows.2 in
       let all = went counter.2 in
       let counts = went all.2 in
-      let one = went (subst (λ rs. TriesEach task Abort (clause task.table.tree at project ∷ []) rs (count_of counter.0) (nothing db) (Ok all.0)) (rows.1.1 ∙ source) all.1) in
+      let one =
+      went (subst (λ rs. TriesEach task Abort (clause task.table.tree at project ∷ []) rs (count_of counter.0) (nothing db) (Ok all.0))
+      (rows.1.1 ∙ source) all.1) in
       let top = count_of counter.0 in
       let is_new : with_rowid (rowids_for task.table top) (db task.table.tree) (cast_row task.table (row x)) ≡ row x =
-      ap (with_rowid (rowids_for task.table top) (db task.table.tree)) (casts x) ∙ keeps_id (rowids_for task.table top) (db task.table.tree) (row x) (pos (key x)) (first x) in
-      let met = subst (λ new. Upserts task Abort new db (clause task.table.tree at project ∷ []) (Ok one.0)) is_new (tried task (clause task.table.tree at project ∷ []) _ db one.0 one.1) in
+      ap (with_rowid (rowids_for task.table top) (db task.table.tree)) (casts x)
+      ∙ keeps_id (rowids_for task.table top) (db task.table.tree) (row x) (pos (key x)) (first x) in
+      let met = subst (λ new. Upserts task Abort new db (clause task.table.tree at project ∷ []) (Ok one.0)) is_new
+      (tried task (clause task.table.tree at project ∷ []) _ db one.0 one.1) in
       let is_put = upserts db xs x one.0 has up clash given sets met in
       let last : done.trees ≡ counts.0 = ap (λ (it : Written). it.trees) (same_value counts.2) in
       let after : counts.0 ≡ all.0.0.trees = uncounts task all.0.0.trees counter.0 all.0.1 counts.0 uncounted counts.1 in

@@ -61,7 +61,9 @@ puts_by L params text is old new x count h xs has =
     let command = InsertOr is.place Abort (Values is.terms is.width) (clause L.table.tree is.at is.project ∷ []) in
     let statement = statement_of text (understood desk_schema text) in
     let w = runs_as text (params x) old new desk_schema has.schema command is.command is.plain count h in
-    let did = subst (λ s. Does old.step_limit (mode_of old) (params x) (record old.now { schema = s }) statement None command (Ok (w.tally, new.now))) has.schema w.changed in
+    let did =
+    subst (λ s. Does old.step_limit (mode_of old) (params x) (record old.now { schema = s }) statement None command
+    (Ok (w.tally, new.now))) has.schema w.changed in
     let done = went (rw (is.found) at did) in
     let now = concluded task (mode_of old) done.0 (w.tally, new.now) done.2 in
     let put = puts_row L.key L.image is.first task (no_works L.table.tree) is.casts is.low is.at is.project old.now.trees xs x is.terms is.width done.0
@@ -83,4 +85,5 @@ pub advances_by : {X C : Type 0} (L : Layout X) (columns_of : X → C) (params_o
     → Advances old new (PutsColumns L columns_of columns)
 advances_by L columns_of params_of text is old new columns values are count ran =
     performs_advances text values old new count (PutsColumns L columns_of columns) (λ executes x has.
-    puts_by L (λ x. params_of (columns_of x)) text is old new x count (subst (λ row. Executes text row old new (Ok count)) (are ∙ ap params_of (sym has)) executes)) ran
+    puts_by L (λ x. params_of (columns_of x)) text is old new x count
+    (subst (λ row. Executes text row old new (Ok count)) (are ∙ ap params_of (sym has)) executes)) ran

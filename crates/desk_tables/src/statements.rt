@@ -2,7 +2,8 @@
 ghost use Rattle.std.specs.Prelude.{◌≡◌, OnErr, OnOk};
 ghost use Rattle.sqlite.specs.State.{Survives};
 ghost use Rattle.sqlite.specs.Held.{state};
-ghost use Rattle.desk_columns.specs.Columns.{account_columns, authorization_columns, challenge_columns, listed_columns, meta_columns, nonce_columns, order_columns};
+ghost use Rattle.desk_columns.specs.Columns.{account_columns, authorization_columns, challenge_columns, listed_columns};
+ghost use Rattle.desk_columns.specs.Columns.{meta_columns, nonce_columns, order_columns};
 ghost use Rattle.desk_schema.specs.Advances.{Advances, Declines, KeepsLast};
 ghost use Rattle.desk_tables.specs.Effects.{PlacesColumns, PutsColumns, RemovesNumbered};
 ghost use Rattle.desk_tables.specs.Layouts.{account_layout, authorization_layout, challenge_layout, meta_layout, nonce_layout, order_layout};
@@ -76,7 +77,8 @@ pub fn upsert_account<S: Alter>(
     columns: &AccountColumns,
 ) -> Result<(), Error>
     ensures same_reference { tx.new.conn.ghost_name ≡ tx.old.conn.ghost_name }
-    ensures ok { OnOk result (Advances (state S.Store tx.old.conn.now) (state S.Store tx.new.conn.now) (PutsColumns account_layout account_columns columns.now)) }
+    ensures ok { OnOk result (Advances (state S.Store tx.old.conn.now) (state S.Store tx.new.conn.now)
+        (PutsColumns account_layout account_columns columns.now)) }
     ensures err { OnErr result (Declines (state S.Store tx.old.conn.now) (state S.Store tx.new.conn.now)) }
     ensures kept { KeepsLast (state S.Store tx.old.conn.now) (state S.Store tx.new.conn.now) }
     ensures survives { Survives (state S.Store tx.old.conn.now) (state S.Store tx.new.conn.now) (λ _. ⊥) }
@@ -124,7 +126,8 @@ pub fn upsert_authorization<S: Alter>(
     columns: &AuthzColumns,
 ) -> Result<(), Error>
     ensures same_reference { tx.new.conn.ghost_name ≡ tx.old.conn.ghost_name }
-    ensures ok { OnOk result (Advances (state S.Store tx.old.conn.now) (state S.Store tx.new.conn.now) (PutsColumns authorization_layout authorization_columns columns.now)) }
+    ensures ok { OnOk result (Advances (state S.Store tx.old.conn.now) (state S.Store tx.new.conn.now)
+        (PutsColumns authorization_layout authorization_columns columns.now)) }
     ensures err { OnErr result (Declines (state S.Store tx.old.conn.now) (state S.Store tx.new.conn.now)) }
     ensures kept { KeepsLast (state S.Store tx.old.conn.now) (state S.Store tx.new.conn.now) }
     ensures survives { Survives (state S.Store tx.old.conn.now) (state S.Store tx.new.conn.now) (λ _. ⊥) }
@@ -172,7 +175,8 @@ pub fn upsert_challenge<S: Alter>(
     columns: &ChallColumns,
 ) -> Result<(), Error>
     ensures same_reference { tx.new.conn.ghost_name ≡ tx.old.conn.ghost_name }
-    ensures ok { OnOk result (Advances (state S.Store tx.old.conn.now) (state S.Store tx.new.conn.now) (PutsColumns challenge_layout challenge_columns columns.now)) }
+    ensures ok { OnOk result (Advances (state S.Store tx.old.conn.now) (state S.Store tx.new.conn.now)
+        (PutsColumns challenge_layout challenge_columns columns.now)) }
     ensures err { OnErr result (Declines (state S.Store tx.old.conn.now) (state S.Store tx.new.conn.now)) }
     ensures kept { KeepsLast (state S.Store tx.old.conn.now) (state S.Store tx.new.conn.now) }
     ensures survives { Survives (state S.Store tx.old.conn.now) (state S.Store tx.new.conn.now) (λ _. ⊥) }

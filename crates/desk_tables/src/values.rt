@@ -3,7 +3,8 @@ ghost use Rattle.std.specs.Prelude.{◌≡◌, [], ◌∷◌};
 ghost use Rattle.sqlite.specs.declared.types.Value.TheVariants.{Int, Text as SqlText, Blob};
 ghost use Rattle.sqlite.specs.Values.{bound, bound_value};
 ghost use Rattle.sqlite_value.specs.Value.{owned};
-ghost use Rattle.desk_tables.specs.Images.{account_params, authorization_params, blob_or_null, challenge_params, int_or_null, listed_params, meta_params, nonce_params, order_params, text_or_null};
+ghost use Rattle.desk_tables.specs.Images.{account_params, authorization_params, blob_or_null, challenge_params, int_or_null};
+ghost use Rattle.desk_tables.specs.Images.{listed_params, meta_params, nonce_params, order_params, text_or_null};
 
 use desk_columns::{
     AccountColumns, AuthzColumns, ChallColumns, MetaColumns, NonceColumns, OrderAuthzColumns,

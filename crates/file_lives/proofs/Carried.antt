@@ -39,7 +39,8 @@ module _ {S C B : Type 0} (part : B → C) (v : Sight S C) where
   exits_by F call deskfault.NewerFormat new is = declined_within F call deskfault.NewerFormat new is
 
   -- the exit of a call
-  exits_within : (F : History) (call : Call) (result : Result Reply DeskFault) (new : S) → Exits v F call result new → Exits (sight_within part v) F call result new
+  exits_within : (F : History) (call : Call) (result : Result Reply DeskFault) (new : S) → Exits v F call result new
+      → Exits (sight_within part v) F call result new
   exits_within F call (Ok reply) new is =
       record { faultless = is.faultless; decided = is.decided; stays_legal = is.stays_legal; keeps = keeps_within part v new _ is.keeps }
   exits_within F call (Err why) new is = exits_by F call why new is
@@ -51,7 +52,8 @@ module _ {S C B : Type 0} (part : B → C) (v : Sight S C) where
   unchanged_within old new (Err why) same = λ goes_on. stands_within old new (same goes_on)
 
   -- an answer
-  answers_within : (call : Call) (old new : S) (result : Result Reply DeskFault) → Answers v call old new result → Answers (sight_within part v) call old new result
+  answers_within : (call : Call) (old new : S) (result : Result Reply DeskFault) → Answers v call old new result
+      → Answers (sight_within part v) call old new result
   answers_within call old new result answers = record {
     formed = answers.formed;
     honest = answers.honest;

@@ -87,7 +87,8 @@ module _ {D : Type 0} (g : disk.Ghosts D) where
   seen_off : (x : Seen (Store (FileStore D g)) Image) (files : LeftFiles) → MaySeeNext g x (rests files.image) → Found x (rests files)
   seen_off (seen_open new) files may = ∣ (seen_open new, refl, may.opens files refl) ∣₁
   seen_off (seen_failure left) files may =
-      ∥∥₁_map (may.leaves files refl) (λ found. (seen_failure found.0, ap (λ i. seen_failure i) found.1, λ T has. subst (λ trees. AreOfDesk trees T) (sym found.2) has))
+      ∥∥₁_map (may.leaves files refl)
+      (λ found. (seen_failure found.0, ap (λ i. seen_failure i) found.1, λ T has. subst (λ trees. AreOfDesk trees T) (sym found.2) has))
   seen_off (seen_reply call reply new) files may = absurd may
   seen_off (seen_fault call why new) files may = absurd may
   seen_off (seen_stop call exit new left) files may = absurd may

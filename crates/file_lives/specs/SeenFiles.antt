@@ -8,7 +8,8 @@ use Rattle.sqlite.specs.Tree.{Trees}
 use Rattle.desk_model.specs.Entry.{History}
 use Rattle.desk_model.specs.Life.{IsStart}
 use Rattle.desk_model.specs.Tables.{picture}
-use Rattle.desk_calls.specs.Seen.{Place, runs, rests, Seen, seen_reply, seen_fault, seen_stop, seen_end, seen_open, seen_failure, place_after, IsExit, IsExitInPlace, IsSeen}
+use Rattle.desk_calls.specs.Seen.{Place, runs, rests, Seen, seen_reply, seen_fault, seen_stop, seen_end, seen_open, seen_failure}
+use Rattle.desk_calls.specs.Seen.{place_after, IsExit, IsExitInPlace, IsSeen}
 use Rattle.desk_openings.specs.LeftFiles.{LeftFiles, IsNumbered, LeavesFound, MayLeave, file_sight}
 use Rattle.desk_storage.specs.Sight.{Sight, Keeps, Opens}
 use Rattle.desk_store.specs.Desks.{store_sight}

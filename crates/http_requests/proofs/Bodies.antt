@@ -1,5 +1,6 @@
 -- A body that was read behind what was begun of it.
-use Rattle.std.proofs.Common.{◌≡◌, ◌<◌, ◌≤◌, ℕ, List, ◌++◌, take, drop, length, arith, sym, ◌∙◌, ap, Option, Some, None, Result, Ok, Err, append_assoc, append-nil}
+use Rattle.std.proofs.Common.{◌≡◌, ◌<◌, ◌≤◌, ℕ, List, ◌++◌, take, drop, length, arith, sym, ◌∙◌, ap, Option, Some, None, Result}
+use Rattle.std.proofs.Common.{Ok, Err, append_assoc, append-nil}
 use Rattle.std.proofs.lemmas.List.{drop_all, length-append, length-take, take-append-le, take_all}
 use Rattle.std.specs.Prelude.{IfOk, IfSome, option_map}
 use Rattle.std.specs.Io.KnownBytes.{IsAtEnd}
@@ -35,7 +36,8 @@ read_whole (Some xs) (Some ys) begun old new count filled body is starts long le
     (fits, is ∙ front)
 
 -- the input ended before
-pub read_short : (known left : Option (List ℕ)) (begun old new : List ℕ) (count filled : ℕ) → take (length begun) old ≡ begun → length new ≡ count → filled < count
+pub read_short : (known left : Option (List ℕ)) (begun old new : List ℕ) (count filled : ℕ) → take (length begun) old ≡ begun
+    → length new ≡ count → filled < count
     → Adds known left (take (length begun) old) (take filled new) → IsAtEnd left → IfSome known (λ ys. IsBody (begun ++ ys) count None)
 read_short None left begun old new count filled starts long less adds end = tt
 read_short (Some xs) None begun old new count filled starts long less adds end = absurd adds.2

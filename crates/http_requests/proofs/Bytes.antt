@@ -1,5 +1,6 @@
 -- Bytes read in steps.
-use Rattle.std.proofs.Common.{◌≡◌, ◌≤◌, ◌+◌, ℕ, List, [], ◌++◌, take, drop, length, arith, sym, ◌∙◌, ap, Option, Some, None, Result, Ok, Err, append_assoc, append-nil}
+use Rattle.std.proofs.Common.{◌≡◌, ◌≤◌, ◌+◌, ℕ, List, [], ◌++◌, take, drop, length, arith, sym, ◌∙◌, ap, Option, Some, None}
+use Rattle.std.proofs.Common.{Result, Ok, Err, append_assoc, append-nil}
 use Rattle.std.proofs.lemmas.List.{length-append, length-take}
 use Rattle.std.proofs.Math.Seq.{take-add}
 use Rattle.std.proofs.KnownBytes.{Consumes-trans, Consumes-nil, Consumes-kept}

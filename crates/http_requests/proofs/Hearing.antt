@@ -1,5 +1,6 @@
 -- From what was read of the head to what the whole input spells.
-use Rattle.std.proofs.Common.{◌≡◌, ◌+◌, ◌-◌, ◌<◌, ◌≤◌, ◌⊎◌, inl, inr, ℕ, true, false, List, [], ◌++◌, take, drop, length, map, arith, sym, ◌∙◌, ap, Option, Some, None, Result, Ok, Err, append_assoc, append-nil, subst}
+use Rattle.std.proofs.Common.{◌≡◌, ◌+◌, ◌-◌, ◌<◌, ◌≤◌, ◌⊎◌, inl, inr, ℕ, true, false, List, [], ◌++◌, take, drop, length, map}
+use Rattle.std.proofs.Common.{arith, sym, ◌∙◌, ap, Option, Some, None, Result, Ok, Err, append_assoc, append-nil, subst}
 use Rattle.std.proofs.lemmas.List.{take-append-drop, take-append-le, take_all, length-map, length-take}
 use Rattle.std.proofs.Math.Seq.{take-append_seam, take-append-add}
 use Rattle.std.specs.Prelude.{IfOk, IfSome}
@@ -59,7 +60,8 @@ heard_none input h why none m q s =
 
 -- too many fields make no head
 overflow_has_no_head : (bytes ys : List ℕ) → RequestOverflows 64 bytes → HasNoHead (bytes ++ ys)
-overflow_has_no_head bytes ys over = λ h rest b. absurd (let many : 64 < length h.fields = over ys h rest b.reads in let few : length h.fields ≤ 64 = b.fields in omega arith)
+overflow_has_no_head bytes ys over = λ h rest b. absurd (let many : 64 < length h.fields = over ys h rest b.reads in
+    let few : length h.fields ≤ 64 = b.fields in omega arith)
 
 -- the request is refused so, as one without a head
 abbrev IsRefusedBy : Refusal → Heard → Type 0

@@ -1,5 +1,6 @@
 -- How long the body behind a head is, by its fields (RFC 9112, 6).
-use Rattle.std.specs.Prelude.{◌≡◌, ◌≤◌, ◌&&◌, ℕ, Bool, true, false, nat_lt, nat_le, List, [], ◌∷◌, map, length, Option, Some, None, if◌then◌else◌, codes, bytes_eq}
+use Rattle.std.specs.Prelude.{◌≡◌, ◌≤◌, ◌&&◌, ℕ, Bool, true, false, nat_lt, nat_le, List, [], ◌∷◌, map, length, Option, Some}
+use Rattle.std.specs.Prelude.{None, if◌then◌else◌, codes, bytes_eq}
 use Rattle.std.specs.Char.{digit_value, to_ascii_lowercase}
 use Rattle.std.specs.List.{filter, list_all}
 use Rattle.std.specs.Str.Parse.{digits_value}

@@ -69,7 +69,8 @@ fn read_headed<R: Read>(
     requires method { IsToken (span_bytes bytes.now spans.method) }
     requires path { IsUtf8 (span_bytes bytes.now spans.path) }
     ensures manner { IfOk result (λ heard. heard.manner ≡ manner_by (span_bytes bytes.now spans.method) (span_bytes bytes.now spans.path)) }
-    ensures request { IfOk result (λ heard. IfOk heard.request (λ q. IfSome (R.remaining reader.old) (λ left. IsRequestAt bytes.now headers.now spans left q))) }
+    ensures request { IfOk result (λ heard. IfOk heard.request
+        (λ q. IfSome (R.remaining reader.old) (λ left. IsRequestAt bytes.now headers.now spans left q))) }
     ensures taken { TakesAtMost (R.remaining reader.old) (R.remaining reader.new) longest_body }
 {
     let request = read_behind(alloc, reader, bytes, headers, spans)?;
@@ -161,7 +162,9 @@ fn read_with<R: Read>(
     begun: &[u8],
 ) -> Result<Result<Request, AllocError>, ReadFailed>
     requires { All (IsHeaderWithin (length buffer.now)) headers.now }
-    ensures request { IfOk result (λ r. IfOk r (λ q. IfSome (R.remaining reader.old) (λ left. IsRequestWith method.now path.now (map (header_bytes buffer.now) headers.now) (begun.now ++ left) q))) }
+    ensures request { IfOk result (λ r. IfOk r
+        (λ q. IfSome (R.remaining reader.old)
+        (λ left. IsRequestWith method.now path.now (map (header_bytes buffer.now) headers.now) (begun.now ++ left) q))) }
     ensures taken { TakesAtMost (R.remaining reader.old) (R.remaining reader.new) longest_body }
 {
     let plan = match plan_for(alloc, method, path, buffer, headers) {

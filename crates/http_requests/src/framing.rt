@@ -149,7 +149,8 @@ fn value_of<'b>(buffer: &'b [u8], header: HeaderSpan) -> &'b [u8]
 
 // What was found, and one more field.
 fn and_field<'b>(found: Found<'b>, name: &[u8], value: &'b [u8], wanted: &[u8]) -> Found<'b>
-    ensures { (fields : List (List ℕ × List ℕ)) → FoundIs (values_of wanted.now fields) found.entry → FoundIs (values_of wanted.now (fields ++ (name.now, value.now) ∷ [])) result }
+    ensures { (fields : List (List ℕ × List ℕ)) → FoundIs (values_of wanted.now fields) found.entry
+        → FoundIs (values_of wanted.now (fields ++ (name.now, value.now) ∷ [])) result }
 {
     if is_called(name, wanted) {
         and_one(found, value)

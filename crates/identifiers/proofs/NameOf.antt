@@ -51,7 +51,8 @@ no_mark [] h = refl
 no_mark (x ∷ xs) h = rw (ne_eqb 42 x (λ e. All-head (λ c. c ≢ 42) x xs h (sym e))) refl
 
 -- the name with a rest that has a base
-with_base : (w : Bool) (rest base : List ℕ) → list_any (λ c. c == 42) rest ≡ false → ascii_form rest ≡ Some base → is_base_name base ≡ true → name_with w rest ≡ Some (record { base = base; wildcard = w })
+with_base : (w : Bool) (rest base : List ℕ) → list_any (λ c. c == 42) rest ≡ false → ascii_form rest ≡ Some base → is_base_name base ≡ true
+    → name_with w rest ≡ Some (record { base = base; wildcard = w })
 with_base w rest base none ascii well = rw (none, ascii, well) refl
 
 -- a text that stands for a name is one that the function reads so
@@ -74,7 +75,8 @@ record IsRead (starred : Bool) (ascii : Option (List ℕ)) (w : Bool) (name : Na
   mark : w ≡ name.wildcard
 
 -- a base that is well formed gives the name with it
-read_base : (b : List ℕ) (well : Bool) → is_base_name b ≡ well → (w : Bool) (name : Name) → (if well then Some (record { base = b; wildcard = w }) else None) ≡ Some name → IsRead false (Some b) w name
+read_base : (b : List ℕ) (well : Bool) → is_base_name b ≡ well → (w : Bool) (name : Name)
+    → (if well then Some (record { base = b; wildcard = w }) else None) ≡ Some name → IsRead false (Some b) w name
 read_base b false e w name h = absurd (cc h)
 read_base b true e w name h =
     let same : b ≡ name.base = ap (λ (o : Option Name). (unwrap_or o name).base) h in
@@ -100,8 +102,10 @@ reads_behind w text rest name whole h =
     }
 
 -- what the function reads is a name that the text stands for
-reads : (text : List ℕ) (name : Name) (marked : Bool) → starts_with nat_eq text (codes "*.") ≡ marked → (if marked then name_with true (drop 2 text) else name_with false text) ≡ Some name → IsNameOf text name.base name.wildcard
-reads text name true m h = reads_behind true text (drop 2 text) name ((starts_is Decides-eqb text (codes "*.") (starts_with nat_eq text (codes "*.")) refl).0 m) h
+reads : (text : List ℕ) (name : Name) (marked : Bool) → starts_with nat_eq text (codes "*.") ≡ marked
+    → (if marked then name_with true (drop 2 text) else name_with false text) ≡ Some name → IsNameOf text name.base name.wildcard
+reads text name true m h = reads_behind true text (drop 2 text) name
+    ((starts_is Decides-eqb text (codes "*.") (starts_with nat_eq text (codes "*.")) refl).0 m) h
 reads text name false m h = reads_behind false text text name refl h
 
 -- the text stands for the name that the function finds
@@ -123,6 +127,7 @@ pub name_of-unmarked : (text : List ℕ) → ((rest : List ℕ) → text ≢ cod
 unfolding name_of
 name_of-unmarked text none = by (starts_with nat_eq text (codes "*.")) refl
   where
-    by : (b : Bool) → starts_with nat_eq text (codes "*.") ≡ b → (if starts_with nat_eq text (codes "*.") then name_with true (drop 2 text) else name_with false text) ≡ name_with false text
+    by : (b : Bool) → starts_with nat_eq text (codes "*.") ≡ b
+        → (if starts_with nat_eq text (codes "*.") then name_with true (drop 2 text) else name_with false text) ≡ name_with false text
     by true e = absurd (none (drop 2 text) ((starts_is Decides-eqb text (codes "*.") (starts_with nat_eq text (codes "*.")) refl).0 e))
     by false e = rw e refl

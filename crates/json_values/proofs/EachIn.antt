@@ -21,7 +21,8 @@ each_in-none form (w ∷ ws) (suc i) v lt is none =
 some_same : {X : Type 0} (a b : X) → Some a ≡ Some b → a ≡ b
 some_same a b e = cc e
 
-last_form : {X : Type 0} (form : Data → Option X) (vs : List Value) (v : Value) (xs : List X) (x : X) → each_in form (items_view vs) ≡ Some xs → form (view v) ≡ Some x →
+last_form : {X : Type 0} (form : Data → Option X) (vs : List Value) (v : Value) (xs : List X) (x : X)
+    → each_in form (items_view vs) ≡ Some xs → form (view v) ≡ Some x →
     each_in form (items_view (vs ++ v ∷ [])) ≡ Some (xs ++ x ∷ [])
 last_form {X} form [] v xs x read there =
     ap (λ o. and_each o (Some [])) there ∙ ap (λ (l : List X). Some (l ++ x ∷ [])) (some_same [] xs read)

@@ -1,5 +1,6 @@
 -- A body matches one text at most.
-use Rattle.std.proofs.Common.{◌≡◌, ℕ, ◌+◌, ◌-◌, ◌<◌, ◌≤◌, true, false, List, [], ◌∷◌, ◌++◌, length, get_or, take, drop, refl, sym, ap, ◌∙◌, arith, length-append}
+use Rattle.std.proofs.Common.{◌≡◌, ℕ, ◌+◌, ◌-◌, ◌<◌, ◌≤◌, true, false, List, [], ◌∷◌, ◌++◌, length, get_or, take, drop, refl, sym}
+use Rattle.std.proofs.Common.{ap, ◌∙◌, arith, length-append}
 use Rattle.std.proofs.lemmas.List.{take-append-drop, get_or-take, length-take-le}
 use Rattle.std.proofs.lemmas.Bool.{lt-ltb}
 use Rattle.std.proofs.Math.Seq.{get_or-append_seam}
@@ -44,7 +45,8 @@ pub body_match_unique : (body a b : List ℕ) → IsBodyMatch body a → IsBodyM
 body_match_unique body a b m n = one_match a b m.blanks n.blanks (sym m.whole ∙ n.whole) m.all_blank n.all_blank m.trimmed n.trimmed
 
 -- what is left of the bytes once the blanks at their end are gone
-pub IsBodyMatch-from_end : (bytes : List ℕ) (end : ℕ) → end ≤ length bytes → AllBlank (drop end bytes) → false ≡ (nat_lt 0 end && is_blank (get_or bytes (end - 1) 0)) → IsBodyMatch bytes (take end bytes)
+pub IsBodyMatch-from_end : (bytes : List ℕ) (end : ℕ) → end ≤ length bytes → AllBlank (drop end bytes)
+    → false ≡ (nat_lt 0 end && is_blank (get_or bytes (end - 1) 0)) → IsBodyMatch bytes (take end bytes)
 IsBodyMatch-from_end bytes end le all stop = record {
   blanks = drop end bytes;
   whole = sym (take-append-drop end bytes);
@@ -52,7 +54,8 @@ IsBodyMatch-from_end bytes end le all stop = record {
   trimmed = λ front c e b.
       let len : length front + 1 ≡ end = sym (simp length-append at (ap length e)) ∙ length-take-le end bytes le in
       let lt : length front < end = omega arith in
-      let last : get_or bytes (length front) 0 ≡ c = sym (get_or-take end bytes (length front) 0 lt) ∙ ap (λ z. get_or z (length front) 0) e ∙ get_or-append_seam front c [] 0 in
+      let last : get_or bytes (length front) 0 ≡ c = sym (get_or-take end bytes (length front) 0 lt) ∙ ap (λ z. get_or z (length front) 0) e
+      ∙ get_or-append_seam front c [] 0 in
       let at : end - 1 ≡ length front = omega arith in
       let pos : nat_lt 0 end ≡ true = lt-ltb 0 end (omega arith) in
       let no : is_blank c ≡ false = sym (rw (at, last, pos) at stop) in

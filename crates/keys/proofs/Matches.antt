@@ -26,7 +26,8 @@ no_blank c cs not = by (is_blank c) refl
     by false e = rw e refl
 
 -- a text that does not end in a blank begins with none when reversed
-stops : (e backwards : List ℕ) → e ≡ reverse backwards → ((front : List ℕ) (c : ℕ) → e ≡ front ++ c ∷ [] → IsTrue (is_blank c) → ⊥) → prefix_len is_blank backwards ≡ 0
+stops : (e backwards : List ℕ) → e ≡ reverse backwards → ((front : List ℕ) (c : ℕ) → e ≡ front ++ c ∷ [] → IsTrue (is_blank c) → ⊥)
+    → prefix_len is_blank backwards ≡ 0
 stops e [] whole trimmed = refl
 stops e (c ∷ cs) whole trimmed = no_blank c cs (trimmed (reverse cs) c (whole ∙ reverse-append (c ∷ []) cs))
 

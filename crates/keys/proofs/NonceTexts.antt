@@ -39,12 +39,15 @@ of_24 : (bytes : List ℕ) → length bytes ≡ 24 → nonce_by (Some bytes) ≡
 of_24 bytes len = rw len refl
 
 -- the nonce of a text that decodes to 24 bytes
-pub nonce_in-decoded : (s bytes : List ℕ) → decode_of url_safe_no_pad s ≡ Ok bytes → length bytes ≡ 24 → nonce_in s ≡ Some (record { serial = number_from 0 (take 8 bytes); random = drop 8 bytes })
+pub nonce_in-decoded : (s bytes : List ℕ) → decode_of url_safe_no_pad s ≡ Ok bytes → length bytes ≡ 24
+    → nonce_in s ≡ Some (record { serial = number_from 0 (take 8 bytes); random = drop 8 bytes })
 unfolding nonce_in from_base64url
 nonce_in-decoded s bytes e len = ap nonce_of_outcome e ∙ of_24 bytes len
 
 -- what was written is the nonce of the text
-pub nonce_in-written : (s new : List ℕ) → decode_slice_of url_safe_no_pad s 24 ≡ Ok 24 → new ≡ decoded_bytes_of url_safe_no_pad s ++ drop {A = ℕ} (length (decoded_bytes_of url_safe_no_pad s)) (replicate 24 0) → nonce_in s ≡ Some (record { serial = number_from 0 (take 8 new); random = drop 8 new })
+pub nonce_in-written : (s new : List ℕ) → decode_slice_of url_safe_no_pad s 24 ≡ Ok 24
+    → new ≡ decoded_bytes_of url_safe_no_pad s ++ drop {A = ℕ} (length (decoded_bytes_of url_safe_no_pad s)) (replicate 24 0)
+    → nonce_in s ≡ Some (record { serial = number_from 0 (take 8 new); random = drop 8 new })
 nonce_in-written s new h written =
     let p = decodes_whole url_safe_no_pad s 24 24 h in
     let none : drop {A = ℕ} (length (decoded_bytes_of url_safe_no_pad s)) (replicate 24 0) ≡ [] = rw p.1 refl in
@@ -57,7 +60,8 @@ long_enough bytes true e n h = eqb-true (length bytes) 24 e
 long_enough bytes false e n h = let no : None ≡ Some n = rw e at h in absurd (cc no)
 
 -- where there is a nonce, the text decodes to 24 bytes
-decodes : (s : List ℕ) (r : Result (List ℕ) DecodeError) → decode_of url_safe_no_pad s ≡ r → (n : NonceText) → nonce_of_outcome r ≡ Some n → (bytes : List ℕ) × (decode_of url_safe_no_pad s ≡ Ok bytes) × (length bytes ≡ 24)
+decodes : (s : List ℕ) (r : Result (List ℕ) DecodeError) → decode_of url_safe_no_pad s ≡ r → (n : NonceText) → nonce_of_outcome r ≡ Some n
+    → (bytes : List ℕ) × (decode_of url_safe_no_pad s ≡ Ok bytes) × (length bytes ≡ 24)
 decodes s (Ok bytes) e n h = (bytes, e, long_enough bytes (length bytes == 24) refl n h)
 decodes s (Err x) e n h = absurd (cc h)
 

@@ -1,5 +1,6 @@
 -- Decoding into 24 bytes is the inverse of the text of a nonce.
-use Rattle.std.proofs.Common.{◌≡◌, ℕ, zero, suc, take, drop, length-append, ◌*◌, ◌/◌, ◌%◌, ◌<◌, Bool, true, false, List, [], ◌∷◌, ◌++◌, length, refl, sym, ap, ◌∙◌, arith, Option, Some, None}
+use Rattle.std.proofs.Common.{◌≡◌, ℕ, zero, suc, take, drop, length-append, ◌*◌, ◌/◌, ◌%◌, ◌<◌, Bool, true, false, List, [], ◌∷◌}
+use Rattle.std.proofs.Common.{◌++◌, length, refl, sym, ap, ◌∙◌, arith, Option, Some, None}
 use Rattle.std.specs.Prelude.{nat_lt, replicate, if◌then◌else◌}
 use Rattle.std.specs.declared.result.Result.{Result}
 use Rattle.std.specs.declared.result.Result.TheVariants.{Ok, Err}
@@ -23,14 +24,16 @@ fit true k n h = cc h
 fit false k n h = cc h
 
 -- a decoding into a slice that succeeds meets no error
-settled : (l m : Option DecodeError) (b : Bool) (k out n : ℕ) → or_error l (if b then Err OutputSliceTooSmall else or_error m (bytes_fit k out)) ≡ Ok n → (or_else l m ≡ None) × (k ≡ n)
+settled : (l m : Option DecodeError) (b : Bool) (k out n : ℕ)
+    → or_error l (if b then Err OutputSliceTooSmall else or_error m (bytes_fit k out)) ≡ Ok n → (or_else l m ≡ None) × (k ≡ n)
 settled (Some e) m b k out n h = cc h
 settled None m true k out n h = cc h
 settled None (Some e) false k out n h = cc h
 settled None None false k out n h = (refl, fit (nat_lt out k) k n h)
 
 -- a decoding that fits succeeds into a slice
-unsettled : (l m : Option DecodeError) (t : Bool) (d b : List ℕ) (out : ℕ) → decode_outcome (or_else l m) d ≡ Ok b → t ≡ false → nat_lt out (length b) ≡ false → or_error l (if t then Err OutputSliceTooSmall else or_error m (bytes_fit (length d) out)) ≡ Ok (length b)
+unsettled : (l m : Option DecodeError) (t : Bool) (d b : List ℕ) (out : ℕ) → decode_outcome (or_else l m) d ≡ Ok b → t ≡ false
+    → nat_lt out (length b) ≡ false → or_error l (if t then Err OutputSliceTooSmall else or_error m (bytes_fit (length d) out)) ≡ Ok (length b)
 unsettled (Some e) m t d b out h u v = cc h
 unsettled None (Some e) t d b out h u v = cc h
 unsettled None None t d b out h u v =
@@ -48,17 +51,20 @@ later e s =
     (suffix_error e.decode_table e.padding.value e.config.decode_allow_trailing_bits e.config.decode_padding_mode (4 * groups_before_last (length s)) s)
 
 -- a decoding into a slice is a decoding
-pub decodes_whole : (e : GeneralPurpose) (s : List ℕ) (out n : ℕ) → decode_slice_of e s out ≡ Ok n → (decode_of e s ≡ Ok (decoded_bytes_of e s)) × (length (decoded_bytes_of e s) ≡ n)
+pub decodes_whole : (e : GeneralPurpose) (s : List ℕ) (out n : ℕ) → decode_slice_of e s out ≡ Ok n
+    → (decode_of e s ≡ Ok (decoded_bytes_of e s)) × (length (decoded_bytes_of e s) ≡ n)
 decodes_whole e s out n h =
     let p = settled (lone e s) (later e s) (nat_lt (out / 3) (groups_before_last (length s))) (length (decoded_bytes_of e s)) out n h in
     (ap (λ x. decode_outcome x (decoded_bytes_of e s)) p.0, p.1)
 
 -- a decoding of few bytes is one into a slice
-pub slice_of_decode : (e : GeneralPurpose) (s b : List ℕ) (out : ℕ) → decode_of e s ≡ Ok b → nat_lt (out / 3) (groups_before_last (length s)) ≡ false → nat_lt out (length b) ≡ false → decode_slice_of e s out ≡ Ok (length b)
+pub slice_of_decode : (e : GeneralPurpose) (s b : List ℕ) (out : ℕ) → decode_of e s ≡ Ok b
+    → nat_lt (out / 3) (groups_before_last (length s)) ≡ false → nat_lt out (length b) ≡ false → decode_slice_of e s out ≡ Ok (length b)
 slice_of_decode e s b out h u v = unsettled (lone e s) (later e s) (nat_lt (out / 3) (groups_before_last (length s))) (decoded_bytes_of e s) b out h u v
 
 -- a text that decodes to 24 bytes is their text
-pub text_of_decoded : (s : List ℕ) → IsBytes s → decode_slice_of url_safe_no_pad s 24 ≡ Ok 24 → (s ≡ base64url (decoded_bytes_of url_safe_no_pad s)) × (length (decoded_bytes_of url_safe_no_pad s) ≡ 24)
+pub text_of_decoded : (s : List ℕ) → IsBytes s → decode_slice_of url_safe_no_pad s 24 ≡ Ok 24
+    → (s ≡ base64url (decoded_bytes_of url_safe_no_pad s)) × (length (decoded_bytes_of url_safe_no_pad s) ≡ 24)
 unfolding base64url
 text_of_decoded s bytes h =
     let p = decodes_whole url_safe_no_pad s 24 24 h in
@@ -111,13 +117,16 @@ pub IsBytes-to_be_bytes : (n : ℕ) → IsBytes (to_be_bytes w64 n)
 IsBytes-to_be_bytes n = eight (n / 72057594037927936) (n / 281474976710656) (n / 1099511627776) (n / 4294967296) (n / 16777216) (n / 65536) (n / 256) n
 
 -- the number and the rest of 24 bytes
-pub parts_whole : (bytes front back : List ℕ) (n : ℕ) → front ≡ take 8 bytes → back ≡ drop 8 bytes → length front ≡ 8 → IsBytes bytes → n ≡ from_be_bytes w64 front → to_be_bytes w64 n ++ back ≡ bytes
+pub parts_whole : (bytes front back : List ℕ) (n : ℕ) → front ≡ take 8 bytes → back ≡ drop 8 bytes → length front ≡ 8 → IsBytes bytes
+    → n ≡ from_be_bytes w64 front → to_be_bytes w64 n ++ back ≡ bytes
 parts_whole bytes front back n f b len range eq =
     let low : IsBytes front = rw f (IsBytes-drop 8 bytes range) in
     ap (λ x. x ++ back) (be_bytes_8 front n len low eq) ∙ rw (f, b) (take-append-drop 8 bytes)
 
 -- what was decoded is what the text spells
-pub nonce_of_decoded : (s new r : List ℕ) (n : ℕ) → IsBytes s → decode_slice_of url_safe_no_pad s 24 ≡ Ok 24 → new ≡ decoded_bytes_of url_safe_no_pad s ++ drop {A = ℕ} (length (decoded_bytes_of url_safe_no_pad s)) (replicate 24 0) → to_be_bytes w64 n ++ r ≡ new → s ≡ nonce_text n r
+pub nonce_of_decoded : (s new r : List ℕ) (n : ℕ) → IsBytes s → decode_slice_of url_safe_no_pad s 24 ≡ Ok 24
+    → new ≡ decoded_bytes_of url_safe_no_pad s ++ drop {A = ℕ} (length (decoded_bytes_of url_safe_no_pad s)) (replicate 24 0)
+    → to_be_bytes w64 n ++ r ≡ new → s ≡ nonce_text n r
 nonce_of_decoded s new r n low h written parts =
     let p = text_of_decoded s low h in
     let none : drop {A = ℕ} (length (decoded_bytes_of url_safe_no_pad s)) (replicate 24 0) ≡ [] = rw p.1 refl in

@@ -1,5 +1,6 @@
 //! Thumbprints, key authorizations and the answers that challenges ask for (RFC 8555, 8.1, 8.3, 8.4).
-ghost use Rattle.std.specs.Prelude.{◌≡◌, ◌≤◌, ◌-◌, ◌&&◌, nat_lt, length, slice_index, ◌↔◌, ◌++◌, ◌∷◌, ◌==◌, ℕ, List, IsTrue, IfOk, Any, All, bytes_eq, string_bytes};
+ghost use Rattle.std.specs.Prelude.{◌≡◌, ◌≤◌, ◌-◌, ◌&&◌, nat_lt, length, slice_index, ◌↔◌, ◌++◌, ◌∷◌, ◌==◌, ℕ, List, IsTrue};
+ghost use Rattle.std.specs.Prelude.{IfOk, Any, All, bytes_eq, string_bytes};
 ghost use Rattle.std.specs.List.{list_any};
 ghost use Rattle.sha2.specs.Sha256.{sha256};
 ghost use Rattle.desk_model.specs.Tokens.{authorization_of, body_matches, dns_value_of, is_blank, records_match, IsBodyMatch};

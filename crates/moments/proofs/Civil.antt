@@ -25,7 +25,17 @@ day_low d t e = omega (arith, signed_arith, civil_nanos-parts d, time_nanos_boun
 pub year_low : (d : DateTime) (t : ℕ) → civil_nanos d ≡ pos t *ℤ pos 1_000_000_000 → pos 1970 ≤ℤ d.date.year
 year_low d t e =
     by_lt_z d.date.year (pos 1970)
-    (λ lt. absurd (omega (arith, signed_arith, epoch, day_low d t e, days_from_civil-day_count d.date.year d.date.month d.date.day, days_from_civil-day_count (pos 1970) 1 1, day_count-lt_year d.date.year d.date.month d.date.day (pos 1970) 1 1 (civil d.date) (omega arith) lt)))
+    (λ lt. absurd
+    (omega (
+      arith,
+      signed_arith,
+      epoch,
+      day_low d t e,
+      days_from_civil-day_count d.date.year d.date.month d.date.day,
+      days_from_civil-day_count (pos 1970) 1 1,
+      day_count-lt_year d.date.year d.date.month d.date.day (pos 1970) 1 1 (civil d.date)
+          (omega arith) lt,
+    )))
     (λ ge. ge)
 
 -- the seconds of a moment
@@ -40,11 +50,13 @@ unfolding civil_seconds
 parts_of d = refl
 
 -- a datetime's fields are those of its moment
-pub civil_from : (d : DateTime) (t y : ℕ) → civil_nanos d ≡ pos t *ℤ pos 1_000_000_000 → pos y ≡ d.date.year → IsCivil t y d.date.month d.date.day d.time.hour d.time.minute d.time.second
+pub civil_from : (d : DateTime) (t y : ℕ) → civil_nanos d ≡ pos t *ℤ pos 1_000_000_000 → pos y ≡ d.date.year
+    → IsCivil t y d.date.month d.date.day d.time.hour d.time.minute d.time.second
 civil_from d t y e year = record {
   date = subst (λ (z : ℤ). IsCivilDate z d.date.month d.date.day) (sym year) (civil d.date);
   hour_in = d.time.hour_in;
   minute_in = d.time.minute_in;
   second_in = d.time.second_in;
-  total = subst (λ (z : ℤ). pos t ≡ days_from_civil z d.date.month d.date.day *ℤ pos 86_400 +ℤ pos (time_seconds d.time)) (sym year) (sym (seconds_of d t e) ∙ parts_of d);
+  total = subst (λ (z : ℤ). pos t ≡ days_from_civil z d.date.month d.date.day *ℤ pos 86_400 +ℤ pos (time_seconds d.time)) (sym year)
+      (sym (seconds_of d t e) ∙ parts_of d);
 }

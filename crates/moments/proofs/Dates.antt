@@ -22,7 +22,8 @@ march_days-shift : (y : ℕ) → march_days (y + 10000) ≡ march_days y + 36524
 march_days-shift y = omega arith
 
 -- a date from March on
-late_date : (y m d : ℕ) → 3 ≤ m → m ≤ 12 → 1 ≤ d → IsMarchDate (march_days y + (march_months m + d - 1)) y (m - 3) (march_months m + d - 1) → IsDateOf (march_days y + (march_months m + d - 1)) y m d
+late_date : (y m d : ℕ) → 3 ≤ m → m ≤ 12 → 1 ≤ d → IsMarchDate (march_days y + (march_months m + d - 1)) y (m - 3) (march_months m + d - 1)
+    → IsDateOf (march_days y + (march_months m + d - 1)) y m d
 late_date y m d low high first h =
     let year = h.year_is in
     let month = h.month_is in
@@ -30,7 +31,9 @@ late_date y m d low high first h =
     record { year_is = grind (arith, nat_tests); month_is = grind (arith, nat_tests); day_is = rw (month, place) (omega arith) }
 
 -- a date in January or February
-early_date : (y m d : ℕ) → 1 ≤ m → m ≤ 2 → 1 ≤ d → IsMarchDate (march_days y + (march_months (m + 12) + d - 1)) y (m + 12 - 3) (march_months (m + 12) + d - 1) → IsDateOf (march_days y + (march_months (m + 12) + d - 1)) (suc y) m d
+early_date : (y m d : ℕ) → 1 ≤ m → m ≤ 2 → 1 ≤ d
+    → IsMarchDate (march_days y + (march_months (m + 12) + d - 1)) y (m + 12 - 3) (march_months (m + 12) + d - 1)
+    → IsDateOf (march_days y + (march_months (m + 12) + d - 1)) (suc y) m d
 early_date y m d low high first h =
     let year = h.year_is in
     let month = h.month_is in
@@ -38,16 +41,30 @@ early_date y m d low high first h =
     record { year_is = grind (arith, nat_tests); month_is = grind (arith, nat_tests); day_is = rw (month, place) (omega arith) }
 
 -- a date of the calendar, by its count of days from -10000
-late_count : (y m d : ℕ) → IsCivilDate (pos y) m d → 3 ≤ m → (day_count (pos y) m d ≡ march_days y + (march_months m + d - 1) + 3652485) × IsDateOf (march_days y + (march_months m + d - 1)) y m d
+late_count : (y m d : ℕ) → IsCivilDate (pos y) m d → 3 ≤ m → (day_count (pos y) m d ≡ march_days y + (march_months m + d - 1) + 3652485)
+    × IsDateOf (march_days y + (march_months m + d - 1)) y m d
 late_count y m d civil low =
-    let month = late_month (pos y) (pos (suc y)) m d low civil.1.1 civil.2.0 civil.2.1 in
-    (omega (arith, day_count-late (pos y) (y + 10000) m d refl low civil.1.1 civil.2.0, march_days-shift y), late_date y m d low civil.1.1 civil.2.0 (march_date y (m - 3) (march_months m + d - 1) (omega (arith, month.bound, march_days-suc y)) month.month_is))
+    let month = late_month (pos y) (pos (suc y)) m d low civil.1.1 civil.2.0 civil.2.1 in (
+      omega (arith, day_count-late (pos y) (y + 10000) m d refl low civil.1.1 civil.2.0, march_days-shift y),
+      late_date y m d low civil.1.1
+          civil.2.0 (march_date y (m - 3) (march_months m + d - 1) (omega (arith, month.bound, march_days-suc y)) month.month_is),
+    )
 
 -- January and February, by the same count
-early_count : (y m d : ℕ) → IsCivilDate (pos (suc y)) m d → m ≤ 2 → (day_count (pos (suc y)) m d ≡ march_days y + (march_months (m + 12) + d - 1) + 3652485) × IsDateOf (march_days y + (march_months (m + 12) + d - 1)) (suc y) m d
+early_count : (y m d : ℕ) → IsCivilDate (pos (suc y)) m d → m ≤ 2
+    → (day_count (pos (suc y)) m d ≡ march_days y + (march_months (m + 12) + d - 1) + 3652485)
+    × IsDateOf (march_days y + (march_months (m + 12) + d - 1)) (suc y) m d
 early_count y m d civil high =
-    let month = early_month (pos (suc y)) m d civil.1.0 high civil.2.0 civil.2.1 in
-    (omega (arith, day_count-early (pos (suc y)) (y + 10000) m d (ap (λ k. pos k) (omega arith)) civil.1.0 high civil.2.0, march_days-shift y), early_date y m d civil.1.0 high civil.2.0 (march_date y (m + 12 - 3) (march_months (m + 12) + d - 1) (omega (arith, month.bound, march_days-suc y)) month.month_is))
+    let month = early_month (pos (suc y)) m d civil.1.0 high civil.2.0 civil.2.1 in (
+      omega (
+        arith,
+        day_count-early (pos (suc y)) (y + 10000) m d (ap (λ k. pos k) (omega arith)) civil.1.0 high civil.2.0,
+        march_days-shift
+            y,
+      ),
+      early_date y m d civil.1.0 high civil.2.0
+          (march_date y (m + 12 - 3) (march_months (m + 12) + d - 1) (omega (arith, month.bound, march_days-suc y)) month.month_is),
+    )
 
 -- the day of a moment, counted as the arithmetic counts
 abbrev day_number : ℕ → ℕ
@@ -61,7 +78,8 @@ pub record AreFieldsOf (t year month day hour minute second : ℕ) : Type 0 wher
   pub second_is : t % 86400 % 60 ≡ second
 
 -- a moment by its day and its second of the day
-fields_by : (t y m d h mi s count : ℕ) → IsDateOf count y m d → h < 24 → mi < 60 → s < 60 → t + 719468 * 86400 ≡ count * 86400 + (h * 3600 + mi * 60 + s) → AreFieldsOf t y m d h mi s
+fields_by : (t y m d h mi s count : ℕ) → IsDateOf count y m d → h < 24 → mi < 60 → s < 60
+    → t + 719468 * 86400 ≡ count * 86400 + (h * 3600 + mi * 60 + s) → AreFieldsOf t y m d h mi s
 fields_by t y m d h mi s count date hh hm hs whole =
     let same : day_number t ≡ count = omega arith in
     record {

@@ -52,7 +52,8 @@ day_as : {y z m n d e : ℕ} → y ≡ z → m ≡ n → d ≡ e → IsDayOf y m
 day_as {y} {z} {m} {n} {d} {e} py pm pd h = subst (λ (a : ℕ). IsDayOf a n e) py (subst (λ (a : ℕ). IsDayOf y a e) pm (subst (λ (a : ℕ). IsDayOf y m a) pd h))
 
 -- the day after 365 others is the last of a leap year
-last_place : (q c p u n : ℕ) → c < 4 → p < 25 → u < 4 → march_days (400 * q + 100 * c + 4 * p + u) + n < march_days (suc (400 * q + 100 * c + 4 * p + u)) → 365 ≤ n → (n ≡ 365) × (u ≡ 3) × (24 ≤ p → (p ≡ 24) × (c ≡ 3))
+last_place : (q c p u n : ℕ) → c < 4 → p < 25 → u < 4 → march_days (400 * q + 100 * c + 4 * p + u) + n
+    < march_days (suc (400 * q + 100 * c + 4 * p + u)) → 365 ≤ n → (n ≡ 365) × (u ≡ 3) × (24 ≤ p → (p ≡ 24) × (c ≡ 3))
 last_place q c p u n hc hp hu room long = (omega arith, omega arith, λ late. (omega arith, omega arith))
 
 -- the 366th day of a year
@@ -64,7 +65,8 @@ leap_place c p u n hc long third last =
     (cases_lt p 24)
 
 -- a day before the next year is in its year
-pub day_in_era : (q c p u n : ℕ) → c < 4 → p < 25 → u < 4 → march_days (400 * q + 100 * c + 4 * p + u) + n < march_days (suc (400 * q + 100 * c + 4 * p + u)) → IsDayOf (100 * c + 4 * p + u) n (36524 * c + 1461 * p + 365 * u + n)
+pub day_in_era : (q c p u n : ℕ) → c < 4 → p < 25 → u < 4 → march_days (400 * q + 100 * c + 4 * p + u) + n
+    < march_days (suc (400 * q + 100 * c + 4 * p + u)) → IsDayOf (100 * c + 4 * p + u) n (36524 * c + 1461 * p + 365 * u + n)
 day_in_era q c p u n hc hp hu room =
     ⊎_elim
     (λ short. short_day c p u n hc hp hu short)
@@ -78,7 +80,9 @@ pub record IsMarchDate (day year month n : ℕ) : Type 0 where
   pub day_is : day_of_year (day % 146097) ≡ n
 
 -- the same, by centuries, fours and years
-date_in_parts : (q c p u n month : ℕ) → c < 4 → p < 25 → u < 4 → march_days (400 * q + 100 * c + 4 * p + u) + n < march_days (suc (400 * q + 100 * c + 4 * p + u)) → (5 * n + 2) / 153 ≡ month → IsMarchDate (march_days (400 * q + 100 * c + 4 * p + u) + n) (400 * q + 100 * c + 4 * p + u) month n
+date_in_parts : (q c p u n month : ℕ) → c < 4 → p < 25 → u < 4 → march_days (400 * q + 100 * c + 4 * p + u) + n
+    < march_days (suc (400 * q + 100 * c + 4 * p + u)) → (5 * n + 2) / 153 ≡ month
+    → IsMarchDate (march_days (400 * q + 100 * c + 4 * p + u) + n) (400 * q + 100 * c + 4 * p + u) month n
 date_in_parts q c p u n month hc hp hu room is =
     let day = 36524 * c + 1461 * p + 365 * u + n in
     let h = day_in_era q c p u n hc hp hu room in

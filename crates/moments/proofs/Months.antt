@@ -22,8 +22,14 @@ late_month y z (suc (suc (suc (suc (suc (suc (suc zero))))))) d low high first l
 late_month y z (suc (suc (suc (suc (suc (suc (suc (suc zero)))))))) d low high first last = record { month_is = grind arith; bound = grind arith }
 late_month y z (suc (suc (suc (suc (suc (suc (suc (suc (suc zero))))))))) d low high first last = record { month_is = grind arith; bound = grind arith }
 late_month y z (suc (suc (suc (suc (suc (suc (suc (suc (suc (suc zero)))))))))) d low high first last = record { month_is = grind arith; bound = grind arith }
-late_month y z (suc (suc (suc (suc (suc (suc (suc (suc (suc (suc (suc zero))))))))))) d low high first last = record { month_is = grind arith; bound = grind arith }
-late_month y z (suc (suc (suc (suc (suc (suc (suc (suc (suc (suc (suc (suc zero)))))))))))) d low high first last = record { month_is = grind arith; bound = grind arith }
+late_month y z (suc (suc (suc (suc (suc (suc (suc (suc (suc (suc (suc zero))))))))))) d low high first last = record {
+  month_is = grind arith;
+  bound = grind arith;
+}
+late_month y z (suc (suc (suc (suc (suc (suc (suc (suc (suc (suc (suc (suc zero)))))))))))) d low high first last = record {
+  month_is = grind arith;
+  bound = grind arith;
+}
 late_month y z (suc (suc (suc (suc (suc (suc (suc (suc (suc (suc (suc (suc (suc m))))))))))))) d low high first last = absurd (omega arith)
 
 -- January and February end the year before

@@ -20,7 +20,8 @@ two_digits_tell : (a b : ℕ) → a < 100 → b < 100 → 48 + a / 10 % 10 ≡ 4
 two_digits_tell a b low lower tens ones = omega arith
 
 -- four digits too
-four_digits_tell : (a b : ℕ) → a < 10000 → b < 10000 → 48 + a / 1000 % 10 ≡ 48 + b / 1000 % 10 → 48 + a / 100 % 10 ≡ 48 + b / 100 % 10 → 48 + a / 10 % 10 ≡ 48 + b / 10 % 10 → 48 + a % 10 ≡ 48 + b % 10 → a ≡ b
+four_digits_tell : (a b : ℕ) → a < 10000 → b < 10000 → 48 + a / 1000 % 10 ≡ 48 + b / 1000 % 10 → 48 + a / 100 % 10 ≡ 48 + b / 100 % 10
+    → 48 + a / 10 % 10 ≡ 48 + b / 10 % 10 → 48 + a % 10 ≡ 48 + b % 10 → a ≡ b
 four_digits_tell a b low lower i j k l = omega arith
 
 -- a date has a year of four digits, and a month and a day of two

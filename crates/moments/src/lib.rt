@@ -120,7 +120,8 @@ fn second_of(datetime: DateTime) -> u8
 
 // The text of civil fields.
 fn fields_text(alloc: Global, fields: &Fields) -> Result<String, AllocError>
-    ensures { IfOk result (λ t. string_bytes t ≡ civil_text fields.now.year fields.now.month fields.now.day fields.now.hour fields.now.minute fields.now.second) }
+    ensures { IfOk result (λ t. string_bytes t
+        ≡ civil_text fields.now.year fields.now.month fields.now.day fields.now.hour fields.now.minute fields.now.second) }
 {
     let mut text = String::new(alloc);
     push_two(&mut text, fields.year / 100 % 100)?;

@@ -152,10 +152,14 @@ desk_routes_are_found path route.Directory n h = rw (h.0) directory
 desk_routes_are_found path route.NewNonce n h = rw (h.0) new_nonce
 desk_routes_are_found path route.NewAccount n h = rw (h.0) new_account
 desk_routes_are_found path route.NewOrder n h = rw (h.0) new_order
-desk_routes_are_found path route.Account n h = ap (option_map value_of) (shorter desk_routes (codes "/account/") (kept route.Orders) (kept route.Account) (codes "orders") accounts path n h)
-desk_routes_are_found path route.Orders n h = ap (option_map value_of) (longer desk_routes (codes "/account/") (kept route.Orders) (kept route.Account) (codes "orders") accounts refl path n h)
-desk_routes_are_found path route.Order n h = ap (option_map value_of) (shorter desk_routes (codes "/order/") (kept route.Finalize) (kept route.Order) (codes "finalize") orders path n h)
-desk_routes_are_found path route.Finalize n h = ap (option_map value_of) (longer desk_routes (codes "/order/") (kept route.Finalize) (kept route.Order) (codes "finalize") orders refl path n h)
+desk_routes_are_found path route.Account n h =
+    ap (option_map value_of) (shorter desk_routes (codes "/account/") (kept route.Orders) (kept route.Account) (codes "orders") accounts path n h)
+desk_routes_are_found path route.Orders n h =
+    ap (option_map value_of) (longer desk_routes (codes "/account/") (kept route.Orders) (kept route.Account) (codes "orders") accounts refl path n h)
+desk_routes_are_found path route.Order n h =
+    ap (option_map value_of) (shorter desk_routes (codes "/order/") (kept route.Finalize) (kept route.Order) (codes "finalize") orders path n h)
+desk_routes_are_found path route.Finalize n h =
+    ap (option_map value_of) (longer desk_routes (codes "/order/") (kept route.Finalize) (kept route.Order) (codes "finalize") orders refl path n h)
 desk_routes_are_found path route.Cert n h = ap (option_map value_of) (alone desk_routes (codes "/cert/") (kept route.Cert) certificates path n h)
 desk_routes_are_found path route.Authz n h = ap (option_map value_of) (alone desk_routes (codes "/authz/") (kept route.Authz) authorizations path n h)
 desk_routes_are_found path route.Chall n h = ap (option_map value_of) (alone desk_routes (codes "/chall/") (kept route.Chall) challenges path n h)
@@ -164,4 +168,5 @@ desk_routes_are_found path route.ChallengeWork n h = rw (h.0) challenge_work
 desk_routes_are_found path route.OrderWork n h = rw (h.0) order_work
 desk_routes_are_found path route.Report n h = ap (option_map value_of) (alone desk_routes (codes "/office/report/") (kept route.Report) reports path n h)
 desk_routes_are_found path route.Certify n h = ap (option_map value_of) (alone desk_routes (codes "/office/certify/") (kept route.Certify) certified path n h)
-desk_routes_are_found path route.FailOrder n h = ap (option_map value_of) (alone desk_routes (codes "/office/fail/") (kept route.FailOrder) failed_orders path n h)
+desk_routes_are_found path route.FailOrder n h =
+    ap (option_map value_of) (alone desk_routes (codes "/office/fail/") (kept route.FailOrder) failed_orders path n h)

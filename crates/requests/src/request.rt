@@ -1,6 +1,7 @@
 //! From a request's method, path and body to what is asked.
 ghost use Rattle.std.specs.Prelude.{◌≡◌, None, IfOk};
-ghost use Rattle.requests.specs.Request.{IsAskIn, IsAskOf, IsPlace, IsSignedAsk, IsTextAsk, certified_order, certify_ask, fail_ask, office_ask, refused_request, report_ask};
+ghost use Rattle.requests.specs.Request.{IsAskIn, IsAskOf, IsPlace, IsSignedAsk, IsTextAsk, certified_order, certify_ask};
+ghost use Rattle.requests.specs.Request.{fail_ask, office_ask, refused_request, report_ask};
 
 use crate::envelopes::signed_in;
 use crate::offices::{finding, order_problem};

@@ -1,7 +1,8 @@
 //! The resources of the desk: their paths, and the methods that they serve.
 ghost use Rattle.std.specs.Prelude.{◌≡◌, ◌≢◌, ◌++◌, ◌↔◌, ℕ, List, Some, IfOk, MatchOption, IsTrue, slice_index};
 ghost use Rattle.std.specs.Int.{IsInRange};
-ghost use Rattle.requests.specs.Routes.{HasNumber, IsNumberText, IsPathText, IsResourceAt, has_index, is_inside, is_numbered, is_visible, is_visible_byte, methods_of, prefix, resource_of, serves, suffix};
+ghost use Rattle.requests.specs.Routes.{HasNumber, IsNumberText, IsPathText, IsResourceAt, has_index, is_inside, is_numbered};
+ghost use Rattle.requests.specs.Routes.{is_visible, is_visible_byte, methods_of, prefix, resource_of, serves, suffix};
 
 use crate::router::route_at;
 use desk_model::{Allow, LAST_NUMBER, Target};

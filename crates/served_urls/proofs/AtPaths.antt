@@ -3,7 +3,8 @@ use Rattle.std.proofs.Common.{◌≡◌, ℕ, List, ◌++◌, codes, decimal, re
 use Rattle.desk_model.specs.Terms.{Terms}
 use Rattle.requests.specs.Routes.{IsResourceAt}
 use Rattle.requests.specs.declared.routes.Resource.{Resource}
-use Rattle.requests.proofs.Leads.{to_account, to_authorization, to_certificate, to_challenge, to_directory, to_finalize, to_new_account, to_new_nonce, to_new_order, to_order, to_orders}
+use Rattle.requests.proofs.Leads.{to_account, to_authorization, to_certificate, to_challenge, to_directory, to_finalize}
+use Rattle.requests.proofs.Leads.{to_new_account, to_new_nonce, to_new_order, to_order, to_orders}
 use Rattle.requests.proofs.Resources.{one_resource}
 use Rattle.served_urls.specs.Laws.{ShownUrlsAreServed}
 use Rattle.served_urls.specs.Served.{IsServed}

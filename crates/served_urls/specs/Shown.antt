@@ -4,7 +4,9 @@ use Rattle.std.specs.List.{filter}
 use Rattle.serde_json.specs.Data.{string}
 use Rattle.serde_json.specs.Find.{get}
 use Rattle.http_replies.specs.Replies.{index_line, link}
-use Rattle.desk_model.specs.Document.{account_document, account_url, is_listed, orders_document, authorization_url, certificate_url, challenge_document, challenge_url, directory, finalize_url, order_document, order_url, orders_url}
+use Rattle.desk_model.specs.Document.{account_document, account_url, is_listed, orders_document, authorization_url}
+use Rattle.desk_model.specs.Document.{certificate_url, challenge_document, challenge_url, directory, finalize_url, order_document}
+use Rattle.desk_model.specs.Document.{order_url, orders_url}
 use Rattle.desk_model.specs.Derived.{numbers_of}
 use Rattle.desk_model.specs.Json.{list}
 use Rattle.desk_model.specs.Keys.{text_member}

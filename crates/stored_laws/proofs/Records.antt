@@ -10,9 +10,12 @@ use Rattle.desk_laws.proofs.Keeps.{each-filter}
 use Rattle.desk_laws.proofs.KeptInOrder.{each_parts}
 use Rattle.desk_laws.proofs.PutsDiffer.{each_change, each_sweep}
 use Rattle.desk_laws.proofs.Step.{picture_more, step, sweep}
-use Rattle.desk_model.specs.Change.{account_differs, all_changes, authorization_differs, changes, moved_rows, order_differs, recorded_changes, spent_by, sweep_changes}
+use Rattle.desk_model.specs.Change.{account_differs, all_changes, authorization_differs, changes, moved_rows, order_differs}
+use Rattle.desk_model.specs.Change.{recorded_changes, spent_by, sweep_changes}
 use Rattle.desk_model.specs.Derived.{restated_authorization, restated_order}
-use Rattle.desk_model.specs.Effect.{authorizations_after, effect, effects, falls, is_overdue, lasts, not_spent, noted_account, noted_authorization, noted_order, swept, touches_account, touches_authorization, touches_order}
+use Rattle.desk_model.specs.Effect.{authorizations_after, effect, effects, falls, is_overdue, lasts, not_spent, noted_account}
+use Rattle.desk_model.specs.Effect.{noted_authorization, noted_order, swept, touches_account, touches_authorization}
+use Rattle.desk_model.specs.Effect.{touches_order}
 use Rattle.desk_model.specs.Entry.{History}
 use Rattle.desk_model.specs.History.{clock, record_all}
 use Rattle.desk_model.specs.Kept.{EachOf}

@@ -3,7 +3,8 @@ use Rattle.std.proofs.Common.{◌≡◌, ◌≤◌, ◌<◌, ℕ, ◌+◌, List,
 use Rattle.std.specs.Prelude.{◌==◌, IfSome, IsSome, IsTrue, find}
 use Rattle.std.specs.List.{flat_map}
 use Rattle.std.proofs.lemmas.Bool.{and_parts, eqb-true}
-use Rattle.desk_columns.specs.Limits.{AreStored, IfRecorded, IsDatedProblem, IsMoment, IsNumber, IsStoredAccount, IsStoredChallenge, IsStoredListed, IsStoredMeta, IsStoredNonce}
+use Rattle.desk_columns.specs.Limits.{AreStored, IfRecorded, IsDatedProblem, IsMoment, IsNumber, IsStoredAccount}
+use Rattle.desk_columns.specs.Limits.{IsStoredChallenge, IsStoredListed, IsStoredMeta, IsStoredNonce}
 use Rattle.desk_laws.proofs.Basics.{each, each-append, each-map, each_all, each_both}
 use Rattle.desk_laws.proofs.Dates.{clock_in_time, no_date_later}
 use Rattle.desk_laws.proofs.Forms.{HasTokens, nonces_drawn, problem_formed, tokens_drawn}

@@ -1,5 +1,6 @@
 -- Rows in the limits of their columns, each with the rows that belong to it, and changes that put such rows.
-use Rattle.desk_columns.specs.Limits.{IsNumber, IsStoredAccount, IsStoredAuthorization, IsStoredChallenge, IsStoredListed, IsStoredMeta, IsStoredNonce, IsStoredOrder}
+use Rattle.desk_columns.specs.Limits.{IsNumber, IsStoredAccount, IsStoredAuthorization, IsStoredChallenge, IsStoredListed}
+use Rattle.desk_columns.specs.Limits.{IsStoredMeta, IsStoredNonce, IsStoredOrder}
 use Rattle.desk_model.specs.Kept.{EachOf}
 use Rattle.desk_model.specs.Tables.{Tables}
 use Rattle.desk_model.specs.declared.rows.AuthorizationRow.{AuthorizationRow}

@@ -1,7 +1,8 @@
 //! The tables of a desk's history as rows of a file: a book, in the limits of the columns, which the columns tell.
 #![tactic(auto)]
 
-ghost use Rattle.stored_laws.specs.Laws.{BooksAreTold, PartsAreInLimits, PicturesAreStored, PicturesAreTold, RecordsAreInLimits, RowsAreStored, TablesAreBooks, TablesAreInLimits, TablesAreTexts};
+ghost use Rattle.stored_laws.specs.Laws.{BooksAreTold, PartsAreInLimits, PicturesAreStored, PicturesAreTold, RecordsAreInLimits};
+ghost use Rattle.stored_laws.specs.Laws.{RowsAreStored, TablesAreBooks, TablesAreInLimits, TablesAreTexts};
 
 /// The tables of a legal history are a book whose rows are in the limits of their columns, and a file that holds these
 /// columns, in any order, holds no other book; their texts are UTF-8, and what a call records puts no row beyond the limits.

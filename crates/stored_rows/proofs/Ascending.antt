@@ -67,7 +67,8 @@ put-ascending number n (x ∷ xs) y zs h =
     put-past number y x xs (omega arith) ∙ ap (λ l. x ∷ l) (put-ascending number (number x + 1) xs y zs h.1)
 
 -- one step of the test: the first number is above the last one
-pub ascends-step : {X : Type 0} (number : X → ℕ) (last : ℕ) (x : X) (xs : List X) → last < number x → ascends number (last + 1) (x ∷ xs) ≡ ascends number (number x + 1) xs
+pub ascends-step : {X : Type 0} (number : X → ℕ) (last : ℕ) (x : X) (xs : List X) → last < number x
+    → ascends number (last + 1) (x ∷ xs) ≡ ascends number (number x + 1) xs
 ascends-step number last x xs h = ap (λ b. b && ascends number (number x + 1) xs) (at_most-test (last + 1) (number x) (omega arith))
 
 -- or the test fails

@@ -1,5 +1,6 @@
 -- What a sort tells of repeated keys, and when the rows of these keys have different ones.
-use Rattle.std.proofs.Common.{◌≡◌, ℕ, ◌+◌, Bool, true, false, List, [], ◌∷◌, ◌++◌, map, get_or, refl, sym, ap, ◌∙◌, subst, arith, Ordering, is_lt, is_eq, nat_cmp}
+use Rattle.std.proofs.Common.{◌≡◌, ℕ, ◌+◌, Bool, true, false, List, [], ◌∷◌, ◌++◌, map, get_or, refl, sym, ap, ◌∙◌, subst, arith}
+use Rattle.std.proofs.Common.{Ordering, is_lt, is_eq, nat_cmp}
 use Rattle.std.specs.Prelude.{◌≢◌, ◌↔◌, IsTrue}
 use Rattle.std.specs.Cmp.{IsTotalOrder}
 use Rattle.std.specs.List.{AllByRecursion, IsAllAdjacentAnswer, IsDistinct}
@@ -29,13 +30,15 @@ equal_self c o x = by (c x x) (o.antisymm x x)
     by Ordering.Greater e = cc
 
 -- neighbours that each are below the next tell that no key stands twice
-rising : {X : Type 0} (c : X → X → Ordering) → IsTotalOrder c → (xs : List X) → IsAllAdjacentAnswer (λ x y b. b ≡ is_lt (c x y)) xs true → IsStrictlySortedBy c xs
+rising : {X : Type 0} (c : X → X → Ordering) → IsTotalOrder c → (xs : List X) → IsAllAdjacentAnswer (λ x y b. b ≡ is_lt (c x y)) xs true
+    → IsStrictlySortedBy c xs
 unfolding IsStrictlySortedBy
 rising c o [] h = tt
 rising c o (x ∷ xs) h = sorted_from_all_adjacent o (x ∷ xs) x (λ k lt. less (c (get_or (x ∷ xs) k x) (get_or (x ∷ xs) (k + 1) x)) (sym (h k x lt)))
 
 -- two neighbours that are not tell that one does
-not_rising : {X : Type 0} (c : X → X → Ordering) → IsTotalOrder c → (xs : List X) → IsAllAdjacentAnswer (λ x y b. b ≡ is_lt (c x y)) xs false → IsStrictlySortedBy c xs → ⊥
+not_rising : {X : Type 0} (c : X → X → Ordering) → IsTotalOrder c → (xs : List X)
+    → IsAllAdjacentAnswer (λ x y b. b ≡ is_lt (c x y)) xs false → IsStrictlySortedBy c xs → ⊥
 not_rising c o [] h up = absurd (omega (arith, h.1))
 not_rising c o (x ∷ xs) h up =
     let clash : false ≡ true = h.2 x ∙ ap is_lt (Less-from_sorted c (x ∷ xs) h.0 (h.0 + 1) x up (omega arith) h.1) in cc
@@ -69,12 +72,14 @@ all-apart e value same k (l ∷ ls) h = (by (e k l) refl, all-apart e value same
     by true is = absurd (h.0 (same k l is))
     by false is = refl
 
-distinct-values : {K Y : Type 0} (e : K → K → Bool) (value : K → Y) → ((k l : K) → value k ≡ value l → e k l ≡ true) → (ks : List K) → IsDistinct e ks → Distinct value ks
+distinct-values : {K Y : Type 0} (e : K → K → Bool) (value : K → Y) → ((k l : K) → value k ≡ value l → e k l ≡ true) → (ks : List K)
+    → IsDistinct e ks → Distinct value ks
 unfolding IsDistinct
 distinct-values e value equal [] h = tt
 distinct-values e value equal (k ∷ ks) h = (each-apart e value equal k ks h.0, distinct-values e value equal ks h.1)
 
-values-distinct : {K Y : Type 0} (e : K → K → Bool) (value : K → Y) → ((k l : K) → e k l ≡ true → value k ≡ value l) → (ks : List K) → Distinct value ks → IsDistinct e ks
+values-distinct : {K Y : Type 0} (e : K → K → Bool) (value : K → Y) → ((k l : K) → e k l ≡ true → value k ≡ value l) → (ks : List K)
+    → Distinct value ks → IsDistinct e ks
 unfolding IsDistinct
 values-distinct e value same [] h = tt
 values-distinct e value same (k ∷ ks) h = (all-apart e value same k ks h.0, values-distinct e value same ks h.1)

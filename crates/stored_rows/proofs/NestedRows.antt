@@ -75,7 +75,8 @@ behind-own n (t ∷ ts) rs h =
     ap (λ b. cond b (behind n (owned_by n ts ++ rs)) ((record { owner = n; row = t }) ∷ (owned_by n ts ++ rs))) (eq-eqb n n refl) ∙ behind-own n ts rs h
 
 -- the children of rows by number are of higher owners than a lower number
-children-above : {P T : Type 0} (number : P → ℕ) (children : P → List T) (k n : ℕ) (ps : List P) → k < n → Ascends number n ps → AreAbove k (child_rows number children ps)
+children-above : {P T : Type 0} (number : P → ℕ) (children : P → List T) (k n : ℕ) (ps : List P) → k < n → Ascends number n ps
+    → AreAbove k (child_rows number children ps)
 children-above number children k n [] lt h = tt
 children-above {P} {T} number children k n (p ∷ ps) lt h =
     let first : n ≤ number p = h.0 in
@@ -106,7 +107,8 @@ pub left_over-flat : {P T : Type 0} (number : P → ℕ) (children : P → List 
 left_over-flat number children with_children laws n [] h = refl
 left_over-flat number children with_children laws n (p ∷ ps) h =
     let above = children-above number children (number p) (number p + 1) ps (omega arith) h.1 in
-    ap (λ k. left_over number (map (λ p. with_children p []) ps) (behind k (owned_by (number p) (children p) ++ child_rows number children ps))) (laws.number_kept p [])
+    ap (λ k. left_over number (map (λ p. with_children p []) ps)
+    (behind k (owned_by (number p) (children p) ++ child_rows number children ps))) (laws.number_kept p [])
     ∙ ap (left_over number (map (λ p. with_children p []) ps)) (behind-own (number p) (children p) (child_rows number children ps) above)
     ∙ left_over-flat number children with_children laws (number p + 1) ps h.1
 

@@ -48,7 +48,8 @@ append-nil (x ∷ xs) = ap (λ l. x ∷ l) (append-nil xs)
 pub nests-rows : {P T : Type 0} (number : P → ℕ) (children : P → List T) (with_children : P → List T → P) (child_number : T → ℕ) →
     IsNesting number children with_children → (parents ordered : List P) (rows cs : List (Owned T)) (ps : List P) →
     IsPermutation parents ordered → IsPermutation rows cs → EachOf (λ p. children p ≡ []) parents →
-    ps ≡ nested number with_children ordered cs → left_over number ordered cs ≡ [] → Ascends number 1 ps → EachOf (λ p. Ascends child_number 1 (children p)) ps →
+    ps ≡ nested number with_children ordered cs → left_over number ordered cs ≡ [] → Ascends number 1 ps
+    → EachOf (λ p. Ascends child_number 1 (children p)) ps →
     IsNestOf number children with_children child_number parents rows ps
 nests-rows number children with_children child_number laws parents ordered rows cs ps moved reordered bare made none up ups =
     record {
@@ -72,11 +73,13 @@ pub same_nest : {P T : Type 0} (number : P → ℕ) (children : P → List T) (w
 same_nest number children with_children child_number laws parents rows ps qs left right =
     let same_parents = same_ascending number 1 1 (map (λ p. with_children p []) ps) (map (λ p. with_children p []) qs)
     (parents-ascend number children with_children laws ps left.ascends) (parents-ascend number children with_children laws qs right.ascends)
-    (IsPermutation-trans (map (λ p. with_children p []) ps) parents (map (λ p. with_children p []) qs) (IsPermutation-sym parents (map (λ p. with_children p []) ps) left.parents_are) right.parents_are) in
+    (IsPermutation-trans (map (λ p. with_children p []) ps) parents (map (λ p. with_children p []) qs)
+    (IsPermutation-sym parents (map (λ p. with_children p []) ps) left.parents_are) right.parents_are) in
     let same_children = same_strictly (by_owner child_number) (by_owner-total child_number) (child_rows number children ps) (child_rows number children qs)
     (strictly-children number children child_number 1 ps left.ascends left.children_ascend)
     (strictly-children number children child_number 1 qs right.ascends right.children_ascend)
-    (IsPermutation-trans (child_rows number children ps) rows (child_rows number children qs) (IsPermutation-sym rows (child_rows number children ps) left.rows_are) right.rows_are) in
+    (IsPermutation-trans (child_rows number children ps) rows (child_rows number children qs)
+    (IsPermutation-sym rows (child_rows number children ps) left.rows_are) right.rows_are) in
     sym (nested-flat number children with_children laws 1 ps left.ascends)
     ∙ (λ i. nested number with_children (same_parents i) (same_children i))
     ∙ nested-flat number children with_children laws 1 qs right.ascends

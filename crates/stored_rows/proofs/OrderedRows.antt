@@ -24,7 +24,8 @@ equal_at : (n : ℕ) → nat_cmp n n ≡ Ordering.Equal
 equal_at n = grind (arith, nat_tests)
 
 -- rows from a higher number on are above a lower one
-above_from_ascends : {X : Type 0} (number : X → ℕ) (k n : ℕ) (xs : List X) → k < n → Ascends number n xs → AllByRecursion (λ y. nat_cmp k (number y) ≡ Ordering.Less) xs
+above_from_ascends : {X : Type 0} (number : X → ℕ) (k n : ℕ) (xs : List X) → k < n → Ascends number n xs
+    → AllByRecursion (λ y. nat_cmp k (number y) ≡ Ordering.Less) xs
 above_from_ascends number k n [] lt h = tt
 above_from_ascends number k n (x ∷ xs) lt h =
     let first : n ≤ number x = h.0 in
@@ -49,11 +50,13 @@ strictly-append c [] ys up down h = down
 strictly-append c (x ∷ xs) ys up down h = (all-append _ xs ys up.0 h.0, strictly-append c xs ys up.1 down h.1)
 
 -- children from a higher owner on are above one of a lower owner
-above_owner : {T : Type 0} (number : T → ℕ) (k : ℕ) (t : T) (n : ℕ) (us : List T) → k < n → AllByRecursion (λ y. by_owner number (record { owner = k; row = t }) y ≡ Ordering.Less) (owned_by n us)
+above_owner : {T : Type 0} (number : T → ℕ) (k : ℕ) (t : T) (n : ℕ) (us : List T) → k < n
+    → AllByRecursion (λ y. by_owner number (record { owner = k; row = t }) y ≡ Ordering.Less) (owned_by n us)
 above_owner number k t n [] lt = tt
 above_owner number k t n (u ∷ us) lt = (ap (λ o. ordering_then o (nat_cmp (number t) (number u))) (less_at k n lt), above_owner number k t n us lt)
 
-above_owners : {P T : Type 0} (number : P → ℕ) (children : P → List T) (child_number : T → ℕ) (k : ℕ) (t : T) (n : ℕ) (ps : List P) → k < n → Ascends number n ps →
+above_owners : {P T : Type 0} (number : P → ℕ) (children : P → List T) (child_number : T → ℕ) (k : ℕ) (t : T) (n : ℕ) (ps : List P) → k < n
+    → Ascends number n ps →
     AllByRecursion (λ y. by_owner child_number (record { owner = k; row = t }) y ≡ Ordering.Less) (child_rows number children ps)
 above_owners number children child_number k t n [] lt h = tt
 above_owners number children child_number k t n (p ∷ ps) lt h =
@@ -62,7 +65,8 @@ above_owners number children child_number k t n (p ∷ ps) lt h =
     (above_owner child_number k t (number p) (children p) (omega arith))
     (above_owners number children child_number k t (number p + 1) ps (omega arith) h.1)
 
-all_above_owners : {P T : Type 0} (number : P → ℕ) (children : P → List T) (child_number : T → ℕ) (k : ℕ) (ts : List T) (n : ℕ) (ps : List P) → k < n → Ascends number n ps →
+all_above_owners : {P T : Type 0} (number : P → ℕ) (children : P → List T) (child_number : T → ℕ) (k : ℕ) (ts : List T) (n : ℕ)
+    (ps : List P) → k < n → Ascends number n ps →
     AllByRecursion (λ x. AllByRecursion (λ y. by_owner child_number x y ≡ Ordering.Less) (child_rows number children ps)) (owned_by k ts)
 all_above_owners number children child_number k [] n ps lt h = tt
 all_above_owners number children child_number k (t ∷ ts) n ps lt h =
@@ -95,7 +99,8 @@ strictly-children number children child_number n (p ∷ ps) h own =
     (all_above_owners number children child_number (number p) (children p) (number p + 1) ps (omega arith) h.1)
 
 -- sorted rows are the rows by number with the same elements
-pub same_by_number : {X : Type 0} (number : X → ℕ) (n : ℕ) (xs ys : List X) → IsSorted (by_number number) xs → Ascends number n ys → IsPermutation xs ys → xs ≡ ys
+pub same_by_number : {X : Type 0} (number : X → ℕ) (n : ℕ) (xs ys : List X) → IsSorted (by_number number) xs → Ascends number n ys
+    → IsPermutation xs ys → xs ≡ ys
 same_by_number number n xs ys up ascends moved =
     same_sorted (by_number number) (by_number-total number) xs ys up (strictly-from_ascends number n ys ascends) moved
 

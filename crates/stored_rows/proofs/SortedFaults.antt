@@ -58,7 +58,8 @@ of_number-sorted k (c ∷ cs) =
 faults-of_number : (k : ℕ) (cs : List ChallengeRow) → faults_of_number k (flat_map challenge_faults cs) ≡ flat_map challenge_faults (of_number k cs)
 faults-of_number k [] = refl
 faults-of_number k (c ∷ cs) =
-    one (chall_code c.status == chall_code (derived_challenge c)) (are_even k c.number) (fault.Chall c.number c.status (derived_challenge c)) refl (faults-of_number k cs)
+    one (chall_code c.status == chall_code (derived_challenge c)) (are_even k c.number)
+    (fault.Chall c.number c.status (derived_challenge c)) refl (faults-of_number k cs)
     ∙ sym (parted (are_even k c.number))
   where
     one : (b e : Bool) (f : StatusFault) → are_even k (fault_number f) ≡ e →

@@ -6,7 +6,8 @@ use Rattle.std.specs.List.Sorted.{IsSorted, IsStrictlySortedBy, IsPermutation}
 use Rattle.std.specs.Ordering.{eq_by_cmp, ordering_reverse}
 use Rattle.std.proofs.lemmas.List.Elements.{All-from_recursion, recursion_from_All}
 use Rattle.std.proofs.lemmas.List.Sorted.{All-permutation, IsPermutation-sym, length_permutation}
-use Rattle.std.proofs.lemmas.Map.Keys.{IsDistinct-from_sorted, IsDistinct-IsPermutation, apart_from_distinct, sorted_from_all_adjacent, sorted_head, sorted_tail}
+use Rattle.std.proofs.lemmas.Map.Keys.{IsDistinct-from_sorted, IsDistinct-IsPermutation, apart_from_distinct}
+use Rattle.std.proofs.lemmas.Map.Keys.{sorted_from_all_adjacent, sorted_head, sorted_tail}
 
 -- no element is below itself
 irreflexive : {X : Type 0} (c : X → X → Ordering) → IsTotalOrder c → (x : X) → c x x ≡ Ordering.Less → ⊥
@@ -95,14 +96,16 @@ same_from_elements {X} c o (x ∷ xs) (y ∷ ys) up down to from =
     from_tail P h = not_first c o P x xs (sorted_head c x xs up) ((from (λ z. (z ≡ x) ⊎ P z) (inl (sym (heads first second)), or_passes P x ys h)).1)
 
 -- a sorted list is the one order of its elements that rises strictly
-pub same_sorted : {X : Type 0} (c : X → X → Ordering) → IsTotalOrder c → (xs ys : List X) → IsSorted c xs → IsStrictlySortedBy c ys → IsPermutation xs ys → xs ≡ ys
+pub same_sorted : {X : Type 0} (c : X → X → Ordering) → IsTotalOrder c → (xs ys : List X) → IsSorted c xs → IsStrictlySortedBy c ys
+    → IsPermutation xs ys → xs ≡ ys
 same_sorted c o xs ys up rises moved =
     same_from_elements c o xs ys (strictly-from_other c o xs ys up rises moved) rises
     (λ P h. recursion_from_All P ys (All-permutation P xs ys moved (All-from_recursion P xs h)))
     (λ P h. recursion_from_All P xs (All-permutation P ys xs (IsPermutation-sym xs ys moved) (All-from_recursion P ys h)))
 
 -- what rises strictly is the one order of its elements that does
-pub same_strictly : {X : Type 0} (c : X → X → Ordering) → IsTotalOrder c → (xs ys : List X) → IsStrictlySortedBy c xs → IsStrictlySortedBy c ys → IsPermutation xs ys → xs ≡ ys
+pub same_strictly : {X : Type 0} (c : X → X → Ordering) → IsTotalOrder c → (xs ys : List X) → IsStrictlySortedBy c xs
+    → IsStrictlySortedBy c ys → IsPermutation xs ys → xs ≡ ys
 same_strictly c o xs ys up down moved =
     same_from_elements c o xs ys up down
     (λ P h. recursion_from_All P ys (All-permutation P xs ys moved (All-from_recursion P xs h)))
@@ -112,7 +115,9 @@ same_strictly c o xs ys up down moved =
 pub same_single : {X : Type 0} (xs : List X) (y : X) → IsPermutation xs (y ∷ []) → xs ≡ y ∷ []
 same_single xs y moved =
     one xs (length_permutation xs (y ∷ []) moved)
-    (recursion_from_All (λ z. z ≡ y) xs (All-permutation (λ z. z ≡ y) (y ∷ []) xs (IsPermutation-sym xs (y ∷ []) moved) (All-from_recursion (λ z. z ≡ y) (y ∷ []) (refl, tt))))
+    (recursion_from_All
+    (λ z. z ≡ y) xs (All-permutation (λ z. z ≡ y) (y ∷ []) xs (IsPermutation-sym xs (y ∷ []) moved)
+    (All-from_recursion (λ z. z ≡ y) (y ∷ []) (refl, tt))))
   where
     one : {X : Type 0} {y : X} (xs : List X) → length (y ∷ []) ≡ length xs → AllByRecursion (λ z. z ≡ y) xs → xs ≡ y ∷ []
     one [] e h = absurd (omega arith)

@@ -52,7 +52,8 @@ counters-from_test T h =
       accounts = Below-from_test _ T.meta.counters.accounts T.accounts second.0;
       authorizations = Below-from_test _ T.meta.counters.authorizations T.authorizations third.0;
       challenges =
-          EachOf-from_test (λ (a : AuthorizationRow). are_given (λ (c : ChallengeRow). c.number) T.meta.counters.challenges a.challenges) (λ a. Below (λ c. c.number) (T.meta.counters.challenges + 1) a.challenges)
+          EachOf-from_test (λ (a : AuthorizationRow). are_given (λ (c : ChallengeRow). c.number) T.meta.counters.challenges a.challenges)
+          (λ a. Below (λ c. c.number) (T.meta.counters.challenges + 1) a.challenges)
           (λ a. Below-from_test (λ c. c.number) T.meta.counters.challenges a.challenges) T.authorizations fourth.0;
       orders = Below-from_test _ T.meta.counters.orders T.orders fifth.0;
     }
@@ -64,7 +65,8 @@ counters-true T h =
     (given-true (λ n. n.serial) T.meta.counters.nonces T.nonces h.nonces i
     ∷ given-true (λ a. a.number) T.meta.counters.accounts T.accounts h.accounts i
     ∷ given-true (λ a. a.number) T.meta.counters.authorizations T.authorizations h.authorizations i
-    ∷ list_all-true (λ (a : AuthorizationRow). are_given (λ (c : ChallengeRow). c.number) T.meta.counters.challenges a.challenges) (λ a. Below (λ c. c.number) (T.meta.counters.challenges + 1) a.challenges)
+    ∷ list_all-true (λ (a : AuthorizationRow). are_given (λ (c : ChallengeRow). c.number) T.meta.counters.challenges a.challenges)
+    (λ a. Below (λ c. c.number) (T.meta.counters.challenges + 1) a.challenges)
     (λ a. given-true (λ c. c.number) T.meta.counters.challenges a.challenges) T.authorizations h.challenges i
     ∷ given-true (λ o. o.number) T.meta.counters.orders T.orders h.orders i
     ∷ [])
@@ -76,24 +78,30 @@ references-from_test T h =
     let second = both _ _ first.1 in
     let third = both _ _ second.1 in
     record {
-      authorizations = EachOf-from_test (λ (a : AuthorizationRow). has_row_of (λ b. b.number) T.accounts a.account) (λ a. IsSome (account_on T a.account)) (λ a k. k) T.authorizations first.0;
-      orders = EachOf-from_test (λ (o : OrderRow). has_row_of (λ b. b.number) T.accounts o.account) (λ o. IsSome (account_on T o.account)) (λ o k. k) T.orders second.0;
+      authorizations = EachOf-from_test (λ (a : AuthorizationRow). has_row_of (λ b. b.number) T.accounts a.account)
+          (λ a. IsSome (account_on T a.account)) (λ a k. k) T.authorizations first.0;
+      orders = EachOf-from_test (λ (o : OrderRow). has_row_of (λ b. b.number) T.accounts o.account) (λ o. IsSome (account_on T o.account))
+          (λ o k. k) T.orders second.0;
       listed =
           EachOf-from_test (λ (o : OrderRow). list_all (λ (l : Listed). has_row_of (λ b. b.number) T.authorizations l.authorization) o.listed) (ListsFound T)
-          (λ o. EachOf-from_test (λ (l : Listed). has_row_of (λ b. b.number) T.authorizations l.authorization) (λ l. IsSome (authorization_on T l.authorization)) (λ l k. k) o.listed) T.orders third.0;
+          (λ o. EachOf-from_test (λ (l : Listed). has_row_of (λ b. b.number) T.authorizations l.authorization)
+          (λ l. IsSome (authorization_on T l.authorization)) (λ l k. k) o.listed) T.orders third.0;
     }
 
 references-true : (T : Tables) → HaveReferences T → have_references T ≡ true
 references-true T h =
     λ i. list_all (λ b. b)
-    (list_all-true (λ (a : AuthorizationRow). has_row_of (λ b. b.number) T.accounts a.account) (λ a. IsSome (account_on T a.account)) (λ a k. k) T.authorizations h.authorizations i
+    (list_all-true (λ (a : AuthorizationRow). has_row_of (λ b. b.number) T.accounts a.account) (λ a. IsSome (account_on T a.account))
+    (λ a k. k) T.authorizations h.authorizations i
     ∷ list_all-true (λ (o : OrderRow). has_row_of (λ b. b.number) T.accounts o.account) (λ o. IsSome (account_on T o.account)) (λ o k. k) T.orders h.orders i
     ∷ list_all-true (λ (o : OrderRow). list_all (λ (l : Listed). has_row_of (λ b. b.number) T.authorizations l.authorization) o.listed) (ListsFound T)
-    (λ o. list_all-true (λ (l : Listed). has_row_of (λ b. b.number) T.authorizations l.authorization) (λ l. IsSome (authorization_on T l.authorization)) (λ l k. k) o.listed) T.orders h.listed i
+    (λ o. list_all-true (λ (l : Listed). has_row_of (λ b. b.number) T.authorizations l.authorization)
+    (λ l. IsSome (authorization_on T l.authorization)) (λ l k. k) o.listed) T.orders h.listed i
     ∷ [])
 
 -- what the three tests tell together
-pub sound-answer : (T : Tables) (r a b d : Bool) → r ≡ list_all (λ x. x) (a ∷ b ∷ d ∷ []) → a ≡ keep_counters T → b ≡ have_references T → IsTrue d ↔ AreDistinct T →
+pub sound-answer : (T : Tables) (r a b d : Bool) → r ≡ list_all (λ x. x) (a ∷ b ∷ d ∷ []) → a ≡ keep_counters T → b ≡ have_references T
+    → IsTrue d ↔ AreDistinct T →
     IsTrue r ↔ IsSound T
 sound-answer T r a b d all counters references distinct = (
   λ yes.
@@ -106,19 +114,22 @@ sound-answer T r a b d all counters references distinct = (
         distinct = distinct.0 third.0;
       },
   λ sound.
-      all ∙ (λ i. list_all (λ x. x) ((counters ∙ counters-true T sound.counters) i ∷ (references ∙ references-true T sound.references) i ∷ distinct.1 sound.distinct i ∷ [])),
+      all ∙ (λ i. list_all (λ x. x) ((counters ∙ counters-true T sound.counters) i ∷ (references ∙ references-true T sound.references) i
+      ∷ distinct.1 sound.distinct i ∷ [])),
 )
 
 -- ---- one book at most
 
 -- the authorizations of ordered tables, with their challenges
 pub authorizations-nest : (rows : FlatRows) (T : Tables) → AreInOrder T → AreReordered rows (flat T) →
-    IsNestOf (λ (a : AuthorizationRow). a.number) (λ a. a.challenges) (λ (a : AuthorizationRow) cs. record a { challenges = cs }) (λ (c : ChallengeRow). c.number) rows.authorizations rows.challenges T.authorizations
+    IsNestOf (λ (a : AuthorizationRow). a.number) (λ a. a.challenges) (λ (a : AuthorizationRow) cs. record a { challenges = cs })
+    (λ (c : ChallengeRow). c.number) rows.authorizations rows.challenges T.authorizations
 authorizations-nest rows T o r = record { parents_are = r.authorizations; rows_are = r.challenges; ascends = o.authorizations; children_ascend = o.challenges }
 
 -- the orders, with what they list
 pub orders-nest : (rows : FlatRows) (T : Tables) → AreInOrder T → AreReordered rows (flat T) →
-    IsNestOf (λ (a : OrderRow). a.number) (λ o. o.listed) (λ (o : OrderRow) ls. record o { listed = ls }) (λ (l : Listed). l.place) rows.orders rows.listed T.orders
+    IsNestOf (λ (a : OrderRow). a.number) (λ o. o.listed) (λ (o : OrderRow) ls. record o { listed = ls })
+    (λ (l : Listed). l.place) rows.orders rows.listed T.orders
 orders-nest rows T o r = record { parents_are = r.orders; rows_are = r.listed; ascends = o.orders; children_ascend = o.places }
 
 single-same : {X : Type 0} (xs : List X) (x y : X) → xs ≡ x ∷ [] → xs ≡ y ∷ [] → x ≡ y
@@ -129,10 +140,13 @@ pub same-tables : (rows : FlatRows) (T U : Tables) → AreInOrder T → AreReord
 same-tables rows T U o r p s =
     λ i. record {
       meta = single-same rows.metas T.meta U.meta (same_single rows.metas T.meta r.metas) (same_single rows.metas U.meta s.metas) i;
-      nonces = same_ascending (λ n. n.serial) 1 1 T.nonces U.nonces o.nonces p.nonces (IsPermutation-trans T.nonces rows.nonces U.nonces (IsPermutation-sym rows.nonces T.nonces r.nonces) s.nonces) i;
-      accounts = same_ascending (λ a. a.number) 1 1 T.accounts U.accounts o.accounts p.accounts (IsPermutation-trans T.accounts rows.accounts U.accounts (IsPermutation-sym rows.accounts T.accounts r.accounts) s.accounts) i;
+      nonces = same_ascending (λ n. n.serial) 1 1 T.nonces U.nonces o.nonces p.nonces
+          (IsPermutation-trans T.nonces rows.nonces U.nonces (IsPermutation-sym rows.nonces T.nonces r.nonces) s.nonces) i;
+      accounts = same_ascending (λ a. a.number) 1 1 T.accounts U.accounts o.accounts p.accounts
+          (IsPermutation-trans T.accounts rows.accounts U.accounts (IsPermutation-sym rows.accounts T.accounts r.accounts) s.accounts) i;
       authorizations =
-          same_nest (λ (a : AuthorizationRow). a.number) (λ a. a.challenges) (λ (a : AuthorizationRow) cs. record a { challenges = cs }) (λ (c : ChallengeRow). c.number)
+          same_nest (λ (a : AuthorizationRow). a.number) (λ a. a.challenges) (λ (a : AuthorizationRow) cs. record a { challenges = cs })
+          (λ (c : ChallengeRow). c.number)
           (record { number_kept = λ p ts. refl; children_are = λ p ts. refl; last_are = λ p ts us. refl; same = λ p. refl })
           rows.authorizations rows.challenges T.authorizations U.authorizations (authorizations-nest rows T o r) (authorizations-nest rows U p s) i;
       orders =
@@ -155,8 +169,10 @@ IsOrdered-from_book T b =
 pub in_order-from_tables : (rows : FlatRows) (T : Tables) → rows.metas ≡ T.meta ∷ [] →
     IsPermutation rows.nonces T.nonces × Ascends (λ n. n.serial) 1 T.nonces →
     IsPermutation rows.accounts T.accounts × Ascends (λ a. a.number) 1 T.accounts →
-    IsNestOf (λ (a : AuthorizationRow). a.number) (λ a. a.challenges) (λ (a : AuthorizationRow) cs. record a { challenges = cs }) (λ (c : ChallengeRow). c.number) rows.authorizations rows.challenges T.authorizations →
-    IsNestOf (λ (a : OrderRow). a.number) (λ o. o.listed) (λ (o : OrderRow) ls. record o { listed = ls }) (λ (l : Listed). l.place) rows.orders rows.listed T.orders →
+    IsNestOf (λ (a : AuthorizationRow). a.number) (λ a. a.challenges) (λ (a : AuthorizationRow) cs. record a { challenges = cs })
+    (λ (c : ChallengeRow). c.number) rows.authorizations rows.challenges T.authorizations →
+    IsNestOf (λ (a : OrderRow). a.number) (λ o. o.listed) (λ (o : OrderRow) ls. record o { listed = ls })
+    (λ (l : Listed). l.place) rows.orders rows.listed T.orders →
     AreInOrder T × AreReordered rows (flat T)
 in_order-from_tables rows T meta nonces accounts authorizations orders = (
   record {
@@ -187,5 +203,6 @@ AreFlat-from_stored rows h =
     }
 
 -- the rows that columns spell, in their limits, are told by the columns
-pub stored-told : (stored : StoredRows) (rows others : FlatRows) → AreStored rows → stored ≡ rows_columns rows → AreStored others → stored ≡ rows_columns others → rows ≡ others
+pub stored-told : (stored : StoredRows) (rows others : FlatRows) → AreStored rows → stored ≡ rows_columns rows → AreStored others
+    → stored ≡ rows_columns others → rows ≡ others
 stored-told stored rows others h p k q = rows-apart rows others h k (sym p ∙ q)

@@ -1,5 +1,6 @@
 -- What a stable sort by a number makes is the one list that rises and keeps the order of equals.
-use Rattle.std.proofs.Common.{◌≡◌, ℕ, zero, suc, ◌<◌, ◌≤◌, Bool, true, false, List, [], ◌∷◌, length, get_or, filter, nat_cmp, is_lt, refl, sym, ap, ◌∙◌, arith, inl, inr, suc-le-suc, zero-le}
+use Rattle.std.proofs.Common.{◌≡◌, ℕ, zero, suc, ◌<◌, ◌≤◌, Bool, true, false, List, [], ◌∷◌, length, get_or, filter, nat_cmp}
+use Rattle.std.proofs.Common.{is_lt, refl, sym, ap, ◌∙◌, arith, inl, inr, suc-le-suc, zero-le}
 use Rattle.std.proofs.lemmas.Bool.{cond-true, cond-false, cases_Bool}
 use Rattle.std.proofs.lemmas.Bool.Decides.{nat_tests}
 use Rattle.std.specs.List.Sorted.{ties, IsNonDecreasingBy}
@@ -82,7 +83,8 @@ same_from_ties {X} key (y ∷ ys) (z ∷ zs) left right same =
     let tails : (x : X) → filter (λ w. are_even (key x) (key w)) ys ≡ filter (λ w. are_even (key x) (key w)) zs =
     λ x. elim (cases_Bool (are_even (key x) (key y))) [
       | inl with ↦
-          let both = sym (filter-kept (λ w. are_even (key x) (key w)) y ys with) ∙ same x ∙ filter-kept (λ w. are_even (key x) (key w)) z zs (ap (λ w. are_even (key x) (key w)) (sym head) ∙ with) in cc
+          let both = sym (filter-kept (λ w. are_even (key x) (key w)) y ys with) ∙ same x
+          ∙ filter-kept (λ w. are_even (key x) (key w)) z zs (ap (λ w. are_even (key x) (key w)) (sym head) ∙ with) in cc
       | inr without ↦
           sym (filter-dropped (λ w. are_even (key x) (key w)) y ys without) ∙ same x
           ∙ filter-dropped (λ w. are_even (key x) (key w)) z zs (ap (λ w. are_even (key x) (key w)) (sym head) ∙ without)

@@ -1,6 +1,7 @@
 //! The status fault of a row: it stores another status than its columns give (RFC 8555, 7.1.6).
 ghost use Rattle.std.specs.Prelude.{◌≡◌, ◌==◌, List};
-ghost use Rattle.desk_model.specs.Derived.{account_faults, authorization_faults, challenge_faults, numbers_of, order_code, order_faults, stored_statuses, unless};
+ghost use Rattle.desk_model.specs.Derived.{account_faults, authorization_faults, challenge_faults, numbers_of, order_code};
+ghost use Rattle.desk_model.specs.Derived.{order_faults, stored_statuses, unless};
 ghost use Rattle.desk_model.specs.declared.rows.AuthorizationRow.{AuthorizationRow as Row};
 ghost use Rattle.stored_rows.specs.RowFaults.{listed_fault};
 

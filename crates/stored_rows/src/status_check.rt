@@ -1,7 +1,8 @@
 //! The check of statuses: which rows store another status than their columns give (RFC 8555, 7.1.6).
 ghost use Rattle.std.specs.Prelude.{◌≡◌, ◌++◌, ◌∷◌, [], List, IfOk, OnOk, option_map};
 ghost use Rattle.std.specs.List.{flat_map};
-ghost use Rattle.desk_model.specs.Derived.{account_faults, authorization_faults, authorization_numbered, challenge_faults, numbers_of, order_faults, sorted_challenges, status_faults, stored_statuses};
+ghost use Rattle.desk_model.specs.Derived.{account_faults, authorization_faults, authorization_numbered, challenge_faults};
+ghost use Rattle.desk_model.specs.Derived.{numbers_of, order_faults, sorted_challenges, status_faults, stored_statuses};
 ghost use Rattle.desk_model.specs.Entry.{History};
 ghost use Rattle.desk_model.specs.Legal.{Legal};
 ghost use Rattle.desk_model.specs.Tables.{picture};

@@ -25,7 +25,8 @@ swept_authorization-status m row = by (is_overdue m row)
     by false = refl
 
 -- and only that of an order
-pub swept_order-status : (m : ℕ) (rows : List AuthorizationRow) (row : OrderRow) → record row { status = (swept_order m rows row).status } ≡ swept_order m rows row
+pub swept_order-status : (m : ℕ) (rows : List AuthorizationRow) (row : OrderRow)
+    → record row { status = (swept_order m rows row).status } ≡ swept_order m rows row
 swept_order-status m rows row = by (falls m rows row)
   where
     by : (b : Bool) →
@@ -35,7 +36,8 @@ swept_order-status m rows row = by (falls m rows row)
     by false = refl
 
 -- a test that a move leaves passes the moved rows that it passed
-pub find-moved : {X : Type 0} (test : X → Bool) (move : X → X) (xs : List X) → ((x : X) → test (move x) ≡ test x) → find test (map move xs) ≡ option_map move (find test xs)
+pub find-moved : {X : Type 0} (test : X → Bool) (move : X → X) (xs : List X) → ((x : X) → test (move x) ≡ test x)
+    → find test (map move xs) ≡ option_map move (find test xs)
 find-moved test move [] same = refl
 find-moved {X} test move (x ∷ xs) same =
     ap (λ b. cond b (Some (move x)) (find test (map move xs))) (same x)
@@ -67,7 +69,8 @@ swept_order_on m T n =
     number o = sym (ap (λ (r : OrderRow). r.number) (swept_order-status m T.authorizations o))
 
 -- a row that is found, with its status at the moment
-pub authorization-found : (m : ℕ) (T : Tables) (n : ℕ) (row : AuthorizationRow) (s : AuthzStatus) → Some row ≡ authorization_on T n → s ≡ (swept_authorization m row).status →
+pub authorization-found : (m : ℕ) (T : Tables) (n : ℕ) (row : AuthorizationRow) (s : AuthzStatus) → Some row ≡ authorization_on T n
+    → s ≡ (swept_authorization m row).status →
     Some (record row { status = s }) ≡ authorization_on (swept m T) n
 authorization-found m T n row s found is =
     ap (λ x. Some (record row { status = x })) is

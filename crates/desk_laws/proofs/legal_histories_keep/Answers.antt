@@ -1,5 +1,6 @@
 use Rattle.desk_laws.proofs.Dates.{clock_in_time, no_date_later}
-use Rattle.desk_laws.proofs.Keeps.{reported_once, row_keys_differ, counters_fit, numbers_fit_counters, terms_in_limits, all_end, row_keys_formed, row_names_formed}
+use Rattle.desk_laws.proofs.Keeps.{reported_once, row_keys_differ, counters_fit, numbers_fit_counters, terms_in_limits, all_end}
+use Rattle.desk_laws.proofs.Keeps.{row_keys_formed, row_names_formed}
 use Rattle.desk_laws.proofs.Numbers.{all_named}
 use Rattle.desk_laws.proofs.RowFacts.{proved_by}
 use Rattle.desk_laws.proofs.TextFacts.{hold_texts}

@@ -8,7 +8,8 @@ loop-served-preserved g c =
     record {
       policy = c.in-Ok-serve_client.ensures.policy ∙ c.loop-served.invariant.policy;
       served =
-          serves_more g.K.Storage.sight g.K.Storage.may_meet c.loop-served.served c.args.desk.now c.loop-served.desk c.serve_client.new.desk c.loop-served.invariant.served c.in-Ok-serve_client.ensures.served;
+          serves_more g.K.Storage.sight g.K.Storage.may_meet c.loop-served.served c.args.desk.now c.loop-served.desk c.serve_client.new.desk
+          c.loop-served.invariant.served c.in-Ok-serve_client.ensures.served;
       opened = λ opened. c.in-Ok-serve_client.ensures.ends (c.loop-served.invariant.opened opened);
     }
 
@@ -23,7 +24,9 @@ returns-in-Err-clause-seen g c =
     c.loop-served.invariant.served (rw c.in-Err.is at c.serve_client.ensures.served)
 
 pub returns-in_default-clause-seen : goal.returns-in_default-clause-seen
-returns-in_default-clause-seen g c = seen_many g.K.Storage.sight g.K.Storage.may_meet c.loop-served.served c.args.desk.now c.loop-served.desk c.loop-served.invariant.served
+returns-in_default-clause-seen g c = seen_many g.K.Storage.sight g.K.Storage.may_meet c.loop-served.served c.args.desk.now
+    c.loop-served.desk c.loop-served.invariant.served
 
 pub returns-clause-seen : goal.returns-clause-seen
-returns-clause-seen g c = seen_many g.K.Storage.sight g.K.Storage.may_meet c.loop-served.served c.args.desk.now c.loop-served.desk c.loop-served.invariant.served
+returns-clause-seen g c = seen_many g.K.Storage.sight g.K.Storage.may_meet c.loop-served.served c.args.desk.now c.loop-served.desk
+    c.loop-served.invariant.served

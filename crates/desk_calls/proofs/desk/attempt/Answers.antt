@@ -29,11 +29,13 @@ returns-in_err-save-clause-met g c =
 pub returns-in_err-save-clause-exit : goal.returns-in_err-save-clause-exit
 returns-in_err-save-clause-exit g c =
     let outcome = c.in_ok-outcome.outcome in
-    unsaved g.K.Storage.sight _ c.args.call.now c.args.store.now c.load_part.new.self c.save.new.self c.in_ok-book.book outcome.changes.items outcome.reply c.in_err-save.field-0.0 _
+    unsaved g.K.Storage.sight _ c.args.call.now c.args.store.now c.load_part.new.self c.save.new.self c.in_ok-book.book
+    outcome.changes.items outcome.reply c.in_err-save.field-0.0 _
     c.keep_form.ensures c.in_ok-book.ensures.loads c.in_ok-outcome.ensures.decided c.in_err-save.ensures.saves c.from_residual-in_err-save.ensures.1
 
 pub returns-clause-exit : goal.returns-clause-exit
 returns-clause-exit g c =
     let outcome = c.in_ok-outcome.outcome in
-    saved g.K.Storage.sight c.args.call.now c.args.store.now c.load_part.new.self c.save.new.self c.in_ok-book.book outcome.changes.items outcome.reply c.in_ok-save.field-0
+    saved g.K.Storage.sight c.args.call.now c.args.store.now c.load_part.new.self c.save.new.self c.in_ok-book.book outcome.changes.items
+    outcome.reply c.in_ok-save.field-0
     c.keep_form.ensures c.in_ok-book.ensures.loads c.in_ok-outcome.ensures.decided c.in_ok-save.ensures.saves

@@ -11,12 +11,14 @@ pub returns-then-not-touches_authorization-clause-changes : goal.returns-then-no
 returns-then-not-touches_authorization-clause-changes c =
     sym (append-nil c.args.changes.now.items)
     ∙ ap (λ l. c.args.changes.now.items ++ map PutAuthorization l)
-    (sym (moved_one-untouched (touches_authorization (entry_of c.args.moved.now)) authorization_differs (stated_authorization (entry_of c.args.moved.now) c.args.moment) (swept_authorization c.args.moment c.args.row.now)
+    (sym (moved_one-untouched (touches_authorization (entry_of c.args.moved.now)) authorization_differs
+    (stated_authorization (entry_of c.args.moved.now) c.args.moment) (swept_authorization c.args.moment c.args.row.now)
     (touches_swept (entry_of c.args.moved.now) c.args.moment c.args.row.now ∙ sym c.touches_authorization.ensures ∙ c.if-not-touches_authorization.true)))
 
 pub returns-then-not-touches_authorization-clause-row : goal.returns-then-not-touches_authorization-clause-row
 returns-then-not-touches_authorization-clause-row c =
-    sym (touched_one-is (touches_authorization (entry_of c.args.moved.now)) (stated_authorization (entry_of c.args.moved.now) c.args.moment) (swept_authorization c.args.moment c.args.row.now) _
+    sym (touched_one-is (touches_authorization (entry_of c.args.moved.now)) (stated_authorization (entry_of c.args.moved.now) c.args.moment)
+    (swept_authorization c.args.moment c.args.row.now) _
     (touches_swept (entry_of c.args.moved.now) c.args.moment c.args.row.now ∙ sym c.touches_authorization.ensures ∙ c.if-not-touches_authorization.true))
 
 pub returns-clause-changes : goal.returns-clause-changes
@@ -31,5 +33,6 @@ returns-clause-changes c =
 pub returns-clause-row : goal.returns-clause-row
 returns-clause-row c =
     ap Some (c.in_ok-next.ensures.row ∙ ap (stated_authorization (entry_of c.args.moved.now) c.args.moment) c.in_ok-standing.ensures)
-    ∙ sym (touched_one-is (touches_authorization (entry_of c.args.moved.now)) (stated_authorization (entry_of c.args.moved.now) c.args.moment) (swept_authorization c.args.moment c.args.row.now) _
+    ∙ sym (touched_one-is (touches_authorization (entry_of c.args.moved.now))
+    (stated_authorization (entry_of c.args.moved.now) c.args.moment) (swept_authorization c.args.moment c.args.row.now) _
     (touches_swept (entry_of c.args.moved.now) c.args.moment c.args.row.now ∙ sym c.touches_authorization.ensures ∙ c.if-not-touches_authorization.false))

@@ -10,8 +10,11 @@ pub loop-row-preserved : goal.loop-row-preserved
 loop-row-preserved c = (
   puts-step PutAccount (touches_account (entry_of c.args.moved.now)) account_differs (noted_account (entry_of c.args.moved.now) c.args.moment)
       c.in-Some.row.now c.next.new.self c.loop-row.changes.items c.move_account.new.changes.items _ c.in_ok-next.ensures.changes
-      (ap (λ rows. c.loop-row.changes.items ++ map PutAccount (moved_rows (touches_account (entry_of c.args.moved.now)) account_differs (noted_account (entry_of c.args.moved.now) c.args.moment) rows)) (sym c.in-Some.ensures.steps) ∙ c.loop-row.invariant.0),
+      (ap (λ rows. c.loop-row.changes.items
+      ++ map PutAccount (moved_rows (touches_account (entry_of c.args.moved.now)) account_differs
+      (noted_account (entry_of c.args.moved.now) c.args.moment) rows)) (sym c.in-Some.ensures.steps) ∙ c.loop-row.invariant.0),
   touches-step (touches_account (entry_of c.args.moved.now)) (noted_account (entry_of c.args.moved.now) c.args.moment)
       c.in-Some.row.now c.next.new.self c.loop-row.rows.items c.push_row.new.rows.items _ c.in_ok-next.next c.in_ok-push_row.ensures c.in_ok-next.ensures.row
-      (ap (λ rows. c.loop-row.rows.items ++ map (noted_account (entry_of c.args.moved.now) c.args.moment) (filter (touches_account (entry_of c.args.moved.now)) rows)) (sym c.in-Some.ensures.steps) ∙ c.loop-row.invariant.1),
+      (ap (λ rows. c.loop-row.rows.items ++ map (noted_account (entry_of c.args.moved.now) c.args.moment)
+      (filter (touches_account (entry_of c.args.moved.now)) rows)) (sym c.in-Some.ensures.steps) ∙ c.loop-row.invariant.1),
 )

@@ -9,10 +9,18 @@ use Rattle.desk_changes.proofs.moved.put_authorizations.Goals as goal
 
 pub loop-row-preserved : goal.loop-row-preserved
 loop-row-preserved c = (
-  puts-step PutAuthorization (touches_authorization (entry_of c.args.moved.now)) authorization_differs (stated_authorization (entry_of c.args.moved.now) c.args.moment)
-      (swept_authorization c.args.moment c.in-Some.row.now) (standing_rows c.args.moment c.next.new.self) c.loop-row.changes.items c.move_authorization.new.changes.items _ c.in_ok-next.ensures.changes
-      (ap (λ rows. c.loop-row.changes.items ++ map PutAuthorization (moved_rows (touches_authorization (entry_of c.args.moved.now)) authorization_differs (stated_authorization (entry_of c.args.moved.now) c.args.moment) (standing_rows c.args.moment rows))) (sym c.in-Some.ensures.steps) ∙ c.loop-row.invariant.0),
+  puts-step PutAuthorization (touches_authorization (entry_of c.args.moved.now)) authorization_differs
+      (stated_authorization (entry_of c.args.moved.now) c.args.moment)
+      (swept_authorization c.args.moment c.in-Some.row.now) (standing_rows c.args.moment c.next.new.self) c.loop-row.changes.items
+      c.move_authorization.new.changes.items _ c.in_ok-next.ensures.changes
+      (ap (λ rows. c.loop-row.changes.items
+      ++ map PutAuthorization (moved_rows (touches_authorization (entry_of c.args.moved.now)) authorization_differs
+      (stated_authorization (entry_of c.args.moved.now) c.args.moment) (standing_rows c.args.moment rows))) (sym c.in-Some.ensures.steps)
+      ∙ c.loop-row.invariant.0),
   touches-step (touches_authorization (entry_of c.args.moved.now)) (stated_authorization (entry_of c.args.moved.now) c.args.moment)
-      (swept_authorization c.args.moment c.in-Some.row.now) (standing_rows c.args.moment c.next.new.self) c.loop-row.rows.items c.push_row.new.rows.items _ c.in_ok-next.next c.in_ok-push_row.ensures c.in_ok-next.ensures.row
-      (ap (λ rows. c.loop-row.rows.items ++ map (stated_authorization (entry_of c.args.moved.now) c.args.moment) (filter (touches_authorization (entry_of c.args.moved.now)) (standing_rows c.args.moment rows))) (sym c.in-Some.ensures.steps) ∙ c.loop-row.invariant.1),
+      (swept_authorization c.args.moment c.in-Some.row.now) (standing_rows c.args.moment c.next.new.self) c.loop-row.rows.items
+      c.push_row.new.rows.items _ c.in_ok-next.next c.in_ok-push_row.ensures c.in_ok-next.ensures.row
+      (ap (λ rows. c.loop-row.rows.items ++ map (stated_authorization (entry_of c.args.moved.now) c.args.moment)
+      (filter (touches_authorization (entry_of c.args.moved.now)) (standing_rows c.args.moment rows))) (sym c.in-Some.ensures.steps)
+      ∙ c.loop-row.invariant.1),
 )

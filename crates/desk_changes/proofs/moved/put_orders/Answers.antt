@@ -9,10 +9,21 @@ use Rattle.desk_changes.proofs.moved.put_orders.Goals as goal
 
 pub loop-row-preserved : goal.loop-row-preserved
 loop-row-preserved c = (
-  puts-step PutOrder (touches_order (entry_of c.args.moved.now) (standing_rows c.args.moment c.args.book.now.authorizations)) order_differs (stated_order (entry_of c.args.moved.now) c.args.moment c.args.book.now.authorizations)
-      (swept_order c.args.moment c.args.book.now.authorizations c.in-Some.row.now) (map (swept_order c.args.moment c.args.book.now.authorizations) c.next.new.self) c.loop-row.changes.items c.move_order.new.changes.items _ c.in_ok-next.ensures.changes
-      (ap (λ rows. c.loop-row.changes.items ++ map PutOrder (moved_rows (touches_order (entry_of c.args.moved.now) (standing_rows c.args.moment c.args.book.now.authorizations)) order_differs (stated_order (entry_of c.args.moved.now) c.args.moment c.args.book.now.authorizations) (map (swept_order c.args.moment c.args.book.now.authorizations) rows))) (sym c.in-Some.ensures.steps) ∙ c.loop-row.invariant.0),
-  touches-step (touches_order (entry_of c.args.moved.now) (standing_rows c.args.moment c.args.book.now.authorizations)) (stated_order (entry_of c.args.moved.now) c.args.moment c.args.book.now.authorizations)
-      (swept_order c.args.moment c.args.book.now.authorizations c.in-Some.row.now) (map (swept_order c.args.moment c.args.book.now.authorizations) c.next.new.self) c.loop-row.rows.items c.push_row.new.rows.items _ c.in_ok-next.next c.in_ok-push_row.ensures c.in_ok-next.ensures.row
-      (ap (λ rows. c.loop-row.rows.items ++ map (stated_order (entry_of c.args.moved.now) c.args.moment c.args.book.now.authorizations) (filter (touches_order (entry_of c.args.moved.now) (standing_rows c.args.moment c.args.book.now.authorizations)) (map (swept_order c.args.moment c.args.book.now.authorizations) rows))) (sym c.in-Some.ensures.steps) ∙ c.loop-row.invariant.1),
+  puts-step PutOrder (touches_order (entry_of c.args.moved.now) (standing_rows c.args.moment c.args.book.now.authorizations)) order_differs
+      (stated_order (entry_of c.args.moved.now) c.args.moment c.args.book.now.authorizations)
+      (swept_order c.args.moment c.args.book.now.authorizations c.in-Some.row.now)
+      (map (swept_order c.args.moment c.args.book.now.authorizations) c.next.new.self) c.loop-row.changes.items
+      c.move_order.new.changes.items _ c.in_ok-next.ensures.changes
+      (ap (λ rows. c.loop-row.changes.items
+      ++ map PutOrder (moved_rows (touches_order (entry_of c.args.moved.now) (standing_rows c.args.moment c.args.book.now.authorizations))
+      order_differs (stated_order (entry_of c.args.moved.now) c.args.moment c.args.book.now.authorizations)
+      (map (swept_order c.args.moment c.args.book.now.authorizations) rows))) (sym c.in-Some.ensures.steps) ∙ c.loop-row.invariant.0),
+  touches-step (touches_order (entry_of c.args.moved.now) (standing_rows c.args.moment c.args.book.now.authorizations))
+      (stated_order (entry_of c.args.moved.now) c.args.moment c.args.book.now.authorizations)
+      (swept_order c.args.moment c.args.book.now.authorizations c.in-Some.row.now)
+      (map (swept_order c.args.moment c.args.book.now.authorizations) c.next.new.self) c.loop-row.rows.items c.push_row.new.rows.items _
+      c.in_ok-next.next c.in_ok-push_row.ensures c.in_ok-next.ensures.row
+      (ap (λ rows. c.loop-row.rows.items ++ map (stated_order (entry_of c.args.moved.now) c.args.moment c.args.book.now.authorizations)
+      (filter (touches_order (entry_of c.args.moved.now) (standing_rows c.args.moment c.args.book.now.authorizations))
+      (map (swept_order c.args.moment c.args.book.now.authorizations) rows))) (sym c.in-Some.ensures.steps) ∙ c.loop-row.invariant.1),
 )

@@ -8,7 +8,8 @@ use Rattle.desk_changes.proofs.moved.status_after.Goals as goal
 pub returns-in_err-row : goal.returns-in_err-row
 returns-in_err-row c =
     c.from_residual.ensures
-    ∙ status-none (entry_of c.args.moved.now) c.args.moment c.args.number c.args.book.now.authorizations (sym (ap option_copied (sym c.in_err-row.was) ∙ c.authorization.ensures))
+    ∙ status-none (entry_of c.args.moved.now) c.args.moment c.args.number c.args.book.now.authorizations
+    (sym (ap option_copied (sym c.in_err-row.was) ∙ c.authorization.ensures))
 
 pub returns-then-not-touches_authorization : goal.returns-then-not-touches_authorization
 returns-then-not-touches_authorization c =

@@ -16,8 +16,11 @@ returns-in_default-2 c =
 
 pub returns-then-branch : goal.returns-then-branch
 returns-then-branch c =
-    let found = rw c.in-Some-2.is at c.in_ok-contacts.ensures in
-    (tt, of_compact_text c.args.text.now (view c.in-Some.value) c.in_ok-is_compact.field-0 c.in-Some-2.contacts found.1 c.in_ok-is_compact.ensures c.if-branch.true)
+    let found = rw c.in-Some-2.is at c.in_ok-contacts.ensures in (
+      tt,
+      of_compact_text c.args.text.now (view c.in-Some.value) c.in_ok-is_compact.field-0 c.in-Some-2.contacts found.1
+          c.in_ok-is_compact.ensures c.if-branch.true,
+    )
 
 pub returns : goal.returns
 returns c =

@@ -41,7 +41,8 @@ pub returns-in-Opens-clause-recorded : goal.returns-in-Opens-clause-recorded
 returns-in-Opens-clause-recorded c =
     let recorded = c.args.recording.now in
     let after = c.act_on_account.new.recording in
-    subst (λ v. OnOk c.act_on_account.result (Records c.args.book.now recorded.changes.items recorded.counters after.changes.items after.counters v)) (sym c.in-Opens.is)
+    subst (λ v. OnOk c.act_on_account.result
+    (Records c.args.book.now recorded.changes.items recorded.counters after.changes.items after.counters v)) (sym c.in-Opens.is)
     (ok_so c.act_on_account.result (λ _ it m es ordered untouched. it m es) c.act_on_account.ensures.recorded)
 
 pub returns-in-Opens-clause-reply : goal.returns-in-Opens-clause-reply

@@ -12,4 +12,5 @@ returns-clause-reply c =
     λ m at ordered.
     let T : Tables = effect m (swept m c.args.book.now) (opened c.args.key c.args.contacts) in
     c.in_ok-reply.ensures T (sym (ap (λ (x : Meta). x.policy) c.meta.ensures))
-    ∙ ap (shown (located_account 201 T)) (ap (λ r. Some r) c.in_ok-row.ensures.account ∙ sym (opened_found m c.args.book.now c.args.recording.now.counters c.args.key c.args.contacts at ordered))
+    ∙ ap (shown (located_account 201 T)) (ap (λ r. Some r) c.in_ok-row.ensures.account
+    ∙ sym (opened_found m c.args.book.now c.args.recording.now.counters c.args.key c.args.contacts at ordered))

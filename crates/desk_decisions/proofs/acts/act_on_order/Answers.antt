@@ -25,5 +25,7 @@ returns-clause-reply c =
     c.in_ok-reply.ensures T policy
     (ap (λ r. map (λ a. a.name) (listed_rows T r)) row
     ∙ ordered_names m c.args.book.now c.args.recording.now.counters c.args.account c.args.wanted.now at is)
-    (subst (λ (r : OrderRow). r.expires ≤ last_end) (sym row) (ordered_text m c.args.book.now c.args.recording.now.counters c.args.account c.args.wanted.now at is texts))
-    ∙ ap (shown (located_order 201 T)) (ap (λ r. Some r) row ∙ sym (ordered_found m c.args.book.now c.args.recording.now.counters c.args.account c.args.wanted.now at is))
+    (subst (λ (r : OrderRow). r.expires ≤ last_end) (sym row)
+    (ordered_text m c.args.book.now c.args.recording.now.counters c.args.account c.args.wanted.now at is texts))
+    ∙ ap (shown (located_order 201 T)) (ap (λ r. Some r) row
+    ∙ sym (ordered_found m c.args.book.now c.args.recording.now.counters c.args.account c.args.wanted.now at is))

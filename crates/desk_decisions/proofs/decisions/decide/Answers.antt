@@ -16,17 +16,20 @@ pub returns-clause-decided : goal.returns-clause-decided
 returns-clause-decided c =
     let acts : c.max-moment.result ≡ max c.args.call.now.at c.args.book.now.meta.counters.clock =
     c.max-moment.ensures ∙ ap (max c.args.call.now.at) (c.moment.ensures.same ∙ ap (λ (x : Meta). x.counters.clock) c.meta.ensures) in
-    ok_part (λ o. MeetsAsk c.max-moment.result c.args.book.now c.as_slice.result.now c.args.call.now.ask o.changes.items o.reply) (λ e. IsAskFault c.max-moment.result c.args.book.now c.as_slice.result.now c.args.call.now.ask e)
+    ok_part (λ o. MeetsAsk c.max-moment.result c.args.book.now c.as_slice.result.now c.args.call.now.ask o.changes.items o.reply)
+    (λ e. IsAskFault c.max-moment.result c.args.book.now c.as_slice.result.now c.args.call.now.ask e)
     c.decide_at.result c.decide_at.ensures.meets
     (λ o meets F legal part.
-    code_decides F c.args.call.now c.args.book.now c.max-moment.result c.as_slice.result.now o.changes.items o.reply legal part c.keep_form.ensures (omega arith)
+    code_decides F c.args.call.now c.args.book.now c.max-moment.result c.as_slice.result.now o.changes.items o.reply legal part
+    c.keep_form.ensures (omega arith)
     acts c.as_slice.ensures meets)
 
 pub returns-clause-faulty : goal.returns-clause-faulty
 returns-clause-faulty c =
     let acts : c.max-moment.result ≡ max c.args.call.now.at c.args.book.now.meta.counters.clock =
     c.max-moment.ensures ∙ ap (max c.args.call.now.at) (c.moment.ensures.same ∙ ap (λ (x : Meta). x.counters.clock) c.meta.ensures) in
-    err_part (λ o. MeetsAsk c.max-moment.result c.args.book.now c.as_slice.result.now c.args.call.now.ask o.changes.items o.reply) (λ e. IsAskFault c.max-moment.result c.args.book.now c.as_slice.result.now c.args.call.now.ask e)
+    err_part (λ o. MeetsAsk c.max-moment.result c.args.book.now c.as_slice.result.now c.args.call.now.ask o.changes.items o.reply)
+    (λ e. IsAskFault c.max-moment.result c.args.book.now c.as_slice.result.now c.args.call.now.ask e)
     c.decide_at.result c.decide_at.ensures.meets
     (λ e fails F legal part.
     code_fails F c.args.call.now c.args.book.now c.max-moment.result c.as_slice.result.now e legal part (omega arith)

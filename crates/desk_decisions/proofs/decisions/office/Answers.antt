@@ -6,4 +6,5 @@ use Rattle.desk_decisions.proofs.decisions.office.Goals as goal
 
 pub settled-requires-clause-numbers : goal.settled-requires-clause-numbers
 settled-requires-clause-numbers c =
-    subst (NumbersLeft c.args.book.now.meta.counters) (sym c.in_ok-verdict.ensures.judged) (no_numbers c.args.book.now.meta.counters c.args.ask.now (swept c.args.moment c.args.book.now))
+    subst (NumbersLeft c.args.book.now.meta.counters) (sym c.in_ok-verdict.ensures.judged)
+    (no_numbers c.args.book.now.meta.counters c.args.ask.now (swept c.args.moment c.args.book.now))

@@ -21,7 +21,8 @@ returns-clause-changes c =
     λ ordered.
     c.in_ok-changes.ensures.recorded c.args.moment c.args.book.now (spent c.args.serial) (issued c.in_ok-bytes.bytes ∷ entries_of c.args.verdict)
     (ap (λ (x : Meta). x.policy) (sym c.meta.ensures))
-    (c.in_ok-reply.ensures.recorded c.args.moment (spent c.args.serial ∷ issued c.in_ok-bytes.bytes ∷ []) ordered (untouched_nonces c.args.moment c.args.book.now c.args.serial c.in_ok-bytes.bytes)
+    (c.in_ok-reply.ensures.recorded c.args.moment (spent c.args.serial ∷ issued c.in_ok-bytes.bytes ∷ []) ordered
+    (untouched_nonces c.args.moment c.args.book.now c.args.serial c.in_ok-bytes.bytes)
     c.in_ok-recording.ensures.recorded)
     ∙ ap (λ r. recorded_changes c.args.moment c.args.book.now (spent c.args.serial ∷ issued r ∷ entries_of c.args.verdict)) c.in_ok-bytes.ensures.0
 
@@ -29,4 +30,6 @@ pub returns-clause-reply : goal.returns-clause-reply
 returns-clause-reply c =
     λ ordered texts.
     c.in_ok-reply.ensures.reply c.args.moment (issued_at c) ordered texts
-    ∙ ap (λ r. with_nonce (nonce_text (c.args.book.now.meta.counters.nonces + 1) r) (verdict_reply true (effects c.args.moment (swept c.args.moment c.args.book.now) (entries_of c.args.verdict)) c.args.verdict)) c.in_ok-bytes.ensures.0
+    ∙ ap (λ r. with_nonce (nonce_text (c.args.book.now.meta.counters.nonces + 1) r)
+    (verdict_reply true (effects c.args.moment (swept c.args.moment c.args.book.now) (entries_of c.args.verdict)) c.args.verdict))
+    c.in_ok-bytes.ensures.0

@@ -8,9 +8,11 @@ use Rattle.desk_decisions.proofs.decisions.signed_verdict.Goals as goal
 
 pub returns-clause-judged : goal.returns-clause-judged
 returns-clause-judged c =
-    subst (λ T. IsJudged T.meta.counters c.args.random.now c.judge_signed.result (signed_verdict T (drop 16 c.args.random.now) c.args.signed.now)) c.new.ensures c.judge_signed.ensures
+    subst (λ T. IsJudged T.meta.counters c.args.random.now c.judge_signed.result
+    (signed_verdict T (drop 16 c.args.random.now) c.args.signed.now)) c.new.ensures c.judge_signed.ensures
 
 pub returns-clause-there : goal.returns-clause-there
 returns-clause-there c =
     let T : Tables = swept c.args.moment c.args.book.now in
-    judged_there T (signed_verdict T (drop 16 c.args.random.now) c.args.signed.now) T.meta.counters c.args.random.now c.judge_signed.result (signed_there T (drop 16 c.args.random.now) c.args.signed.now) (returns-clause-judged c)
+    judged_there T (signed_verdict T (drop 16 c.args.random.now) c.args.signed.now) T.meta.counters c.args.random.now c.judge_signed.result
+    (signed_there T (drop 16 c.args.random.now) c.args.signed.now) (returns-clause-judged c)

@@ -6,7 +6,8 @@ use Rattle.desk_model.specs.Limits.{last_number}
 
 pub returns : goal.returns
 returns c =
-    subst (λ v. Passes c.args.moment c.args.book.now c.args.random.now c.args.serial v c.in_ok-outcome.outcome.changes.items c.in_ok-outcome.outcome.reply) c.in_ok-verdict.ensures.judged.0
+    subst (λ v. Passes c.args.moment c.args.book.now c.args.random.now c.args.serial v c.in_ok-outcome.outcome.changes.items
+    c.in_ok-outcome.outcome.reply) c.in_ok-verdict.ensures.judged.0
     (record {
       recorded = c.in_ok-outcome.ensures.changes;
       replies = c.in_ok-outcome.ensures.reply;

@@ -10,7 +10,8 @@ use Rattle.desk_decisions.proofs.showing.show_challenge_at.Goals as goal
 
 pub show_challenge-requires : goal.show_challenge-requires
 show_challenge-requires c =
-    found_passes (has_row c.args.number) c.args.at.now.authorizations _ (sym c.owner.ensures ∙ ap (option_map (λ p. record p.0.now { status = p.1 })) c.unwrap-status.ensures)
+    found_passes (has_row c.args.number) c.args.at.now.authorizations _
+    (sym c.owner.ensures ∙ ap (option_map (λ p. record p.0.now { status = p.1 })) c.unwrap-status.ensures)
 
 pub returns : goal.returns
 returns c =

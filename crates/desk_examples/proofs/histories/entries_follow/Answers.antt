@@ -1,5 +1,19 @@
 use Rattle.desk_examples.proofs.histories.entries_follow.Goals as goal
-use Rattle.desk_examples.proofs.Following.{made_first, made_twice, made_without_life, made_forever, made_over_http, made_over_ftp, made_on_scheme, made_on_long_base, made_on_too_long_base, made_on_slash, made_on_space, issues, issues_too_short, spends, spends_too_late, spends_twice, spends_unknown, opens, opens_twice, opens_with_bad_contact, changes_contacts, changes_to_bad_contact, changes_ended, changes_unknown, ends_account, ends_account_twice, ends_unknown_account, orders, orders_fifty, orders_fifty_one, orders_nothing, orders_twice, orders_wildcard, orders_without_token, orders_short_token, orders_no_name, orders_for_ended, orders_for_unknown, answers_pending, answers_too_late, answers_unknown, answers_twice, answers_proved, reports, reports_too_late, reports_unanswered, reports_twice, reports_deactivated, ends_pending, ends_valid, ends_too_late, ends_failed, ends_unknown, finalizing, finalizing_too_late, finalizing_too_much, finalizing_nothing, finalizing_pending, finalizing_unknown, finalizing_twice, certifying, certifying_too_late, certifying_too_much, certifying_nothing, certifying_ready, certifying_fallen, certifying_twice, failing, failing_inside, failing_by_dns, failing_without_detail, failing_at_length, failing_ready, failing_twice}
+use Rattle.desk_examples.proofs.Following.{made_first, made_twice, made_without_life, made_forever, made_over_http, made_over_ftp}
+use Rattle.desk_examples.proofs.Following.{made_on_scheme, made_on_long_base, made_on_too_long_base, made_on_slash, made_on_space}
+use Rattle.desk_examples.proofs.Following.{issues, issues_too_short, spends, spends_too_late, spends_twice, spends_unknown, opens}
+use Rattle.desk_examples.proofs.Following.{opens_twice, opens_with_bad_contact, changes_contacts, changes_to_bad_contact}
+use Rattle.desk_examples.proofs.Following.{changes_ended, changes_unknown, ends_account, ends_account_twice, ends_unknown_account}
+use Rattle.desk_examples.proofs.Following.{orders, orders_fifty, orders_fifty_one, orders_nothing, orders_twice, orders_wildcard}
+use Rattle.desk_examples.proofs.Following.{orders_without_token, orders_short_token, orders_no_name, orders_for_ended}
+use Rattle.desk_examples.proofs.Following.{orders_for_unknown, answers_pending, answers_too_late, answers_unknown, answers_twice}
+use Rattle.desk_examples.proofs.Following.{answers_proved, reports, reports_too_late, reports_unanswered, reports_twice}
+use Rattle.desk_examples.proofs.Following.{reports_deactivated, ends_pending, ends_valid, ends_too_late, ends_failed}
+use Rattle.desk_examples.proofs.Following.{ends_unknown, finalizing, finalizing_too_late, finalizing_too_much, finalizing_nothing}
+use Rattle.desk_examples.proofs.Following.{finalizing_pending, finalizing_unknown, finalizing_twice, certifying}
+use Rattle.desk_examples.proofs.Following.{certifying_too_late, certifying_too_much, certifying_nothing, certifying_ready}
+use Rattle.desk_examples.proofs.Following.{certifying_fallen, certifying_twice, failing, failing_inside, failing_by_dns}
+use Rattle.desk_examples.proofs.Following.{failing_without_detail, failing_at_length, failing_ready, failing_twice}
 
 pub returns-clause-made_first : goal.returns-clause-made_first
 returns-clause-made_first c = made_first

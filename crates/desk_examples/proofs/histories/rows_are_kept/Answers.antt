@@ -1,5 +1,6 @@
 use Rattle.desk_examples.proofs.histories.rows_are_kept.Goals as goal
-use Rattle.desk_examples.proofs.Rows.{first_rows, authorization_rows, order_rows, nonce_gone, end_row, first_end_row, late_end_row, no_faults, order_fault, all_faults}
+use Rattle.desk_examples.proofs.Rows.{first_rows, authorization_rows, order_rows, nonce_gone, end_row, first_end_row}
+use Rattle.desk_examples.proofs.Rows.{late_end_row, no_faults, order_fault, all_faults}
 
 pub returns-clause-first_rows : goal.returns-clause-first_rows
 returns-clause-first_rows c = first_rows

@@ -1,5 +1,9 @@
 use Rattle.desk_examples.proofs.lives.accounts_end.Goals as goal
-use Rattle.desk_examples.proofs.Endings.{orders_before, authorizations_before, orders_listed, account_deactivated, orders_after, authorizations_after, next_request, next_new_account, account_revoked, authorizations_of_revoked, account_revoked_again, deactivated_is_not_revoked, unknown_account_revoked, authorization_revoked, authorization_revoked_again, invalid_is_not_revoked, expired_is_not_revoked, unknown_authorization_revoked}
+use Rattle.desk_examples.proofs.Endings.{orders_before, authorizations_before, orders_listed, account_deactivated, orders_after}
+use Rattle.desk_examples.proofs.Endings.{authorizations_after, next_request, next_new_account, account_revoked}
+use Rattle.desk_examples.proofs.Endings.{authorizations_of_revoked, account_revoked_again, deactivated_is_not_revoked}
+use Rattle.desk_examples.proofs.Endings.{unknown_account_revoked, authorization_revoked, authorization_revoked_again}
+use Rattle.desk_examples.proofs.Endings.{invalid_is_not_revoked, expired_is_not_revoked, unknown_authorization_revoked}
 
 pub returns-clause-orders_before : goal.returns-clause-orders_before
 returns-clause-orders_before c = orders_before

@@ -1,5 +1,6 @@
 use Rattle.desk_examples.proofs.lives.fifty_names_are_ordered.Goals as goal
-use Rattle.desk_examples.proofs.Fifty.{fifty_identifiers, fifty_names, fifty_faultless, fifty_taken, fifty_kept, fifty_wanted, fifty_ordered, fifty_pieces, fifty_follow}
+use Rattle.desk_examples.proofs.Fifty.{fifty_identifiers, fifty_names, fifty_faultless, fifty_taken, fifty_kept, fifty_wanted}
+use Rattle.desk_examples.proofs.Fifty.{fifty_ordered, fifty_pieces, fifty_follow}
 
 pub returns-clause-fifty_identifiers : goal.returns-clause-fifty_identifiers
 returns-clause-fifty_identifiers c = fifty_identifiers

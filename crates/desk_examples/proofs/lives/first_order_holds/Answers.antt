@@ -1,5 +1,6 @@
 use Rattle.desk_examples.proofs.lives.first_order_holds.Goals as goal
-use Rattle.desk_examples.proofs.Orders.{first_order, enough_random, short_random_keeps_nonce, short_random_records_nothing, first_authorization, wildcard_authorization, wildcard_challenge, first_calls}
+use Rattle.desk_examples.proofs.Orders.{first_order, enough_random, short_random_keeps_nonce, short_random_records_nothing}
+use Rattle.desk_examples.proofs.Orders.{first_authorization, wildcard_authorization, wildcard_challenge, first_calls}
 
 pub returns-clause-first_order : goal.returns-clause-first_order
 returns-clause-first_order c = first_order

@@ -1,5 +1,12 @@
 use Rattle.desk_examples.proofs.lives.offices_are_served.Goals as goal
-use Rattle.desk_examples.proofs.Offices.{no_challenge_work, http_work, both_work, no_expired_work, wrong_body, right_body, right_record, no_connection, no_records_found, wrong_body_again, other_outcome, records_for_http, body_for_dns, unknown_challenge, no_order_work, certifies, empty_certificate, empty_for_unknown, same_certificate, other_certificate, unready_certificate, fails, fails_inside, fails_again, fails_otherwise, fails_by_dns, fails_at_length, fails_without_detail, fails_unknown, fails_unready, key_of_account, key_of_unknown, directory, connection_again, dns_again, dns_after_connection, own_key_work}
+use Rattle.desk_examples.proofs.Offices.{no_challenge_work, http_work, both_work, no_expired_work, wrong_body, right_body}
+use Rattle.desk_examples.proofs.Offices.{right_record, no_connection, no_records_found, wrong_body_again, other_outcome}
+use Rattle.desk_examples.proofs.Offices.{records_for_http, body_for_dns, unknown_challenge, no_order_work, certifies}
+use Rattle.desk_examples.proofs.Offices.{empty_certificate, empty_for_unknown, same_certificate, other_certificate}
+use Rattle.desk_examples.proofs.Offices.{unready_certificate, fails, fails_inside, fails_again, fails_otherwise, fails_by_dns}
+use Rattle.desk_examples.proofs.Offices.{fails_at_length, fails_without_detail, fails_unknown, fails_unready, key_of_account}
+use Rattle.desk_examples.proofs.Offices.{key_of_unknown, directory, connection_again, dns_again, dns_after_connection}
+use Rattle.desk_examples.proofs.Offices.{own_key_work}
 
 pub returns-clause-no_challenge_work : goal.returns-clause-no_challenge_work
 returns-clause-no_challenge_work c = no_challenge_work

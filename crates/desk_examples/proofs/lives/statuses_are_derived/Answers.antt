@@ -1,5 +1,11 @@
 use Rattle.desk_examples.proofs.lives.statuses_are_derived.Goals as goal
-use Rattle.desk_examples.proofs.Statuses.{challenge_answered, answers_again, report_in_time, valid_authorization, ready_order, report_too_late, expired_order, expired_authorization, valid_expires, answer_too_late, late_end, report_again, report_contradicts, report_unasked, no_certificate_yet, deactivates, deactivates_again, processing_falls, fallen_is_not_certified, fallen_is_not_listed, valid_stays, valid_never_expires, certificate_given, one_of_two, pending_is_not_finalized, both_of_two, empty_csr, no_csr, finalizes, finalizes_once, order_work, other_challenge_answered, deactivates_pending}
+use Rattle.desk_examples.proofs.Statuses.{challenge_answered, answers_again, report_in_time, valid_authorization, ready_order}
+use Rattle.desk_examples.proofs.Statuses.{report_too_late, expired_order, expired_authorization, valid_expires, answer_too_late}
+use Rattle.desk_examples.proofs.Statuses.{late_end, report_again, report_contradicts, report_unasked, no_certificate_yet}
+use Rattle.desk_examples.proofs.Statuses.{deactivates, deactivates_again, processing_falls, fallen_is_not_certified}
+use Rattle.desk_examples.proofs.Statuses.{fallen_is_not_listed, valid_stays, valid_never_expires, certificate_given, one_of_two}
+use Rattle.desk_examples.proofs.Statuses.{pending_is_not_finalized, both_of_two, empty_csr, no_csr, finalizes, finalizes_once}
+use Rattle.desk_examples.proofs.Statuses.{order_work, other_challenge_answered, deactivates_pending}
 
 pub returns-clause-challenge_answered : goal.returns-clause-challenge_answered
 returns-clause-challenge_answered c = challenge_answered

@@ -1,5 +1,8 @@
 use Rattle.desk_examples.proofs.requests.contacts_are_tested.Goals as goal
-use Rattle.desk_examples.proofs.Contacts.{empty_address, two_addresses, header_fields, no_scheme, telephone, upper_case_scheme, longest_contact, too_long_contact, ten_contacts, eleven_contacts, first_fault, telephone_refused, empty_address_refused, contacts_replaced, contacts_not_replaced, contacts_left, existing_before_contacts, not_only_existing}
+use Rattle.desk_examples.proofs.Contacts.{empty_address, two_addresses, header_fields, no_scheme, telephone, upper_case_scheme}
+use Rattle.desk_examples.proofs.Contacts.{longest_contact, too_long_contact, ten_contacts, eleven_contacts, first_fault}
+use Rattle.desk_examples.proofs.Contacts.{telephone_refused, empty_address_refused, contacts_replaced, contacts_not_replaced}
+use Rattle.desk_examples.proofs.Contacts.{contacts_left, existing_before_contacts, not_only_existing}
 
 pub returns-clause-empty_address : goal.returns-clause-empty_address
 returns-clause-empty_address c = empty_address

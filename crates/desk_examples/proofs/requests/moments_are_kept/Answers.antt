@@ -1,5 +1,8 @@
 use Rattle.desk_examples.proofs.requests.moments_are_kept.Goals as goal
-use Rattle.desk_examples.proofs.Moments.{nonce_to_the_end_of_its_life, nonce_past_its_life, earlier_moment, later_moment, past_at_the_clock, last_moment, moment_fault, moment_before_random, short_nonce, short_refusal, directory_without_random, first_text, leap_day, no_leap_day, time_of_day, last_text}
+use Rattle.desk_examples.proofs.Moments.{nonce_to_the_end_of_its_life, nonce_past_its_life, earlier_moment, later_moment}
+use Rattle.desk_examples.proofs.Moments.{past_at_the_clock, last_moment, moment_fault, moment_before_random, short_nonce}
+use Rattle.desk_examples.proofs.Moments.{short_refusal, directory_without_random, first_text, leap_day, no_leap_day, time_of_day}
+use Rattle.desk_examples.proofs.Moments.{last_text}
 
 pub returns-clause-nonce_to_the_end_of_its_life : goal.returns-clause-nonce_to_the_end_of_its_life
 returns-clause-nonce_to_the_end_of_its_life c = nonce_to_the_end_of_its_life

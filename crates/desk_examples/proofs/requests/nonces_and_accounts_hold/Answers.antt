@@ -1,5 +1,6 @@
 use Rattle.desk_examples.proofs.requests.nonces_and_accounts_hold.Goals as goal
-use Rattle.desk_examples.proofs.Accounts.{first_nonce, first_nonce_by_head, first_account, nonce_twice, same_key_other_spelling, known_key, only_existing, only_existing_twice}
+use Rattle.desk_examples.proofs.Accounts.{first_nonce, first_nonce_by_head, first_account, nonce_twice, same_key_other_spelling}
+use Rattle.desk_examples.proofs.Accounts.{known_key, only_existing, only_existing_twice}
 
 pub returns-clause-first_nonce : goal.returns-clause-first_nonce
 returns-clause-first_nonce c = first_nonce

@@ -1,5 +1,10 @@
 use Rattle.desk_examples.proofs.requests.payloads_are_refused.Goals as goal
-use Rattle.desk_examples.proofs.Payloads.{account_of_list, account_of_nothing, contact_no_list, contact_no_string, contact_null, existing_no_truth, known_key_malformed, account_change_of_list, account_change_contact, orders_with_payload, order_with_payload, certificate_with_payload, authorization_other_status, challenge_of_list, csr_no_string, no_identifiers, empty_identifiers, identifier_without_value, identifier_no_string, not_before, not_after}
+use Rattle.desk_examples.proofs.Payloads.{account_of_list, account_of_nothing, contact_no_list, contact_no_string, contact_null}
+use Rattle.desk_examples.proofs.Payloads.{existing_no_truth, known_key_malformed, account_change_of_list, account_change_contact}
+use Rattle.desk_examples.proofs.Payloads.{orders_with_payload, order_with_payload, certificate_with_payload}
+use Rattle.desk_examples.proofs.Payloads.{authorization_other_status, challenge_of_list, csr_no_string, no_identifiers}
+use Rattle.desk_examples.proofs.Payloads.{empty_identifiers, identifier_without_value, identifier_no_string, not_before}
+use Rattle.desk_examples.proofs.Payloads.{not_after}
 
 pub returns-clause-account_of_list : goal.returns-clause-account_of_list
 returns-clause-account_of_list c = account_of_list

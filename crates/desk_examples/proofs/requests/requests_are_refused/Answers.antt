@@ -1,5 +1,9 @@
 use Rattle.desk_examples.proofs.requests.requests_are_refused.Goals as goal
-use Rattle.desk_examples.proofs.Refused.{without_nonce, unknown_nonce, guessed_nonce, no_nonce_text, bad_key, bad_key_without_nonce, key_without_account, ended_account, ended_key, unknown_order, form_before_status, status_before_csr, another_account, another_orders, another_order, missing_order, another_finalize, another_certificate, another_authorization, another_challenge, missing_challenge, no_certificate, own_orders}
+use Rattle.desk_examples.proofs.Refused.{without_nonce, unknown_nonce, guessed_nonce, no_nonce_text, bad_key}
+use Rattle.desk_examples.proofs.Refused.{bad_key_without_nonce, key_without_account, ended_account, ended_key, unknown_order}
+use Rattle.desk_examples.proofs.Refused.{form_before_status, status_before_csr, another_account, another_orders, another_order}
+use Rattle.desk_examples.proofs.Refused.{missing_order, another_finalize, another_certificate, another_authorization}
+use Rattle.desk_examples.proofs.Refused.{another_challenge, missing_challenge, no_certificate, own_orders}
 
 pub returns-clause-without_nonce : goal.returns-clause-without_nonce
 returns-clause-without_nonce c = without_nonce

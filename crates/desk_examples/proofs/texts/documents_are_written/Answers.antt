@@ -1,5 +1,7 @@
 use Rattle.desk_examples.proofs.texts.documents_are_written.Goals as goal
-use Rattle.desk_examples.proofs.Documents.{key_read, edwards_key_read, edwards_key_text, rsa_key_text, padded_number, empty_number, long_number, longest_number, curve_document, rsa_document, edwards_document, two_contacts, invalid_authorization}
+use Rattle.desk_examples.proofs.Documents.{key_read, edwards_key_read, edwards_key_text, rsa_key_text, padded_number}
+use Rattle.desk_examples.proofs.Documents.{empty_number, long_number, longest_number, curve_document, rsa_document}
+use Rattle.desk_examples.proofs.Documents.{edwards_document, two_contacts, invalid_authorization}
 
 pub returns-clause-key_read : goal.returns-clause-key_read
 returns-clause-key_read c = key_read

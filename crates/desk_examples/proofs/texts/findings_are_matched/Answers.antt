@@ -1,5 +1,7 @@
 use Rattle.desk_examples.proofs.texts.findings_are_matched.Goals as goal
-use Rattle.desk_examples.proofs.Matches.{line_end, blanks, space_in_front, beginning, more_text, empty_body, one_record, no_records, record_with_space, nonce_read, last_nonce, last_nonce_read, short_nonce_text, long_nonce_text, other_alphabet, token_text, unused_bits, padding}
+use Rattle.desk_examples.proofs.Matches.{line_end, blanks, space_in_front, beginning, more_text, empty_body, one_record}
+use Rattle.desk_examples.proofs.Matches.{no_records, record_with_space, nonce_read, last_nonce, last_nonce_read, short_nonce_text}
+use Rattle.desk_examples.proofs.Matches.{long_nonce_text, other_alphabet, token_text, unused_bits, padding}
 
 pub returns-clause-line_end : goal.returns-clause-line_end
 returns-clause-line_end c = line_end

@@ -1,5 +1,8 @@
 use Rattle.desk_examples.proofs.texts.names_are_read.Goals as goal
-use Rattle.desk_examples.proofs.NameTexts.{star, two_stars, star_within, star_of_nothing, no_text, empty_label, final_dot, address, false_punycode, one_label, wildcard_of_label, hyphen_in_front, hyphen_at_end, low_line, long_label, long_name, longest_label, longest_name, longest_wildcard, upper_case, books, ideographic_stop, inner_hyphens, digits_in_front, wildcard_shown}
+use Rattle.desk_examples.proofs.NameTexts.{star, two_stars, star_within, star_of_nothing, no_text, empty_label, final_dot}
+use Rattle.desk_examples.proofs.NameTexts.{address, false_punycode, one_label, wildcard_of_label, hyphen_in_front, hyphen_at_end}
+use Rattle.desk_examples.proofs.NameTexts.{low_line, long_label, long_name, longest_label, longest_name, longest_wildcard}
+use Rattle.desk_examples.proofs.NameTexts.{upper_case, books, ideographic_stop, inner_hyphens, digits_in_front, wildcard_shown}
 
 pub returns-clause-star : goal.returns-clause-star
 returns-clause-star c = star

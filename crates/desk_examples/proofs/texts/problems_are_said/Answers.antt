@@ -1,5 +1,8 @@
 use Rattle.desk_examples.proofs.texts.problems_are_said.Goals as goal
-use Rattle.desk_examples.proofs.Problems.{malformed, nothing_here, wrong_method, bad_nonce, bad_public_key, no_account, unauthorized, unsupported_contact, invalid_contact, unsupported_identifier, rejected_identifier, order_not_ready, bad_csr, unfit_report, could_not_act, too_large, one_subproblem}
+use Rattle.desk_examples.proofs.Problems.{malformed, nothing_here, wrong_method, bad_nonce, bad_public_key, no_account}
+use Rattle.desk_examples.proofs.Problems.{unauthorized, unsupported_contact, invalid_contact, unsupported_identifier}
+use Rattle.desk_examples.proofs.Problems.{rejected_identifier, order_not_ready, bad_csr, unfit_report, could_not_act, too_large}
+use Rattle.desk_examples.proofs.Problems.{one_subproblem}
 
 pub returns-clause-malformed : goal.returns-clause-malformed
 returns-clause-malformed c = malformed

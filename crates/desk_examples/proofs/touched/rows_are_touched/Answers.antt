@@ -1,5 +1,11 @@
 use Rattle.desk_examples.proofs.touched.rows_are_touched.Goals as goal
-use Rattle.desk_examples.proofs.TouchedRows.{directory, challenge_work, order_work, new_nonce, new_account, bad_key, guessed_nonce, unknown_nonce, no_nonce_text, account_ends, account_of_another, account_revoked, orders_of_account, orders_of_another, key_of_account, new_order, one_order, whole_rows, order_of_another, unknown_order, finalize, certificate, certifies, fails, one_authorization, one_challenge, authorization_revoked, report, shared_report, shared_order, shared_account, no_orders, last_second, orders_end, request_at_end, earlier_moment, fallen_once, authorizations_last, authorizations_end}
+use Rattle.desk_examples.proofs.TouchedRows.{directory, challenge_work, order_work, new_nonce, new_account, bad_key}
+use Rattle.desk_examples.proofs.TouchedRows.{guessed_nonce, unknown_nonce, no_nonce_text, account_ends, account_of_another}
+use Rattle.desk_examples.proofs.TouchedRows.{account_revoked, orders_of_account, orders_of_another, key_of_account, new_order}
+use Rattle.desk_examples.proofs.TouchedRows.{one_order, whole_rows, order_of_another, unknown_order, finalize, certificate}
+use Rattle.desk_examples.proofs.TouchedRows.{certifies, fails, one_authorization, one_challenge, authorization_revoked, report}
+use Rattle.desk_examples.proofs.TouchedRows.{shared_report, shared_order, shared_account, no_orders, last_second, orders_end}
+use Rattle.desk_examples.proofs.TouchedRows.{request_at_end, earlier_moment, fallen_once, authorizations_last, authorizations_end}
 
 pub returns-clause-directory : goal.returns-clause-directory
 returns-clause-directory c = directory

@@ -11,14 +11,16 @@ returns-in-Ok-open_tables-clause-opened g c clean files same T has =
     let opened = c.in-Ok-open_tables.ensures in
     let connects : Connects (image_at g.S.Start) c.in-Ok.conn = record { fresh = connected.fresh; opened = connected.opened; found = connected.found } in
     keeps_within _ _ c.in-Ok-open_tables.store T
-    (opened.opened clean T (desk_found (image_at g.S.Start) c.in-Ok.conn connects (file_state c.in-Ok-open_tables.store.conn) opened.honest clean files same T has))
+    (opened.opened clean T (desk_found (image_at g.S.Start) c.in-Ok.conn connects (file_state c.in-Ok-open_tables.store.conn) opened.honest
+    clean files same T has))
 
 pub returns-in-Err-open_tables-clause-unopened : goal.returns-in-Err-open_tables-clause-unopened
 returns-in-Err-open_tables-clause-unopened g c clean files same T has =
     let connected = c.in-Ok.ensures in
     let failed = c.in-Err-open_tables.ensures in
     let connects : Connects (image_at g.S.Start) c.in-Ok.conn = record { fresh = connected.fresh; opened = connected.opened; found = connected.found } in
-    failed.unopened clean T (desk_found (image_at g.S.Start) c.in-Ok.conn connects (file_state c.in-Err-open_tables.unopened.conn) failed.honest clean files same T has)
+    failed.unopened clean T (desk_found (image_at g.S.Start) c.in-Ok.conn connects (file_state c.in-Err-open_tables.unopened.conn)
+    failed.honest clean files same T has)
 
 pub returns-in-Err-open_tables-clause-left : goal.returns-in-Err-open_tables-clause-left
 returns-in-Err-open_tables-clause-left g c clean files same trees may =

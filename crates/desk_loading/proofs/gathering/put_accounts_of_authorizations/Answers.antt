@@ -10,7 +10,8 @@ loop-authorization-preserved g c = record {
   stands = search rules;
   found = λ honest T held.
       let so_far = c.in_ok-rows.ensures.reads.honest honest in
-      gathered (λ (x : AccountRow). x.number) (λ (a : AuthorizationRow). accounts_numbered T a.account) c.in-Some.authorization.now _ _ _ _ _ _ c.in-Some.ensures.steps
+      gathered (λ (x : AccountRow). x.number) (λ (a : AuthorizationRow). accounts_numbered T a.account) c.in-Some.authorization.now _ _ _ _
+      _ _ c.in-Some.ensures.steps
       (c.in_ok-rows.ensures.found honest T (c.loop-authorization.invariant.stands.tables so_far T held))
       c.in_ok-put_all.ensures
       (c.loop-authorization.invariant.found so_far T held);

@@ -13,7 +13,8 @@ loop-order-preserved g c = record {
       let put_so_far = c.in_ok-put_authorizations.ensures.reads.honest honest in
       let so_far = c.in_ok-numbers.ensures.reads.honest put_so_far in
       let has = c.loop-order.invariant.stands.tables so_far T held in
-      gathered (λ (a : AuthorizationRow). a.number) (λ (o : OrderRow). flat_map (authorizations_numbered T) (listed_by T o.number)) c.in-Some.order.now _ _ _ _ _ _ c.in-Some.ensures.steps
+      gathered (λ (a : AuthorizationRow). a.number) (λ (o : OrderRow). flat_map (authorizations_numbered T) (listed_by T o.number))
+      c.in-Some.order.now _ _ _ _ _ _ c.in-Some.ensures.steps
       (ap (flat_map (authorizations_numbered T)) (c.in_ok-numbers.ensures.found put_so_far T has))
       (c.in_ok-put_authorizations.ensures.found honest T (c.in_ok-numbers.ensures.reads.tables put_so_far T has))
       (c.loop-order.invariant.found so_far T held);

@@ -9,7 +9,9 @@ use Rattle.desk_loading.proofs.objects.accounts_named.Goals as goal
 pub returns-clause-found : goal.returns-clause-found
 returns-clause-found g c = λ honest T held.
     let so_far = c.in_ok-put_accounts.ensures.reads.honest honest in
-    put_then (λ (x : AccountRow). x.number) (flat_map (accounts_with_key T) (keys c.args.ask.now)) (flat_map (accounts_numbered T) (account_numbers c.args.ask.now)) [] _ _
-    (c.in_ok-put_keyed.ensures.found so_far T held ∙ ap (all_put (λ (x : AccountRow). x.number) (flat_map (accounts_with_key T) (keys c.args.ask.now))) c.new-accounts.ensures)
+    put_then (λ (x : AccountRow). x.number) (flat_map (accounts_with_key T) (keys c.args.ask.now))
+    (flat_map (accounts_numbered T) (account_numbers c.args.ask.now)) [] _ _
+    (c.in_ok-put_keyed.ensures.found so_far T held
+    ∙ ap (all_put (λ (x : AccountRow). x.number) (flat_map (accounts_with_key T) (keys c.args.ask.now))) c.new-accounts.ensures)
     (put_by (λ (x : AccountRow). x.number) (flat_map (accounts_numbered T)) _ _ _ _
     (c.in_ok-put_accounts.ensures.found honest T (c.in_ok-put_keyed.ensures.reads.tables so_far T held)) c.in_ok-numbers.ensures)

@@ -1,7 +1,8 @@
 use Rattle.std.proofs.Common.{[], ◌++◌}
 use Rattle.desk_model.specs.declared.rows.AuthorizationRow.{AuthorizationRow}
 use Rattle.desk_model.specs.declared.rows.OrderRow.{OrderRow}
-use Rattle.desk_parts.specs.Loaded.{authorizations_once, first_authorizations, found_orders, listed_authorizations, listing_orders, named_orders, orders_once, own_orders, past_orders}
+use Rattle.desk_parts.specs.Loaded.{authorizations_once, first_authorizations, found_orders, listed_authorizations}
+use Rattle.desk_parts.specs.Loaded.{listing_orders, named_orders, orders_once, own_orders, past_orders}
 use Rattle.desk_loading.proofs.Gathered.{put_by, put_then}
 use Rattle.desk_loading.proofs.objects.authorizations_and_orders.Goals as goal
 
@@ -34,4 +35,5 @@ returns-clause-orders g c = λ honest T held named.
     put_then (λ (o : OrderRow). o.number) (named_orders T c.args.ask.now ++ (own_orders T c.args.ask.now ++ past_orders T c.args.moment))
     (listing_orders T (authorizations_once (first_authorizations T c.args.moment c.args.ask.now))) [] _ _
     (c.in_ok-orders.ensures.found ordered T has named)
-    (put_by (λ (o : OrderRow). o.number) (listing_orders T) _ _ _ _ (c.in_ok-put_listing.ensures.found listing T still) (c.in_ok-authorizations.ensures.found authorized T held named))
+    (put_by (λ (o : OrderRow). o.number) (listing_orders T) _ _ _ _ (c.in_ok-put_listing.ensures.found listing T still)
+    (c.in_ok-authorizations.ensures.found authorized T held named))

@@ -19,7 +19,8 @@ returns-clause-found g c = λ honest T held named.
     (put_then number by_number (flat_map (λ k. flat_map (authorizations_numbered T) (owners_of T k)) (challenge_numbers c.args.ask.now)) [] _ _
     (put_by number (flat_map (authorizations_numbered T)) _ _ _ _ (c.in_ok-put_authorizations.ensures.found numbered T held) c.in_ok-numbers.ensures
     ∙ ap (all_put number by_number) c.new-authorizations.ensures)
-    (put_by number (flat_map (λ k. flat_map (authorizations_numbered T) (owners_of T k))) _ _ _ _ (c.in_ok-put_owners.ensures.found owned T has) c.in_ok-challenges.ensures))
+    (put_by number (flat_map (λ k. flat_map (authorizations_numbered T) (owners_of T k))) _ _ _ _
+    (c.in_ok-put_owners.ensures.found owned T has) c.in_ok-challenges.ensures))
     (put_then number (own_authorizations T c.args.ask.now) (past_authorizations T c.args.moment) _ _ _
     (c.in_ok-put_asked_authorizations.ensures.found asked T still named)
     (c.in_ok-put_past_authorizations.ensures.found honest T (c.in_ok-put_asked_authorizations.ensures.reads.tables asked T still)))

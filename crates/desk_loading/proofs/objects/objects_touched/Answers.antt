@@ -20,7 +20,8 @@ returns-clause-accounts g c = λ honest T held.
     let accounted = c.in_ok-authorizations.ensures.reads.honest so_far in
     let has = c.in_ok-accounts.ensures.reads.tables accounted T held in
     let named = c.in_ok-accounts.ensures.found accounted T held in
-    let holders = λ (os : List OrderRow) (rows : List AuthorizationRow). flat_map (λ o. accounts_numbered T o.account) os ++ flat_map (λ a. accounts_numbered T a.account) rows in
+    let holders = λ (os : List OrderRow) (rows : List AuthorizationRow). flat_map (λ o. accounts_numbered T o.account) os
+    ++ flat_map (λ a. accounts_numbered T a.account) rows in
     put_then (λ (x : AccountRow). x.number) (named_accounts T c.args.ask.now)
     (holders (orders_once (found_orders T c.args.moment c.args.ask.now)) (authorizations_once (found_authorizations T c.args.moment c.args.ask.now))) [] _ _
     named

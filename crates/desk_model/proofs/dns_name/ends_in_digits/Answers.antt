@@ -7,7 +7,8 @@ use Rattle.desk_model.specs.BaseName.{labels_of, last_label}
 use Rattle.desk_model.proofs.Labels.{last-from_run}
 use Rattle.desk_model.proofs.dns_name.ends_in_digits.Goals as goal
 
-last_is : (o : Option (Bor (List ℕ))) (name : List ℕ) → option_map (λ x. x.now) o ≡ last_or None (labels_of name) → last_label name ≡ unwrap_or (option_map (λ x. x.now) o) []
+last_is : (o : Option (Bor (List ℕ))) (name : List ℕ) → option_map (λ x. x.now) o ≡ last_or None (labels_of name)
+    → last_label name ≡ unwrap_or (option_map (λ x. x.now) o) []
 last_is o name e = rw (← e) refl
 
 pub returns-in-Some : goal.returns-in-Some

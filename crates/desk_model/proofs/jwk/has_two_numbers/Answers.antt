@@ -8,5 +8,6 @@ returns-in-Some c =
     let stripped = c.in-Some.ensures.cases in
     let whole : c.args.text.now ≡ c.args.head.now ++ c.in-Some.rest.now = stripped.1.1 ∙ ap (λ l. c.args.head.now ++ l) (sym stripped.2) in (
       λ yes. (c.in-Some.rest.now, whole, c.are_two_numbers.ensures.0 yes),
-      λ two. c.are_two_numbers.ensures.1 (subst (λ (l : List ℕ). AreTwoNumbers c.args.between.now l) (append_cancel_left c.args.head.now _ _ (sym two.1 ∙ whole)) two.2),
+      λ two. c.are_two_numbers.ensures.1 (subst (λ (l : List ℕ). AreTwoNumbers c.args.between.now l)
+          (append_cancel_left c.args.head.now _ _ (sym two.1 ∙ whole)) two.2),
     )

@@ -11,5 +11,6 @@ pub returns-clause-steps : goal.returns-clause-steps
 returns-clause-steps g c honest T holds h =
     let rows = authorizations_above T c.args.above in
     let first : IsFirst _ rows = c.in_ok-row.ensures.first rows (c.in_ok-rows.ensures.found honest T holds) in
-    found_step (λ (x : AuthorizationRow). x.number) (authorization_faults c.args.moment) c.args.above 1 c.in-Some.row T.authorizations (listed_fault c.authorization_fault.result) h.tables.authorizations.0
+    found_step (λ (x : AuthorizationRow). x.number) (authorization_faults c.args.moment) c.args.above 1 c.in-Some.row T.authorizations
+    (listed_fault c.authorization_fault.result) h.tables.authorizations.0
     (subst (λ r. IsFirst r rows) c.in-Some.is first) c.authorization_fault.ensures

@@ -13,5 +13,6 @@ pub returns-clause-steps : goal.returns-clause-steps
 returns-clause-steps g c honest T holds h =
     let rows = challenges_above T c.args.above in
     let first : IsFirst _ rows = c.in_ok-row.ensures.first rows (c.in_ok-rows.ensures.found honest T holds) in
-    found_step (λ (x : ChallengeRow). x.number) challenge_faults c.args.above 1 c.in-Some.row (flat_map (λ (r : AuthorizationRow). r.challenges) T.authorizations) (listed_fault c.challenge_fault.result) h.challenges
+    found_step (λ (x : ChallengeRow). x.number) challenge_faults c.args.above 1 c.in-Some.row
+    (flat_map (λ (r : AuthorizationRow). r.challenges) T.authorizations) (listed_fault c.challenge_fault.result) h.challenges
     (subst (λ r. IsFirst r rows) c.in-Some.is first) c.challenge_fault.ensures

@@ -35,11 +35,13 @@ returns-clause-shown g c clean =
 
 pub returns-in_err-challenges-clause-asks : goal.returns-in_err-challenges-clause-asks
 returns-in_err-challenges-clause-asks g c =
-    asks_then (state g.S.Store c.args.conn.now) (state g.S.Store c.authorization_table.new.conn) (state g.S.Store c.challenge_table.new.conn) c.in_ok-authorizations.ensures.asks c.in_err-challenges.ensures.asks
+    asks_then (state g.S.Store c.args.conn.now) (state g.S.Store c.authorization_table.new.conn)
+    (state g.S.Store c.challenge_table.new.conn) c.in_ok-authorizations.ensures.asks c.in_err-challenges.ensures.asks
 
 pub returns-clause-asks : goal.returns-clause-asks
 returns-clause-asks g c =
-    asks_then (state g.S.Store c.args.conn.now) (state g.S.Store c.authorization_table.new.conn) (state g.S.Store c.challenge_table.new.conn) c.in_ok-authorizations.ensures.asks c.in_ok-challenges.ensures.asks
+    asks_then (state g.S.Store c.args.conn.now) (state g.S.Store c.authorization_table.new.conn)
+    (state g.S.Store c.challenge_table.new.conn) c.in_ok-authorizations.ensures.asks c.in_ok-challenges.ensures.asks
 
 pub returns-clause-unchanged : goal.returns-clause-unchanged
 returns-clause-unchanged g c clean =

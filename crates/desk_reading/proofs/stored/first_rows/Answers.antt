@@ -54,18 +54,21 @@ returns-clause-shown g c clean =
 
 pub returns-in_err-nonces-clause-asks : goal.returns-in_err-nonces-clause-asks
 returns-in_err-nonces-clause-asks g c =
-    asks_then (state g.S.Store c.args.conn.now) (state g.S.Store c.meta_table.new.conn) (state g.S.Store c.nonce_table.new.conn) c.in_ok-metas.ensures.asks c.in_err-nonces.ensures.asks
+    asks_then (state g.S.Store c.args.conn.now) (state g.S.Store c.meta_table.new.conn) (state g.S.Store c.nonce_table.new.conn)
+    c.in_ok-metas.ensures.asks c.in_err-nonces.ensures.asks
 
 pub returns-in_err-accounts-clause-asks : goal.returns-in_err-accounts-clause-asks
 returns-in_err-accounts-clause-asks g c =
     asks_then (state g.S.Store c.args.conn.now) (state g.S.Store c.nonce_table.new.conn) (state g.S.Store c.account_table.new.conn)
-    (asks_then (state g.S.Store c.args.conn.now) (state g.S.Store c.meta_table.new.conn) (state g.S.Store c.nonce_table.new.conn) c.in_ok-metas.ensures.asks c.in_ok-nonces.ensures.asks)
+    (asks_then (state g.S.Store c.args.conn.now) (state g.S.Store c.meta_table.new.conn) (state g.S.Store c.nonce_table.new.conn)
+    c.in_ok-metas.ensures.asks c.in_ok-nonces.ensures.asks)
     c.in_err-accounts.ensures.asks
 
 pub returns-clause-asks : goal.returns-clause-asks
 returns-clause-asks g c =
     asks_then (state g.S.Store c.args.conn.now) (state g.S.Store c.nonce_table.new.conn) (state g.S.Store c.account_table.new.conn)
-    (asks_then (state g.S.Store c.args.conn.now) (state g.S.Store c.meta_table.new.conn) (state g.S.Store c.nonce_table.new.conn) c.in_ok-metas.ensures.asks c.in_ok-nonces.ensures.asks)
+    (asks_then (state g.S.Store c.args.conn.now) (state g.S.Store c.meta_table.new.conn) (state g.S.Store c.nonce_table.new.conn)
+    c.in_ok-metas.ensures.asks c.in_ok-nonces.ensures.asks)
     c.in_ok-accounts.ensures.asks
 
 pub returns-clause-unchanged : goal.returns-clause-unchanged
@@ -76,4 +79,5 @@ returns-clause-unchanged g c clean =
     let three = state g.S.Store c.account_table.new.conn in
     let clean_two : HasCleanDisk two = omega (arith, clean, c.in_ok-accounts.ensures.asks.survives.clean) in
     let clean_one : HasCleanDisk one = omega (arith, clean_two, c.in_ok-nonces.ensures.asks.survives.clean) in
-    unchanged_then before two three (unchanged_then before one two (c.in_ok-metas.ensures.unchanged clean_one) (c.in_ok-nonces.ensures.unchanged clean_two)) (c.in_ok-accounts.ensures.unchanged clean)
+    unchanged_then before two three (unchanged_then before one two (c.in_ok-metas.ensures.unchanged clean_one)
+    (c.in_ok-nonces.ensures.unchanged clean_two)) (c.in_ok-accounts.ensures.unchanged clean)

@@ -79,18 +79,21 @@ returns-clause-shown g c clean =
 
 pub returns-in_err-of_orders-clause-asks : goal.returns-in_err-of_orders-clause-asks
 returns-in_err-of_orders-clause-asks g c =
-    asks_then (state g.S.Store c.args.conn.now) (state g.S.Store c.first_rows.new.conn) (state g.S.Store c.order_rows.new.conn) c.in_ok-first.ensures.asks c.in_err-of_orders.ensures.asks
+    asks_then (state g.S.Store c.args.conn.now) (state g.S.Store c.first_rows.new.conn) (state g.S.Store c.order_rows.new.conn)
+    c.in_ok-first.ensures.asks c.in_err-of_orders.ensures.asks
 
 pub returns-in_err-of_authorizations-clause-asks : goal.returns-in_err-of_authorizations-clause-asks
 returns-in_err-of_authorizations-clause-asks g c =
     asks_then (state g.S.Store c.args.conn.now) (state g.S.Store c.order_rows.new.conn) (state g.S.Store c.authorization_rows.new.conn)
-    (asks_then (state g.S.Store c.args.conn.now) (state g.S.Store c.first_rows.new.conn) (state g.S.Store c.order_rows.new.conn) c.in_ok-first.ensures.asks c.in_ok-of_orders.ensures.asks)
+    (asks_then (state g.S.Store c.args.conn.now) (state g.S.Store c.first_rows.new.conn) (state g.S.Store c.order_rows.new.conn)
+    c.in_ok-first.ensures.asks c.in_ok-of_orders.ensures.asks)
     c.in_err-of_authorizations.ensures.asks
 
 pub returns-clause-asks : goal.returns-clause-asks
 returns-clause-asks g c =
     asks_then (state g.S.Store c.args.conn.now) (state g.S.Store c.order_rows.new.conn) (state g.S.Store c.authorization_rows.new.conn)
-    (asks_then (state g.S.Store c.args.conn.now) (state g.S.Store c.first_rows.new.conn) (state g.S.Store c.order_rows.new.conn) c.in_ok-first.ensures.asks c.in_ok-of_orders.ensures.asks)
+    (asks_then (state g.S.Store c.args.conn.now) (state g.S.Store c.first_rows.new.conn) (state g.S.Store c.order_rows.new.conn)
+    c.in_ok-first.ensures.asks c.in_ok-of_orders.ensures.asks)
     c.in_ok-of_authorizations.ensures.asks
 
 pub returns-clause-unchanged : goal.returns-clause-unchanged
@@ -101,4 +104,5 @@ returns-clause-unchanged g c clean =
     let three = state g.S.Store c.authorization_rows.new.conn in
     let clean_two : HasCleanDisk two = omega (arith, clean, c.in_ok-of_authorizations.ensures.asks.survives.clean) in
     let clean_one : HasCleanDisk one = omega (arith, clean_two, c.in_ok-of_orders.ensures.asks.survives.clean) in
-    unchanged_then before two three (unchanged_then before one two (c.in_ok-first.ensures.unchanged clean_one) (c.in_ok-of_orders.ensures.unchanged clean_two)) (c.in_ok-of_authorizations.ensures.unchanged clean)
+    unchanged_then before two three (unchanged_then before one two (c.in_ok-first.ensures.unchanged clean_one)
+    (c.in_ok-of_orders.ensures.unchanged clean_two)) (c.in_ok-of_authorizations.ensures.unchanged clean)

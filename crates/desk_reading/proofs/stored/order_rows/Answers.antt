@@ -27,16 +27,21 @@ pub returns-clause-shown : goal.returns-clause-shown
 returns-clause-shown g c clean =
     let one = state g.S.Store c.order_table.new.conn in
     let clean_one : HasCleanDisk one = omega (arith, clean, c.in_ok-listed.ensures.asks.survives.clean) in
-    let same_one = (c.in_ok-orders.ensures.unchanged clean_one).0.now_is in
-    (c.in_ok-orders.ensures.shown clean_one, shown_still g.S.Store select_listed listed_in c.args.conn.now c.order_table.new.conn _ same_one (c.in_ok-listed.ensures.shown clean))
+    let same_one = (c.in_ok-orders.ensures.unchanged clean_one).0.now_is in (
+      c.in_ok-orders.ensures.shown clean_one,
+      shown_still g.S.Store select_listed listed_in c.args.conn.now c.order_table.new.conn _ same_one
+          (c.in_ok-listed.ensures.shown clean),
+    )
 
 pub returns-in_err-listed-clause-asks : goal.returns-in_err-listed-clause-asks
 returns-in_err-listed-clause-asks g c =
-    asks_then (state g.S.Store c.args.conn.now) (state g.S.Store c.order_table.new.conn) (state g.S.Store c.listed_table.new.conn) c.in_ok-orders.ensures.asks c.in_err-listed.ensures.asks
+    asks_then (state g.S.Store c.args.conn.now) (state g.S.Store c.order_table.new.conn) (state g.S.Store c.listed_table.new.conn)
+    c.in_ok-orders.ensures.asks c.in_err-listed.ensures.asks
 
 pub returns-clause-asks : goal.returns-clause-asks
 returns-clause-asks g c =
-    asks_then (state g.S.Store c.args.conn.now) (state g.S.Store c.order_table.new.conn) (state g.S.Store c.listed_table.new.conn) c.in_ok-orders.ensures.asks c.in_ok-listed.ensures.asks
+    asks_then (state g.S.Store c.args.conn.now) (state g.S.Store c.order_table.new.conn) (state g.S.Store c.listed_table.new.conn)
+    c.in_ok-orders.ensures.asks c.in_ok-listed.ensures.asks
 
 pub returns-clause-unchanged : goal.returns-clause-unchanged
 returns-clause-unchanged g c clean =

@@ -9,4 +9,5 @@ pub new-requires : goal.new-requires
 new-requires c = ap has_float c.in_ok-value.ensures ∙ order_plain c.args.policy.now c.args.names.now (capped_order c.args.row.now)
 
 pub returns : goal.returns
-returns c = λ T policy names ends. c.new.ensures ∙ c.in_ok-value.ensures ∙ order_with_names-is T c.args.policy.now c.args.names.now c.args.row.now policy names ends
+returns c = λ T policy names ends. c.new.ensures ∙ c.in_ok-value.ensures
+    ∙ order_with_names-is T c.args.policy.now c.args.names.now c.args.row.now policy names ends

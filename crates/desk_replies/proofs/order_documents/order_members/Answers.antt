@@ -17,5 +17,7 @@ returns c =
     (and_put _ _ _ _ (c.in_ok-put_value-2.ensures _ c.moment_value-expires.ensures)
     (and_put _ _ _ _
     (c.in_ok-put_value.ensures _ c.authorization_urls-urls.ensures
-    ∙ ap (λ listed. with_members ((codes "authorizations", list (map (λ l. string (authorization_url c.args.policy.now l.authorization)) listed)) ∷ []) (members_view c.new-members.result.entries)) c.as_slice.ensures)
+    ∙ ap (λ listed. with_members
+    ((codes "authorizations", list (map (λ l. string (authorization_url c.args.policy.now l.authorization)) listed)) ∷ [])
+    (members_view c.new-members.result.entries)) c.as_slice.ensures)
     (ap members_view c.new-members.ensures.empty)))))

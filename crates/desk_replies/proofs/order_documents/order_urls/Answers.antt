@@ -9,16 +9,22 @@ use Rattle.desk_replies.proofs.order_documents.order_urls.Goals as goal
 
 pub loop-row-preserved-in-Continue-branch-2 : goal.loop-row-preserved-in-Continue-branch-2
 loop-row-preserved-in-Continue-branch-2 c =
-    shows-passing view (λ o. string (order_url c.args.book.now.meta.policy o.number)) (λ o. is_listed c.args.account (swept_order c.args.moment c.args.book.now.authorizations o))
+    shows-passing view (λ o. string (order_url c.args.book.now.meta.policy o.number))
+    (λ o. is_listed c.args.account (swept_order c.args.moment c.args.book.now.authorizations o))
     c.in-Some.row.now c.next.new.self c.text_value.result c.loop-row.urls.items c.push.new.self.items _ (sym c.is_listed_at.ensures ∙ c.if-is_listed_at.true)
     (c.text_value.ensures ∙ ap string (c.in_ok-url.ensures ∙ ap (λ (meta : Meta). order_url meta.policy c.in-Some.row.now.number) c.meta.ensures))
     c.in_ok-push.ensures.items
-    (ap (λ rows. map view c.loop-row.urls.items ++ map (λ o. string (order_url c.args.book.now.meta.policy o.number)) (filter (λ o. is_listed c.args.account (swept_order c.args.moment c.args.book.now.authorizations o)) rows)) (sym c.in-Some.ensures.steps)
+    (ap (λ rows. map view c.loop-row.urls.items
+    ++ map (λ o. string (order_url c.args.book.now.meta.policy o.number))
+    (filter (λ o. is_listed c.args.account (swept_order c.args.moment c.args.book.now.authorizations o)) rows)) (sym c.in-Some.ensures.steps)
     ∙ c.loop-row.invariant)
 
 pub loop-row-preserved : goal.loop-row-preserved
 loop-row-preserved c =
-    shows-others view (λ o. string (order_url c.args.book.now.meta.policy o.number)) (λ o. is_listed c.args.account (swept_order c.args.moment c.args.book.now.authorizations o))
+    shows-others view (λ o. string (order_url c.args.book.now.meta.policy o.number))
+    (λ o. is_listed c.args.account (swept_order c.args.moment c.args.book.now.authorizations o))
     c.in-Some.row.now c.next.new.self c.loop-row.urls.items _ (sym c.is_listed_at.ensures ∙ c.if-is_listed_at.false)
-    (ap (λ rows. map view c.loop-row.urls.items ++ map (λ o. string (order_url c.args.book.now.meta.policy o.number)) (filter (λ o. is_listed c.args.account (swept_order c.args.moment c.args.book.now.authorizations o)) rows)) (sym c.in-Some.ensures.steps)
+    (ap (λ rows. map view c.loop-row.urls.items
+    ++ map (λ o. string (order_url c.args.book.now.meta.policy o.number))
+    (filter (λ o. is_listed c.args.account (swept_order c.args.moment c.args.book.now.authorizations o)) rows)) (sym c.in-Some.ensures.steps)
     ∙ c.loop-row.invariant)

@@ -7,5 +7,6 @@ use Rattle.desk_replies.proofs.order_documents.order_urls.Given as goal
 
 abbrev pub invariant-loop-row : goal.invariant-loop-row
 invariant-loop-row l =
-    map view l.urls.items ++ map (λ o. string (order_url l.book.meta.policy o.number)) (filter (λ o. is_listed l.account (swept_order l.moment l.book.authorizations o)) l.row-iterator)
+    map view l.urls.items ++ map (λ o. string (order_url l.book.meta.policy o.number))
+    (filter (λ o. is_listed l.account (swept_order l.moment l.book.authorizations o)) l.row-iterator)
     ≡ map (λ o. string (order_url l.book.meta.policy o.number)) (filter (λ o. is_listed l.account (swept_order l.moment l.book.authorizations o)) l.book.orders)

@@ -7,5 +7,6 @@ use Rattle.desk_replies.proofs.work_documents.expected.Goals as goal
 
 pub returns : goal.returns
 returns c =
-    subst (λ key. IfOk c.expected_text.result (λ t. string_bytes t ≡ expected_by c.args.challenge.now.kind (authorization_of (token_text c.args.challenge.now.token) (sha256 key))))
+    subst (λ key. IfOk c.expected_text.result
+    (λ t. string_bytes t ≡ expected_by c.args.challenge.now.kind (authorization_of (token_text c.args.challenge.now.token) (sha256 key))))
     (c.answer_key-key.ensures c.args.challenge.now) c.expected_text.ensures

@@ -11,12 +11,17 @@ loop-row-preserved-in_ok-push c =
     shows-passing view (order_work_document c.args.book.now) (λ o. is_processing (swept_order c.args.moment c.args.book.now.authorizations o).status)
     c.in-Some.row.now c.next.new.self c.in_ok-order_value.field-0 c.loop-row.work.items c.push.new.self.items _
     (sym (c.is_processing.ensures ∙ ap is_processing c.order_status.ensures) ∙ c.if-is_processing.true) c.in_ok-order_value.ensures c.in_ok-push.ensures.items
-    (ap (λ rows. map view c.loop-row.work.items ++ map (order_work_document c.args.book.now) (filter (λ o. is_processing (swept_order c.args.moment c.args.book.now.authorizations o).status) rows)) (sym c.in-Some.ensures.steps)
+    (ap (λ rows. map view c.loop-row.work.items
+    ++ map (order_work_document c.args.book.now)
+    (filter (λ o. is_processing (swept_order c.args.moment c.args.book.now.authorizations o).status) rows)) (sym c.in-Some.ensures.steps)
     ∙ c.loop-row.invariant)
 
 pub loop-row-preserved : goal.loop-row-preserved
 loop-row-preserved c =
     shows-others view (order_work_document c.args.book.now) (λ o. is_processing (swept_order c.args.moment c.args.book.now.authorizations o).status)
-    c.in-Some.row.now c.next.new.self c.loop-row.work.items _ (sym (c.is_processing.ensures ∙ ap is_processing c.order_status.ensures) ∙ c.if-is_processing.false)
-    (ap (λ rows. map view c.loop-row.work.items ++ map (order_work_document c.args.book.now) (filter (λ o. is_processing (swept_order c.args.moment c.args.book.now.authorizations o).status) rows)) (sym c.in-Some.ensures.steps)
+    c.in-Some.row.now c.next.new.self c.loop-row.work.items _ (sym (c.is_processing.ensures ∙ ap is_processing c.order_status.ensures)
+    ∙ c.if-is_processing.false)
+    (ap (λ rows. map view c.loop-row.work.items
+    ++ map (order_work_document c.args.book.now)
+    (filter (λ o. is_processing (swept_order c.args.moment c.args.book.now.authorizations o).status) rows)) (sym c.in-Some.ensures.steps)
     ∙ c.loop-row.invariant)

@@ -13,8 +13,11 @@ returns-in_err-has_numbers c =
     let fails = c.in_err-has_numbers.ensures in
     rw p.1
     (subst (λ (m : Counters). IsNeedFault m c.args.random.now (order_for c.args.account c.args.names.items c.args.random.now) p.0) c.counters-counters.ensures
-    (order_full (record c.counters-counters.result { clock = c.args.at.now.meta.counters.clock }) c.args.random.now c.args.account c.args.names.items c.len.result c.count_tokens-count.result p.0
-    (c.len.ensures ∙ sym c.as_slice.ensures.len ∙ ap (λ (l : List Name). length l) c.as_slice.ensures.value) (c.count_tokens-count.ensures ∙ ap (λ (l : List Name). length l + count_by (λ n. not n.wildcard) l) c.as_slice.ensures.value) (p.2 ∙ fails.0) fails.1))
+    (order_full (record c.counters-counters.result { clock = c.args.at.now.meta.counters.clock }) c.args.random.now c.args.account
+    c.args.names.items c.len.result c.count_tokens-count.result p.0
+    (c.len.ensures ∙ sym c.as_slice.ensures.len ∙ ap (λ (l : List Name). length l) c.as_slice.ensures.value)
+    (c.count_tokens-count.ensures ∙ ap (λ (l : List Name). length l + count_by (λ n. not n.wildcard) l) c.as_slice.ensures.value)
+    (p.2 ∙ fails.0) fails.1))
 
 pub returns-in_err-has_tokens : goal.returns-in_err-has_tokens
 returns-in_err-has_tokens c =
@@ -23,9 +26,11 @@ returns-in_err-has_tokens c =
     let tokens = c.count_tokens-count.ensures ∙ ap (λ (l : List Name). length l + count_by (λ n. not n.wildcard) l) c.as_slice.ensures.value in
     rw p.1
     (subst (λ (m : Counters). IsNeedFault m c.args.random.now (order_for c.args.account c.args.names.items c.args.random.now) p.0) c.counters-counters.ensures
-    (order_short (record c.counters-counters.result { clock = c.args.at.now.meta.counters.clock }) c.args.random.now c.args.account c.args.names.items c.count_tokens-count.result p.0
+    (order_short (record c.counters-counters.result { clock = c.args.at.now.meta.counters.clock }) c.args.random.now c.args.account
+    c.args.names.items c.count_tokens-count.result p.0
     tokens (p.2 ∙ fails.0) fails.1
-    (order_numbered (record c.counters-counters.result { clock = c.args.at.now.meta.counters.clock }) c.args.random.now c.args.account c.args.names.items c.len.result c.count_tokens-count.result
+    (order_numbered (record c.counters-counters.result { clock = c.args.at.now.meta.counters.clock }) c.args.random.now c.args.account
+    c.args.names.items c.len.result c.count_tokens-count.result
     (c.len.ensures ∙ sym c.as_slice.ensures.len ∙ ap (λ (l : List Name). length l) c.as_slice.ensures.value) tokens c.in_ok-has_numbers.ensures)))
 
 pub wanted-requires : goal.wanted-requires
@@ -36,7 +41,9 @@ wanted-requires c =
 
 pub returns : goal.returns
 returns c =
-    order_made c.args.at.now.meta.counters (record c.counters-counters.result { clock = c.args.at.now.meta.counters.clock }) c.args.random.now c.later_random.result.now c.args.account c.args.names.items c.new.result
+    order_made c.args.at.now.meta.counters (record c.counters-counters.result { clock = c.args.at.now.meta.counters.clock })
+    c.args.random.now c.later_random.result.now c.args.account c.args.names.items c.new.result
     c.len.result c.count_tokens-count.result (c.new.ensures ∙ c.in_ok-wanted.ensures) c.later_random.ensures c.counters-counters.ensures
-    (c.len.ensures ∙ sym c.as_slice.ensures.len ∙ ap (λ (l : List Name). length l) c.as_slice.ensures.value) (c.count_tokens-count.ensures ∙ ap (λ (l : List Name). length l + count_by (λ n. not n.wildcard) l) c.as_slice.ensures.value)
+    (c.len.ensures ∙ sym c.as_slice.ensures.len ∙ ap (λ (l : List Name). length l) c.as_slice.ensures.value)
+    (c.count_tokens-count.ensures ∙ ap (λ (l : List Name). length l + count_by (λ n. not n.wildcard) l) c.as_slice.ensures.value)
     c.in_ok-has_numbers.ensures c.in_ok-has_tokens.ensures

@@ -11,6 +11,7 @@ returns-in_default c =
 
 pub loop-item-preserved : goal.loop-item-preserved
 loop-item-preserved c =
-    each_in-last identifier_in c.args.items.now c.loop-item.item-index c.item-item.result c.loop-item.found.items c.in-Some.identifier (omega arith) c.item-item.is
+    each_in-last identifier_in c.args.items.now c.loop-item.item-index c.item-item.result c.loop-item.found.items c.in-Some.identifier
+    (omega arith) c.item-item.is
     c.loop-item.invariant (sym c.in_ok-identifier.ensures ∙ c.in-Some.is)
     ∙ ap (λ (l : List Identifier). Some l) (sym c.in_ok-push.ensures.items)

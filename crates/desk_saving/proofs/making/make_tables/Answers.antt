@@ -8,19 +8,23 @@ returns-clause-ok g c =
     let old = c.args.conn.now in
     let last = c.define_desk-defined.new.tx.conn.now in
     let Does = MakesDesk c.args.meta.now in
-    let whole = committed_by g.S.Store old c.transaction-tx.result.conn.now last c.end.new.tx.0 c.transaction-tx.ensures.begun c.define_desk-defined.result c.end.result
+    let whole = committed_by g.S.Store old c.transaction-tx.result.conn.now last c.end.new.tx.0 c.transaction-tx.ensures.begun
+    c.define_desk-defined.result c.end.result
     Does Does (λ did. did) c.define_desk-defined.ensures.ok c.end.ensures.left c.end.ensures.done c.end.ensures.ok in
     search (rules, whole)
 
 pub returns-clause-err : goal.returns-clause-err
 returns-clause-err g c =
-    let whole = undone_by g.S.Store c.args.conn.now c.transaction-tx.result.conn.now c.define_desk-defined.new.tx.conn.now c.end.new.tx.0 c.transaction-tx.ensures.begun
-    c.define_desk-defined.result c.end.result (MakesDesk c.args.meta.now) c.define_desk-defined.ensures.ok c.define_desk-defined.ensures.kept c.end.ensures.left c.end.ensures.err in
+    let whole = undone_by g.S.Store c.args.conn.now c.transaction-tx.result.conn.now c.define_desk-defined.new.tx.conn.now c.end.new.tx.0
+    c.transaction-tx.ensures.begun
+    c.define_desk-defined.result c.end.result (MakesDesk c.args.meta.now) c.define_desk-defined.ensures.ok
+    c.define_desk-defined.ensures.kept c.end.ensures.left c.end.ensures.err in
     search (rules, whole)
 
 pub returns-clause-before : goal.returns-clause-before
 returns-clause-before g c =
-    let whole = spared_by g.S.Store c.args.conn.now c.transaction-tx.result.conn.now c.define_desk-defined.new.tx.conn.now c.end.new.tx.0 c.transaction-tx.ensures.begun
+    let whole = spared_by g.S.Store c.args.conn.now c.transaction-tx.result.conn.now c.define_desk-defined.new.tx.conn.now c.end.new.tx.0
+    c.transaction-tx.ensures.begun
     c.define_desk-defined.result c.end.result c.define_desk-defined.ensures.survives c.end.ensures.before in
     search (rules, whole)
 

@@ -12,19 +12,23 @@ returns-clause-ok g c =
     let last = c.put_changes-put.new.tx.conn.now in
     let changes = c.args.changes.now in
     let means = saves_by changes (state g.S.Store old).now (state g.S.Store last).now in
-    let whole = committed_by g.S.Store old c.transaction-tx.result.conn.now last c.end.new.tx.0 c.transaction-tx.ensures.begun c.put_changes-put.result c.end.result
+    let whole = committed_by g.S.Store old c.transaction-tx.result.conn.now last c.end.new.tx.0 c.transaction-tx.ensures.begun
+    c.put_changes-put.result c.end.result
     (MakesAll changes) (Saves changes) means c.put_changes-put.ensures.ok c.end.ensures.left c.end.ensures.done c.end.ensures.ok in
     search (rules, whole)
 
 pub returns-clause-err : goal.returns-clause-err
 returns-clause-err g c =
-    let whole = undone_by g.S.Store c.args.conn.now c.transaction-tx.result.conn.now c.put_changes-put.new.tx.conn.now c.end.new.tx.0 c.transaction-tx.ensures.begun
-    c.put_changes-put.result c.end.result (MakesAll c.args.changes.now) c.put_changes-put.ensures.ok c.put_changes-put.ensures.kept c.end.ensures.left c.end.ensures.err in
+    let whole = undone_by g.S.Store c.args.conn.now c.transaction-tx.result.conn.now c.put_changes-put.new.tx.conn.now c.end.new.tx.0
+    c.transaction-tx.ensures.begun
+    c.put_changes-put.result c.end.result (MakesAll c.args.changes.now) c.put_changes-put.ensures.ok c.put_changes-put.ensures.kept
+    c.end.ensures.left c.end.ensures.err in
     search (rules, whole)
 
 pub returns-clause-before : goal.returns-clause-before
 returns-clause-before g c =
-    let whole = spared_by g.S.Store c.args.conn.now c.transaction-tx.result.conn.now c.put_changes-put.new.tx.conn.now c.end.new.tx.0 c.transaction-tx.ensures.begun
+    let whole = spared_by g.S.Store c.args.conn.now c.transaction-tx.result.conn.now c.put_changes-put.new.tx.conn.now c.end.new.tx.0
+    c.transaction-tx.ensures.begun
     c.put_changes-put.result c.end.result c.put_changes-put.ensures.survives c.end.ensures.before in
     search (rules, whole)
 

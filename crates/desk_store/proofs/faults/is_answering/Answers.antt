@@ -5,6 +5,7 @@ use Rattle.desk_store.proofs.faults.is_answering.Goals as goal
 pub returns-clause-asks : goal.returns-clause-asks
 returns-clause-asks g c = record {
   survives = c.prepare.ensures.survives;
-  stays = λ clean. stays_asked c.prepare.result (state g.S.Store c.args.conn.now) (state g.S.Store c.prepare.new.self) _ _ (c.prepare.ensures.ok clean) (c.prepare.ensures.err clean);
+  stays = λ clean. stays_asked c.prepare.result (state g.S.Store c.args.conn.now) (state g.S.Store c.prepare.new.self) _ _
+      (c.prepare.ensures.ok clean) (c.prepare.ensures.err clean);
   idle = c.prepare.ensures.mode;
 }

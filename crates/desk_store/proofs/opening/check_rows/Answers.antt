@@ -5,4 +5,5 @@ use Rattle.desk_store.proofs.opening.check_rows.Goals as goal
 
 pub returns-then-not-has_indexes-clause-desk : goal.returns-then-not-has_indexes-clause-desk
 returns-then-not-has_indexes-clause-desk g c clean T has =
-    absurd (lacks_none c.schema.result.now c.has_indexes.result c.has_indexes.ensures (c.schema.ensures.value ∙ has.desk.holds.schema) c.if-not-has_indexes.true)
+    absurd (lacks_none c.schema.result.now c.has_indexes.result c.has_indexes.ensures (c.schema.ensures.value ∙ has.desk.holds.schema)
+    c.if-not-has_indexes.true)

@@ -9,4 +9,5 @@ use Rattle.desk_tables.proofs.statements.upsert_account.Goals as goal
 pub returns-clause-ok : goal.returns-clause-ok
 returns-clause-ok g c =
     let ran = c.in_ok-perform in
-    advances_by account_layout account_columns account_params upsert_account account_upsert _ _ c.args.columns.now _ c.account_values-values.ensures ran.field-0 ran.ensures.runs
+    advances_by account_layout account_columns account_params upsert_account account_upsert _ _ c.args.columns.now _
+    c.account_values-values.ensures ran.field-0 ran.ensures.runs

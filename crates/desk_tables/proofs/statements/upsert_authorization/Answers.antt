@@ -9,4 +9,5 @@ use Rattle.desk_tables.proofs.statements.upsert_authorization.Goals as goal
 pub returns-clause-ok : goal.returns-clause-ok
 returns-clause-ok g c =
     let ran = c.in_ok-perform in
-    advances_by authorization_layout authorization_columns authorization_params upsert_authorization authorization_upsert _ _ c.args.columns.now _ c.authorization_values-values.ensures ran.field-0 ran.ensures.runs
+    advances_by authorization_layout authorization_columns authorization_params upsert_authorization authorization_upsert _ _
+    c.args.columns.now _ c.authorization_values-values.ensures ran.field-0 ran.ensures.runs

@@ -9,4 +9,5 @@ use Rattle.desk_tables.proofs.statements.upsert_nonce.Goals as goal
 pub returns-clause-ok : goal.returns-clause-ok
 returns-clause-ok g c =
     let ran = c.in_ok-perform in
-    advances_by nonce_layout nonce_columns nonce_params upsert_nonce nonce_upsert _ _ c.args.columns.now _ c.nonce_values-values.ensures ran.field-0 ran.ensures.runs
+    advances_by nonce_layout nonce_columns nonce_params upsert_nonce nonce_upsert _ _ c.args.columns.now _ c.nonce_values-values.ensures
+    ran.field-0 ran.ensures.runs

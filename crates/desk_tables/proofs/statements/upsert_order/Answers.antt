@@ -9,4 +9,5 @@ use Rattle.desk_tables.proofs.statements.upsert_order.Goals as goal
 pub returns-clause-ok : goal.returns-clause-ok
 returns-clause-ok g c =
     let ran = c.in_ok-perform in
-    advances_by order_layout order_columns order_params upsert_order order_upsert _ _ c.args.columns.now _ c.order_values-values.ensures ran.field-0 ran.ensures.runs
+    advances_by order_layout order_columns order_params upsert_order order_upsert _ _ c.args.columns.now _ c.order_values-values.ensures
+    ran.field-0 ran.ensures.runs

@@ -16,12 +16,14 @@ returns-in-Err-clause-taken g c = takes_none (g.R.Read.remaining c.args.reader.n
 
 pub returns-in_err-filled-clause-taken : goal.returns-in_err-filled-clause-taken
 returns-in_err-filled-clause-taken g c =
-    takes_within (g.R.Read.remaining c.args.reader.now) (g.R.Read.remaining c.fill_from.new.reader) _ c.args.count (omega (arith, c.in-Ok.ensures.len)) c.in_err-filled.ensures.failed
+    takes_within (g.R.Read.remaining c.args.reader.now) (g.R.Read.remaining c.fill_from.new.reader) _ c.args.count
+    (omega (arith, c.in-Ok.ensures.len)) c.in_err-filled.ensures.failed
 
 pub returns-then-filled-count-clause-body : goal.returns-then-filled-count-clause-body
 returns-then-filled-count-clause-body g c =
     read_short (g.R.Read.remaining c.args.reader.now) (g.R.Read.remaining c.fill_from.new.reader) c.args.begun.now c.deref_mut.result.now c.fill_from.new.buffer
-    c.args.count c.in_ok-filled.filled (search rules) (omega (arith, c.in-Ok.ensures.len)) c.if-filled-count.true c.in_ok-filled.ensures.read (c.in_ok-filled.ensures.end (omega (arith, c.in-Ok.ensures.len)))
+    c.args.count c.in_ok-filled.filled (search rules) (omega (arith, c.in-Ok.ensures.len)) c.if-filled-count.true
+    c.in_ok-filled.ensures.read (c.in_ok-filled.ensures.end (omega (arith, c.in-Ok.ensures.len)))
 
 pub returns-then-filled-count-clause-taken : goal.returns-then-filled-count-clause-taken
 returns-then-filled-count-clause-taken g c =
@@ -31,9 +33,11 @@ returns-then-filled-count-clause-taken g c =
 
 pub returns-clause-body : goal.returns-clause-body
 returns-clause-body g c =
-    let back = written_whole c.in-Ok.body.len c.fill_from.new.buffer c.in-Ok.body.items (omega (arith, c.in-Ok.ensures.len)) (omega (arith, c.in-Ok.ensures.len)) in
+    let back = written_whole c.in-Ok.body.len c.fill_from.new.buffer c.in-Ok.body.items (omega (arith, c.in-Ok.ensures.len))
+    (omega (arith, c.in-Ok.ensures.len)) in
     read_whole (g.R.Read.remaining c.args.reader.now) (g.R.Read.remaining c.fill_from.new.reader) c.args.begun.now c.deref_mut.result.now c.fill_from.new.buffer
-    c.args.count c.in_ok-filled.filled _ (search (rules, back)) (search rules) (omega (arith, c.in-Ok.ensures.len)) c.if-filled-count.false c.in_ok-filled.ensures.read
+    c.args.count c.in_ok-filled.filled _ (search (rules, back)) (search rules) (omega (arith, c.in-Ok.ensures.len)) c.if-filled-count.false
+    c.in_ok-filled.ensures.read
 
 pub returns-clause-taken : goal.returns-clause-taken
 returns-clause-taken g c =

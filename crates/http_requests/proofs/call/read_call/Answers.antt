@@ -8,19 +8,23 @@ use Rattle.desk_model.specs.Limits.{longest_body, longest_head}
 pub returns-in-Malformed-clause-heard : goal.returns-in-Malformed-clause-heard
 returns-in-Malformed-clause-heard g c =
     let le : length (take c.in_ok-head.filled c.read_head.new.buffer) ≤ longest_head = omega (arith, length-take c.in_ok-head.filled c.read_head.new.buffer) in
-    malformed_heard (g.R.Read.remaining c.args.reader.now) (g.R.Read.remaining c.read_head.new.reader) (take c.in_ok-head.filled c.read_head.new.buffer) c.read_head.new.headers c.unread.result
+    malformed_heard (g.R.Read.remaining c.args.reader.now) (g.R.Read.remaining c.read_head.new.reader)
+    (take c.in_ok-head.filled c.read_head.new.buffer) c.read_head.new.headers c.unread.result
     le (rw c.in-Malformed.is at c.in_ok-head.ensures.says) c.in_ok-head.ensures.bytes (c.unread.ensures.manner, c.unread.ensures.request)
 
 pub returns-in-TooLarge-clause-heard : goal.returns-in-TooLarge-clause-heard
 returns-in-TooLarge-clause-heard g c =
-    too_large_heard (g.R.Read.remaining c.args.reader.now) (g.R.Read.remaining c.read_head.new.reader) (take c.in_ok-head.filled c.read_head.new.buffer) c.read_head.new.headers c.unread-in-TooLarge.result
+    too_large_heard (g.R.Read.remaining c.args.reader.now) (g.R.Read.remaining c.read_head.new.reader)
+    (take c.in_ok-head.filled c.read_head.new.buffer) c.read_head.new.headers c.unread-in-TooLarge.result
     (rw c.in-TooLarge.is at c.in_ok-head.ensures.says) c.in_ok-head.ensures.bytes (c.unread-in-TooLarge.ensures.manner, c.unread-in-TooLarge.ensures.request)
 
 pub returns-in-Complete-clause-heard : goal.returns-in-Complete-clause-heard
 returns-in-Complete-clause-heard g c =
     let le : length (take c.in_ok-head.filled c.read_head.new.buffer) ≤ longest_head = omega (arith, length-take c.in_ok-head.filled c.read_head.new.buffer) in
-    complete_read (g.R.Read.remaining c.args.reader.now) (g.R.Read.remaining c.read_head.new.reader) (take c.in_ok-head.filled c.read_head.new.buffer) c.read_head.new.headers c.in-Complete.spans
-    c.read_headed.result le (omega arith) (rw c.in-Complete.is at c.in_ok-head.ensures.says) c.in_ok-head.ensures.bytes c.read_headed.ensures.manner c.read_headed.ensures.request
+    complete_read (g.R.Read.remaining c.args.reader.now) (g.R.Read.remaining c.read_head.new.reader)
+    (take c.in_ok-head.filled c.read_head.new.buffer) c.read_head.new.headers c.in-Complete.spans
+    c.read_headed.result le (omega arith) (rw c.in-Complete.is at c.in_ok-head.ensures.says) c.in_ok-head.ensures.bytes
+    c.read_headed.ensures.manner c.read_headed.ensures.request
 
 pub returns-in-Complete-clause-taken : goal.returns-in-Complete-clause-taken
 returns-in-Complete-clause-taken g c =

@@ -10,10 +10,13 @@ use Rattle.desk_model.specs.Limits.{longest_body}
 
 pub returns-in-Ok-2-clause-request : goal.returns-in-Ok-2-clause-request
 returns-in-Ok-2-clause-request g c =
-    let p : IsPlan c.args.method.now c.args.path.now (map (header_bytes c.args.buffer.now) c.args.headers.now) (plan.Takes c.in-Takes.resource c.in-Takes.count) =
+    let p : IsPlan c.args.method.now c.args.path.now (map (header_bytes c.args.buffer.now) c.args.headers.now)
+    (plan.Takes c.in-Takes.resource c.in-Takes.count) =
     rw c.in-Takes.is at c.in-Ok.ensures in
-    request_behind (g.R.Read.remaining c.args.reader.now) c.args.method.now c.args.path.now (map (header_bytes c.args.buffer.now) c.args.headers.now) c.args.begun.now
-    c.in-Takes.resource c.in-Takes.count _ c.answer_to.result p.0 p.1 (rw c.in-Ok-2.is at c.in_ok-body-in-Takes.ensures.body) (rw c.has_index.ensures at c.answer_to.ensures)
+    request_behind (g.R.Read.remaining c.args.reader.now) c.args.method.now c.args.path.now
+    (map (header_bytes c.args.buffer.now) c.args.headers.now) c.args.begun.now
+    c.in-Takes.resource c.in-Takes.count _ c.answer_to.result p.0 p.1 (rw c.in-Ok-2.is at c.in_ok-body-in-Takes.ensures.body)
+    (rw c.has_index.ensures at c.answer_to.ensures)
 
 pub returns-in-Ok-2-clause-taken : goal.returns-in-Ok-2-clause-taken
 returns-in-Ok-2-clause-taken g c =

@@ -12,4 +12,5 @@ returns-clause-whole c =
 
 pub returns-clause-serial : goal.returns-clause-serial
 returns-clause-serial c =
-    c.from_be_bytes.ensures ∙ sym (number_from-from_be_bytes c.copy_from_slice.new.self c.copy_from_slice.ensures.len) ∙ ap (number_from 0) (c.copy_from_slice.ensures.after ∙ c.split_at.ensures.front)
+    c.from_be_bytes.ensures ∙ sym (number_from-from_be_bytes c.copy_from_slice.new.self c.copy_from_slice.ensures.len)
+    ∙ ap (number_from 0) (c.copy_from_slice.ensures.after ∙ c.split_at.ensures.front)

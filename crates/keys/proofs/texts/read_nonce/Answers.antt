@@ -11,14 +11,16 @@ returns-clause-undoes c =
     let value = rw c.as_bytes.ensures.value at c.decode_slice.ensures.value in
     let written = rw c.as_bytes.ensures.value at c.in-Ok.ensures.written in
     let ok : ℕ → Result ℕ DecodeSliceError = λ n. Ok n in
-    nonce_of_decoded c.args.text.now c.decode_slice.new.output c.parts_of.result.1 c.parts_of.result.0 (λ i. let h = c.type_inv.text i in omega arith) (sym value ∙ c.in-Ok.is ∙ ap ok c.if-len-ne24.false) written c.parts_of.ensures.whole
+    nonce_of_decoded c.args.text.now c.decode_slice.new.output c.parts_of.result.1 c.parts_of.result.0
+    (λ i. let h = c.type_inv.text i in omega arith) (sym value ∙ c.in-Ok.is ∙ ap ok c.if-len-ne24.false) written c.parts_of.ensures.whole
 
 pub returns-clause-value : goal.returns-clause-value
 returns-clause-value c =
     let value = rw c.as_bytes.ensures.value at c.decode_slice.ensures.value in
     let written = rw c.as_bytes.ensures.value at c.in-Ok.ensures.written in
     let ok : ℕ → Result ℕ DecodeSliceError = λ n. Ok n in
-    rw (c.parts_of.ensures.serial, c.parts_of.ensures.random) (nonce_in-written c.args.text.now c.decode_slice.new.output (sym value ∙ c.in-Ok.is ∙ ap ok c.if-len-ne24.false) written)
+    rw (c.parts_of.ensures.serial, c.parts_of.ensures.random)
+    (nonce_in-written c.args.text.now c.decode_slice.new.output (sym value ∙ c.in-Ok.is ∙ ap ok c.if-len-ne24.false) written)
 
 pub returns-in_default-clause-undoes : goal.returns-in_default-clause-undoes
 returns-in_default-clause-undoes c = λ serial random lt len low e.

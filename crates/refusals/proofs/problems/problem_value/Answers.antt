@@ -13,6 +13,7 @@ returns c =
     ∙ ap object (c.in_ok-put_subproblems.ensures
     ∙ ap (λ l. with_subproblems l (members_view c.put.new.map.entries)) c.as_slice.ensures
     ∙ ap (with_subproblems c.args.problem.now.subproblems) (c.in_ok-put.ensures.ok
-    ∙ ap (λ d. put (codes "status") d (members_view c.in_ok-members.members.entries)) (c.from-status.ensures ∙ ap (λ n. json.number (unsigned n)) c.status.ensures)
+    ∙ ap (λ d. put (codes "status") d (members_view c.in_ok-members.members.entries))
+    (c.from-status.ensures ∙ ap (λ n. json.number (unsigned n)) c.status.ensures)
     ∙ ap (put (codes "status") _) c.in_ok-members.ensures))
     ∙ problem-members c.args.problem.now

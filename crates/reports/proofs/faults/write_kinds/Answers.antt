@@ -23,7 +23,8 @@ loop-kind-preserved g c = record {
       let so_far = c.loop-kind.invariant.found before T holds h now in
       elim c.if-branch.branch [
         | then-branch w ↦ subst (λ f. Searches f (flat_map (faults_of T) kinds) (flat_map (faults_of T) (drop (c.loop-kind.kind-index + 1) kinds)))
-            (sym w.found-is) (turn_found (faults_of T) kinds c.loop-kind.kind-index Account c.loop-kind.found c.loop-kind-test.true so_far (here.0 w.if-branch.true))
+            (sym w.found-is) (turn_found (faults_of T) kinds c.loop-kind.kind-index Account c.loop-kind.found c.loop-kind-test.true so_far
+            (here.0 w.if-branch.true))
         | else-branch w ↦ subst (λ f. Searches f (flat_map (faults_of T) kinds) (flat_map (faults_of T) (drop (c.loop-kind.kind-index + 1) kinds)))
             (sym w.found-is) (turn_passed (faults_of T) kinds c.loop-kind.kind-index Account c.loop-kind.found c.loop-kind-test.true so_far
             (λ some. cc (here.1 some, w.if-branch.false)))

@@ -4,4 +4,12 @@ use Rattle.requests.proofs.lines.line_in.Goals as goal
 pub returns-in-Ok-line_of : goal.returns-in-Ok-line_of
 returns-in-Ok-line_of c =
     rw c.in-Ok-line_of.ensures
-    (record { at = search rules; digits = c.in-Some-text_of.digits.now; digits_there = search rules; random = search rules; method = search rules; path = search rules; body = search rules })
+    (record {
+      at = search rules;
+      digits = c.in-Some-text_of.digits.now;
+      digits_there = search rules;
+      random = search rules;
+      method = search rules;
+      path = search rules;
+      body = search rules;
+    })

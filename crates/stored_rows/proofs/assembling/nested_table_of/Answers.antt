@@ -60,7 +60,8 @@ returns g c =
     (ap (λ l. ascends (λ r. g.P.Row.number r) 1 l) (sym c.deref.ensures.value) ∙ sym c.is_ascending.ensures ∙ c.if-not-is_ascending.false) in
     let ups = EachOf-from_test (λ p. ascends (λ t. g.T.Row.number t) 1 (g.P.Parent.children p)) (λ p. Ascends (λ t. g.T.Row.number t) 1 (g.P.Parent.children p))
     (λ p. Ascends-from_test (λ t. g.T.Row.number t) 1 (g.P.Parent.children p)) c.in_ok-rows.rows.items
-    (ap (list_all (λ p. ascends (λ t. g.T.Row.number t) 1 (g.P.Parent.children p))) (sym c.deref-2.ensures.value) ∙ sym c.have_ascending_children.ensures ∙ c.if-not-have_ascending_children.false) in
+    (ap (list_all (λ p. ascends (λ t. g.T.Row.number t) 1 (g.P.Parent.children p))) (sym c.deref-2.ensures.value)
+    ∙ sym c.have_ascending_children.ensures ∙ c.if-not-have_ascending_children.false) in
     rw c.in_ok-table_of_ascending.ensures
     (nests-rows (λ r. g.P.Row.number r) g.P.Parent.children g.P.Parent.with_children (λ t. g.T.Row.number t) g.met.P.Parent.nests
     c.args.parents c.sort_by_number.new.rows.items c.args.children c.sort_by_owner.new.rows.items c.in_ok-rows.rows.items

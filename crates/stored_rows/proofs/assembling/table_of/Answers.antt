@@ -15,7 +15,8 @@ pub returns-then-not-is_ascending : goal.returns-then-not-is_ascending
 returns-then-not-is_ascending g c = λ _ others moved up.
     let sorted = c.sort_by_number.new.rows.items in
     let from = IsPermutation-sym c.args.rows sorted (subst (λ l. IsPermutation l sorted) c.into_vec-rows.ensures c.sort_by_number.ensures.permutation) in
-    let same = same_by_number (λ r. g.R.Row.number r) 1 sorted others c.sort_by_number.ensures.sorted up (IsPermutation-trans sorted c.args.rows others from moved) in
+    let same = same_by_number (λ r. g.R.Row.number r) 1 sorted others c.sort_by_number.ensures.sorted up
+    (IsPermutation-trans sorted c.args.rows others from moved) in
     let clash : true ≡ false =
     sym (ascends-true (λ r. g.R.Row.number r) 1 others up)
     ∙ ap (λ l. ascends (λ r. g.R.Row.number r) 1 l) (sym same ∙ sym c.deref.ensures.value)

@@ -14,10 +14,13 @@ loop-parent-preserved g c =
     record {
       rows =
           (λ i. c.in_ok-push.ensures.items i ++ nested (λ r. g.P.Row.number r) g.P.Parent.with_children rest (left i))
-          ∙ append_assoc c.loop-parent.rows.items (c.with_children.result ∷ []) (nested (λ r. g.P.Row.number r) g.P.Parent.with_children rest (behind (g.P.Row.number parent) c.loop-parent.rest.items))
-          ∙ ap (λ p. c.loop-parent.rows.items ++ (p ∷ nested (λ r. g.P.Row.number r) g.P.Parent.with_children rest (behind (g.P.Row.number parent) c.loop-parent.rest.items)))
+          ∙ append_assoc c.loop-parent.rows.items (c.with_children.result ∷ [])
+          (nested (λ r. g.P.Row.number r) g.P.Parent.with_children rest (behind (g.P.Row.number parent) c.loop-parent.rest.items))
+          ∙ ap (λ p. c.loop-parent.rows.items
+          ++ (p ∷ nested (λ r. g.P.Row.number r) g.P.Parent.with_children rest (behind (g.P.Row.number parent) c.loop-parent.rest.items)))
           (c.with_children.ensures ∙ ap (λ l. g.P.Parent.with_children parent l) taken)
-          ∙ ap (λ ps. c.loop-parent.rows.items ++ nested (λ r. g.P.Row.number r) g.P.Parent.with_children ps c.loop-parent.rest.items) (sym c.in-Some.ensures.steps.0)
+          ∙ ap (λ ps. c.loop-parent.rows.items ++ nested (λ r. g.P.Row.number r) g.P.Parent.with_children ps c.loop-parent.rest.items)
+          (sym c.in-Some.ensures.steps.0)
           ∙ c.loop-parent.invariant.rows;
       rest =
           ap (λ rs. left_over (λ r. g.P.Row.number r) rest rs) left
@@ -39,7 +42,8 @@ returns-then-is_empty g c =
 pub returns : goal.returns
 returns g c = λ _ all.
     let none = no_items c.loop-parent.parent-iterator.rest.items (omega (arith, c.loop-parent.parent-iterator.rest.ok, c.in-None.ensures.steps.0)) in
-    let empty : c.loop-parent.rest.items ≡ [] = ap (λ ps. left_over (λ r. g.P.Row.number r) ps c.loop-parent.rest.items) (sym none) ∙ c.loop-parent.invariant.rest ∙ all in
+    let empty : c.loop-parent.rest.items ≡ [] = ap (λ ps. left_over (λ r. g.P.Row.number r) ps c.loop-parent.rest.items) (sym none)
+    ∙ c.loop-parent.invariant.rest ∙ all in
     let zero : deque_len c.loop-parent.rest ≡ 0 = omega (arith, c.loop-parent.rest.ok, ap length empty) in
     let clash : true ≡ false = sym (eq-eqb (deque_len c.loop-parent.rest) 0 zero) ∙ sym c.is_empty.ensures ∙ c.if-is_empty.false in
     cc

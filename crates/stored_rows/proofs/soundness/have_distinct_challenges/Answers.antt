@@ -7,6 +7,7 @@ pub returns : goal.returns
 returns c =
     distinct-rows nat_cmp (λ n. n) (λ r. r.number) numbers-equal equal-numbers c.loop-row.numbers.items (challenges_of c.args.authorizations.now)
     (map-same c.loop-row.numbers.items
-    ∙ ended c.loop-row.numbers.items (map (λ r. r.number) (challenges_of c.loop-row.row-iterator)) (map (λ r. r.number) (challenges_of c.args.authorizations.now))
+    ∙ ended c.loop-row.numbers.items (map (λ r. r.number) (challenges_of c.loop-row.row-iterator))
+    (map (λ r. r.number) (challenges_of c.args.authorizations.now))
     c.loop-row.invariant (ap (λ l. map (λ r. r.number) (challenges_of l)) c.in-None.ensures.steps.0))
     c.are_distinct.result c.are_distinct.ensures

@@ -13,5 +13,7 @@ loop-call-preserved g c =
       counted = ap length pushed ∙ length-append c.loop-call.replies.items (c.in-Ok.reply ∷ []) ∙ ap (λ n. n + 1) counted;
       opened = c.in-Ok.ensures.flag opened;
       policy = c.answer.ensures.policy ∙ c.loop-call.invariant.policy;
-      answered = rw (taken, pushed) (answers_more g.K.Storage.sight c.args.self.now.store c.loop-call.self.store c.answer.new.self.store _ c.loop-call.replies.items c.call-item.result c.in-Ok.reply c.loop-call.invariant.answered (c.in-Ok.ensures.exit opened));
+      answered =
+          rw (taken, pushed) (answers_more g.K.Storage.sight c.args.self.now.store c.loop-call.self.store c.answer.new.self.store _
+          c.loop-call.replies.items c.call-item.result c.in-Ok.reply c.loop-call.invariant.answered (c.in-Ok.ensures.exit opened));
     }

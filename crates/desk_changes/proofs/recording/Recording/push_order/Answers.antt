@@ -13,15 +13,19 @@ order_is : (c : In_ok-push_made) → c.in_ok-order.order ≡ next_order c.args.p
 order_is c =
     c.in_ok-order.ensures (c.args.self.now.counters.authorizations + 1)
     (subst (Ascends (λ r. r.number) (c.args.self.now.counters.authorizations + 1)) (sym (c.deref.ensures.value ∙ c.in_ok-rows.ensures.rows))
-    (made_ascends c.args.self.now.counters.clock c.args.account c.args.policy.now.authz_life c.args.wanted.now (c.args.self.now.counters.authorizations + 1) (c.args.self.now.counters.challenges + 1)))
-    ∙ (λ i. restated_order (c.in_ok-rows.ensures.counters i).clock (c.deref.result.now) (bare_order c.args.policy.now (c.in_ok-rows.ensures.counters i) c.args.account c.deref.result.now))
-    ∙ ap (λ rows. restated_order c.args.self.now.counters.clock rows (bare_order c.args.policy.now c.args.self.now.counters c.args.account rows)) (c.deref.ensures.value ∙ c.in_ok-rows.ensures.rows)
+    (made_ascends c.args.self.now.counters.clock c.args.account c.args.policy.now.authz_life c.args.wanted.now
+    (c.args.self.now.counters.authorizations + 1) (c.args.self.now.counters.challenges + 1)))
+    ∙ (λ i. restated_order (c.in_ok-rows.ensures.counters i).clock (c.deref.result.now)
+    (bare_order c.args.policy.now (c.in_ok-rows.ensures.counters i) c.args.account c.deref.result.now))
+    ∙ ap (λ rows. restated_order c.args.self.now.counters.clock rows
+    (bare_order c.args.policy.now c.args.self.now.counters c.args.account rows)) (c.deref.ensures.value ∙ c.in_ok-rows.ensures.rows)
 
 pub returns-clause-order : goal.returns-clause-order
 returns-clause-order c = order_is c
 
 -- the counters after them
-counters_are : (c : In_ok-push_made) → record c.make_rows.new.self.counters { orders = c.make_rows.new.self.counters.orders + 1 } ≡ ordered_counters c.args.policy.now c.args.self.now.counters c.args.account c.args.wanted.now
+counters_are : (c : In_ok-push_made) → record c.make_rows.new.self.counters { orders = c.make_rows.new.self.counters.orders + 1 }
+    ≡ ordered_counters c.args.policy.now c.args.self.now.counters c.args.account c.args.wanted.now
 counters_are c = ap (λ (x : Counters). record x { orders = x.orders + 1 }) c.in_ok-rows.ensures.counters
 
 pub returns-clause-counters : goal.returns-clause-counters

@@ -5,11 +5,14 @@ use Rattle.desk_store.proofs.look_ups.StoreLookUps.orders_listing.Goals as goal
 
 pub returns-in-Ok-clause-reads : goal.returns-in-Ok-clause-reads
 returns-in-Ok-clause-reads g c =
-    reads_ok g.S.Store (λ store. store.conn) c.args.self.now (record { conn = c.orders_listing.new.conn }) c.in-Ok.found c.orders_listing.ensures.asks c.in-Ok.ensures.unchanged
+    reads_ok g.S.Store (λ store. store.conn) c.args.self.now (record { conn = c.orders_listing.new.conn }) c.in-Ok.found
+    c.orders_listing.ensures.asks c.in-Ok.ensures.unchanged
 
 pub returns-in-Ok-clause-found : goal.returns-in-Ok-clause-found
 returns-in-Ok-clause-found g c clean T has = c.in-Ok.ensures.found clean T has.desk.holds (stored_book _ T has.desk)
 
 pub returns-in-Err-clause-reads : goal.returns-in-Err-clause-reads
 returns-in-Err-clause-reads g c =
-    reads_err g.S.Store (λ store. store.conn) c.args.self.now (record { conn = c.reading_fault.new.conn }) (state g.S.Store c.orders_listing.new.conn) c.reading_fault.result c.orders_listing.ensures.asks c.reading_fault.ensures.asks c.reading_fault.ensures.unchanged
+    reads_err g.S.Store (λ store. store.conn) c.args.self.now (record { conn = c.reading_fault.new.conn })
+    (state g.S.Store c.orders_listing.new.conn) c.reading_fault.result c.orders_listing.ensures.asks c.reading_fault.ensures.asks
+    c.reading_fault.ensures.unchanged

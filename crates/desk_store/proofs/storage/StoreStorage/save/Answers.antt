@@ -21,7 +21,8 @@ returns-clause-saves g c =
     let old = state g.S.Store c.args.self.now.conn in
     let mid = state g.S.Store c.save_all.new.conn in
     let same = c.as_slice.ensures.value in
-    saves_err g.S.Store (λ store. store.conn) c.args.changes.items c.args.self.now (record { conn = c.saving_fault.new.conn }) mid c.saving_fault.result c.in-Err.fault
+    saves_err g.S.Store (λ store. store.conn) c.args.changes.items c.args.self.now (record { conn = c.saving_fault.new.conn }) mid
+    c.saving_fault.result c.in-Err.fault
     c.save_all.ensures.idle
     (subst (λ (cs : List Change). Survives old mid (IsLeft (Puts cs old.now))) same c.save_all.ensures.left) c.in-Err.ensures.err c.in-Err.ensures.before
     c.saving_fault.ensures.asks c.saving_fault.ensures.unchanged c.saving_fault.ensures.early

@@ -11,7 +11,12 @@ returns-in-Ok-clause-kept g c clean T has =
     let desk = desk_unchanged (state g.S.Store c.args.conn) new T c.check_desk.ensures.asks.survives.limit (c.in-Ok.ensures.unchanged clean) has in
     record {
       tables = desk;
-      left = λ trees may. (new.committed, g.met.S.Store.settled c.check_desk.new.conn.store trees desk.is_open may, subst (λ (db : Database). IsDesk db T) desk.settled desk.desk);
+      left = λ trees may. (
+        new.committed,
+        g.met.S.Store.settled c.check_desk.new.conn.store trees desk.is_open may,
+        subst
+            (λ (db : Database). IsDesk db T) desk.settled desk.desk,
+      );
     }
 
 pub returns-in-Err-clause-newer : goal.returns-in-Err-clause-newer

@@ -10,7 +10,9 @@ use Rattle.swept_rows.proofs.at.At.challenge.Goals as goal
 pub returns-in_err-challenge_of : goal.returns-in_err-challenge_of
 returns-in_err-challenge_of c =
     let holds : has_row c.args.number c.in_ok-row.row.now ≡ true =
-    found_passes (has_row c.args.number) c.args.self.now.authorizations _ (sym c.owner.ensures ∙ ap (option_map (λ p. record p.0.now { status = p.1 })) c.in_ok-row.was) in
-    let none : is_some (challenge_of c.args.number c.in_ok-row.row.now) ≡ false = ap is_some (sym c.challenge_of.ensures ∙ ap option_copied c.in_err-challenge_of.was) in
+    found_passes (has_row c.args.number) c.args.self.now.authorizations _
+    (sym c.owner.ensures ∙ ap (option_map (λ p. record p.0.now { status = p.1 })) c.in_ok-row.was) in
+    let none : is_some (challenge_of c.args.number c.in_ok-row.row.now)
+    ≡ false = ap is_some (sym c.challenge_of.ensures ∙ ap option_copied c.in_err-challenge_of.was) in
     let some : is_some (challenge_of c.args.number c.in_ok-row.row.now) ≡ true = challenge_there c.args.number c.in_ok-row.row.now ∙ holds in
     cc
