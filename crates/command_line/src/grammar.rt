@@ -68,6 +68,14 @@ fn word<'a>(alloc: Global, name: &'a str, about: &'a str, after: &'a str) -> Com
     Command::new(alloc, name).about(about).after_help(after)
 }
 
+// A word with one argument more. It asks the result, so that what owns several arguments has no early return.
+fn and_arg<'a>(
+    word: Result<Command<'a>, AllocError>,
+    arg: Arg<'a>,
+) -> Result<Command<'a>, AllocError> {
+    word?.arg(arg)
+}
+
 // A word for a desk that is there.
 fn word_on_file<'a>(
     alloc: Global,
@@ -85,28 +93,28 @@ fn base<'a>(alloc: Global) -> Arg<'a> {
     option(alloc, "base", "URL", help).required(true)
 }
 
+fn nonce_life<'a>(alloc: Global) -> Arg<'a> {
+    let help = "seconds that a nonce is open, 1 to 315360000";
+    seconds(alloc, "nonce-life", "3600", help)
+}
+
+fn order_life<'a>(alloc: Global) -> Arg<'a> {
+    let help = "seconds that an order lives, 1 to 315360000";
+    seconds(alloc, "order-life", "604800", help)
+}
+
+fn authz_life<'a>(alloc: Global) -> Arg<'a> {
+    let help = "seconds that an authorization lives, 1 to 315360000";
+    seconds(alloc, "authz-life", "2592000", help)
+}
+
 fn make<'a>(alloc: Global) -> Result<Command<'a>, AllocError> {
-    word(alloc, "make", "Makes a desk in a new file", help::MAKE)
-        .arg(required(alloc, "FILE", "the new file that will hold the desk"))?
-        .arg(base(alloc))?
-        .arg(seconds(
-            alloc,
-            "nonce-life",
-            "3600",
-            "seconds that a nonce is open, 1 to 315360000",
-        ))?
-        .arg(seconds(
-            alloc,
-            "order-life",
-            "604800",
-            "seconds that an order lives, 1 to 315360000",
-        ))?
-        .arg(seconds(
-            alloc,
-            "authz-life",
-            "2592000",
-            "seconds that an authorization lives, 1 to 315360000",
-        ))
+    let file = required(alloc, "FILE", "the new file that will hold the desk");
+    let make = word(alloc, "make", "Makes a desk in a new file", help::MAKE).arg(file);
+    let make = and_arg(make, base(alloc));
+    let make = and_arg(make, nonce_life(alloc));
+    let make = and_arg(make, order_life(alloc));
+    and_arg(make, authz_life(alloc))
 }
 
 fn port<'a>(alloc: Global) -> Arg<'a> {
@@ -123,25 +131,15 @@ fn count<'a>(alloc: Global) -> Arg<'a> {
 
 fn serve<'a>(alloc: Global) -> Result<Command<'a>, AllocError> {
     let about = "Serves HTTP, one request a connection";
-    word_on_file(alloc, "serve", about, help::SERVE)?
-        .arg(port(alloc))?
-        .arg(count(alloc))
+    let serve = word_on_file(alloc, "serve", about, help::SERVE);
+    let serve = and_arg(serve, port(alloc));
+    and_arg(serve, count(alloc))
 }
 
 fn batch<'a>(alloc: Global) -> Result<Command<'a>, AllocError> {
-    let file = option(
-        alloc,
-        "file",
-        "FILE",
-        "the file that holds the desk; without it a new desk in memory",
-    );
-    word(
-        alloc,
-        "batch",
-        "Answers the lines of standard input, a call each",
-        help::BATCH,
-    )
-    .arg(file)
+    let about = "Answers the lines of standard input, a call each";
+    let help = "the file that holds the desk; without it a new desk in memory";
+    word(alloc, "batch", about, help::BATCH).arg(option(alloc, "file", "FILE", help))
 }
 
 fn account<'a>(alloc: Global) -> Arg<'a> {
@@ -156,26 +154,20 @@ fn order_status<'a>(alloc: Global) -> Arg<'a> {
 
 fn status<'a>(alloc: Global) -> Result<Command<'a>, AllocError> {
     let about = "Lists the orders: number, account, status, end; last how many these are";
-    word_on_file(alloc, "status", about, help::STATUS)?
-        .arg(account(alloc))?
-        .arg(order_status(alloc))?
-        .arg(json(
-            alloc,
-            "one JSON document a line, an order each, and no count",
-        ))
+    let form = "one JSON document a line, an order each, and no count";
+    let status = word_on_file(alloc, "status", about, help::STATUS);
+    let status = and_arg(status, account(alloc));
+    let status = and_arg(status, order_status(alloc));
+    and_arg(status, json(alloc, form))
 }
 
 fn check<'a>(alloc: Global) -> Result<Command<'a>, AllocError> {
-    word_on_file(
-        alloc,
-        "check",
-        "Lists the stored statuses that are wrong, and then ends with status 3",
-        help::CHECK,
-    )?
-    .arg(json(
-        alloc,
-        "one JSON document a line, a wrong status each; nothing where there is none",
-    ))
+    let about = "Lists the stored statuses that are wrong, and then ends with status 3";
+    let form = "one JSON document a line, a wrong status each; nothing where there is none";
+    and_arg(
+        word_on_file(alloc, "check", about, help::CHECK),
+        json(alloc, form),
+    )
 }
 
 // The number of what is revoked.
@@ -193,7 +185,7 @@ fn revoke<'a>(
     about: &'a str,
     after: &'a str,
 ) -> Result<Command<'a>, AllocError> {
-    word_on_file(alloc, name, about, after)?.arg(number(alloc))
+    and_arg(word_on_file(alloc, name, about, after), number(alloc))
 }
 
 fn revoke_authorization<'a>(alloc: Global) -> Result<Command<'a>, AllocError> {

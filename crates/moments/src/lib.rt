@@ -2,14 +2,12 @@
 #![tactic(auto)]
 
 ghost use Rattle.std.specs.Prelude.{◌≡◌, ◌≢◌, ◌+◌, ◌≤◌, ◌<◌, ◌++◌, ◌∷◌, ◌*ℤ◌, ◌≤ℤ◌, pos, ℕ, List, IfOk, string_bytes};
-ghost use Rattle.jiff.specs.Words.{civil_nanos};
+ghost use Rattle.jiff_core.specs.DateTime.{civil_nanos};
 ghost use Rattle.desk_model.specs.Limits.{last_end};
 ghost use Rattle.desk_model.specs.Moment.{IsCivil, IsMomentText, civil_text, moment_text as text_of_moment, two_digits};
 ghost use Rattle.moments.specs.MomentLaws.{GivesTheText, TellsMomentsApart};
 
-use jiff::Timestamp;
-use jiff::civil::DateTime;
-use jiff::tz::Offset;
+use jiff_core::civil::DateTime;
 use std::alloc::{AllocError, Global};
 
 // The civil fields of a moment.
@@ -56,8 +54,7 @@ fn datetime_of(moment: u64) -> DateTime
     requires { moment ≤ last_end }
     ensures { civil_nanos result ≡ pos moment *ℤ pos 1_000_000_000 }
 {
-    let timestamp = Timestamp::from_second(moment as i64).unwrap();
-    Offset::UTC.to_datetime(timestamp)
+    DateTime::from_nanosecond_in_range(i128::from(moment) * 1_000_000_000)
 }
 
 // The fields of the civil date and time of a moment.
@@ -67,11 +64,11 @@ fn civil_fields(datetime: DateTime, moment: u64) -> Fields
 {
     Fields {
         year: year_of(datetime),
-        month: month_of(datetime),
-        day: day_of(datetime),
-        hour: hour_of(datetime),
-        minute: minute_of(datetime),
-        second: second_of(datetime),
+        month: datetime.date.month,
+        day: datetime.date.day,
+        hour: datetime.time.hour,
+        minute: datetime.time.minute,
+        second: datetime.time.second,
     }
 }
 
@@ -80,42 +77,7 @@ fn year_of(datetime: DateTime) -> u16
     requires { pos 0 ≤ℤ datetime.date.year }
     ensures { pos result ≡ datetime.date.year }
 {
-    datetime.year() as u16
-}
-
-// The month, from 1.
-fn month_of(datetime: DateTime) -> u8
-    ensures { result ≡ datetime.date.month }
-{
-    datetime.month() as u8
-}
-
-// The day of the month, from 1.
-fn day_of(datetime: DateTime) -> u8
-    ensures { result ≡ datetime.date.day }
-{
-    datetime.day() as u8
-}
-
-// The hour, to 23.
-fn hour_of(datetime: DateTime) -> u8
-    ensures { result ≡ datetime.time.hour }
-{
-    datetime.hour() as u8
-}
-
-// The minute, to 59.
-fn minute_of(datetime: DateTime) -> u8
-    ensures { result ≡ datetime.time.minute }
-{
-    datetime.minute() as u8
-}
-
-// The second, to 59.
-fn second_of(datetime: DateTime) -> u8
-    ensures { result ≡ datetime.time.second }
-{
-    datetime.second() as u8
+    datetime.date.year as u16
 }
 
 // The text of civil fields.

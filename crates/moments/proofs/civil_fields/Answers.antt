@@ -7,6 +7,4 @@ pub year_of-requires : goal.year_of-requires
 year_of-requires c = omega (arith, signed_arith, year_low c.args.datetime c.args.moment c.requires)
 
 pub returns : goal.returns
-returns c =
-    let h = civil_from c.args.datetime c.args.moment c.year_of.result c.requires c.year_of.ensures in
-    rw (c.month_of.ensures, c.day_of.ensures, c.hour_of.ensures, c.minute_of.ensures, c.second_of.ensures) h
+returns c = civil_from c.args.datetime c.args.moment c.year_of.result c.requires c.year_of.ensures
