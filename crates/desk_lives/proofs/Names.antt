@@ -215,11 +215,11 @@ pub wanted_fits : (ids : List Identifier) (r : List ℕ) → has_length 1 most_n
     && (all_different (map wanted_name (wanted (kept (names_in ids)) r)) && list_all is_wanted (wanted (kept (names_in ids)) r))) ≡ true
 wanted_fits ids r fits none enough =
     let ns : List Name = names_in ids in
-    let p = fits-length 1 50 ids fits in
+    let p = fits-length 1 most_names ids fits in
     let same : length ns ≡ length ids = length-names_in ids none in
     let many : length (wanted (kept ns) r) ≡ length (kept ns) = length-wanted (kept ns) r in
     let less : length (kept ns) ≤ length ns = length-kept ns in
     let more : 1 ≤ length (kept ns) = kept_some ns (omega arith) in
-    and_from _ _ (length-fits 1 50 (wanted (kept ns) r) (omega arith) (omega arith))
+    and_from _ _ (length-fits 1 most_names (wanted (kept ns) r) (omega arith) (omega arith))
     (and_from _ _ (ap all_different (names-wanted (kept ns) r) ∙ different-kept ns)
     (tokens_fit (kept ns) r (each-kept IsFormedName ns (each_named ids)) enough))

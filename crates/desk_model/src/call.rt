@@ -1,14 +1,16 @@
 //! What is asked of the desk.
-ghost use Rattle.std.specs.Prelude.{◌≡◌};
+ghost use Rattle.std.specs.Prelude.{◌≡◌, bytes_eq};
 ghost use Rattle.desk_model.specs.Document.{problem_status};
 ghost use Rattle.desk_model.specs.Legal.{has_length, is_problem, is_problem_kind};
 ghost use Rattle.desk_model.specs.Limits.{longest_detail};
+ghost use Rattle.desk_model.specs.Refusals.{refusal_of};
 ghost use Rattle.desk_model.specs.Rules.{same_problem};
 ghost use Rattle.desk_model.specs.Run.{IsFormedCall, IsFormedSigned};
 ghost use Rattle.desk_model.specs.Texts.{IsTextProblem};
 
 use crate::jwk::Jwk;
 use crate::limits::LONGEST_DETAIL;
+use crate::refusal::Refusal;
 use crate::sequence::Sequence;
 use crate::text::{Text, is_same_text};
 
@@ -131,7 +133,7 @@ impl OrderProblem {
     pub fn is_kind(kind: &str) -> bool
         ensures { result ≡ is_problem_kind kind.now }
     {
-        kind == "badCSR" || kind == "serverInternal"
+        is_type_of(Refusal::BadCsr, kind) || is_type_of(Refusal::ServerInternal, kind)
     }
 
     /// Whether it may be recorded: of such an error type, and with a detail that is neither empty nor too long.
@@ -163,10 +165,21 @@ fn has_detail_length(detail: &str) -> bool
     1 <= detail.len() && detail.len() <= LONGEST_DETAIL
 }
 
+// Whether a text is the error type of a refusal.
+fn is_type_of(refusal: Refusal, kind: &str) -> bool
+    ensures { result ≡ bytes_eq kind.now (refusal_of refusal).error_type }
+{
+    is_same_text(kind, refusal.error_type())
+}
+
 fn status_of_kind(kind: &str) -> u16
     ensures { result ≡ problem_status kind.now }
 {
-    if kind == "serverInternal" { 500 } else { 400 }
+    if is_type_of(Refusal::ServerInternal, kind) {
+        Refusal::ServerInternal.status()
+    } else {
+        Refusal::BadCsr.status()
+    }
 }
 
 /// What the types of a call keep, as a fact: an accepted key has its canonical text, and texts are UTF-8.

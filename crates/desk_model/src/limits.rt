@@ -5,7 +5,7 @@ pub const LAST_MOMENT: u64 = 250_000_000_000;
 
 /// The last moment at which anything may end, in seconds since 1970-01-01T00:00:00Z: the last moment of a call and the
 /// longest life after it.
-pub const LAST_END: u64 = 250_315_360_000;
+pub const LAST_END: u64 = LAST_MOMENT + LONGEST_LIFE;
 
 /// The longest life of nonces, orders and authorizations, in seconds.
 pub const LONGEST_LIFE: u64 = 315_360_000;
