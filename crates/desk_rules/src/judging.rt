@@ -1,6 +1,6 @@
 //! Verdicts on signed requests (RFC 8555, 6).
 ghost use Rattle.std.specs.Prelude.{◌≡◌, drop, MatchResult};
-ghost use Rattle.desk_rules.specs.Needs.{NumbersLeft, BytesLeft, IsNeedFault};
+ghost use Rattle.desk_rules.specs.Needs.{NumbersLeft, BytesLeft, IsNeedFault, IsOfAccount};
 ghost use Rattle.desk_model.specs.Payload.{new_order};
 ghost use Rattle.desk_model.specs.Questions.{account_with_key};
 ghost use Rattle.desk_model.specs.Rules.{holder_verdict, new_order_verdict, signed_verdict, target_verdict};
@@ -15,7 +15,7 @@ use crate::targets::{
     order_target, orders_target,
 };
 use crate::verdicts::refused;
-use desk_model::{Jwk, Refusal, Shows, Signed, Target, Verdict};
+use desk_model::{Jwk, Refusal, Signed, Target, Verdict};
 use std::alloc::Global;
 use swept_rows::At;
 
@@ -49,12 +49,13 @@ fn target_verdict(
     payload: &str,
     target: Target,
 ) -> Result<Verdict, CoreFault>
+    requires { IsOfAccount target }
     ensures { let asked = target_verdict at.now (drop 16 random.now) sender payload.now target in
         MatchResult result (λ v. (v ≡ asked) × NumbersLeft at.now.meta.counters v × BytesLeft random.now v)
         (λ e. IsNeedFault at.now.meta.counters random.now asked e) }
 {
     match target {
-        Target::NewAccount => Ok(Verdict::Answers(Shows::KnownAccount(sender))),
+        Target::NewAccount => unreachable!(),
         Target::NewOrder => new_order_target(alloc, at, random, sender, payload),
         Target::Account(number) => Ok(account_target(alloc, sender, number, payload)?),
         Target::Orders(number) => Ok(orders_target(alloc, sender, number, payload)),
@@ -76,6 +77,7 @@ fn holder_verdict(
     payload: &str,
     target: Target,
 ) -> Result<Verdict, CoreFault>
+    requires { IsOfAccount target }
     ensures { let asked = holder_verdict at.now (drop 16 random.now) payload.now target (account_with_key at.now key.now) in
         MatchResult result (λ v. (v ≡ asked) × NumbersLeft at.now.meta.counters v × BytesLeft random.now v)
         (λ e. IsNeedFault at.now.meta.counters random.now asked e) }
