@@ -1,9 +1,9 @@
 -- Which problem a text spells, by the value that it is read as.
 use Rattle.std.proofs.Common.{◌≡◌, ◌≢◌, ℕ, List, Some, None, sym, ap, ◌∙◌}
-use Rattle.std.specs.Prelude.{codes, option_and_then}
+use Rattle.std.specs.Prelude.{codes}
 use Rattle.serde_json.specs.Data.{Data}
-use Rattle.serde_json.specs.Find.{get, as_str}
 use Rattle.serde_json.specs.Read.{read}
+use Rattle.desk_model.specs.Keys.{text_member}
 use Rattle.desk_model.specs.declared.call.OrderProblem.{OrderProblem}
 use Rattle.desk_columns.specs.Limits.{IsProblem}
 use Rattle.desk_columns.specs.ProblemParts.{IsProblemIn}
@@ -27,8 +27,8 @@ none_of_other_value text d there other problem formed same = other problem forme
 -- the strings `detail` and `type` of a problem's object are those of the problem
 same_problem : (d : Data) (problem found : OrderProblem) → d ≡ problem_document problem → IsProblemIn d (Some found) → problem ≡ found
 same_problem d problem found is parts =
-    let detail : Some problem.detail ≡ Some found.detail = sym (ap (λ x. option_and_then as_str (get (codes "detail") x)) is) ∙ parts.1 in
-    let kind : Some problem.kind ≡ Some found.kind = sym (ap (λ x. option_and_then as_str (get (codes "type") x)) is) ∙ parts.2 in
+    let detail : Some problem.detail ≡ Some found.detail = sym (ap (text_member (codes "detail")) is) ∙ parts.1 in
+    let kind : Some problem.kind ≡ Some found.kind = sym (ap (text_member (codes "type")) is) ∙ parts.2 in
     let same_detail : problem.detail ≡ found.detail = cc detail in
     let same_kind : problem.kind ≡ found.kind = cc kind in
     λ i. record { kind = same_kind i; detail = same_detail i }

@@ -1,7 +1,7 @@
 -- What the members of a problem's value say.
-use Rattle.std.specs.Prelude.{◌≡◌, ◌≢◌, codes, Option, None, Some, option_and_then}
+use Rattle.std.specs.Prelude.{◌≡◌, ◌≢◌, codes, Option, None, Some}
 use Rattle.serde_json.specs.Data.{Data}
-use Rattle.serde_json.specs.Find.{get, as_str}
+use Rattle.desk_model.specs.Keys.{text_member}
 use Rattle.desk_model.specs.declared.call.OrderProblem.{OrderProblem}
 use Rattle.desk_columns.specs.Limits.{IsProblem}
 use Rattle.desk_columns.specs.Spelling.{problem_document}
@@ -11,5 +11,5 @@ abbrev pub IsProblemIn : Data → Option OrderProblem → Type 0
 IsProblemIn d None = (problem : OrderProblem) → IsProblem problem → d ≢ problem_document problem
 IsProblemIn d (Some problem) =
     IsProblem problem
-    × (option_and_then as_str (get (codes "detail") d) ≡ Some problem.detail)
-    × (option_and_then as_str (get (codes "type") d) ≡ Some problem.kind)
+    × (text_member (codes "detail") d ≡ Some problem.detail)
+    × (text_member (codes "type") d ≡ Some problem.kind)

@@ -1,6 +1,5 @@
 //! The column `problem`: a compact JSON object of a detail and a type.
-ghost use Rattle.std.specs.Prelude.{◌≡◌, string_bytes, IfOk, option_and_then, option_map};
-ghost use Rattle.serde_json.specs.Find.{get, as_str};
+ghost use Rattle.std.specs.Prelude.{◌≡◌, string_bytes, IfOk};
 ghost use Rattle.serde_json.specs.View.{view};
 ghost use Rattle.desk_columns.specs.Limits.{IsProblem};
 ghost use Rattle.desk_columns.specs.ProblemParts.{IsProblemIn};
@@ -8,7 +7,7 @@ ghost use Rattle.desk_columns.specs.Reading.{IsRead};
 ghost use Rattle.desk_columns.specs.Spelling.{problem_document, problem_text};
 
 use desk_model::{OrderProblem, Text, is_same_text};
-use json_values::value_of;
+use json_values::{text_of, value_of};
 use serde_json::{Value, json};
 use std::alloc::{AllocError, Global};
 
@@ -33,10 +32,10 @@ pub(crate) fn read_problem(alloc: Global, text: &str) -> Result<Option<OrderProb
 fn problem_in(alloc: Global, value: &Value) -> Result<Option<OrderProblem>, AllocError>
     ensures { IfOk result (λ problem. IsProblemIn (view value.now) problem) }
 {
-    let Some(detail) = string_in(value, "detail") else {
+    let Some(detail) = text_of(value, "detail") else {
         return Ok(None);
     };
-    let Some(kind) = string_in(value, "type") else {
+    let Some(kind) = text_of(value, "type") else {
         return Ok(None);
     };
     if !OrderProblem::is_kind(kind) {
@@ -46,13 +45,6 @@ fn problem_in(alloc: Global, value: &Value) -> Result<Option<OrderProblem>, Allo
         kind: Text::new(String::from_str(alloc, kind)?),
         detail: Text::new(String::from_str(alloc, detail)?),
     }))
-}
-
-// The string of this member.
-fn string_in<'v>(value: &'v Value, name: &str) -> Option<&'v str>
-    ensures { option_map (λ s. s.now) result ≡ option_and_then as_str (get name.now (view value.now)) }
-{
-    value.get(name)?.as_str()
 }
 
 /// The text of a problem as a column, a JSON object of its detail and its type.
