@@ -7,7 +7,7 @@ ghost use Rattle.desk_model.specs.Document.{identifier, error};
 ghost use Rattle.desk_model.specs.Moment.{moment_text as text_of_moment};
 ghost use Rattle.desk_replies.specs.Shown.{capped, with_members};
 
-use desk_model::{LAST_END, Text};
+use desk_model::LAST_END;
 use serde_json::{Map, Value, json, put};
 use std::alloc::{AllocError, Global};
 
@@ -23,17 +23,6 @@ pub(crate) fn list_value(items: Vec<Value>) -> Value
     ensures { view result ≡ list (map (λ v. view v) items.items) }
 {
     Value::Array(items)
-}
-
-/// A JSON list of texts.
-pub(crate) fn text_list(alloc: Global, texts: &[Text]) -> Result<Value, AllocError>
-    ensures { IfOk result (λ v. view v ≡ list (map string texts.now)) }
-{
-    let mut items = Vec::new(alloc);
-    for text in texts {
-        items.push(Value::try_from_str(alloc, text.as_str())?)?;
-    }
-    Ok(list_value(items))
 }
 
 /// The text of a moment, in seconds since 1970; one past the last that has a text is shown as the last.

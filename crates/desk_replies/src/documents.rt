@@ -3,10 +3,10 @@ ghost use Rattle.std.specs.Prelude.{◌≡◌, IfOk};
 ghost use Rattle.serde_json.specs.View.{view};
 ghost use Rattle.desk_model.specs.Document.{directory, account_document};
 
-use crate::document_values::text_list;
 pub(crate) use crate::urls::account_url;
 use crate::urls::{orders_url, url};
 use desk_model::{AccountRow, Document, Policy};
+use json_values::text_list;
 use serde_json::{Value, json};
 use std::alloc::{AllocError, Global};
 

@@ -4,5 +4,5 @@
 mod lists;
 mod values;
 
-pub use lists::texts_in;
+pub use lists::{text_list, texts_in};
 pub use values::{text_of, value_of};

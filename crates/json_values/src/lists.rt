@@ -1,7 +1,9 @@
 //! Lists of strings.
-ghost use Rattle.std.specs.Prelude.{◌≡◌, IfOk};
+ghost use Rattle.std.specs.Prelude.{◌≡◌, IfOk, map};
+ghost use Rattle.serde_json.specs.Data.{string};
 ghost use Rattle.serde_json.specs.Find.{as_str};
 ghost use Rattle.serde_json.specs.View.{view, items_view};
+ghost use Rattle.desk_model.specs.Json.{list};
 ghost use Rattle.desk_model.specs.Payload.{each_in, texts_in};
 
 use desk_model::{Sequence, Text};
@@ -34,4 +36,19 @@ fn texts(alloc: Global, items: &[Value]) -> Result<Option<Sequence<Text>>, Alloc
         found.push(Text::new(String::from_str(alloc, text)?))?;
     }
     Ok(Some(Sequence::new(found)))
+}
+
+/// The list of these texts.
+///
+/// # Errors
+///
+/// Where there is no memory for it.
+pub fn text_list(alloc: Global, texts: &[Text]) -> Result<Value, AllocError>
+    ensures { IfOk result (λ v. view v ≡ list (map string texts.now)) }
+{
+    let mut items = Vec::new(alloc);
+    for text in texts {
+        items.push(Value::try_from_str(alloc, text.as_str())?)?;
+    }
+    Ok(Value::Array(items))
 }
