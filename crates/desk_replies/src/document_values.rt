@@ -8,6 +8,7 @@ ghost use Rattle.desk_model.specs.Moment.{moment_text as text_of_moment};
 ghost use Rattle.desk_replies.specs.Shown.{capped, with_members};
 
 use desk_model::LAST_END;
+use refusals::type_text;
 use serde_json::{Map, Value, json, put};
 use std::alloc::{AllocError, Global};
 
@@ -51,7 +52,7 @@ pub(crate) fn error_value(
     json!(in alloc; {
         "detail": detail,
         "status": status,
-        "type": format!(in alloc; "urn:ietf:params:acme:error:{kind}")?
+        "type": type_text(alloc, kind)?
     })
 }
 

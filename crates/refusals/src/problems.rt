@@ -1,5 +1,5 @@
 //! The JSON documents of refusals (RFC 7807, RFC 8555, 6.7).
-ghost use Rattle.std.specs.Prelude.{◌≡◌, IfOk, OnOk, map};
+ghost use Rattle.std.specs.Prelude.{◌≡◌, IfOk, OnOk, map, string_bytes};
 ghost use Rattle.serde_json.specs.Data.{string};
 ghost use Rattle.serde_json.specs.View.{view, members_view};
 ghost use Rattle.desk_model.specs.Json.{list, members};
@@ -92,6 +92,16 @@ fn identifier(alloc: Global, kind: &str, value: &str) -> Result<Value, AllocErro
 fn error_type(alloc: Global, refusal: Refusal) -> Result<Value, AllocError>
     ensures { IfOk result (λ v. view v ≡ string (error_type (refusal_of refusal).error_type)) }
 {
-    let kind = format!(in alloc; "urn:ietf:params:acme:error:{}", refusal.error_type())?;
-    Ok(Value::String(kind))
+    Ok(Value::String(type_text(alloc, refusal.error_type())?))
+}
+
+/// The text of the error type of this name (RFC 8555, 6.7).
+///
+/// # Errors
+///
+/// Where there is no memory for it.
+pub fn type_text(alloc: Global, name: &str) -> Result<String, AllocError>
+    ensures { IfOk result (λ text. string_bytes text ≡ error_type name.now) }
+{
+    format!(in alloc; "urn:ietf:params:acme:error:{name}")
 }
