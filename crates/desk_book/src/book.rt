@@ -5,7 +5,9 @@ ghost use Rattle.desk_model.specs.Legal.{Legal};
 ghost use Rattle.desk_model.specs.Tables.{Tables, picture};
 ghost use Rattle.desk_model.specs.Questions.{nonce_on, account_on, account_with_key, order_on, authorization_on, owner_on};
 ghost use Rattle.desk_model.specs.Change.{applied_one, applied};
+ghost use Rattle.desk_model.specs.Document.{answer_key};
 ghost use Rattle.desk_model.specs.Effect.{has_row};
+ghost use Rattle.desk_model.specs.declared.rows.ChallengeRow.{ChallengeRow};
 
 use crate::table::Table;
 use desk_model::{
@@ -151,6 +153,17 @@ impl Book {
         ensures { option_copied result ≡ owner_on self.now challenge }
     {
         row_with_challenge(&self.authorizations, challenge)
+    }
+
+    /// The key under which the challenges of an authorization are answered, by its canonical text; empty where its
+    /// account is not there.
+    pub fn answer_key(&self, row: &AuthorizationRow) -> &str
+        ensures { (c : ChallengeRow) → result.now ≡ answer_key self.now row.now c }
+    {
+        match self.account(row.account) {
+            Some(account) => account.key.canonical(),
+            None => "",
+        }
     }
 
     /// Does all the changes, in order.

@@ -9,8 +9,7 @@ ghost use Rattle.desk_model.specs.Tokens.{base64url};
 ghost use Rattle.desk_model.specs.Legal.{is_processing_challenge};
 ghost use Rattle.desk_model.specs.Order.{is_processing};
 ghost use Rattle.desk_model.specs.Effect.{swept_order};
-ghost use Rattle.desk_model.specs.declared.rows.ChallengeRow.{ChallengeRow};
-ghost use Rattle.desk_model.specs.Document.{answer_key, expected, bytes_of, listed_rows, work_document, work_of, challenge_work};
+ghost use Rattle.desk_model.specs.Document.{expected, bytes_of, listed_rows, work_document, work_of, challenge_work};
 ghost use Rattle.desk_model.specs.Document.{order_work_document, order_work};
 ghost use Rattle.desk_replies.specs.Shown.{work_at};
 
@@ -26,16 +25,6 @@ use serde_json::{Value, json};
 use std::alloc::{AllocError, Global};
 use swept_rows::{At, authorization_status, order_status};
 
-// The key under which the challenges of an authorization are answered, empty where its account is not there.
-fn answer_key<'b>(book: &'b Book, row: &AuthorizationRow) -> &'b str
-    ensures { (c : ChallengeRow) → result.now ≡ answer_key book.now row.now c }
-{
-    match book.account(row.account) {
-        Some(account) => account.key.canonical(),
-        None => "",
-    }
-}
-
 // What the validator has to find for a challenge (RFC 8555, 8.3, 8.4).
 fn expected(
     alloc: Global,
@@ -45,8 +34,7 @@ fn expected(
 ) -> Result<String, AllocError>
     ensures { IfOk result (λ t. string_bytes t ≡ expected book.now row.now challenge.now) }
 {
-    let key = answer_key(book, row);
-    expected_text(alloc, challenge.kind, challenge.token, key)
+    expected_text(alloc, challenge.kind, challenge.token, book.answer_key(row))
 }
 
 // A challenge that waits for the validator.

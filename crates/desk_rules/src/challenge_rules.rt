@@ -44,11 +44,8 @@ pub(crate) fn expected(
 ) -> Result<String, AllocError>
     ensures { IfOk result (λ t. string_bytes t ≡ expected at.now row.now challenge.now) }
 {
-    let key = match at.account(row.account) {
-        Some(account) => account.key.canonical(),
-        None => "",
-    };
-    expected_text(alloc, challenge.kind, challenge.token, key)
+    let (book, _) = at.parts();
+    expected_text(alloc, challenge.kind, challenge.token, book.answer_key(row))
 }
 
 fn judged(matching: bool) -> Outcome

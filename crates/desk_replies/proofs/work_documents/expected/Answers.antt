@@ -9,4 +9,4 @@ pub returns : goal.returns
 returns c =
     subst (λ key. IfOk c.expected_text.result
     (λ t. string_bytes t ≡ expected_by c.args.challenge.now.kind (authorization_of (token_text c.args.challenge.now.token) (sha256 key))))
-    (c.answer_key-key.ensures c.args.challenge.now) c.expected_text.ensures
+    (c.answer_key.ensures c.args.challenge.now) c.expected_text.ensures
