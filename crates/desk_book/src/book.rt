@@ -226,7 +226,8 @@ fn row_with_key<'a>(accounts: &'a Table<AccountRow>, key: &str) -> Option<&'a Ac
     accounts.iter().find(|row| row.key.canonical() == key)
 }
 
-fn has_challenge(row: &AuthorizationRow, challenge: u64) -> bool
+/// Whether a challenge is one of an authorization's.
+pub fn has_challenge(row: &AuthorizationRow, challenge: u64) -> bool
     ensures { result ≡ has_row challenge row.now }
 {
     row.challenges

@@ -6,7 +6,7 @@ mod derived;
 mod row;
 mod table;
 
-pub use book::Book;
+pub use book::{Book, has_challenge};
 pub use derived::{derived_account, derived_authorization, derived_challenge, derived_order};
 pub use row::Row;
 pub use table::Table;

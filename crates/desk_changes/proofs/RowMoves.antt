@@ -2,8 +2,7 @@
 use Rattle.std.proofs.Common.{◌≡◌, ◌≤◌, ◌<◌, ◌+◌, ℕ, Bool, true, false, cond, List, [], ◌∷◌, ◌++◌, map, filter, length, drop}
 use Rattle.std.proofs.Common.{get_or, Option, Some, None, refl, sym, ap, ◌∙◌, append_assoc, append-nil}
 use Rattle.std.proofs.lemmas.List.{at_drop_all, at_drop_more, map-append}
-use Rattle.std.specs.Prelude.{◌==◌, ◌&&◌, ◌||◌, find, is_some, unwrap_or}
-use Rattle.std.specs.List.{list_any}
+use Rattle.std.specs.Prelude.{◌==◌, ◌&&◌, ◌||◌, find, unwrap_or}
 use Rattle.std.specs.Option.{option_map}
 use Rattle.desk_model.specs.Lookup.{holds}
 use Rattle.desk_model.specs.Derived.{authorization_numbered, numbers_of}
@@ -19,15 +18,6 @@ use Rattle.desk_model.specs.declared.status.AuthzStatus.{AuthzStatus}
 use Rattle.desk_laws.proofs.Local.{moved_number}
 use Rattle.desk_changes.specs.Moved.{authorizations_moved, standing_rows, rows_after, moved_one, row_of, stated_authorization, touched_one}
 use Rattle.swept_rows.proofs.SweptRows.{swept_authorization-status, swept_order-status, find-moved}
-
--- one is found exactly where there is one
-pub found-any : {X : Type 0} (p : X → Bool) (xs : List X) → is_some (find p xs) ≡ list_any p xs
-found-any p [] = refl
-found-any {X} p (x ∷ xs) = by (p x) (found-any p xs)
-  where
-    by : (b : Bool) → is_some (find p xs) ≡ list_any p xs → is_some (cond b (Some x) (find p xs)) ≡ (b || list_any p xs)
-    by true rest = refl
-    by false rest = rest
 
 -- one row after the other
 pub moved_rows-one : {X : Type 0} (touched : X → Bool) (differs : X → X → Bool) (move : X → X) (x : X) (xs : List X) →

@@ -10,8 +10,8 @@ ghost use Rattle.desk_changes.specs.Moved.{standing_rows, stated_authorization, 
 
 use crate::differing::{account_differs, authorization_differs, order_differs};
 use crate::noted::{noted_account, noted_authorization, noted_order};
-use crate::touched::{has_challenge, touches_account, touches_authorization, touches_order};
-use desk_book::{Book, derived_authorization, derived_order};
+use crate::touched::{touches_account, touches_authorization, touches_order};
+use desk_book::{Book, derived_authorization, derived_order, has_challenge};
 use desk_model::{AccountRow, AuthorizationRow, AuthzStatus, Change, Listed, Move, OrderRow};
 use std::alloc::{AllocError, Global};
 use swept_rows::{authorization_status, order_status};

@@ -8,8 +8,7 @@ ghost use Rattle.desk_model.specs.Order.{certifying, failing, finalizing};
 ghost use Rattle.desk_model.specs.declared.entry.Entry.TheVariants.{Reported as reported};
 ghost use Rattle.desk_model.specs.Effect.{noted_account, noted_authorization, noted_challenge, noted_order, answered_challenge, reported_challenge, row_ends};
 
-use crate::touched::has_challenge;
-use desk_book::{derived_account, derived_challenge};
+use desk_book::{derived_account, derived_challenge, has_challenge};
 use desk_model::{
     AccountEnd, AccountRow, AuthorizationEnd, AuthorizationRow, ChallengeRow, DatedBytes,
     DatedProblem, EndKind, Move, OrderRow, Outcome, Report, Sequence, Text,

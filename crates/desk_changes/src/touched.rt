@@ -4,11 +4,10 @@ ghost use Rattle.std.specs.List.{list_any};
 ghost use Rattle.desk_model.specs.Entry.{entry_of};
 ghost use Rattle.desk_model.specs.Lookup.{holds};
 ghost use Rattle.desk_model.specs.Derived.{authorization_numbered, numbers_of};
-ghost use Rattle.desk_model.specs.Effect.{has_row, names_order, lists_one, touches_account, touches_authorization, touches_order};
+ghost use Rattle.desk_model.specs.Effect.{names_order, lists_one, touches_account, touches_authorization, touches_order};
 
-use desk_book::Book;
+use desk_book::{Book, has_challenge};
 use desk_model::{AccountRow, AuthorizationRow, Listed, Move, OrderRow};
-use swept_rows::challenge_of;
 
 /// Whether a move touches an account.
 pub(crate) fn touches_account(moved: &Move, row: &AccountRow) -> bool
@@ -18,16 +17,6 @@ pub(crate) fn touches_account(moved: &Move, row: &AccountRow) -> bool
         Move::ContactsChanged(number, _) => *number == row.number,
         Move::AccountEnded(number, _) => *number == row.number,
         _ => false,
-    }
-}
-
-/// Whether a challenge is one of an authorization's.
-pub(crate) fn has_challenge(row: &AuthorizationRow, challenge: u64) -> bool
-    ensures { result ≡ has_row challenge row.now }
-{
-    match challenge_of(row, challenge) {
-        Some(_) => true,
-        None => false,
     }
 }
 
