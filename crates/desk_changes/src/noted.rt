@@ -143,7 +143,7 @@ fn reported_end(
 ) -> Option<AuthorizationEnd>
     ensures { result ≡ row_ends row.now (reported challenge outcome) moment }
 {
-    if matches!(outcome, Outcome::Good) || !has_challenge(row, challenge) {
+    if outcome.is_good() || !has_challenge(row, challenge) {
         return None;
     }
     Some(AuthorizationEnd {

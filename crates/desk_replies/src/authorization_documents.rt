@@ -46,7 +46,7 @@ fn put_date(
     ensures { OnOk result (members_view members.new.entries
         ≡ with_members (validated_by report.outcome (capped report.date)) (members_view members.old.entries)) }
 {
-    if report.outcome != Outcome::Good {
+    if !report.outcome.is_good() {
         return Ok(());
     }
     let date = moment_value(alloc, report.date)?;
