@@ -27,13 +27,13 @@ fn put_error(
 ) -> Result<(), AllocError>
     ensures { OnOk result (members_view members.new.entries ≡ with_members (report_error outcome) (members_view members.old.entries)) }
 {
-    let (kind, detail, status) = match outcome {
+    let (detail, status) = match outcome {
         Outcome::Good => return Ok(()),
-        Outcome::IncorrectResponse => { ("incorrectResponse", "the response did not match", 403) }
-        Outcome::Connection => ("connection", "the validator could not connect", 400),
-        Outcome::Dns => ("dns", "the validator found no records", 400),
+        Outcome::IncorrectResponse => ("the response did not match", 403),
+        Outcome::Connection => ("the validator could not connect", 400),
+        Outcome::Dns => ("the validator found no records", 400),
     };
-    let error = error_value(alloc, kind, detail, status)?;
+    let error = error_value(alloc, outcome.as_str(), detail, status)?;
     put(members, alloc, "error", error)
 }
 
