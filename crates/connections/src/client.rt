@@ -1,4 +1,5 @@
 //! The stream of one client, which is not waited for without end.
+use desk_model::LONGEST_BODY;
 use std::io::{self, ErrorKind, Read, Write};
 use std::net::{Shutdown, TcpStream};
 use std::time::{Clock, Duration, Instant};
@@ -8,7 +9,7 @@ use std::time::{Clock, Duration, Instant};
 const PATIENCE: u64 = 10;
 
 // How many bytes are read away after the reply, at most: two times the largest body.
-const READ_AWAY: usize = 262144;
+const READ_AWAY: usize = 2 * LONGEST_BODY;
 
 // How many bytes are read away at once.
 const PIECE: usize = 4096;

@@ -8,6 +8,7 @@ use crate::client::{Patient, end};
 use crate::fault::ServeFault;
 use desk_calls::{Desk, DeskFault};
 use desk_http::{Cause, IoFault, Served, serve_one};
+use desk_model::MOST_NAMES;
 use desk_storage::Storage;
 use rand::TryRng;
 use rand::rngs::SysRng;
@@ -17,8 +18,8 @@ use std::net::{Ipv4Addr, Net, SocketAddr, TcpListener, TcpStream};
 use std::random::RandomSource;
 use std::time::{Clock, SystemTime, UNIX_EPOCH};
 
-// The random bytes of a call: enough for one with fifty names.
-const RANDOM: usize = 1616;
+// The random bytes of a call: enough for one with the most names, a nonce and two tokens for each name.
+const RANDOM: usize = 16 * (1 + 2 * MOST_NAMES);
 
 /// Takes a port of 127.0.0.1, 0 for one that the machine chooses, and tells the address.
 ///
