@@ -4,12 +4,9 @@ use Rattle.desk_model.specs.declared.call.Ask.{Ask}
 use Rattle.desk_model.specs.declared.call.Call.{Call}
 use Rattle.desk_model.specs.declared.refusal.Refusal.TheVariants as refusal
 use Rattle.desk_model.specs.declared.reply.Allow.TheVariants as allow
-use Rattle.desk_model.specs.declared.reply.Reply.{Reply}
-use Rattle.requests.specs.Request.{IsPlace, refused_request}
-use Rattle.requests.specs.Routes.{has_index, is_visible}
+use Rattle.requests.specs.Request.{IsUnserved, refused_request}
+use Rattle.requests.specs.Routes.{is_visible}
 use Rattle.requests.specs.declared.lines.Line.{Line}
-use Rattle.requests.specs.declared.request.Place.{Place}
-use Rattle.requests.specs.declared.request.Place.TheVariants as place
 use Rattle.requests.specs.declared.request.Request.{Request}
 use Rattle.requests.specs.declared.request.Request.TheVariants as request
 use Rattle.http_requests.specs.Spelled.{Spells}
@@ -31,17 +28,11 @@ are_visible l = is_visible l.method && is_visible l.path
 abbrev pub are_given : Line → Bool
 are_given l = nat_lt 0 (length l.method) && nat_lt 0 (length l.path)
 
--- the refusal of a request that is not served, by where it goes
-abbrev pub refusal_at : Place → List ℕ → Reply
-refusal_at (place.NotServed methods) path = refused_request refusal.MethodNotAllowed methods (has_index path)
-refusal_at _ path = refused_request refusal.NotFound allow.No (has_index path)
-
 -- what the line asks, or how it is refused: its characters are looked at first; without a method or a path it has no bytes,
--- and is refused by where it goes; else its bytes are read
+-- and is refused as not served; else its bytes are read
 pub data IsRequestOf (l : Line) : Request → Type 0 where
   ill_formed : are_visible l ≡ false → IsRequestOf l (request.Refused (refused_request refusal.Malformed allow.No true))
-  not_given : (p : Place) → are_visible l ≡ true → are_given l ≡ false → IsPlace l.method l.path p
-      → IsRequestOf l (request.Refused (refusal_at p l.path))
+  not_given : (r : Request) → are_visible l ≡ true → are_given l ≡ false → IsUnserved l.path r → IsRequestOf l r
   spelled : (r : Request) → are_visible l ≡ true → are_given l ≡ true → Spells (request_bytes l) r → IsRequestOf l r
 
 -- the call of a line that asks this

@@ -1,13 +1,11 @@
 //! What the lines of a batch ask: their requests, written and read as those of connections are.
 ghost use Rattle.std.specs.Prelude.{◌≡◌, IfOk, string_bytes};
-ghost use Rattle.requests.specs.Request.{IsPlace};
-ghost use Rattle.requests.specs.declared.request.Place.{Place as PlaceOf};
 ghost use Rattle.http_requests.specs.Spelled.{Spells};
-ghost use Rattle.batches.specs.LineRequests.{IsRequestOf, are_given, are_visible, head_bytes, refusal_at, request_bytes};
+ghost use Rattle.batches.specs.LineRequests.{IsRequestOf, are_given, are_visible, head_bytes, request_bytes};
 
-use desk_model::{Allow, Refusal, Reply};
+use desk_model::{Allow, Refusal};
 use http_requests::read_call;
-use requests::{Line, Place, Request, has_index, is_visible, place_of, refusal_reply, refused};
+use requests::{Line, Request, is_visible, refused, unserved};
 use std::alloc::{AllocError, Global};
 
 /// What a line asks, or the refusal of its request, which is read by the rules for a connection (RFC 9112, 2 to 6).
@@ -21,8 +19,9 @@ pub(crate) fn request_of(alloc: Global, line: &Line) -> Result<Request, AllocErr
     if !are_visible(line) {
         return Ok(refused(alloc, Refusal::Malformed, Allow::No, true));
     }
+    // Without a method or a path no bytes can be made of it.
     if !are_given(line) {
-        return not_given(alloc, line);
+        return unserved(alloc, line.path.as_str());
     }
     spelled_by(alloc, line)
 }
@@ -39,28 +38,6 @@ fn are_given(line: &Line) -> bool
     ensures { result ≡ are_given line.now }
 {
     0 < line.method.as_str().len() && 0 < line.path.as_str().len()
-}
-
-// The refusal of a line without a method or a path, of which no bytes can be made.
-fn not_given(alloc: Global, line: &Line) -> Result<Request, AllocError>
-    ensures { IfOk result (λ r. (p : PlaceOf) × IsPlace line.now.method line.now.path p × (r ≡ Request.Refused (refusal_at p line.now.path))) }
-{
-    let path = line.path.as_str();
-    let place = place_of(alloc, line.method.as_str(), path)?;
-    Ok(Request::Refused(refusal_at(alloc, place, path)))
-}
-
-// The refusal of a request that is not served, by where it goes.
-fn refusal_at(alloc: Global, place: Place, path: &str) -> Reply
-    ensures { result ≡ refusal_at place path.now }
-{
-    let index = has_index(path);
-    match place {
-        Place::NotServed(methods) => {
-            refusal_reply(alloc, Refusal::MethodNotAllowed, methods, index)
-        }
-        _ => refusal_reply(alloc, Refusal::NotFound, Allow::No, index),
-    }
 }
 
 // What the bytes of a line's request ask.

@@ -3,14 +3,14 @@ use Rattle.httparse.specs.Spans.{header_bytes}
 use Rattle.httparse.specs.declared.spans.HeaderSpan.{HeaderSpan}
 use Rattle.std.proofs.Common.{◌≡◌, ℕ, List, ◌++◌, map, Option, Some, None, Result, Ok, Err, sym, subst}
 use Rattle.std.specs.Prelude.{IfOk, IfSome}
-use Rattle.requests.specs.Request.{IsAskIn}
+use Rattle.requests.specs.Request.{IsAskIn, IsServed}
 use Rattle.requests.specs.Routes.{has_index}
 use Rattle.requests.specs.declared.request.Request.{Request}
 use Rattle.requests.specs.declared.request.Request.TheVariants as request
 use Rattle.requests.specs.declared.routes.Resource.{Resource}
 use Rattle.http_requests.specs.Framing.{framing_for}
 use Rattle.http_requests.specs.Heard.{IsAnswerTo, IsBody}
-use Rattle.http_requests.specs.Spelled.{IsRequestWith, IsServed, cut_short, unread, asked}
+use Rattle.http_requests.specs.Spelled.{IsRequestWith, cut_short, unread, asked}
 use Rattle.http_requests.specs.declared.framing.Framing.TheVariants as frame
 
 -- what a served request asks by its body

@@ -5,12 +5,12 @@ use Rattle.httparse.specs.declared.spans.HeaderSpan.{HeaderSpan}
 use Rattle.httparse.specs.declared.spans.RequestSpans.{RequestSpans}
 use Rattle.desk_model.specs.declared.refusal.Refusal.TheVariants as refusal
 use Rattle.desk_model.specs.declared.reply.Allow.TheVariants as allow
-use Rattle.requests.specs.Request.{IsAskIn, refused_request}
+use Rattle.requests.specs.Request.{IsAskIn, IsServed, refused_request}
 use Rattle.requests.specs.declared.request.Request.{Request}
 use Rattle.requests.specs.declared.request.Request.TheVariants as request
 use Rattle.requests.specs.declared.routes.Resource.{Resource}
 use Rattle.http_requests.specs.Framing.{framing_for}
-use Rattle.http_requests.specs.Spelled.{IsManner, IsRequestWith, Spells, IsServed}
+use Rattle.http_requests.specs.Spelled.{IsManner, IsRequestWith, Spells}
 use Rattle.http_requests.specs.declared.call.Heard.{Heard}
 use Rattle.http_requests.specs.declared.framing.Framing.TheVariants as frame
 use Rattle.http_requests.specs.declared.plan.Plan.{Plan}

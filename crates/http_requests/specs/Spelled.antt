@@ -5,8 +5,8 @@ use Rattle.httparse.specs.Spans.{name_and_value}
 use Rattle.desk_model.specs.declared.call.Ask.{Ask}
 use Rattle.desk_model.specs.declared.refusal.Refusal.TheVariants as refusal
 use Rattle.desk_model.specs.declared.reply.Allow.TheVariants as allow
-use Rattle.requests.specs.Request.{IsAskIn, refused_request}
-use Rattle.requests.specs.Routes.{IsResourceAt, has_index, methods_of, serves}
+use Rattle.requests.specs.Request.{IsAskIn, IsServed, IsUnserved, refused_request}
+use Rattle.requests.specs.Routes.{has_index}
 use Rattle.requests.specs.declared.request.Request.{Request}
 use Rattle.requests.specs.declared.request.Request.TheVariants as request
 use Rattle.requests.specs.declared.routes.Resource.{Resource}
@@ -15,18 +15,10 @@ use Rattle.http_requests.specs.Head.{BeginsWith, HasNoHead, IsMalformed, IsTooLa
 use Rattle.http_requests.specs.declared.framing.Framing.TheVariants as frame
 use Rattle.http_requests.specs.declared.call.Manner.{Manner}
 
--- the path leads to the resource, and it serves the method
-pub record IsServed (method path : List ℕ) (r : Resource) : Type 0 where
-  pub there : IsResourceAt path r
-  pub serves : serves (methods_of r) method ≡ true
-
 -- what a request asks by its method, its path, its fields and what follows them, or how it is refused:
 -- the path is looked at first, then the method, the fields, the length of the body and the body
 pub data IsRequestWith (method path : List ℕ) (fields : List (List ℕ × List ℕ)) (rest : List ℕ) : Request → Type 0 where
-  not_here : ((r : Resource) → IsResourceAt path r → ⊥)
-      → IsRequestWith method path fields rest (request.Refused (refused_request refusal.NotFound allow.No (has_index path)))
-  not_served : (r : Resource) → IsResourceAt path r → serves (methods_of r) method ≡ false
-      → IsRequestWith method path fields rest (request.Refused (refused_request refusal.MethodNotAllowed (methods_of r) (has_index path)))
+  unserved : (q : Request) → ((r : Resource) → IsServed method path r → ⊥) → IsUnserved path q → IsRequestWith method path fields rest q
   ill_framed : (r : Resource) → IsServed method path r → framing_for r fields ≡ frame.Malformed
       → IsRequestWith method path fields rest (request.Refused (refused_request refusal.Malformed allow.No (has_index path)))
   too_large : (r : Resource) → IsServed method path r → framing_for r fields ≡ frame.TooLarge

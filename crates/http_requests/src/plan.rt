@@ -38,13 +38,7 @@ pub(crate) fn plan_for(
 {
     let index = has_index(path);
     match place_of(alloc, method, path)? {
-        Place::NotHere => Ok(Plan::Answered(refused(alloc, Refusal::NotFound, Allow::No, index))),
-        Place::NotServed(methods) => Ok(Plan::Answered(refused(
-            alloc,
-            Refusal::MethodNotAllowed,
-            methods,
-            index,
-        ))),
+        Place::Unserved(request) => Ok(Plan::Answered(request)),
         Place::Served(resource) => match framing_for(resource, buffer, headers) {
             Framing::Malformed => Ok(Plan::Answered(refused(
                 alloc,

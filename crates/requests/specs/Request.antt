@@ -1,5 +1,5 @@
 -- What a request asks, by its method, its path and its body.
-use Rattle.std.specs.Prelude.{◌≡◌, ℕ, Bool, true, false, List, [], codes, bytes_eq, Option, Some, None, option_map, IsUtf8, ◌⊎◌}
+use Rattle.std.specs.Prelude.{◌≡◌, ℕ, Bool, true, List, [], codes, bytes_eq, Option, Some, None, option_map, IsUtf8, ◌⊎◌}
 use Rattle.desk_model.specs.declared.refusal.Refusal.{Refusal}
 use Rattle.desk_model.specs.declared.refusal.Refusal.TheVariants as refusal
 use Rattle.desk_model.specs.declared.call.Ask.{Ask}
@@ -13,9 +13,11 @@ use Rattle.desk_model.specs.declared.reply.Reply.{Reply}
 use Rattle.refusals.specs.Replies.{refusal_reply}
 use Rattle.requests.specs.Envelopes.{Envelope, IsEnvelopeText, IsSigned}
 use Rattle.requests.specs.Offices.{finding, order_problem}
-use Rattle.requests.specs.Routes.{IsResourceAt, methods_of, serves}
+use Rattle.requests.specs.Routes.{IsResourceAt, has_index, methods_of, serves}
 use Rattle.requests.specs.declared.request.Place.{Place}
 use Rattle.requests.specs.declared.request.Place.TheVariants as place
+use Rattle.requests.specs.declared.request.Request.{Request}
+use Rattle.requests.specs.declared.request.Request.TheVariants as request
 use Rattle.requests.specs.declared.routes.OfficeResource.{OfficeResource}
 use Rattle.requests.specs.declared.routes.OfficeResource.TheVariants as office
 use Rattle.requests.specs.declared.routes.Resource.{Resource}
@@ -73,15 +75,25 @@ IsAskBy None r method body asked = IsTextAsk r method body asked
 abbrev pub IsAskIn : Resource → List ℕ → List ℕ → Option Ask → Type 0
 IsAskIn r method body asked = IsAskBy (certified_order r) r method body asked
 
--- where a request of this method and path goes
-abbrev pub IsPlace : List ℕ → List ℕ → Place → Type 0
-IsPlace method path (place.Served r) = IsResourceAt path r × (serves (methods_of r) method ≡ true)
-IsPlace method path place.NotHere = (r : Resource) → IsResourceAt path r → ⊥
-IsPlace method path (place.NotServed methods) =
-    (r : Resource) × IsResourceAt path r × (methods ≡ methods_of r) × (serves (methods_of r) method ≡ false)
-
 -- ---- requests
 
 -- the reply to a request that is no call: nothing is recorded, and there is no nonce
 abbrev pub refused_request : Refusal → Allow → Bool → Reply
 refused_request why methods index = refusal_reply why [] methods index
+
+-- the path leads to the resource, and it serves the method
+pub record IsServed (method path : List ℕ) (r : Resource) : Type 0 where
+  pub there : IsResourceAt path r
+  pub serves : serves (methods_of r) method ≡ true
+
+-- how a request of a method that the path does not serve is refused: nothing is there, or a resource of these methods
+pub data IsUnserved (path : List ℕ) : Request → Type 0 where
+  not_here : ((r : Resource) → IsResourceAt path r → ⊥)
+      → IsUnserved path (request.Refused (refused_request refusal.NotFound allow.No (has_index path)))
+  not_served : (r : Resource) → IsResourceAt path r
+      → IsUnserved path (request.Refused (refused_request refusal.MethodNotAllowed (methods_of r) (has_index path)))
+
+-- where a request of this method and path goes, or how it is refused where no resource serves it
+abbrev pub IsPlace : List ℕ → List ℕ → Place → Type 0
+IsPlace method path (place.Served r) = IsServed method path r
+IsPlace method path (place.Unserved q) = ((r : Resource) → IsServed method path r → ⊥) × IsUnserved path q

@@ -1,11 +1,12 @@
 //! From a request's method, path and body to what is asked.
-ghost use Rattle.std.specs.Prelude.{◌≡◌, None, IfOk};
-ghost use Rattle.requests.specs.Request.{IsAskIn, IsAskOf, IsPlace, IsSignedAsk, IsTextAsk, certified_order, certify_ask};
-ghost use Rattle.requests.specs.Request.{fail_ask, office_ask, refused_request, report_ask};
+ghost use Rattle.std.specs.Prelude.{◌≡◌, None, IfOk, MatchOption};
+ghost use Rattle.requests.specs.Request.{IsAskIn, IsAskOf, IsPlace, IsSignedAsk, IsTextAsk, IsUnserved, certified_order};
+ghost use Rattle.requests.specs.Request.{certify_ask, fail_ask, office_ask, refused_request, report_ask};
+ghost use Rattle.requests.specs.Routes.{IsResourceAt};
 
 use crate::envelopes::signed_in;
 use crate::offices::{finding, order_problem};
-use crate::routes::{OfficeResource, Resource, methods_of, resource_at, serves};
+use crate::routes::{OfficeResource, Resource, has_index, methods_of, resource_at, serves};
 use desk_model::{Allow, Ask, OfficeAsk, Refusal, Reply, Sequence, Target};
 use std::alloc::{AllocError, Global};
 
@@ -19,14 +20,12 @@ pub enum Request {
 }
 
 /// Where a request of a method and a path goes.
-#[derive(Clone, Copy)]
+#[derive(Drop)]
 pub enum Place {
     /// To a resource that serves the method.
     Served(Resource),
-    /// No resource has the path.
-    NotHere,
-    /// The path's resource serves these methods, and not this one.
-    NotServed(Allow),
+    /// Nowhere: the path does not serve the method, and the request is refused so.
+    Unserved(Request),
 }
 
 /// Where a request of this method and path goes (RFC 8555, 7.1).
@@ -37,14 +36,39 @@ pub enum Place {
 pub fn place_of(alloc: Global, method: &str, path: &str) -> Result<Place, AllocError>
     ensures { IfOk result (λ p. IsPlace method.now path.now p) }
 {
-    let Some(resource) = resource_at(alloc, path)? else {
-        return Ok(Place::NotHere);
-    };
-    let methods = methods_of(resource);
-    if serves(methods, method) {
-        Ok(Place::Served(resource))
-    } else {
-        Ok(Place::NotServed(methods))
+    let found = resource_at(alloc, path)?;
+    match found {
+        Some(resource) if serves(methods_of(resource), method) => Ok(Place::Served(resource)),
+        _ => Ok(Place::Unserved(unserved_at(alloc, found, path))),
+    }
+}
+
+/// The refusal of a request of a method that this path does not serve.
+///
+/// # Errors
+///
+/// Where there is no memory for the routes.
+pub fn unserved(alloc: Global, path: &str) -> Result<Request, AllocError>
+    ensures { IfOk result (λ q. IsUnserved path.now q) }
+{
+    let found = resource_at(alloc, path)?;
+    Ok(unserved_at(alloc, found, path))
+}
+
+// The same, by what the path leads to.
+fn unserved_at(alloc: Global, found: Option<Resource>, path: &str) -> Request
+    requires { MatchOption found ((r : Resource) → ¬ (IsResourceAt path.now r)) (λ r. IsResourceAt path.now r) }
+    ensures { IsUnserved path.now result }
+{
+    let index = has_index(path);
+    match found {
+        Some(resource) => refused(
+            alloc,
+            Refusal::MethodNotAllowed,
+            methods_of(resource),
+            index,
+        ),
+        None => refused(alloc, Refusal::NotFound, Allow::No, index),
     }
 }
 
