@@ -4,6 +4,7 @@ use crate::grammar::desk;
 use crate::order::{Listing, Order, Target, Terms};
 use clap::error::ErrorKind;
 use clap::{ArgMatches, Command};
+use desk_columns::read_order_status;
 use std::alloc::Global;
 
 // What a word asks for on a file.
@@ -20,7 +21,7 @@ fn order_on_file<'a>(name: &str, file: &'a str, given: &ArgMatches<'a>) -> Optio
         }),
         "status" => Some(Order::Status {
             file,
-            listing: listing(given),
+            listing: listing(given)?,
         }),
         "check" => Some(Order::Check {
             file,
@@ -55,12 +56,15 @@ fn terms<'a>(given: &ArgMatches<'a>) -> Option<Terms<'a>> {
 }
 
 // Which orders are listed, and how.
-fn listing<'a>(given: &ArgMatches<'a>) -> Listing<'a> {
-    Listing {
+fn listing(given: &ArgMatches<'_>) -> Option<Listing> {
+    Some(Listing {
         account: given.get_one::<u64>("account"),
-        status: given.get_str("status"),
+        status: match given.get_str("status") {
+            Some(word) => Some(read_order_status(word)?),
+            None => None,
+        },
         json: given.get_flag("json"),
-    }
+    })
 }
 
 // What a word revokes.

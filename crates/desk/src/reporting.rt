@@ -1,7 +1,6 @@
 //! Reports on the rows of a store.
 use crate::fault::Fault;
 use command_line::Listing;
-use desk_columns::read_order_status;
 use file_tasks::{Tables, Task};
 use reports::{Form, OrderFilter};
 use std::alloc::Global;
@@ -26,7 +25,7 @@ pub(crate) struct ListOrders<'a, W: Write> {
 
 impl<'a, W: Write> ListOrders<'a, W> {
     /// Lists those that the words ask for.
-    pub(crate) fn new(alloc: Global, out: &'a mut W, listing: Listing<'_>) -> ListOrders<'a, W> {
+    pub(crate) fn new(alloc: Global, out: &'a mut W, listing: Listing) -> ListOrders<'a, W> {
         let Listing {
             account,
             status,
@@ -36,13 +35,7 @@ impl<'a, W: Write> ListOrders<'a, W> {
             alloc,
             out,
             form: form(json),
-            filter: OrderFilter {
-                account,
-                status: match status {
-                    Some(text) => read_order_status(text),
-                    None => None,
-                },
-            },
+            filter: OrderFilter { account, status },
         }
     }
 }
