@@ -1,5 +1,6 @@
 //! The words that the program knows.
 use crate::help;
+use crate::lives::{AUTHZ_LIFE, Life, NONCE_LIFE, ORDER_LIFE};
 use clap::builder::ValueParser;
 use clap::{Arg, ArgAction, Command};
 use desk_model::LAST_NUMBER;
@@ -41,10 +42,10 @@ fn option<'a>(alloc: Global, id: &'a str, value: &'a str, help: &'a str) -> Arg<
 }
 
 // An option that is a number of seconds.
-fn seconds<'a>(alloc: Global, id: &'a str, default: &'a str, help: &'a str) -> Arg<'a> {
+fn seconds<'a>(alloc: Global, id: &'a str, default: Life, help: &'a str) -> Arg<'a> {
     option(alloc, id, "N", help)
         .value_parser(clap::value_parser!(u64))
-        .default_value(default)
+        .default_value(default.text)
 }
 
 // An argument that has to be there.
@@ -95,17 +96,17 @@ fn base<'a>(alloc: Global) -> Arg<'a> {
 
 fn nonce_life<'a>(alloc: Global) -> Arg<'a> {
     let help = "seconds that a nonce is open, 1 to 315360000";
-    seconds(alloc, "nonce-life", "3600", help)
+    seconds(alloc, "nonce-life", NONCE_LIFE, help)
 }
 
 fn order_life<'a>(alloc: Global) -> Arg<'a> {
     let help = "seconds that an order lives, 1 to 315360000";
-    seconds(alloc, "order-life", "604800", help)
+    seconds(alloc, "order-life", ORDER_LIFE, help)
 }
 
 fn authz_life<'a>(alloc: Global) -> Arg<'a> {
     let help = "seconds that an authorization lives, 1 to 315360000";
-    seconds(alloc, "authz-life", "2592000", help)
+    seconds(alloc, "authz-life", AUTHZ_LIFE, help)
 }
 
 fn make<'a>(alloc: Global) -> Result<Command<'a>, AllocError> {

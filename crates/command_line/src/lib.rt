@@ -4,9 +4,11 @@
 mod fault;
 mod grammar;
 mod help;
+mod lives;
 mod order;
 mod reading;
 
 pub use fault::WordsFault;
+pub use lives::{AUTHZ_LIFE, Life, NONCE_LIFE, ORDER_LIFE};
 pub use order::{Listing, Order, Target, Terms};
 pub use reading::read_words;

@@ -4,7 +4,7 @@ use crate::desks::adopt;
 use crate::fault::{Fault, tell};
 use crate::reporting::{CheckStatuses, ListOrders};
 use crate::revoking::Revoke;
-use command_line::{Order, Terms, WordsFault, read_words};
+use command_line::{AUTHZ_LIFE, NONCE_LIFE, ORDER_LIFE, Order, Terms, WordsFault, read_words};
 use desk_calls::{Desk, DeskFault, Memory};
 use desk_model::{Clock, Policy};
 use file_tasks::{make_desk, run_over_file};
@@ -14,9 +14,9 @@ use std::io::{Read, Write};
 // The terms of a desk that is made in memory.
 const TERMS: Terms<'static> = Terms {
     base: "https://ca.example",
-    nonce_life: 3600,
-    order_life: 604800,
-    authz_life: 2592000,
+    nonce_life: NONCE_LIFE.seconds,
+    order_life: ORDER_LIFE.seconds,
+    authz_life: AUTHZ_LIFE.seconds,
 };
 
 /// Says that there was no memory for the words, and gives the exit status.
