@@ -11,10 +11,10 @@ use sqlite::types::ValueRef;
 fn bounded(number: u64) -> i64
     ensures { result ≡ pos (bounded number) }
 {
-    if number <= 9223372036854775807 {
+    if number <= i64::MAX as u64 {
         number as i64
     } else {
-        9223372036854775807
+        i64::MAX
     }
 }
 

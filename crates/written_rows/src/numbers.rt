@@ -13,7 +13,7 @@ use crate::fault::WriteFault;
 pub fn number_column(number: u64) -> Result<i64, WriteFault>
     ensures { MatchResult result (λ column. column ≡ pos number) (λ why. (why ≡ TooLarge) × (2 ^ 63 ≤ number)) }
 {
-    if number <= 9223372036854775807 {
+    if number <= i64::MAX as u64 {
         Ok(number as i64)
     } else {
         Err(WriteFault::TooLarge)
