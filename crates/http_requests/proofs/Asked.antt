@@ -1,7 +1,5 @@
 -- From a plan and a body to the request.
-use Rattle.httparse.specs.Spans.{header_bytes}
-use Rattle.httparse.specs.declared.spans.HeaderSpan.{HeaderSpan}
-use Rattle.std.proofs.Common.{◌≡◌, ℕ, List, ◌++◌, map, Option, Some, None, Result, Ok, Err, sym, subst}
+use Rattle.std.proofs.Common.{◌≡◌, ℕ, List, ◌++◌, Option, Some, None, Result, Ok, Err, sym, subst}
 use Rattle.std.specs.Prelude.{IfOk, IfSome}
 use Rattle.requests.specs.Request.{IsAskIn, IsServed}
 use Rattle.requests.specs.Routes.{has_index}
@@ -35,16 +33,3 @@ request_behind {E} known method path fields begun r n body (Err x) s e b a = tt
 request_behind {E} None method path fields begun r n body (Ok q) s e b a = tt
 request_behind {E} (Some left) method path fields begun r n body (Ok q) s e b a =
     request_by_body method path fields (begun ++ left) r n body q s e b a
-
--- what is read with these parts is read with equal ones
-pub behind_is : {E F : Type 0} (known : Option (List ℕ)) (buffer : List ℕ) (res : Result (Result Request E) F)
-    (m n p q : List ℕ) (hs ks : List HeaderSpan) (b d : List ℕ) → m ≡ n → p ≡ q → hs ≡ ks → b ≡ d
-    → IfOk res (λ r. IfOk r (λ x. IfSome known (λ left. IsRequestWith m p (map (header_bytes buffer) hs) (b ++ left) x)))
-    → IfOk res (λ r. IfOk r (λ x. IfSome known (λ left. IsRequestWith n q (map (header_bytes buffer) ks) (d ++ left) x)))
-behind_is known buffer res m n p q hs ks b d e f g h is =
-    let At : List ℕ → List ℕ → List HeaderSpan → List ℕ → Type 0 = λ v w xs y.
-    IfOk res (λ r. IfOk r (λ x. IfSome known (λ left. IsRequestWith v w (map (header_bytes buffer) xs) (y ++ left) x))) in
-    let one : At n p hs b = subst (λ (v : List ℕ). At v p hs b) e is in
-    let two : At n q hs b = subst (λ (v : List ℕ). At n v hs b) f one in
-    let three : At n q ks b = subst (λ (v : List HeaderSpan). At n q v b) g two in
-    subst (λ (v : List ℕ). At n q ks v) h three

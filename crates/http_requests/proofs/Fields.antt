@@ -3,13 +3,15 @@ use Rattle.std.proofs.Common.{◌≡◌, ◌<◌, ◌≤◌, ◌+◌, length, ta
 use Rattle.std.specs.List.{filter}
 use Rattle.std.specs.Prelude.{if◌then◌else◌}
 use Rattle.std.proofs.lemmas.List.{map-append}
-use Rattle.std.proofs.lemmas.List.Elements.{filter-append}
+use Rattle.std.proofs.lemmas.Bool.Decides.{nat_tests}
+use Rattle.std.proofs.lemmas.List.Elements.{All-weaker, filter-append}
+use Rattle.std.proofs.lemmas.Str.{IsUtf8-from_ascii}
+use Rattle.std.proofs.lemmas.Str.Ascii.{IsAscii-from_all}
 use Rattle.std.proofs.Math.Seq.{take-suc}
-use Rattle.std.specs.Prelude.{All}
+use Rattle.std.specs.Prelude.{All, IsUtf8}
 use Rattle.httparse.specs.Spans.{header_bytes, span_bytes, IsHeaderWithin}
 use Rattle.httparse.specs.declared.spans.HeaderSpan.{HeaderSpan}
-use Rattle.httparse.specs.Grammar as grammar
-use Rattle.http_header.specs.Token as token
+use Rattle.httparse.specs.Grammar.{IsToken, is_token_byte}
 use Rattle.http_requests.specs.Framing.{values_of, same_name}
 
 -- the values of one field, or of none
@@ -25,10 +27,15 @@ values_snoc name fields p =
     ∙ (map-append (λ f. f.1) (filter (λ f. same_name f.0 name) fields) (filter (λ f. same_name f.0 name) (p ∷ []))
     ∙ ap (λ l. values_of name fields ++ l) (one_value (same_name p.0 name) p))
 
--- a method of the one grammar is one of the other
-pub token_is_token : (bytes : List ℕ) → grammar.IsToken bytes → token.IsToken bytes
-unfolding grammar.is_token_byte token.is_token_byte
-token_is_token bytes h = h
+-- a byte of a token is one of ASCII
+token_byte_below : (b : ℕ) → is_token_byte b ≡ true → b < 128
+unfolding is_token_byte
+token_byte_below b passes = grind (arith, nat_tests)
+
+-- so a token is text
+pub token_is_text : (bytes : List ℕ) → IsToken bytes → IsUtf8 bytes
+token_is_text bytes h =
+    IsUtf8-from_ascii bytes (IsAscii-from_all bytes (All-weaker (λ b. is_token_byte b ≡ true) (λ b. b < 128) token_byte_below bytes h.1))
 
 -- the fields of one span more
 pub headers_more : (buffer : List ℕ) (headers : List HeaderSpan) (i : ℕ) (d : HeaderSpan) (name value : List ℕ) → i < length headers

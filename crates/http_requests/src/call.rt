@@ -10,7 +10,7 @@ ghost use Rattle.desk_model.specs.Limits.{longest_body, longest_head};
 
 use crate::body::{answer_to, read_body};
 use crate::head::{HeadRead, ReadFailed, read_head};
-use crate::plan::{Plan, method_of, path_of, plan_for};
+use crate::plan::{Plan, plan_for};
 use desk_model::{Allow, LONGEST_HEAD, Refusal};
 use httparse::spans::{EMPTY_HEADER_SPAN, HeaderSpan, RequestSpans};
 use requests::{Request, has_index, refused};
@@ -73,20 +73,40 @@ fn read_headed<R: Read>(
         (λ q. IfSome (R.remaining reader.old) (λ left. IsRequestAt bytes.now headers.now spans left q))) }
     ensures taken { TakesAtMost (R.remaining reader.old) (R.remaining reader.new) longest_body }
 {
-    let request = read_behind(alloc, reader, bytes, headers, spans)?;
-    let path = path_of(spans.path.of(bytes));
+    let method = text_of(spans.method.of(bytes));
+    let path = text_of(spans.path.of(bytes));
+    let request = read_with(
+        alloc,
+        reader,
+        method,
+        path,
+        bytes,
+        first(headers, spans.headers),
+        behind(bytes, spans.len),
+    )?;
     Ok(Heard {
-        manner: manner_by(spans.method.of(bytes), path),
+        manner: manner_by(method, path),
         request,
     })
 }
 
+// The text of these bytes.
+fn text_of(bytes: &[u8]) -> &str
+    requires { IsUtf8 bytes.now }
+    ensures { result.now ≡ bytes.now }
+{
+    match str::from_utf8(bytes) {
+        Ok(text) => text,
+        Err(_) => unreachable!(),
+    }
+}
+
 // How the reply to a request of this method and path is written.
-fn manner_by(method: &[u8], path: &str) -> Manner
+fn manner_by(method: &str, path: &str) -> Manner
     ensures { result ≡ manner_by method.now path.now }
 {
     Manner {
-        head_only: method == b"HEAD".as_slice(),
+        head_only: method == "HEAD",
         index: has_index(path),
     }
 }
@@ -105,36 +125,6 @@ fn unread(alloc: Global, refusal: Refusal) -> Heard
     }
 }
 
-// The request whose head lies at these spans of the bytes that were read; an inner error where memory was refused.
-fn read_behind<R: Read>(
-    alloc: Global,
-    reader: &mut R,
-    bytes: &[u8],
-    headers: &[HeaderSpan],
-    spans: RequestSpans,
-) -> Result<Result<Request, AllocError>, ReadFailed>
-    requires within { IsRequestWithin bytes.now headers.now spans }
-    requires method { IsToken (span_bytes bytes.now spans.method) }
-    requires path { IsUtf8 (span_bytes bytes.now spans.path) }
-    ensures request { IfOk result (λ r. IfOk r (λ q. IfSome (R.remaining reader.old) (λ left. IsRequestAt bytes.now headers.now spans left q))) }
-    ensures taken { TakesAtMost (R.remaining reader.old) (R.remaining reader.new) longest_body }
-{
-    let path = path_of(spans.path.of(bytes));
-    let method = match method_of(alloc, spans.method.of(bytes)) {
-        Ok(method) => method,
-        Err(error) => return Ok(Err(error)),
-    };
-    read_with(
-        alloc,
-        reader,
-        method.as_str(),
-        path,
-        bytes,
-        first(headers, spans.headers),
-        behind(bytes, spans.len),
-    )
-}
-
 // The first spans.
 fn first(headers: &[HeaderSpan], count: usize) -> &[HeaderSpan]
     requires { count ≤ length headers.now }
@@ -151,7 +141,8 @@ fn behind(bytes: &[u8], len: usize) -> &[u8]
     &bytes[len..]
 }
 
-// The request of this method and path, with fields that lie in the buffer, and with what was begun behind its head.
+// The request of this method and path, with fields that lie in the buffer, and with what was begun behind its head; an inner
+// error where memory was refused.
 fn read_with<R: Read>(
     alloc: Global,
     reader: &mut R,
