@@ -10,8 +10,6 @@ use desk_calls::{Desk, DeskFault};
 use desk_http::{Cause, IoFault, Served, serve_one};
 use desk_model::MOST_NAMES;
 use desk_storage::Storage;
-use rand::TryRng;
-use rand::rngs::SysRng;
 use std::alloc::Global;
 use std::io::Write;
 use std::net::{Ipv4Addr, Net, SocketAddr, TcpListener, TcpStream};
@@ -142,7 +140,7 @@ pub fn moment<C: Clock>(clock: &C) -> Result<u64, ServeFault>
 fn draw<S: RandomSource>(source: &S, bytes: &mut [u8]) -> Result<(), ServeFault>
     ensures failed { IfErr result (λ e. e ≡ fault.Random) }
 {
-    match SysRng::new(source).try_fill_bytes(bytes) {
+    match source.fill_bytes(bytes) {
         Ok(()) => Ok(()),
         Err(_) => Err(ServeFault::Random),
     }
