@@ -1,6 +1,6 @@
 -- Digits, one after another.
 use Rattle.std.proofs.Common.{◌≡◌, inl, inr, ◌+◌, ◌*◌, ◌<◌, ◌≤◌, ℕ, suc, Bool, true, false, List, [], ◌∷◌, take, length, get_or}
-use Rattle.std.proofs.Common.{min, arith, add-one, Some, None, refl, nat_lt}
+use Rattle.std.proofs.Common.{arith, add-one, Some, None, refl, nat_lt}
 use Rattle.std.specs.Prelude.{if◌then◌else◌, ◌&&◌}
 use Rattle.std.specs.List.{list_all}
 use Rattle.std.proofs.Math.Seq.{take-suc}
@@ -11,17 +11,17 @@ use Rattle.std.proofs.lemmas.Int.Digits.{digits_push, digits_value_more}
 use Rattle.std.proofs.lemmas.List.Folds.{list_all_at}
 use Rattle.std.specs.Char.{digit_value}
 use Rattle.std.specs.Str.Parse.{AllDigits, digits_value}
-use Rattle.http_requests.specs.Framing.{is_digit, length_in}
+use Rattle.http_requests.specs.Framing.{is_digit, length_in, saturated}
 
 -- one digit more
 pub more_digits : (text : List ℕ) (i : ℕ) → i < length text → AllDigits 10 (take i text) → digit_value (get_or text i 0) < 10
     → AllDigits 10 (take (i + 1) text)
 more_digits text i within h k = rw (add-one, take-suc text i 0 within) (digits_push 10 (take i text) (get_or text i 0) h k)
 
--- the number with one digit more, cut off
-pub more_value : (text : List ℕ) (i n d : ℕ) → i < length text → n ≡ min (digits_value 10 (take i text)) 200000 → d ≡ digit_value (get_or text i 0)
-    → min (n * 10 + d) 200000 ≡ min (digits_value 10 (take (i + 1) text)) 200000
-more_value text i n d within e k = omega (arith, digits_value_more 10 text i within)
+-- the number with one digit more, saturated
+pub more_value : (text : List ℕ) (i n tens d : ℕ) → i < length text → n ≡ saturated (digits_value 10 (take i text)) → tens ≡ saturated (n * 10)
+    → d ≡ digit_value (get_or text i 0) → saturated (tens + d) ≡ saturated (digits_value 10 (take (i + 1) text))
+more_value text i n tens d within e t k = omega (arith, digits_value_more 10 text i within)
 
 -- digits pass the test
 all_digits : (text : List ℕ) → AllDigits 10 text → list_all is_digit text ≡ true
@@ -54,7 +54,7 @@ length_of_no_text (c ∷ cs) h = absurd (omega arith)
 
 -- what was counted of the whole text is its number
 pub length_of_all : (text : List ℕ) (i n : ℕ) → 0 < length text → length text ≤ i → AllDigits 10 (take i text)
-    → n ≡ min (digits_value 10 (take i text)) 200000 → (m : ℕ) × (length_in text ≡ Some m) × (n ≡ min m 200000)
+    → n ≡ saturated (digits_value 10 (take i text)) → (m : ℕ) × (length_in text ≡ Some m) × (n ≡ saturated m)
 length_of_all text i n some all h e =
     let whole : take i text ≡ text = take_all i text all in
     (digits_value 10 text, length_of_digits text some (rw whole at h), rw whole at e)

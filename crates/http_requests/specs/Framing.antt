@@ -1,5 +1,5 @@
 -- How long the body behind a head is, by its fields (RFC 9112, 6).
-use Rattle.std.specs.Prelude.{◌≡◌, ◌≤◌, ◌&&◌, ℕ, Bool, true, false, nat_lt, nat_le, List, [], ◌∷◌, map, length, Option, Some}
+use Rattle.std.specs.Prelude.{◌≡◌, ◌≤◌, ◌-◌, ◌^◌, ◌&&◌, ℕ, min, Bool, true, false, nat_lt, nat_le, List, [], ◌∷◌, map, length, Option, Some}
 use Rattle.std.specs.Prelude.{None, if◌then◌else◌, codes, bytes_eq}
 use Rattle.std.specs.Char.{digit_value, to_ascii_lowercase}
 use Rattle.std.specs.List.{filter, list_all}
@@ -31,6 +31,10 @@ is_digit c = nat_lt (digit_value c) 10
 -- the number of a text of one digit or more
 abbrev pub length_in : List ℕ → Option ℕ
 length_in text = if nat_lt 0 (length text) && list_all is_digit text then Some (digits_value 10 text) else None
+
+-- a number, or the greatest of 64 bits for one past it
+abbrev pub saturated : ℕ → ℕ
+saturated n = min n (2 ^ 64 - 1)
 
 -- what one length says: more than the limit is too large
 abbrev pub framing_by : Option ℕ → ℕ → Framing

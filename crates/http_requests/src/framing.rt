@@ -1,8 +1,9 @@
 //! How long the body behind a head is, by its fields (RFC 9112, 6).
-ghost use Rattle.std.specs.Prelude.{◌≡◌, ◌≤◌, ◌<◌, ◌∷◌, ◌++◌, [], ℕ, List, Option, Some, None, MatchOption, All, map, min, length, Bool, if◌then◌else◌};
+ghost use Rattle.std.specs.Prelude.{◌≡◌, ◌≤◌, ◌∷◌, ◌++◌, [], ℕ, List, Option, Some, None, MatchOption, All, map, length, Bool, if◌then◌else◌};
 ghost use Rattle.std.specs.Char.{digit_value};
 ghost use Rattle.httparse.specs.Spans.{IsHeaderWithin, header_bytes};
-ghost use Rattle.http_requests.specs.Framing.{FoundIs, framing, framing_by, framing_for, is_posted, length_in, limit_of, same_name, values_of};
+ghost use Rattle.http_requests.specs.Framing.{FoundIs, framing, framing_by, framing_for, is_posted, length_in, limit_of, same_name, saturated, values_of};
+ghost use Rattle.desk_model.specs.Limits.{longest_body};
 
 use desk_model::{Allow, LONGEST_BODY, LONGEST_CERTIFICATE};
 use httparse::spans::HeaderSpan;
@@ -26,9 +27,6 @@ enum Found<'b> {
     One(&'b [u8]),
     Many,
 }
-
-// A number cut off here is above each limit.
-const CAP: usize = 200000;
 
 /// What the fields say of a request to this resource; those of a GET or HEAD are not looked at.
 pub(crate) fn framing_for(resource: Resource, buffer: &[u8], headers: &[HeaderSpan]) -> Framing
@@ -56,7 +54,7 @@ fn is_posted(methods: Allow) -> bool
 // The most bytes of a body: 64 KiB of a certificate, else 128 KiB.
 fn limit_of(resource: Resource) -> usize
     ensures value { result ≡ limit_of resource }
-    ensures capped { result < 200000 }
+    ensures longest { result ≤ longest_body }
 {
     match resource {
         Resource::Office(OfficeResource::Certify(_)) => LONGEST_CERTIFICATE,
@@ -66,7 +64,7 @@ fn limit_of(resource: Resource) -> usize
 
 // What the values of the two fields say.
 fn framing_from(encodings: Found<'_>, lengths: Found<'_>, limit: usize) -> Framing
-    requires { limit < 200000 }
+    requires { limit ≤ longest_body }
     ensures { (es ls : List (List ℕ)) → FoundIs es encodings.entry → FoundIs ls lengths.entry → result ≡ framing es ls limit }
 {
     match encodings {
@@ -82,7 +80,7 @@ fn framing_from(encodings: Found<'_>, lengths: Found<'_>, limit: usize) -> Frami
 
 // What one length says.
 fn framing_by(text: &[u8], limit: usize) -> Framing
-    requires { limit < 200000 }
+    requires { limit ≤ longest_body }
     ensures { result ≡ framing_by (length_in text.now) limit }
 {
     match length_in(text) {
@@ -97,9 +95,9 @@ fn framing_by(text: &[u8], limit: usize) -> Framing
     }
 }
 
-// The number of a text of one digit or more, cut off at the cap.
+// The number of a text of one digit or more; the greatest usize stands for one past it.
 fn length_in(text: &[u8]) -> Option<usize>
-    ensures { MatchOption result (length_in text.now ≡ None) (λ n. (m : ℕ) × (length_in text.now ≡ Some m) × (n ≡ min m 200000)) }
+    ensures { MatchOption result (length_in text.now ≡ None) (λ n. (m : ℕ) × (length_in text.now ≡ Some m) × (n ≡ saturated m)) }
 {
     if text.len() == 0 {
         return None;
@@ -108,7 +106,7 @@ fn length_in(text: &[u8]) -> Option<usize>
     for b in text {
         match char::from(*b).to_digit(10) {
             None => return None,
-            Some(digit) => number = (number * 10 + digit as usize).min(CAP),
+            Some(digit) => number = number.saturating_mul(10).saturating_add(digit as usize),
         }
     }
     Some(number)

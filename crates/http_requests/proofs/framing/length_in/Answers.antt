@@ -13,8 +13,8 @@ pub loop-b-preserved : goal.loop-b-preserved
 loop-b-preserved c =
     let d : digit_value (get_or c.args.text.now c.loop-b.b-index 0) < 10 = rw c.from.ensures at c.in-Some.ensures.value.0 in (
       more_digits c.args.text.now c.loop-b.b-index (omega arith) c.loop-b.invariant.0 d,
-      c.min-number.ensures ∙ more_value c.args.text.now c.loop-b.b-index c.loop-b.number c.in-Some.digit (omega arith) c.loop-b.invariant.1
-          (c.in-Some.ensures.value.1 ∙ ap digit_value c.from.ensures),
+      c.saturating_add-number.ensures ∙ more_value c.args.text.now c.loop-b.b-index c.loop-b.number c.saturating_mul.result c.in-Some.digit (omega arith)
+          c.loop-b.invariant.1 c.saturating_mul.ensures (c.in-Some.ensures.value.1 ∙ ap digit_value c.from.ensures),
     )
 
 pub returns : goal.returns
