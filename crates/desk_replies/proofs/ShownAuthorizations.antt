@@ -13,7 +13,8 @@ use Rattle.desk_model.specs.declared.entry.Outcome.{Outcome}
 use Rattle.desk_model.specs.declared.entry.Outcome.TheVariants.{Good, IncorrectResponse, Connection, Dns}
 use Rattle.desk_model.specs.Document.{error_of, report_error, validated, validated_by, authorization_status_text}
 use Rattle.desk_model.specs.Document.{challenge_document, identifier, or_all, shown_challenges}
-use Rattle.desk_replies.specs.Shown.{capped, capped_report, capped_challenge, capped_authorization, with_members, HasDatedReport, HasMoments}
+use Rattle.moments.specs.Capped.{capped}
+use Rattle.desk_replies.specs.Shown.{capped_report, capped_challenge, capped_authorization, with_members, HasDatedReport, HasMoments}
 use Rattle.desk_replies.proofs.ShownOrders.{capped-same, map-map}
 
 -- ---- moments that have a text are shown as they are

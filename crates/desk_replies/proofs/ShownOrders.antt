@@ -14,7 +14,8 @@ use Rattle.desk_model.specs.declared.rows.DatedBytes.{DatedBytes}
 use Rattle.desk_model.specs.declared.rows.DatedProblem.{DatedProblem}
 use Rattle.desk_model.specs.Document.{order_error, order_status_text, identifier, authorization_url, finalize_url}
 use Rattle.desk_model.specs.Document.{certificate_url, listed_rows, order_document, order_with_names}
-use Rattle.desk_replies.specs.Shown.{capped, capped_order, with_members}
+use Rattle.moments.specs.Capped.{capped}
+use Rattle.desk_replies.specs.Shown.{capped_order, with_members}
 
 -- a moment that has a text is shown as it is
 pub capped-same : (m : ℕ) → m ≤ last_end → capped m ≡ m

@@ -1,5 +1,5 @@
 -- What documents show, where their moments have a text, and members that are put one by one.
-use Rattle.std.specs.Prelude.{ℕ, ◌≤◌, min, List, [], ◌∷◌, map, Option, Some, None, if◌then◌else◌}
+use Rattle.std.specs.Prelude.{ℕ, ◌≤◌, List, [], ◌∷◌, map, Option, Some, None, if◌then◌else◌}
 use Rattle.std.specs.List.{filter}
 use Rattle.serde_json.specs.Data.{Data, Members, put}
 use Rattle.desk_model.specs.Limits.{last_end}
@@ -13,11 +13,9 @@ use Rattle.desk_model.specs.Legal.{is_processing_challenge}
 use Rattle.desk_model.specs.Effect.{swept_authorization}
 use Rattle.desk_model.specs.Kept.{EachOf}
 use Rattle.desk_model.specs.Document.{work_document}
+use Rattle.moments.specs.Capped.{capped}
 
 -- ---- moments: one past the last that has a text is shown as the last
-
-abbrev pub capped : ℕ → ℕ
-capped moment = min moment last_end
 
 abbrev pub capped_report : Option Report → Option Report
 capped_report None = None

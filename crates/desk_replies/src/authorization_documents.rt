@@ -9,7 +9,8 @@ ghost use Rattle.desk_model.specs.Tokens.{token_text};
 ghost use Rattle.desk_model.specs.Document.{authorization_status_text, challenge_status_text, kind_text, challenge_url};
 ghost use Rattle.desk_model.specs.Document.{identifier, error_of, report_error, validated, validated_by, challenge_document};
 ghost use Rattle.desk_model.specs.Document.{shown_challenges, authorization_document};
-ghost use Rattle.desk_replies.specs.Shown.{capped, capped_report, capped_challenge, capped_authorization, with_members, HasDatedReport, HasMoments};
+ghost use Rattle.moments.specs.Capped.{capped};
+ghost use Rattle.desk_replies.specs.Shown.{capped_report, capped_challenge, capped_authorization, with_members, HasDatedReport, HasMoments};
 
 use crate::document_values::{
     error_value, identifier_value, list_value, moment_value, put_str, put_text, put_value,

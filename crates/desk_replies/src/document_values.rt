@@ -5,9 +5,10 @@ ghost use Rattle.serde_json.specs.View.{view, members_view};
 ghost use Rattle.desk_model.specs.Json.{list};
 ghost use Rattle.desk_model.specs.Document.{identifier, error};
 ghost use Rattle.desk_model.specs.Moment.{moment_text as text_of_moment};
-ghost use Rattle.desk_replies.specs.Shown.{capped, with_members};
+ghost use Rattle.moments.specs.Capped.{capped};
+ghost use Rattle.desk_replies.specs.Shown.{with_members};
 
-use desk_model::LAST_END;
+use moments::capped_moment_text;
 use refusals::type_text;
 use serde_json::{Map, Value, json, put};
 use std::alloc::{AllocError, Global};
@@ -30,7 +31,7 @@ pub(crate) fn list_value(items: Vec<Value>) -> Value
 pub(crate) fn moment_value(alloc: Global, moment: u64) -> Result<Value, AllocError>
     ensures { IfOk result (λ v. view v ≡ string (text_of_moment (capped moment))) }
 {
-    Ok(text_value(moments::moment_text(alloc, moment.min(LAST_END))?))
+    Ok(text_value(capped_moment_text(alloc, moment)?))
 }
 
 /// An identifier with its text (RFC 8555, 7.1.3).

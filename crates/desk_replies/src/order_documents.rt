@@ -13,7 +13,8 @@ ghost use Rattle.desk_model.specs.Effect.{swept, swept_order};
 ghost use Rattle.desk_model.specs.Document.{order_status_text, order_error, identifier, finalize_url, certificate_url};
 ghost use Rattle.desk_model.specs.Document.{authorization_url, order_url, rows_of, listed_rows, order_document, is_listed};
 ghost use Rattle.desk_model.specs.Document.{orders_document, order_with_names};
-ghost use Rattle.desk_replies.specs.Shown.{capped, capped_order, with_members};
+ghost use Rattle.moments.specs.Capped.{capped};
+ghost use Rattle.desk_replies.specs.Shown.{capped_order, with_members};
 
 use crate::document_values::{
     error_value, identifier_value, list_value, moment_value, put_str, put_text, put_value,

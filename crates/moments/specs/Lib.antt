@@ -1,1 +1,2 @@
+pub mod Capped
 pub mod MomentLaws

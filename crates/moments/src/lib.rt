@@ -5,8 +5,10 @@ ghost use Rattle.std.specs.Prelude.{◌≡◌, ◌≢◌, ◌+◌, ◌≤◌, �
 ghost use Rattle.jiff_core.specs.DateTime.{civil_nanos};
 ghost use Rattle.desk_model.specs.Limits.{last_end};
 ghost use Rattle.desk_model.specs.Moment.{IsCivil, IsMomentText, civil_text, moment_text as text_of_moment, two_digits};
+ghost use Rattle.moments.specs.Capped.{capped};
 ghost use Rattle.moments.specs.MomentLaws.{GivesTheText, TellsMomentsApart};
 
+use desk_model::LAST_END;
 use jiff_core::civil::DateTime;
 use std::alloc::{AllocError, Global};
 
@@ -33,6 +35,17 @@ pub fn moment_text(alloc: Global, moment: u64) -> Result<String, AllocError>
 {
     let fields = fields_of(moment);
     fields_text(alloc, &fields)
+}
+
+/// The text of a moment in seconds since 1970, and that of the last one that has a text for each past it.
+///
+/// # Errors
+///
+/// Where there is no memory for it.
+pub fn capped_moment_text(alloc: Global, moment: u64) -> Result<String, AllocError>
+    ensures { IfOk result (λ text. string_bytes text ≡ text_of_moment (capped moment)) }
+{
+    moment_text(alloc, moment.min(LAST_END))
 }
 
 /// The function `moment_text` gives the text of each moment, and different moments have different texts.

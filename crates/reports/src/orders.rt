@@ -6,9 +6,9 @@ ghost use Rattle.reports.specs.Reported.{Reports};
 use crate::fault::ReportFault;
 use crate::form::Form;
 use desk_loading::RowsAbove;
-use desk_model::{LAST_END, OrderRow, OrderStatus};
+use desk_model::{OrderRow, OrderStatus};
 use desk_passes::Orders;
-use moments::moment_text;
+use moments::capped_moment_text;
 use std::alloc::Global;
 use std::io::{self, Write};
 
@@ -59,7 +59,7 @@ fn write_order<W: Write>(alloc: Global, out: &mut W, form: Form, row: &OrderRow)
         ..
     } = row;
     let status = row.status.as_str();
-    let expires = moment_text(alloc, row.expires.min(LAST_END))?;
+    let expires = capped_moment_text(alloc, row.expires)?;
     let expires = expires.as_str();
     match form {
         Form::Text => writeln!(out, "{number:>10} {account:>10} {status:<10} {expires}"),
