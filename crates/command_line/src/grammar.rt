@@ -1,6 +1,7 @@
 //! The words that the program knows.
-use crate::help;
 use crate::lives::{AUTHZ_LIFE, Life, NONCE_LIFE, ORDER_LIFE};
+use crate::task::{TASKS, Task};
+use crate::{arguments, help};
 use clap::builder::ValueParser;
 use clap::{Arg, ArgAction, Command};
 use desk_model::LAST_NUMBER;
@@ -8,29 +9,6 @@ use std::alloc::{AllocError, Global};
 
 // The statuses of an order (RFC 8555, 7.1.6).
 const ORDER_STATUSES: &[&str] = &["pending", "ready", "processing", "valid", "invalid"];
-
-// What the program does, a word each.
-#[derive(Clone, Copy)]
-enum Task {
-    Make,
-    Serve,
-    Batch,
-    Status,
-    Check,
-    RevokeAuthorization,
-    RevokeAccount,
-}
-
-// The tasks, as help lists them.
-const TASKS: &[Task] = &[
-    Task::Make,
-    Task::Serve,
-    Task::Batch,
-    Task::Status,
-    Task::Check,
-    Task::RevokeAuthorization,
-    Task::RevokeAccount,
-];
 
 // An option that takes a value.
 fn option<'a>(alloc: Global, id: &'a str, value: &'a str, help: &'a str) -> Arg<'a> {
@@ -58,8 +36,8 @@ fn required<'a>(alloc: Global, id: &'a str, help: &'a str) -> Arg<'a> {
 
 // The option that makes a report JSON.
 fn json<'a>(alloc: Global, help: &'a str) -> Arg<'a> {
-    Arg::new(alloc, "json")
-        .long("json")
+    Arg::new(alloc, arguments::JSON)
+        .long(arguments::JSON)
         .action(ArgAction::SetTrue)
         .help(help)
 }
@@ -67,6 +45,12 @@ fn json<'a>(alloc: Global, help: &'a str) -> Arg<'a> {
 // A word, with what help says of it above its options and below them.
 fn word<'a>(alloc: Global, name: &'a str, about: &'a str, after: &'a str) -> Command<'a> {
     Command::new(alloc, name).about(about).after_help(after)
+}
+
+// The word of a task, likewise.
+fn task_word<'a>(alloc: Global, task: Task, about: &'a str, after: &'a str) -> Command<'a> {
+    let name: &'a str = task.name();
+    word(alloc, name, about, after)
 }
 
 // A word with one argument more. It asks the result, so that what owns several arguments has no early return.
@@ -77,41 +61,43 @@ fn and_arg<'a>(
     word?.arg(arg)
 }
 
-// A word for a desk that is there.
+// The word of a task on a desk that is there.
 fn word_on_file<'a>(
     alloc: Global,
-    name: &'a str,
+    task: Task,
     about: &'a str,
     after: &'a str,
 ) -> Result<Command<'a>, AllocError> {
-    let file = required(alloc, "FILE", "the file that holds the desk");
-    word(alloc, name, about, after).arg(file)
+    let file = required(alloc, arguments::FILE, "the file that holds the desk");
+    task_word(alloc, task, about, after).arg(file)
 }
 
 fn base<'a>(alloc: Global) -> Arg<'a> {
     let help =
         "what each URL begins with, as https://ca.example: http:// or https://, 8 to 256 bytes, no / at its end";
-    option(alloc, "base", "URL", help).required(true)
+    option(alloc, arguments::BASE, "URL", help).required(true)
 }
 
 fn nonce_life<'a>(alloc: Global) -> Arg<'a> {
     let help = "seconds that a nonce is open, 1 to 315360000";
-    seconds(alloc, "nonce-life", NONCE_LIFE, help)
+    seconds(alloc, arguments::NONCE_LIFE, NONCE_LIFE, help)
 }
 
 fn order_life<'a>(alloc: Global) -> Arg<'a> {
     let help = "seconds that an order lives, 1 to 315360000";
-    seconds(alloc, "order-life", ORDER_LIFE, help)
+    seconds(alloc, arguments::ORDER_LIFE, ORDER_LIFE, help)
 }
 
 fn authz_life<'a>(alloc: Global) -> Arg<'a> {
     let help = "seconds that an authorization lives, 1 to 315360000";
-    seconds(alloc, "authz-life", AUTHZ_LIFE, help)
+    seconds(alloc, arguments::AUTHZ_LIFE, AUTHZ_LIFE, help)
 }
 
 fn make<'a>(alloc: Global) -> Result<Command<'a>, AllocError> {
-    let file = required(alloc, "FILE", "the new file that will hold the desk");
-    let make = word(alloc, "make", "Makes a desk in a new file", help::MAKE).arg(file);
+    let about = "Makes a desk in a new file";
+    let help = "the new file that will hold the desk";
+    let file = required(alloc, arguments::FILE, help);
+    let make = task_word(alloc, Task::Make, about, help::MAKE).arg(file);
     let make = and_arg(make, base(alloc));
     let make = and_arg(make, nonce_life(alloc));
     let make = and_arg(make, order_life(alloc));
@@ -120,19 +106,19 @@ fn make<'a>(alloc: Global) -> Result<Command<'a>, AllocError> {
 
 fn port<'a>(alloc: Global) -> Arg<'a> {
     let help = "the port of 127.0.0.1, 0 to 65535; 0 for one that the machine chooses";
-    option(alloc, "port", "N", help)
+    option(alloc, arguments::PORT, "N", help)
         .required(true)
         .value_parser(clap::value_parser!(u16))
 }
 
 fn count<'a>(alloc: Global) -> Arg<'a> {
     let help = "how many connections to serve, 0 to 2^64 - 1; without it 2^64 - 1";
-    option(alloc, "count", "N", help).value_parser(clap::value_parser!(u64))
+    option(alloc, arguments::COUNT, "N", help).value_parser(clap::value_parser!(u64))
 }
 
 fn serve<'a>(alloc: Global) -> Result<Command<'a>, AllocError> {
     let about = "Serves HTTP, one request a connection";
-    let serve = word_on_file(alloc, "serve", about, help::SERVE);
+    let serve = word_on_file(alloc, Task::Serve, about, help::SERVE);
     let serve = and_arg(serve, port(alloc));
     and_arg(serve, count(alloc))
 }
@@ -140,23 +126,24 @@ fn serve<'a>(alloc: Global) -> Result<Command<'a>, AllocError> {
 fn batch<'a>(alloc: Global) -> Result<Command<'a>, AllocError> {
     let about = "Answers the lines of standard input, a call each";
     let help = "the file that holds the desk; without it a new desk in memory";
-    word(alloc, "batch", about, help::BATCH).arg(option(alloc, "file", "FILE", help))
+    let file = option(alloc, arguments::BATCH_FILE, "FILE", help);
+    task_word(alloc, Task::Batch, about, help::BATCH).arg(file)
 }
 
 fn account<'a>(alloc: Global) -> Arg<'a> {
     let help = "only orders of the account of this number, 1 to 2^62; without it of all accounts";
-    option(alloc, "account", "N", help).value_parser(ValueParser::unsigned(1, LAST_NUMBER))
+    option(alloc, arguments::ACCOUNT, "N", help).value_parser(ValueParser::unsigned(1, LAST_NUMBER))
 }
 
 fn order_status<'a>(alloc: Global) -> Arg<'a> {
     let help = "only orders of this status; without it of every status";
-    option(alloc, "status", "WORD", help).value_parser(ORDER_STATUSES)
+    option(alloc, arguments::STATUS, "WORD", help).value_parser(ORDER_STATUSES)
 }
 
 fn status<'a>(alloc: Global) -> Result<Command<'a>, AllocError> {
     let about = "Lists the orders: number, account, status, end; last how many these are";
     let form = "one JSON document a line, an order each, and no count";
-    let status = word_on_file(alloc, "status", about, help::STATUS);
+    let status = word_on_file(alloc, Task::Status, about, help::STATUS);
     let status = and_arg(status, account(alloc));
     let status = and_arg(status, order_status(alloc));
     and_arg(status, json(alloc, form))
@@ -166,37 +153,35 @@ fn check<'a>(alloc: Global) -> Result<Command<'a>, AllocError> {
     let about = "Lists the stored statuses that are wrong, and then ends with status 3";
     let form = "one JSON document a line, a wrong status each; nothing where there is none";
     and_arg(
-        word_on_file(alloc, "check", about, help::CHECK),
+        word_on_file(alloc, Task::Check, about, help::CHECK),
         json(alloc, form),
     )
 }
 
 // The number of what is revoked.
 fn number<'a>(alloc: Global) -> Arg<'a> {
-    required(alloc, "N", "its number, 1 to 2^62").value_parser(ValueParser::unsigned(
-        1,
-        LAST_NUMBER,
-    ))
+    let numbers = ValueParser::unsigned(1, LAST_NUMBER);
+    required(alloc, arguments::NUMBER, "its number, 1 to 2^62").value_parser(numbers)
 }
 
-// A word that revokes what has a number.
+// The word of a task that revokes what has a number.
 fn revoke<'a>(
     alloc: Global,
-    name: &'a str,
+    task: Task,
     about: &'a str,
     after: &'a str,
 ) -> Result<Command<'a>, AllocError> {
-    and_arg(word_on_file(alloc, name, about, after), number(alloc))
+    and_arg(word_on_file(alloc, task, about, after), number(alloc))
 }
 
 fn revoke_authorization<'a>(alloc: Global) -> Result<Command<'a>, AllocError> {
     let about = "Revokes an authorization";
-    revoke(alloc, "revoke-authz", about, help::REVOKE_AUTHZ)
+    revoke(alloc, Task::RevokeAuthorization, about, help::REVOKE_AUTHZ)
 }
 
 fn revoke_account<'a>(alloc: Global) -> Result<Command<'a>, AllocError> {
     let about = "Revokes an account";
-    revoke(alloc, "revoke-account", about, help::REVOKE_ACCOUNT)
+    revoke(alloc, Task::RevokeAccount, about, help::REVOKE_ACCOUNT)
 }
 
 // The command of a task.

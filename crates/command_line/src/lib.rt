@@ -1,12 +1,14 @@
 //! The words of the command line.
 #![tactic(auto)]
 
+mod arguments;
 mod fault;
 mod grammar;
 mod help;
 mod lives;
 mod order;
 mod reading;
+mod task;
 
 pub use fault::WordsFault;
 pub use lives::{AUTHZ_LIFE, Life, NONCE_LIFE, ORDER_LIFE};

@@ -1,80 +1,81 @@
 //! Words read as what they ask for.
+use crate::arguments;
 use crate::fault::WordsFault;
 use crate::grammar::desk;
 use crate::order::{Listing, Order, Target, Terms};
+use crate::task::Task;
 use clap::error::ErrorKind;
 use clap::{ArgMatches, Command};
 use desk_columns::read_order_status;
 use std::alloc::Global;
 
-// What a word asks for on a file.
-fn order_on_file<'a>(name: &str, file: &'a str, given: &ArgMatches<'a>) -> Option<Order<'a>> {
-    match name {
-        "make" => Some(Order::Make {
-            file,
-            terms: terms(given)?,
-        }),
-        "serve" => Some(Order::Serve {
-            file,
-            port: given.get_one::<u16>("port")?,
-            count: given.get_one::<u64>("count"),
-        }),
-        "status" => Some(Order::Status {
-            file,
-            listing: listing(given)?,
-        }),
-        "check" => Some(Order::Check {
-            file,
-            json: given.get_flag("json"),
-        }),
-        _ => Some(Order::Revoke {
-            file,
-            target: target(name, given)?,
-        }),
-    }
-}
-
 // What the matches ask for.
 fn order<'a>(matches: &ArgMatches<'a>) -> Option<Order<'a>> {
     let (name, given) = matches.subcommand()?;
-    if name == "batch" {
-        return Some(Order::Batch {
-            file: given.get_str("file"),
-        });
+    match Task::named(name)? {
+        Task::Make => Some(Order::Make {
+            file: file(given)?,
+            terms: terms(given)?,
+        }),
+        Task::Serve => Some(Order::Serve {
+            file: file(given)?,
+            port: given.get_one::<u16>(arguments::PORT)?,
+            count: given.get_one::<u64>(arguments::COUNT),
+        }),
+        Task::Batch => Some(Order::Batch {
+            file: given.get_str(arguments::BATCH_FILE),
+        }),
+        Task::Status => Some(Order::Status {
+            file: file(given)?,
+            listing: listing(given)?,
+        }),
+        Task::Check => Some(Order::Check {
+            file: file(given)?,
+            json: given.get_flag(arguments::JSON),
+        }),
+        Task::RevokeAuthorization => revoke(Target::Authorization(number(given)?), given),
+        Task::RevokeAccount => revoke(Target::Account(number(given)?), given),
     }
-    order_on_file(name, given.get_str("FILE")?, given)
+}
+
+// The file that holds the desk, or that will.
+fn file<'a>(given: &ArgMatches<'a>) -> Option<&'a str> {
+    given.get_str(arguments::FILE)
+}
+
+// The number of what is revoked.
+fn number(given: &ArgMatches<'_>) -> Option<u64> {
+    given.get_one::<u64>(arguments::NUMBER)
+}
+
+// To revoke this.
+fn revoke<'a>(target: Target, given: &ArgMatches<'a>) -> Option<Order<'a>> {
+    Some(Order::Revoke {
+        file: file(given)?,
+        target,
+    })
 }
 
 // The terms among them.
 fn terms<'a>(given: &ArgMatches<'a>) -> Option<Terms<'a>> {
     Some(Terms {
-        base: given.get_str("base")?,
-        nonce_life: given.get_one::<u64>("nonce-life")?,
-        order_life: given.get_one::<u64>("order-life")?,
-        authz_life: given.get_one::<u64>("authz-life")?,
+        base: given.get_str(arguments::BASE)?,
+        nonce_life: given.get_one::<u64>(arguments::NONCE_LIFE)?,
+        order_life: given.get_one::<u64>(arguments::ORDER_LIFE)?,
+        authz_life: given.get_one::<u64>(arguments::AUTHZ_LIFE)?,
     })
 }
 
 // Which orders are listed, and how.
 fn listing(given: &ArgMatches<'_>) -> Option<Listing> {
     Some(Listing {
-        account: given.get_one::<u64>("account"),
-        status: match given.get_str("status") {
+        account: given.get_one::<u64>(arguments::ACCOUNT),
+        status: match given.get_str(arguments::STATUS) {
             Some(word) => Some(read_order_status(word)?),
             None => None,
         },
-        json: given.get_flag("json"),
+        json: given.get_flag(arguments::JSON),
     })
-}
-
-// What a word revokes.
-fn target(name: &str, given: &ArgMatches<'_>) -> Option<Target> {
-    let number = given.get_one::<u64>("N")?;
-    match name {
-        "revoke-authz" => Some(Target::Authorization(number)),
-        "revoke-account" => Some(Target::Account(number)),
-        _ => None,
-    }
 }
 
 // What the matches of a command ask for, or that they ask for nothing.
