@@ -67,6 +67,13 @@ fn has_good_report(row: &ChallengeRow) -> bool
     }
 }
 
+/// Whether an end is past at a moment, both in seconds since 1970: at the end itself it is not.
+pub fn is_past(expires: u64, moment: u64) -> bool
+    ensures { result ≡ nat_lt expires moment }
+{
+    expires < moment
+}
+
 /// The status of an authorization at a moment, in seconds since 1970: by its end, else by its `expires`, else by the
 /// reports on its challenges.
 pub fn derived_authorization(moment: u64, row: &AuthorizationRow) -> AuthzStatus
@@ -81,7 +88,7 @@ pub fn derived_authorization(moment: u64, row: &AuthorizationRow) -> AuthzStatus
 fn lasting_status(moment: u64, row: &AuthorizationRow) -> AuthzStatus
     ensures { result ≡ authorization_status_by None (nat_lt row.now.expires moment) (is_proved row.now) }
 {
-    if row.expires < moment {
+    if is_past(row.expires, moment) {
         return AuthzStatus::Expired;
     }
     if is_proved(row) {
@@ -107,7 +114,7 @@ fn all_valid(statuses: &[AuthzStatus]) -> bool
 fn has_fallen(moment: u64, row: &OrderRow, statuses: &[AuthzStatus]) -> bool
     ensures { result ≡ (is_some row.now.failed || (nat_lt row.now.expires moment || list_any is_over statuses.now)) }
 {
-    row.failed.is_some() || row.expires < moment || any_over(statuses)
+    row.failed.is_some() || is_past(row.expires, moment) || any_over(statuses)
 }
 
 /// The status of an order at a moment, in seconds since 1970, by its columns and the statuses of the authorizations

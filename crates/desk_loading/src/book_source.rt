@@ -6,7 +6,7 @@ ghost use Rattle.desk_model.specs.Derived.{authz_code, order_code};
 ghost use Rattle.desk_parts.specs.LookUps.{listed_by as listed_in, orders_listing as listing_in, owners_of as owners_in};
 
 use crate::look_ups::LookUps;
-use desk_book::{Book, Row, Table};
+use desk_book::{Book, Row, Table, is_past};
 use desk_model::{
     AccountRow, AuthorizationRow, AuthzStatus, Jwk, Listed, Meta, Nonce, OrderRow, OrderStatus,
 };
@@ -49,14 +49,14 @@ fn all_rows<R: Row + Drop>(alloc: Global, table: &Table<R>) -> Result<Vec<R>, Al
 fn is_past_order(row: &OrderRow, status: OrderStatus, moment: u64) -> bool
     ensures { result ≡ ((order_code row.now.status == order_code status) && nat_lt row.now.expires moment) }
 {
-    row.status == status && row.expires < moment
+    row.status == status && is_past(row.expires, moment)
 }
 
 // Whether an authorization of a stored status is past its end.
 fn is_past_authorization(row: &AuthorizationRow, status: AuthzStatus, moment: u64) -> bool
     ensures { result ≡ ((authz_code row.now.status == authz_code status) && nat_lt row.now.expires moment) }
 {
-    row.status == status && row.expires < moment
+    row.status == status && is_past(row.expires, moment)
 }
 
 // ---- numbers

@@ -7,7 +7,7 @@ ghost use Rattle.desk_model.specs.Change.{sweep_changes, nonces_gone, authorizat
 ghost use Rattle.desk_model.specs.declared.rows.Change.TheVariants.{RemoveNonce, PutAuthorization, PutOrder};
 ghost use Rattle.desk_model.specs.Effect.{is_overdue, falls, lists_one};
 
-use desk_book::{Book, Table};
+use desk_book::{Book, Table, is_past};
 use desk_model::{AuthorizationRow, AuthzStatus, Change, Listed, OrderRow, OrderStatus};
 use std::alloc::{AllocError, Global};
 
@@ -15,7 +15,7 @@ use std::alloc::{AllocError, Global};
 pub(crate) fn is_overdue(moment: u64, row: &AuthorizationRow) -> bool
     ensures { result ≡ is_overdue moment row.now }
 {
-    row.status.is_live() && row.expires < moment
+    row.status.is_live() && is_past(row.expires, moment)
 }
 
 fn is_overdue_number(moment: u64, rows: &Table<AuthorizationRow>, number: u64) -> bool
@@ -43,7 +43,7 @@ fn lists_overdue(moment: u64, rows: &Table<AuthorizationRow>, row: &OrderRow) ->
 pub(crate) fn falls(moment: u64, rows: &Table<AuthorizationRow>, row: &OrderRow) -> bool
     ensures { result ≡ falls moment rows.now row.now }
 {
-    row.status.is_live() && (row.expires < moment || lists_overdue(moment, rows, row))
+    row.status.is_live() && (is_past(row.expires, moment) || lists_overdue(moment, rows, row))
 }
 
 /// The changes of rows that the passing of time makes, up to a moment.
