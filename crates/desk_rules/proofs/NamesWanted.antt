@@ -1,6 +1,6 @@
 -- How many authorizations and tokens a new order asks for.
-use Rattle.std.proofs.Common.{◌≡◌, ℕ, suc, zero, ◌+◌, ◌*◌, List, [], ◌∷◌, length, drop, Bool, true, false, cond, not, refl, ap, arith}
-use Rattle.std.specs.Prelude.{count_by}
+use Rattle.std.proofs.Common.{◌≡◌, ℕ, suc, zero, ◌*◌, ◌≤◌, List, [], ◌∷◌, length, drop, Bool, true, false, cond, refl, ap, arith}
+use Rattle.std.specs.Prelude.{sum_by}
 use Rattle.std.proofs.lemmas.List.Sums.{sum_by-cons}
 use Rattle.desk_model.specs.Authorization.{kinds_of}
 use Rattle.desk_model.specs.declared.objects.Kind.TheVariants.{Http01 as http_01, Dns01 as dns_01}
@@ -18,22 +18,30 @@ pub length-pieces : (k : ℕ) (random : List ℕ) → length (pieces k random) �
 length-pieces zero random = refl
 length-pieces (suc k) random = ap suc (length-pieces k _)
 
--- one token for a name, and a second one where it is no wildcard
-pub length-kinds : (n : Name) → length (kinds_of n) ≡ 1 + cond (not n.wildcard) 1 0
-length-kinds n = by n.wildcard
+-- a name has two challenges at most
+kinds-le : (n : Name) → length (kinds_of n) ≤ 2
+kinds-le n = by n.wildcard
   where
-    by : (b : Bool) → length (cond b (dns_01 ∷ []) (http_01 ∷ dns_01 ∷ [])) ≡ 1 + cond (not b) 1 0
-    by true = refl
-    by false = refl
+    by : (b : Bool) → length (cond b (dns_01 ∷ []) (http_01 ∷ dns_01 ∷ [])) ≤ 2
+    by true = omega arith
+    by false = omega arith
 
--- a token for each name, and a second one for each that is no wildcard
-pub count_tokens-wanted : (ns : List Name) (random : List ℕ) → count_tokens (wanted ns random) ≡ length ns + count_by (λ n. not n.wildcard) ns
+-- how many challenges these names get
+abbrev pub count_kinds : List Name → ℕ
+count_kinds ns = sum_by (λ n. length (kinds_of n)) ns
+
+-- two for each name at most
+pub count_kinds-le : (ns : List Name) → count_kinds ns ≤ 2 * length ns
+count_kinds-le [] = omega arith
+count_kinds-le (n ∷ ns) = omega (arith, sum_by-cons (λ m. length (kinds_of m)) n ns, kinds-le n, count_kinds-le ns)
+
+-- a token for each challenge
+pub count_tokens-wanted : (ns : List Name) (random : List ℕ) → count_tokens (wanted ns random) ≡ count_kinds ns
 count_tokens-wanted [] random = refl
 count_tokens-wanted (n ∷ ns) random =
     omega (
       arith,
-      sum_by-cons (λ m. cond (not m.wildcard) 1 0) n ns,
+      sum_by-cons (λ m. length (kinds_of m)) n ns,
       length-pieces (length (kinds_of n)) random,
-      length-kinds n,
       count_tokens-wanted ns (drop (16 * length (kinds_of n)) random),
     )

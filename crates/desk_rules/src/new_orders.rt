@@ -1,5 +1,5 @@
 //! The rules on new orders (RFC 8555, 7.4).
-ghost use Rattle.std.specs.Prelude.{◌≡◌, ◌+◌, ◌*◌, ◌<◌, ◌≤◌, ◌⊎◌, ◌++◌, bytes_eq, length, drop, not, count_by, IfOk, MatchResult, OnOk};
+ghost use Rattle.std.specs.Prelude.{◌≡◌, ◌+◌, ◌*◌, ◌<◌, ◌≤◌, ◌⊎◌, ◌++◌, bytes_eq, length, drop, sum_by, IfOk, MatchResult, OnOk};
 ghost use Rattle.std.specs.List.{list_any};
 ghost use Rattle.desk_rules.specs.Needs.{NumbersLeft, BytesLeft, IsNeedFault};
 ghost use Rattle.desk_model.specs.Authorization.{kinds_of};
@@ -58,11 +58,11 @@ fn kept(alloc: Global, names: Vec<DnsName>) -> Result<Vec<DnsName>, AllocError>
     Ok(found)
 }
 
-// How many tokens some names get: a wildcard one gets one, another two.
+// How many tokens some names get, one for each of their challenges.
 fn count_tokens(names: &[DnsName]) -> usize
-    ensures { result ≡ length names.now + count_by (λ n. not n.wildcard) names.now }
+    ensures { result ≡ sum_by (λ n. length (kinds_of n)) names.now }
 {
-    names.len() + names.iter().filter(|name| !name.is_wildcard()).count()
+    names.iter().map(|name| name.kinds().len()).sum()
 }
 
 // Puts a token for each of these challenges, taken from the front of the random bytes, at the end of a list.
