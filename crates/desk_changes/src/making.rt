@@ -44,10 +44,8 @@ fn push_challenges(
     requires { number + length kinds.now < 2 ^ 64 }
     ensures { OnOk result (rows.new.items ≡ rows.old.items ++ map fresh_challenge (challenges_from number kinds.now tokens.now)) }
 {
-    let Some((kind, kinds)) = kinds.split_first() else {
-        return Ok(());
-    };
-    let Some((token, tokens)) = tokens.split_first() else {
+    let (Some((kind, kinds)), Some((token, tokens))) = (kinds.split_first(), tokens.split_first())
+    else {
         return Ok(());
     };
     rows.push(new_challenge(number, *kind, *token))?;
