@@ -4,13 +4,13 @@ use Rattle.std.specs.Prelude.{pos}
 use Rattle.desk_model.specs.Terms.{Terms}
 use Rattle.desk_model.specs.declared.rows.Counters.{Counters}
 use Rattle.desk_model.specs.declared.rows.Meta.{Meta}
-use Rattle.desk_columns.specs.Columns.{meta_columns}
+use Rattle.desk_columns.specs.Columns.{known_format, meta_columns}
 use Rattle.desk_columns.specs.Limits.{IsStoredMeta}
 use Rattle.desk_columns.specs.MetaParts.{AreCounters, IsPolicy}
 use Rattle.desk_columns.specs.declared.columns.MetaColumns.{MetaColumns}
 
 -- columns that hold both parts are those of their row
-pub read_parts : (columns : MetaColumns) (policy : Terms) (counters : Counters) → (columns.id ≡ pos 1) × (columns.format ≡ pos 1)
+pub read_parts : (columns : MetaColumns) (policy : Terms) (counters : Counters) → (columns.id ≡ pos 1) × (columns.format ≡ known_format)
     → IsPolicy columns policy → AreCounters columns counters
     → (let row : Meta = record { policy = policy; counters = counters } in IsStoredMeta row × (columns ≡ meta_columns row))
 read_parts columns policy counters first p k = (

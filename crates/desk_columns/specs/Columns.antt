@@ -51,12 +51,16 @@ report_columns report = (option_map (λ r. pos r.date) report, option_map (λ r.
 
 -- ---- the columns of one row
 
+-- the format of the tables
+abbrev pub known_format : ℤ
+known_format = pos 1
+
 -- those of `meta`
 abbrev pub meta_columns : Meta → MetaColumns
 meta_columns row =
     record {
       id = pos 1;
-      format = pos 1;
+      format = known_format;
       base = row.policy.base;
       nonce_life = pos row.policy.nonce_life;
       order_life = pos row.policy.order_life;

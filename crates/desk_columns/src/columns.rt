@@ -2,6 +2,9 @@
 //! `None` is NULL.
 use desk_model::{Sequence, Text};
 
+/// The format of the tables.
+pub const FORMAT: i64 = 1;
+
 /// A row of the table `meta`.
 #[derive(Drop)]
 pub struct MetaColumns {

@@ -24,8 +24,8 @@ pub use account::read_account;
 pub use authorization::read_authorization;
 pub use challenge::read_challenge;
 pub use columns::{
-    AccountColumns, AuthzColumns, ChallColumns, MetaColumns, NonceColumns, OrderAuthzColumns,
-    OrderColumns, StoredRows,
+    AccountColumns, AuthzColumns, ChallColumns, FORMAT, MetaColumns, NonceColumns,
+    OrderAuthzColumns, OrderColumns, StoredRows,
 };
 pub use flat_rows::{FlatRows, Owned};
 pub use laws::{columns_tell_rows_apart, texts_are_written};

@@ -1,12 +1,12 @@
 //! The row of the table `meta`.
 ghost use Rattle.std.specs.Prelude.{◌≡◌, ◌≢◌, ◌↔◌, pos, IfOk, IsTrue, MatchOption};
 ghost use Rattle.desk_model.specs.declared.rows.Meta.{Meta as MetaRow};
-ghost use Rattle.desk_columns.specs.Columns.{meta_columns};
+ghost use Rattle.desk_columns.specs.Columns.{known_format, meta_columns};
 ghost use Rattle.desk_columns.specs.Limits.{IsStoredMeta};
 ghost use Rattle.desk_columns.specs.MetaParts.{AreCounters, IsPolicy};
 ghost use Rattle.desk_columns.specs.Reading.{IsRead};
 
-use crate::columns::MetaColumns;
+use crate::columns::{FORMAT, MetaColumns};
 use crate::numbers::{read_counter, read_moment, read_natural};
 use crate::table::Columns;
 use desk_model::{Clock, Counters, Meta, Policy};
@@ -32,18 +32,11 @@ pub fn read_meta(alloc: Global, columns: MetaColumns) -> Result<Option<Meta>, Al
     Ok(Some(Meta { policy, counters }))
 }
 
-// Whether the row is the first, of format 1.
+// Whether the row is the first, of this format.
 fn is_of_format(columns: &MetaColumns) -> bool
-    ensures { IsTrue result ↔ (columns.now.id ≡ pos 1) × (columns.now.format ≡ pos 1) }
+    ensures { IsTrue result ↔ (columns.now.id ≡ pos 1) × (columns.now.format ≡ known_format) }
 {
-    is_one(columns.id) && is_one(columns.format)
-}
-
-// Whether a column is 1.
-fn is_one(column: i64) -> bool
-    ensures { IsTrue result ↔ (column ≡ pos 1) }
-{
-    column == 1
+    columns.id == 1 && columns.format == FORMAT
 }
 
 // The clock and the last numbers given, or `None` where no row has these columns.

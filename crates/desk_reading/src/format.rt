@@ -12,11 +12,9 @@ ghost use Rattle.desk_reading.specs.Held.{ForHeld};
 ghost use Rattle.desk_reading.specs.Texts.{select_format};
 
 use crate::query::all_rows;
+use desk_columns::FORMAT;
 use sqlite::types::ValueRef;
 use sqlite::{Alter, Connection, Error, Row};
-
-// The format that this crate reads.
-const FORMAT: i64 = 1;
 
 // The number that a row begins with, or `None` where it begins with no number.
 fn first_number(row: &Row) -> Option<i64>
@@ -28,7 +26,7 @@ fn first_number(row: &Row) -> Option<i64>
     }
 }
 
-// Whether this is one row of a format above 1.
+// Whether this is one row of a later format.
 fn is_newer_row(rows: &[Row]) -> bool
     ensures { IsTrue result ↔ IsNewer rows.now }
 {

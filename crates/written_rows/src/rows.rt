@@ -14,8 +14,8 @@ use crate::fault::WriteFault;
 use crate::numbers::{number_column, wildcard_column};
 use crate::values::{bytes_column, text_column};
 use desk_columns::{
-    AccountColumns, AuthzColumns, ChallColumns, MetaColumns, NonceColumns, OrderAuthzColumns,
-    OrderColumns,
+    AccountColumns, AuthzColumns, ChallColumns, FORMAT, MetaColumns, NonceColumns,
+    OrderAuthzColumns, OrderColumns,
 };
 use desk_model::{AccountRow, AuthorizationRow, ChallengeRow, Listed, Meta, Nonce, OrderRow};
 use std::alloc::Global;
@@ -31,7 +31,7 @@ pub fn meta_columns(alloc: Global, row: &Meta) -> Result<MetaColumns, WriteFault
 {
     Ok(MetaColumns {
         id: 1,
-        format: 1,
+        format: FORMAT,
         nonce_life: number_column(row.policy.nonce_life())?,
         order_life: number_column(row.policy.order_life())?,
         authz_life: number_column(row.policy.authz_life())?,
