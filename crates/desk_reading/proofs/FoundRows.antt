@@ -27,6 +27,11 @@ rows_told write P apart (r ∷ rs) (o ∷ os) kept kept2 same =
     let rest : map write rs ≡ map write os = cc same in
     λ i. apart r o kept.0 kept2.0 first i ∷ rows_told write P apart rs os kept.1 kept2.1 rest i
 
+-- the rows that are read of the columns of rows in their limits are these
+pub rows_back : {C R : Type 0} (write : R → C) (P : R → Type 0) → AreToldApart write P
+    → (columns : List C) (rows found : List R) → EachOf P rows → columns ≡ map write rows → EachOf P found × (columns ≡ map write found) → found ≡ rows
+rows_back write P apart columns rows found stored are read = rows_told write P apart found rows read.0 stored (sym read.1 ∙ are)
+
 -- what holds of each item of a map
 pub each_unmap : {X Y : Type 0} (P : Y → Type 0) (f : X → Y) (xs : List X) → EachOf P (map f xs) → EachOf (λ x. P (f x)) xs
 each_unmap P f [] h = tt

@@ -1,15 +1,15 @@
 -- What each look-up by number, by a column or by a status finds.
-use Rattle.std.proofs.Common.{◌≡◌, ◌&&◌, ℕ, pos, List, [], ◌∷◌, map, filter, true, Bool, refl, sym, ap, subst, ◌∙◌, arith}
+use Rattle.std.proofs.Common.{◌≡◌, ◌&&◌, ℕ, pos, List, [], ◌∷◌, map, filter, Bool, refl, sym, subst, ◌∙◌, arith}
 use Rattle.std.specs.Prelude.{◌==◌, nat_lt, bytes_eq}
 use Rattle.sqlite.specs.declared.types.Value.TheVariants.{Int, Text}
 use Rattle.sqlite_value.specs.Order.{Row}
 use Rattle.sqlite_sql.specs.Term.{Term}
 use Rattle.sqlite.specs.State.{State, Shown}
-use Rattle.desk_columns.specs.Columns.{account_columns, authorization_columns, challenge_columns, meta_columns, nonce_columns, order_columns}
+use Rattle.desk_columns.specs.Columns.{account_columns, authorization_columns, challenge_columns, nonce_columns, order_columns}
 use Rattle.desk_columns.specs.Flat.{challenge_rows, without_challenges, without_listed}
-use Rattle.desk_columns.specs.Limits.{IsStoredAccount, IsStoredAuthorization, IsStoredChallenge, IsStoredMeta, IsStoredNonce, IsStoredOrder}
+use Rattle.desk_columns.specs.Limits.{IsStoredAccount, IsStoredAuthorization, IsStoredChallenge, IsStoredNonce, IsStoredOrder}
 use Rattle.desk_columns.specs.declared.flat_rows.Owned.{Owned}
-use Rattle.desk_columns.proofs.RowsApart.{accounts-apart, authorizations-apart, challenges-apart, metas-apart, nonces-apart, orders-apart}
+use Rattle.desk_columns.proofs.RowsApart.{accounts-apart, authorizations-apart, challenges-apart, nonces-apart, orders-apart}
 use Rattle.desk_model.specs.Derived.{authz_code, order_code}
 use Rattle.desk_model.specs.Document.{authorization_status_text, order_status_text}
 use Rattle.desk_model.specs.Kept.{EachOf}
@@ -18,49 +18,37 @@ use Rattle.desk_model.specs.declared.objects.Nonce.{Nonce}
 use Rattle.desk_model.specs.declared.rows.AccountRow.{AccountRow}
 use Rattle.desk_model.specs.declared.rows.AuthorizationRow.{AuthorizationRow}
 use Rattle.desk_model.specs.declared.rows.ChallengeRow.{ChallengeRow}
-use Rattle.desk_model.specs.declared.rows.Meta.{Meta}
 use Rattle.desk_model.specs.declared.rows.OrderRow.{OrderRow}
 use Rattle.desk_model.specs.declared.status.AuthzStatus.{AuthzStatus}
 use Rattle.desk_model.specs.declared.status.OrderStatus.{OrderStatus}
 use Rattle.desk_parts.specs.LookUps.{accounts_numbered, accounts_with_key, authorizations_numbered, authorizations_of}
 use Rattle.desk_parts.specs.LookUps.{authorizations_past, nonces_before, nonces_numbered, orders_numbered, orders_of, orders_past}
 use Rattle.desk_tables.specs.Holds.{Holds}
-use Rattle.desk_tables.specs.Layouts.{account_layout, authorization_layout, challenge_layout, meta_layout, nonce_layout, order_layout}
-use Rattle.desk_tables.proofs.Holding.{accounts_held, authorizations_held, challenges_held, meta_held, nonces_held, orders_held}
+use Rattle.desk_tables.specs.Layouts.{account_layout, authorization_layout, challenge_layout, nonce_layout, order_layout}
+use Rattle.desk_tables.proofs.Holding.{accounts_held, authorizations_held, challenges_held, nonces_held, orders_held}
 use Rattle.desk_reading.specs.Bounded.{bounded}
-use Rattle.desk_reading.specs.Spelled.{account_in, authorization_in, challenge_in, meta_in, nonce_in, order_in}
+use Rattle.desk_reading.specs.Spelled.{account_in, authorization_in, challenge_in, nonce_in, order_in}
 use Rattle.desk_reading.specs.StoredBook.{IsStoredBook}
-use Rattle.desk_reading.specs.Texts.{select_accounts, select_accounts_numbered, select_accounts_with_key, select_authorizations}
+use Rattle.desk_reading.specs.Texts.{select_accounts_numbered, select_accounts_with_key}
 use Rattle.desk_reading.specs.Texts.{select_authorizations_numbered, select_authorizations_of, select_authorizations_past}
-use Rattle.desk_reading.specs.Texts.{select_challenges_numbered, select_challenges_of, select_meta, select_nonces}
-use Rattle.desk_reading.specs.Texts.{select_nonces_before, select_nonces_numbered, select_orders, select_orders_numbered}
+use Rattle.desk_reading.specs.Texts.{select_challenges_numbered, select_challenges_of}
+use Rattle.desk_reading.specs.Texts.{select_nonces_before, select_nonces_numbered, select_orders_numbered}
 use Rattle.desk_reading.specs.Texts.{select_orders_of, select_orders_past}
 use Rattle.desk_reading.proofs.Answered.{IsReading, by, passes}
 use Rattle.desk_reading.proofs.FoundRows.{found_keyed}
-use Rattle.desk_reading.proofs.Lists.{filter-all, map-id}
+use Rattle.desk_reading.proofs.Lists.{map-id}
 use Rattle.desk_reading.proofs.LookUpReadings.{accounts_numbered_reading, accounts_with_key_reading}
 use Rattle.desk_reading.proofs.LookUpReadings.{authorizations_numbered_reading, authorizations_of_reading}
 use Rattle.desk_reading.proofs.LookUpReadings.{authorizations_past_reading, challenges_numbered_reading, challenges_of_reading}
 use Rattle.desk_reading.proofs.LookUpReadings.{is_equal, is_lower, nonces_before_reading, nonces_numbered_reading}
 use Rattle.desk_reading.proofs.LookUpReadings.{orders_numbered_reading, orders_of_reading, orders_past_reading, past}
-use Rattle.desk_reading.proofs.Readings.{accounts_reading, authorizations_reading, meta_reading, nonces_reading, orders_reading}
 use Rattle.desk_reading.proofs.StatusTests.{authorization_status_test, order_status_test}
 use Rattle.desk_reading.proofs.Tests.{below_bounded, below_test, number_test, same_bounded, text_below_test, text_test}
 use Rattle.desk_reading.proofs.Told.{account_project, account_spelled, authorization_project, authorization_spelled}
-use Rattle.desk_reading.proofs.Told.{challenge_project, challenge_spelled, meta_project, meta_spelled, nonce_project}
+use Rattle.desk_reading.proofs.Told.{challenge_project, challenge_spelled, nonce_project}
 use Rattle.desk_reading.proofs.Told.{nonce_spelled, order_project, order_spelled}
 
 module _ (old new : State) (T : Tables) (rows : List Row) (values : Row) (has : Holds old.now T) (book : IsStoredBook T) where
-  -- ---- the desk
-
-  -- its row
-  pub meta_found : (found : List Meta) → EachOf IsStoredMeta found → map meta_in rows ≡ map meta_columns found → values ≡ []
-      → Shown select_meta values old new rows → found ≡ T.meta ∷ []
-  meta_found found kept spells given h =
-      found_keyed meta_layout (λ (x : Meta). x) meta_columns IsStoredMeta meta_in meta_project meta_spelled metas-apart select_meta [] [] (λ _. true)
-      (λ _. true)
-      meta_reading (λ _. refl) (λ _ _. refl) old new values (T.meta ∷ []) rows found (meta_held old.now T has) book.stored.metas given h kept spells
-
   -- ---- nonces
 
   module _ (found : List Nonce) (kept : EachOf IsStoredNonce found) (spells : map nonce_in rows ≡ map nonce_columns found) where
@@ -74,9 +62,6 @@ module _ (old new : State) (T : Tables) (rows : List Row) (values : Row) (has : 
         tests_are agree old new values T.nonces rows found (nonces_held old.now T has)
         (subst (EachOf IsStoredNonce) (sym (map-id T.nonces)) book.stored.nonces) given h kept spells
         ∙ map-id (filter test T.nonces)
-
-    pub all_nonces_found : values ≡ [] → Shown select_nonces values old new rows → found ≡ T.nonces
-    all_nonces_found given h = nonces select_nonces [] [] (λ _. true) (λ _. true) nonces_reading (λ _. refl) (λ _ _. refl) given h ∙ filter-all T.nonces
 
     pub nonces_numbered_found : (n : ℕ) → values ≡ Int (pos (bounded n)) ∷ [] → Shown select_nonces_numbered values old new rows
         → found ≡ nonces_numbered T n
@@ -104,10 +89,6 @@ module _ (old new : State) (T : Tables) (rows : List Row) (values : Row) (has : 
         (subst (EachOf IsStoredAccount) (sym (map-id T.accounts)) book.stored.accounts) given h kept spells
         ∙ map-id (filter test T.accounts)
 
-    pub all_accounts_found : values ≡ [] → Shown select_accounts values old new rows → found ≡ T.accounts
-    all_accounts_found given h = accounts select_accounts [] [] (λ _. true) (λ _. true) accounts_reading (λ _. refl) (λ _ _. refl) given h
-        ∙ filter-all T.accounts
-
     pub accounts_numbered_found : (n : ℕ) → values ≡ Int (pos (bounded n)) ∷ [] → Shown select_accounts_numbered values old new rows
         → found ≡ accounts_numbered T n
     accounts_numbered_found n given h =
@@ -130,10 +111,6 @@ module _ (old new : State) (T : Tables) (rows : List Row) (values : Row) (has : 
     orders text tests params sql test reading tests_are agree given h =
         found_keyed order_layout without_listed order_columns IsStoredOrder order_in order_project order_spelled orders-apart text tests params sql test reading
         tests_are agree old new values T.orders rows found (orders_held old.now T has) book.stored.orders given h kept spells
-
-    pub all_orders_found : values ≡ [] → Shown select_orders values old new rows → found ≡ map without_listed T.orders
-    all_orders_found given h =
-        orders select_orders [] [] (λ _. true) (λ _. true) orders_reading (λ _. refl) (λ _ _. refl) given h ∙ ap (map without_listed) (filter-all T.orders)
 
     pub orders_numbered_found : (n : ℕ) → values ≡ Int (pos (bounded n)) ∷ [] → Shown select_orders_numbered values old new rows
         → found ≡ map without_listed (orders_numbered T n)
@@ -171,11 +148,6 @@ module _ (old new : State) (T : Tables) (rows : List Row) (values : Row) (has : 
         authorization_spelled
         authorizations-apart text tests params sql test reading tests_are agree old new values T.authorizations rows found
         (authorizations_held old.now T has) book.stored.authorizations given h kept spells
-
-    pub all_authorizations_found : values ≡ [] → Shown select_authorizations values old new rows → found ≡ map without_challenges T.authorizations
-    all_authorizations_found given h =
-        authorizations select_authorizations [] [] (λ _. true) (λ _. true) authorizations_reading (λ _. refl) (λ _ _. refl) given h
-        ∙ ap (map without_challenges) (filter-all T.authorizations)
 
     pub authorizations_numbered_found : (n : ℕ) → values ≡ Int (pos (bounded n)) ∷ [] → Shown select_authorizations_numbered values old new rows
         → found ≡ map without_challenges (authorizations_numbered T n)

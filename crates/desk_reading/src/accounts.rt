@@ -10,7 +10,8 @@ ghost use Rattle.desk_reading.specs.StoredBook.{IsStoredBook};
 
 use crate::fault::ReadFault;
 use crate::params::{number_param, text_param};
-use crate::rows::find_rows;
+use crate::rows::{find_rows, rows_of};
+use crate::tables::account_table;
 use desk_columns::AccountColumns;
 use desk_model::{AccountRow, Jwk};
 use sqlite::{Alter, Connection};
@@ -29,12 +30,8 @@ pub fn all_accounts<S: Alter>(
     ensures unchanged { HasCleanDisk (state S.Store conn.new) → OnOk result (IsUnchanged (state S.Store conn.old) (state S.Store conn.new)) }
     ensures asks { Asks (state S.Store conn.old) (state S.Store conn.new) }
 {
-    find_rows::<S, AccountColumns>(
-        alloc,
-        conn,
-        "SELECT num, jwk, contacts, opened, ended, end_kind, status FROM account ORDER BY num",
-        &[],
-    )
+    let columns = account_table(alloc, conn)?;
+    rows_of(alloc, columns)
 }
 
 /// The accounts of a number.

@@ -15,7 +15,8 @@ ghost use Rattle.desk_reading.specs.Under.{HasItsChallenges, rows_under};
 use crate::fault::ReadFault;
 use crate::owned::{owners, without_owners};
 use crate::params::{number_param, text_and_number};
-use crate::rows::find_rows;
+use crate::rows::{find_rows, rows_of};
+use crate::tables::authorization_table;
 use desk_columns::{AuthzColumns, ChallColumns};
 use desk_model::{AuthorizationRow, AuthzStatus, ChallengeRow, Sequence};
 use sqlite::{Alter, Connection};
@@ -79,12 +80,8 @@ pub fn all_authorizations<S: Alter>(
     ensures unchanged { HasCleanDisk (state S.Store conn.new) → OnOk result (IsUnchanged (state S.Store conn.old) (state S.Store conn.new)) }
     ensures asks { Asks (state S.Store conn.old) (state S.Store conn.new) }
 {
-    let heads = find_rows::<S, AuthzColumns>(
-        alloc,
-        conn,
-        "SELECT num, account, name, wildcard, made, expires, ended, end_kind, status FROM authz ORDER BY num",
-        &[],
-    )?;
+    let columns = authorization_table(alloc, conn)?;
+    let heads = rows_of(alloc, columns)?;
     nest_challenges(alloc, conn, heads)
 }
 

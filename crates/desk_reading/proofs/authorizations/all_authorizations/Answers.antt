@@ -1,28 +1,31 @@
-use Rattle.std.proofs.Common.{arith, refl}
+use Rattle.std.proofs.Common.{arith, map, sym, ◌∙◌}
 use Rattle.sqlite.specs.Held.{state}
 use Rattle.sqlite.specs.State.{HasCleanDisk}
+use Rattle.desk_columns.proofs.RowsApart.{authorizations-apart}
+use Rattle.desk_columns.specs.Columns.{authorization_columns}
+use Rattle.desk_columns.specs.Flat.{without_challenges}
+use Rattle.desk_columns.specs.Limits.{IsStoredAuthorization}
 use Rattle.desk_tables.proofs.Holding.{holds_still}
-use Rattle.desk_reading.proofs.LookUpRows.{all_authorizations_found}
+use Rattle.desk_reading.proofs.FoundRows.{rows_back}
+use Rattle.desk_reading.proofs.Lists.{map-map}
 use Rattle.desk_reading.proofs.Results.{unchanged_after}
-use Rattle.desk_reading.proofs.Readings.{authorizations_reading}
 use Rattle.desk_reading.proofs.UnderLemmas.{authorizations_have}
 use Rattle.desk_reading.proofs.authorizations.all_authorizations.Goals as goal
-
-pub find_rows-requires : goal.find_rows-requires
-find_rows-requires g c = authorizations_reading.selecting
 
 pub returns-clause-found : goal.returns-clause-found
 returns-clause-found g c clean T has book =
     let before = state g.S.Store c.args.conn.now in
-    let one = state g.S.Store c.find_rows.new.conn in
+    let one = state g.S.Store c.authorization_table.new.conn in
     let clean_one : HasCleanDisk one = omega (arith, clean, c.nest_challenges.ensures.asks.survives.clean) in
-    let it = c.in_ok-heads.ensures.read clean_one in
-    let same = c.in_ok-heads.ensures.unchanged clean_one in
-    let heads = all_authorizations_found before one T it.0 _ has book c.in_ok-heads.heads.items it.2 it.3 refl it.1 in
+    let same = c.in_ok-columns.ensures.unchanged clean_one in
+    let heads =
+    rows_back authorization_columns IsStoredAuthorization authorizations-apart c.in_ok-columns.columns
+    (map without_challenges T.authorizations) c.in_ok-heads.heads.items book.stored.authorizations
+    (c.in_ok-columns.ensures.found clean_one T has ∙ sym (map-map authorization_columns without_challenges T.authorizations)) c.in_ok-heads.ensures in
     c.nest_challenges.ensures.found clean T (holds_still before one T same has) book same.0.is_open _
     (authorizations_have 0 T.authorizations has.rising.authorizations) heads
 
 pub returns-clause-unchanged : goal.returns-clause-unchanged
 returns-clause-unchanged g c clean =
-    let clean_one : HasCleanDisk (state g.S.Store c.find_rows.new.conn) = omega (arith, clean, c.nest_challenges.ensures.asks.survives.clean) in
-    unchanged_after c.nest_challenges.result _ _ _ (c.in_ok-heads.ensures.unchanged clean_one) (c.nest_challenges.ensures.unchanged clean)
+    let clean_one : HasCleanDisk (state g.S.Store c.authorization_table.new.conn) = omega (arith, clean, c.nest_challenges.ensures.asks.survives.clean) in
+    unchanged_after c.nest_challenges.result _ _ _ (c.in_ok-columns.ensures.unchanged clean_one) (c.nest_challenges.ensures.unchanged clean)

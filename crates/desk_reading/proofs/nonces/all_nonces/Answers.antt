@@ -1,14 +1,12 @@
-use Rattle.std.proofs.Common.{refl}
-use Rattle.sqlite.specs.Held.{state}
-use Rattle.desk_reading.proofs.LookUpRows.{all_nonces_found}
-use Rattle.desk_reading.proofs.Readings.{nonces_reading}
-use Rattle.desk_reading.proofs.Results.{read_then}
+use Rattle.desk_columns.proofs.RowsApart.{nonces-apart}
+use Rattle.desk_columns.specs.Columns.{nonce_columns}
+use Rattle.desk_columns.specs.Limits.{IsStoredNonce}
+use Rattle.desk_reading.proofs.FoundRows.{rows_back}
+use Rattle.desk_reading.proofs.Results.{matched_then}
 use Rattle.desk_reading.proofs.nonces.all_nonces.Goals as goal
-
-pub find_rows-requires : goal.find_rows-requires
-find_rows-requires g c = nonces_reading.selecting
 
 pub returns-clause-found : goal.returns-clause-found
 returns-clause-found g c clean T has book =
-    read_then c.find_rows.result (c.find_rows.ensures.read clean) (λ found it.
-    all_nonces_found (state g.S.Store c.args.conn.now) (state g.S.Store c.find_rows.new.conn) T it.0 _ has book found.items it.2 it.3 refl it.1)
+    matched_then c.rows_of.result _ c.rows_of.ensures (λ rows read.
+    rows_back nonce_columns IsStoredNonce nonces-apart c.in_ok-columns.columns T.nonces rows.items book.stored.nonces
+    (c.in_ok-columns.ensures.found clean T has) read)
