@@ -5,8 +5,9 @@ use Rattle.serde_json.specs.Data.{Data, string}
 use Rattle.serde_json.specs.Read.{read}
 use Rattle.serde_json.specs.Written.{compact_text, has_float}
 use Rattle.desk_model.specs.Json.{list}
+use Rattle.json_values.proofs.PlainLists.{no_float_in}
 use Rattle.desk_columns.specs.Spelling.{contacts_text}
-use Rattle.desk_columns.proofs.JsonTexts.{has_float-contacts, read-contacts_text}
+use Rattle.desk_columns.proofs.JsonTexts.{read-contacts_text}
 
 -- the list of these contacts
 abbrev pub contacts_list : List (List ℕ) → Data
@@ -32,11 +33,11 @@ pub none_of_loose_text : (text : List ℕ) (d : Data) (compact : Bool) → read 
     → (contacts : List (List ℕ)) → text ≢ contacts_text contacts
 none_of_loose_text text d compact there tells loose contacts same =
     let is : d ≡ contacts_list contacts = list_of text d there contacts same in
-    let tight : compact ≡ true = (tells (ap has_float is ∙ has_float-contacts contacts)).1 (same ∙ sym (ap compact_text is)) in
+    let tight : compact ≡ true = (tells (no_float_in contacts d is)).1 (same ∙ sym (ap compact_text is)) in
     cc (loose, tight)
 
 -- a compact list of strings is spelled by these
 pub of_compact_text : (text : List ℕ) (d : Data) (compact : Bool) (contacts : List (List ℕ)) → d ≡ contacts_list contacts
     → (has_float d ≡ false → IsTrue compact ↔ (text ≡ compact_text d)) → compact ≡ true
     → text ≡ contacts_text contacts
-of_compact_text text d compact contacts is tells tight = (tells (ap has_float is ∙ has_float-contacts contacts)).0 tight ∙ ap compact_text is
+of_compact_text text d compact contacts is tells tight = (tells (no_float_in contacts d is)).0 tight ∙ ap compact_text is

@@ -1,5 +1,5 @@
 -- The JSON texts of columns are read back as what they write.
-use Rattle.std.proofs.Common.{◌≡◌, ◌≤◌, ℕ, List, [], ◌∷◌, map, false, Option, Some, option_and_then, refl, sym, ap, ◌∙◌, arith, append-nil}
+use Rattle.std.proofs.Common.{◌≡◌, ◌≤◌, ℕ, List, [], ◌∷◌, map, Option, Some, option_and_then, refl, sym, ap, ◌∙◌, arith, append-nil}
 use Rattle.json.specs.Token.{Token}
 use Rattle.json.specs.Lex.{tokens}
 use Rattle.json.specs.Print.{ArePrintable}
@@ -9,7 +9,7 @@ use Rattle.json.proofs.Printed.Tokens.{tokens-print}
 use Rattle.json.proofs.Printed.Trees.{value-json_tokens}
 use Rattle.serde_json.specs.Data.{Data, string, Items}
 use Rattle.serde_json.specs.Read.{read, of_json, of_items, max_depth}
-use Rattle.serde_json.specs.Written.{compact_text, outline, items_outline, has_float, items_have_float}
+use Rattle.serde_json.specs.Written.{compact_text, outline, items_outline}
 use Rattle.serde_json.specs.View.{items_of}
 use Rattle.serde_json.proofs.Texts.{print-outline}
 use Rattle.desk_model.specs.Json.{list}
@@ -46,14 +46,6 @@ same_items (c ∷ cs) = rw (same_items cs)
 flat_outline : (cs : List (List ℕ)) → tree.items_depth (items_outline (strings cs)) ≤ 0
 flat_outline [] = omega arith
 flat_outline (c ∷ cs) = omega (arith, flat_outline cs)
-
-no_floats : (cs : List (List ℕ)) → items_have_float (strings cs) ≡ false
-no_floats [] = refl
-no_floats (c ∷ cs) = no_floats cs
-
--- contacts have no float
-pub has_float-contacts : (cs : List (List ℕ)) → has_float (list (map string cs)) ≡ false
-has_float-contacts cs = no_floats cs
 
 -- the text of contacts is read as their list
 pub read-contacts_text : (cs : List (List ℕ)) → read (contacts_text cs) ≡ Some (list (map string cs))

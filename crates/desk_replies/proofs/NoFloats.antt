@@ -5,6 +5,7 @@ use Rattle.std.specs.List.{flat_map, slice_split}
 use Rattle.serde_json.specs.Data.{Data, Items, string, array, boolean}
 use Rattle.serde_json.specs.View.{items_of}
 use Rattle.serde_json.specs.Written.{has_float, items_have_float, members_have_float}
+use Rattle.json_values.proofs.PlainLists.{each_plain}
 use Rattle.desk_model.specs.Json.{members, when}
 use Rattle.desk_model.specs.Terms.{Terms}
 use Rattle.desk_model.specs.Moment.{moment_text}
@@ -31,19 +32,9 @@ use Rattle.desk_model.specs.declared.rows.DatedBytes.{DatedBytes}
 use Rattle.desk_model.specs.declared.rows.DatedProblem.{DatedProblem}
 use Rattle.desk_model.specs.declared.rows.AccountRow.{AccountRow}
 
--- nor does a list of texts
-texts_plain : (texts : List (List ℕ)) → items_have_float (items_of (map string texts)) ≡ false
-texts_plain [] = refl
-texts_plain (s ∷ rest) = texts_plain rest
-
 -- the document of an account
 pub account_plain : (t : Terms) (row : AccountRow) → has_float (account_document t row) ≡ false
-account_plain t row = ap (λ b. b || false) (texts_plain row.contacts)
-
--- a list whose items are made of others has none where each of them has none
-each_plain : {X : Type 0} (f : X → Data) → ((x : X) → has_float (f x) ≡ false) → (xs : List X) → items_have_float (items_of (map f xs)) ≡ false
-each_plain f plain [] = refl
-each_plain f plain (x ∷ xs) = ap (λ b. b || items_have_float (items_of (map f xs))) (plain x) ∙ each_plain f plain xs
+account_plain t row = ap (λ b. b || false) (each_plain string (λ _. refl) row.contacts)
 
 -- an order, by what its lists hold
 order_plain_by : (certified : Option DatedBytes) (failed : Option DatedProblem) (a i : Items) (x f s c : List ℕ) →

@@ -1,1 +1,2 @@
 pub mod EachIn
+pub mod PlainLists

@@ -14,7 +14,7 @@ pub(crate) fn contacts_column(alloc: Global, contacts: &[Text]) -> Result<Text, 
 }
 
 // The text of contacts.
-#[tactic(auto, using(crate::proofs::Floats::no_float_in))]
+#[tactic(auto, using(json_values::proofs::PlainLists::no_float_in))]
 fn contacts_text(alloc: Global, contacts: &[Text]) -> Result<String, AllocError>
     ensures { IfOk result (λ text. string_bytes text ≡ contacts_text contacts.now) }
 {
