@@ -36,10 +36,10 @@ impl<'a, R: Read + Drop, W: Write, E: Write> OverDesk for AnswerLines<'a, R, W, 
 impl<'a, R: Read + Drop, W: Write, E: Write> Task for AnswerLines<'a, R, W, E> {
     type Fault = Fault;
 
-    fn run<K: Tables + Drop>(&mut self, store: K) -> Result<(K, u8), Fault> {
+    fn run<K: Tables + Drop>(&mut self, store: K) -> Result<(K, Result<u8, Fault>), Fault> {
         let mut desk = adopt(self.alloc, store)?;
         let status = self.answer(&mut desk);
-        Ok((desk.close(), status))
+        Ok((desk.close(), Ok(status)))
     }
 }
 
@@ -75,15 +75,12 @@ impl<'a, W: Write, E: Write> ServeConnections<'a, W, E> {
 impl<'a, W: Write, E: Write> Task for ServeConnections<'a, W, E> {
     type Fault = Fault;
 
-    fn run<K: Tables + Drop>(&mut self, store: K) -> Result<(K, u8), Fault> {
+    fn run<K: Tables + Drop>(&mut self, store: K) -> Result<(K, Result<u8, Fault>), Fault> {
         let mut desk = adopt(self.rt.alloc(), store)?;
-        match self.serve(&mut desk) {
-            Ok(()) => Ok((desk.close(), 0)),
-            Err(fault) => {
-                // The store is closed for good before the fault is told; a second fault would say less.
-                let _ = desk.close().end();
-                Err(fault)
-            }
-        }
+        let outcome = match self.serve(&mut desk) {
+            Ok(()) => Ok(0),
+            Err(fault) => Err(fault),
+        };
+        Ok((desk.close(), outcome))
     }
 }

@@ -43,10 +43,10 @@ impl<'a, W: Write> ListOrders<'a, W> {
 impl<'a, W: Write> Task for ListOrders<'a, W> {
     type Fault = Fault;
 
-    fn run<K: Tables + Drop>(&mut self, store: K) -> Result<(K, u8), Fault> {
+    fn run<K: Tables + Drop>(&mut self, store: K) -> Result<(K, Result<u8, Fault>), Fault> {
         let mut store = store;
         store.list_orders(self.alloc, self.out, self.form, self.filter)?;
-        Ok((store, 0))
+        Ok((store, Ok(0)))
     }
 }
 
@@ -72,9 +72,10 @@ impl<'a, W: Write> CheckStatuses<'a, W> {
 impl<'a, W: Write> Task for CheckStatuses<'a, W> {
     type Fault = Fault;
 
-    fn run<K: Tables + Drop>(&mut self, store: K) -> Result<(K, u8), Fault> {
+    fn run<K: Tables + Drop>(&mut self, store: K) -> Result<(K, Result<u8, Fault>), Fault> {
         let mut store = store;
         let found = store.list_faults(self.alloc, self.out, self.form)?;
-        Ok((store, if found { FOUND } else { 0 }))
+        let status = if found { FOUND } else { 0 };
+        Ok((store, Ok(status)))
     }
 }

@@ -60,11 +60,11 @@ impl<'a, W: Write> Revoke<'a, W> {
 impl<'a, W: Write> Task for Revoke<'a, W> {
     type Fault = Fault;
 
-    fn run<K: Tables + Drop>(&mut self, store: K) -> Result<(K, u8), Fault> {
+    fn run<K: Tables + Drop>(&mut self, store: K) -> Result<(K, Result<u8, Fault>), Fault> {
         let mut desk = adopt(self.rt.alloc(), store)?;
         self.revoke(&mut desk)?;
         match self.tell() {
-            Ok(()) => Ok((desk.close(), 0)),
+            Ok(()) => Ok((desk.close(), Ok(0))),
             Err(_) => Err(Fault::Output),
         }
     }

@@ -114,8 +114,13 @@ fn write_kinds<K: RowsAbove, W: Write>(
     Ok(found)
 }
 
-/// Writes a line for each status fault, and says whether there is one; as text, where there is none, a line says so.
-pub(crate) fn write_faults<K: RowsAbove, W: Write>(
+/// Writes a line for each stored status of a desk that is wrong, by kind and number, and says whether there is one; as text,
+/// where there is none, a line says so. It keeps the rows of one object at most.
+///
+/// # Errors
+///
+/// `Storage` where a growth was refused or the rows could not be read, `Output` where the writer failed.
+pub fn list_faults<K: RowsAbove, W: Write>(
     alloc: Global,
     source: &mut K,
     out: &mut W,

@@ -5,9 +5,8 @@ mod fault;
 mod faults;
 mod form;
 mod orders;
-mod stores;
 
 pub use fault::ReportFault;
+pub use faults::list_faults;
 pub use form::Form;
-pub use orders::OrderFilter;
-pub use stores::{list_faults, list_orders};
+pub use orders::{OrderFilter, list_orders};

@@ -91,15 +91,20 @@ fn write_kept<K: RowsAbove, W: Write>(
     Ok(count)
 }
 
-/// Writes the line of each order that a filter keeps; as text last how many these are.
-pub(crate) fn write_orders<K: RowsAbove, W: Write>(
+/// Writes a line for each order of a desk that a filter keeps, by number; as text last how many these are. It keeps one order
+/// at most.
+///
+/// # Errors
+///
+/// `Storage` where a growth was refused or the rows could not be read, `Output` where the writer failed.
+pub fn list_orders<K: RowsAbove, W: Write>(
     alloc: Global,
     source: &mut K,
     out: &mut W,
     form: Form,
     filter: OrderFilter,
 ) -> Result<(), ReportFault>
-    ensures { Reports K.sight source.old source.new result }
+    ensures reads { Reports K.sight source.old source.new result }
 {
     let count = write_kept(alloc, source, out, form, filter)?;
     if form == Form::Text {
