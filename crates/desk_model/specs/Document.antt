@@ -5,7 +5,7 @@ use Rattle.serde_json.specs.Data.{unsigned, Data, boolean, number, string}
 use Rattle.desk_model.specs.Json.{document, list, when}
 use Rattle.desk_model.specs.Terms.{Terms}
 use Rattle.desk_model.specs.Name.{Name}
-use Rattle.desk_model.specs.Names.{shown_name}
+use Rattle.desk_model.specs.Names.{dns_type, shown_name}
 use Rattle.desk_model.specs.Moment.{moment_text}
 use Rattle.desk_model.specs.Tokens.{base64url, token_text, authorization_of, dns_value_of}
 use Rattle.sha2.specs.Sha256.{sha256}
@@ -108,7 +108,7 @@ account_document t a =
 
 -- an identifier (7.1.3)
 abbrev pub identifier : List ℕ → Data
-identifier value = document ((codes "type", string (codes "dns")) ∷ (codes "value", string value) ∷ [])
+identifier value = document ((codes "type", string dns_type) ∷ (codes "value", string value) ∷ [])
 
 -- an error that is kept with an object (6.7)
 abbrev pub error : (kind detail : List ℕ) (status : ℕ) → Data

@@ -9,6 +9,14 @@ last_moment = 250000000000
 abbrev pub last_end : ℕ
 last_end = 250315360000
 
+-- the bytes of the base of the URLs, at least
+abbrev pub shortest_base : ℕ
+shortest_base = 8
+
+-- and at most
+abbrev pub longest_base : ℕ
+longest_base = 256
+
 -- the longest life of nonces, orders and authorizations
 abbrev pub longest_life : ℕ
 longest_life = 315360000

@@ -9,6 +9,10 @@ use Rattle.idna.specs.declared.options.DnsLength.TheVariants.{Ignore}
 use Rattle.desk_model.specs.BaseName.{is_base_name}
 use Rattle.desk_model.specs.Name.{Name}
 
+-- the type of identifiers that are names (RFC 8555, 9.7.7)
+abbrev pub dns_type : List ℕ
+dns_type = codes "dns"
+
 -- ToASCII of UTS 46 with an empty deny list, hyphens allowed and DNS lengths unchecked
 abbrev pub ascii_form : List ℕ → Option (List ℕ)
 ascii_form rest = to_ascii EMPTY Allow Ignore rest

@@ -3,7 +3,7 @@ use Rattle.std.specs.Prelude.{ℕ, suc, zero, ◌*◌, List, [], ◌∷◌, leng
 use Rattle.std.specs.Prelude.{nat_le, Option, Some, None, Ok, Err, is_none, if◌then◌else◌, bytes_eq, codes, option_and_then}
 use Rattle.desk_model.specs.Lookup.{holds}
 use Rattle.desk_model.specs.Name.{Name, same_name}
-use Rattle.desk_model.specs.Names.{name_of}
+use Rattle.desk_model.specs.Names.{dns_type, name_of}
 use Rattle.desk_model.specs.Tokens.{NonceText, nonce_in, body_matches, records_match, from_base64url}
 use Rattle.desk_model.specs.Entry.{Wanted, new, Ending, deactivated, revoked, Outcome, good, incorrect_response, connection, dns, OrderProblem}
 use Rattle.desk_model.specs.Nonce.{Nonce}
@@ -67,7 +67,7 @@ account_verdict n (payload.account.Update (Some contacts)) =
 -- ---- orders (RFC 8555, 7.4)
 
 abbrev pub is_dns : Identifier → Bool
-is_dns i = bytes_eq i.kind (codes "dns")
+is_dns i = bytes_eq i.kind dns_type
 
 -- why an identifier is refused, if it is: its type is not dns, or its value is no name
 abbrev pub fault_of : Identifier → Option Refusal

@@ -2,7 +2,7 @@
 use Rattle.std.specs.Prelude.{ℕ, Bool, not, ◌&&◌, ◌||◌, ◌==◌, nat_eq, ◌-◌, List, length, codes, slice_index}
 use Rattle.std.specs.Int.{is_in_range}
 use Rattle.std.specs.List.{list_all, starts_with}
-use Rattle.desk_model.specs.Limits.{longest_life}
+use Rattle.desk_model.specs.Limits.{longest_base, longest_life, shortest_base}
 
 pub record Terms : Type 0 where
   pub base : List ℕ
@@ -18,11 +18,11 @@ is_base_byte c = is_in_range 33 126 c && not (c == 34 || c == 60 || c == 62 || c
 abbrev pub has_scheme : List ℕ → Bool
 has_scheme b = starts_with nat_eq b (codes "http://") || starts_with nat_eq b (codes "https://")
 
--- a base URL: http or https, of 8 to 256 such bytes, with no slash at its end
+-- a base URL: http or https, of so many such bytes, with no slash at its end
 abbrev pub is_base : List ℕ → Bool
 is_base b =
     has_scheme b
-    && (is_in_range 8 256 (length b) && (list_all is_base_byte b && not (slice_index b (length b - 1) == 47)))
+    && (is_in_range shortest_base longest_base (length b) && (list_all is_base_byte b && not (slice_index b (length b - 1) == 47)))
 
 -- a number of seconds that something may live
 abbrev pub is_life : ℕ → Bool

@@ -29,15 +29,18 @@ pub use document::Document;
 pub use entry::{Dated, Ending, Entry, Outcome, Wanted};
 pub use jwk::{Jwk, is_number};
 pub use limits::{
-    LAST_END, LAST_MOMENT, LAST_NUMBER, LONGEST_BODY, LONGEST_CERTIFICATE, LONGEST_CONTACT,
-    LONGEST_CSR, LONGEST_DETAIL, LONGEST_HEAD, LONGEST_LIFE, MOST_CONTACTS, MOST_NAMES,
+    LAST_END, LAST_MOMENT, LAST_NUMBER, LONGEST_BASE, LONGEST_BODY, LONGEST_CERTIFICATE,
+    LONGEST_CONTACT, LONGEST_CSR, LONGEST_DETAIL, LONGEST_HEAD, LONGEST_LIFE, MOST_CONTACTS,
+    MOST_NAMES, SHORTEST_BASE,
 };
 pub use moves::Move;
 pub use objects::{
     Account, AccountEnd, Authorization, AuthorizationEnd, Challenge, EndKind, Kind, Nonce, Order,
     Report,
 };
-pub use payload::{AccountChange, AuthorizationChange, ChallengeChange, Identifier, NewAccount};
+pub use payload::{
+    AccountChange, AuthorizationChange, ChallengeChange, DNS, Identifier, NewAccount,
+};
 pub use policy::Policy;
 pub use refusal::Refusal;
 pub use reply::{Allow, Body, Problem, Reply, Subproblem};

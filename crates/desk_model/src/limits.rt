@@ -7,6 +7,12 @@ pub const LAST_MOMENT: u64 = 250_000_000_000;
 /// longest life after it.
 pub const LAST_END: u64 = LAST_MOMENT + LONGEST_LIFE;
 
+/// The shortest base of the URLs, in bytes.
+pub const SHORTEST_BASE: usize = 8;
+
+/// The longest base of the URLs, in bytes.
+pub const LONGEST_BASE: usize = 256;
+
 /// The longest life of nonces, orders and authorizations, in seconds.
 pub const LONGEST_LIFE: u64 = 315_360_000;
 

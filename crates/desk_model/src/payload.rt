@@ -40,10 +40,13 @@ pub enum ChallengeChange {
     Answer,
 }
 
+/// The type of the identifiers that are names (RFC 8555, 9.7.7).
+pub const DNS: &str = "dns";
+
 /// An identifier as an order gives it (RFC 8555, 7.4).
 #[derive(Drop)]
 pub struct Identifier {
-    /// The member `type`, of which `dns` alone is accepted (RFC 8555, 9.7.7).
+    /// The member `type`, of which `DNS` alone is accepted.
     pub kind: Text,
     /// The name as received, before IDNA.
     pub value: Text,

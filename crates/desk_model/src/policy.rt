@@ -3,10 +3,10 @@ ghost use Rattle.std.specs.Prelude.{◌≡◌, ◌≤◌, ◌==◌, ◌-◌, len
 ghost use Rattle.std.specs.Int.{is_in_range};
 ghost use Rattle.std.specs.List.{list_all};
 ghost use Rattle.desk_model.specs.Effect.{lasts};
-ghost use Rattle.desk_model.specs.Limits.{longest_life};
+ghost use Rattle.desk_model.specs.Limits.{longest_base, longest_life, shortest_base};
 ghost use Rattle.desk_model.specs.Terms.{Terms, are_terms, is_base, is_life, has_scheme, is_base_byte};
 
-use crate::limits::LONGEST_LIFE;
+use crate::limits::{LONGEST_BASE, LONGEST_LIFE, SHORTEST_BASE};
 use crate::objects::Nonce;
 use crate::text::Text;
 use std::alloc::{AllocError, Global};
@@ -143,11 +143,11 @@ fn has_web_scheme(base: &str) -> bool
     base.starts_with("http://") || base.starts_with("https://")
 }
 
-// Whether the base has 8 to 256 bytes.
+// Whether a base may be so long, in bytes.
 fn is_allowed_len(len: usize) -> bool
-    ensures { result ≡ is_in_range 8 256 len }
+    ensures { result ≡ is_in_range shortest_base longest_base len }
 {
-    (8..=256).contains(&len)
+    (SHORTEST_BASE..=LONGEST_BASE).contains(&len)
 }
 
 // Whether each byte may stand in a base.

@@ -8,6 +8,7 @@ ghost use Rattle.desk_model.specs.Moment.{moment_text as text_of_moment};
 ghost use Rattle.moments.specs.Capped.{capped};
 ghost use Rattle.desk_replies.specs.Shown.{with_members};
 
+use desk_model::DNS;
 use moments::capped_moment_text;
 use refusals::type_text;
 use serde_json::{Map, Value, json, put};
@@ -38,7 +39,7 @@ pub(crate) fn moment_value(alloc: Global, moment: u64) -> Result<Value, AllocErr
 pub(crate) fn identifier_value(alloc: Global, value: &str) -> Result<Value, AllocError>
     ensures { IfOk result (λ v. view v ≡ identifier value.now) }
 {
-    json!(in alloc; {"type": "dns", "value": value})
+    json!(in alloc; {"type": DNS, "value": value})
 }
 
 /// An error that is kept with an object: its type without the prefix, a text for people, and a status (RFC 8555, 6.7).

@@ -3,7 +3,7 @@ ghost use Rattle.std.specs.Prelude.{◌≡◌, [], None, Some, IfOk, MatchResult
 ghost use Rattle.desk_model.specs.Names.{name_of};
 ghost use Rattle.desk_model.specs.Rules.{fault_of, is_dns, names_in, subproblems};
 
-use desk_model::{DnsName, Identifier, Refusal, Subproblem};
+use desk_model::{DNS, DnsName, Identifier, Refusal, Subproblem};
 use identifiers::{NameFault, read_name};
 use std::alloc::{AllocError, Global};
 
@@ -17,7 +17,7 @@ pub(crate) struct Identified {
 fn is_dns(identifier: &Identifier) -> bool
     ensures { result ≡ is_dns identifier.now }
 {
-    identifier.kind.as_str() == "dns"
+    identifier.kind.as_str() == DNS
 }
 
 // The name that an identifier stands for, or why it is refused.
