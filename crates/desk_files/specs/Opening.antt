@@ -14,25 +14,28 @@ use Rattle.sqlite.specs.Tree.{Trees}
 use Rattle.desk_model.specs.Tables.{Tables, picture}
 use Rattle.desk_model.specs.Terms.{Terms}
 use Rattle.desk_storage.specs.Sight.{Keeps, Opens}
+use Rattle.desk_store.specs.Causes.{cause_of}
 use Rattle.desk_store.specs.Desks.{AreOfDesk}
 use Rattle.desk_store.specs.Making.{IsOfStorage, first_history}
 use Rattle.desk_storage.specs.declared.fault.StorageFault.{StorageFault}
 use Rattle.desk_storage.specs.declared.fault.StorageFault.TheVariants as fault
+use Rattle.desk_store.specs.declared.faults.Cause.{Cause}
+use Rattle.desk_store.specs.declared.faults.Cause.TheVariants as cause
 use Rattle.desk_store.specs.declared.open_fault.OpenFault.{OpenFault}
 use Rattle.desk_store.specs.declared.open_fault.OpenFault.TheVariants.{NotADesk, Storage}
 use Rattle.desk_store.specs.declared.store.Store.{Store}
 use Rattle.desk_openings.specs.LeftFiles.{LeftFiles, file_sight}
 
 -- memory was refused, or the disk failed
-abbrev pub fault_of_files : Error → StorageFault
-fault_of_files (SqliteFailure code.OutOfMemory) = fault.Memory
+abbrev pub fault_of_files : Cause → StorageFault
+fault_of_files cause.Memory = fault.Memory
 fault_of_files _ = fault.Device
 
 -- the fault of files that the engine refuses
 abbrev pub fault_of_refusal : Error → OpenFault
 fault_of_refusal (SqliteFailure code.NotADatabase) = NotADesk
 fault_of_refusal (SqliteFailure code.DatabaseCorrupt) = NotADesk
-fault_of_refusal error = Storage (fault_of_files error)
+fault_of_refusal error = Storage (fault_of_files (cause_of error))
 
 -- a making that failed: the fault is the store's, and a stop leaves what was there, or the new desk
 pub record LeavesNewDesk (policy : Terms) (at : ℕ) (Was : Trees → Type 0) (why : OpenFault) (s : State) : Type 0 where

@@ -1,10 +1,11 @@
 //! The faults of files that are not opened or closed.
 ghost use Rattle.std.specs.Prelude.{◌≡◌};
+ghost use Rattle.desk_store.specs.Causes.{cause_of};
 ghost use Rattle.desk_store.specs.Making.{IsOfStorage};
 ghost use Rattle.desk_files.specs.Opening.{fault_of_files, fault_of_refusal};
 
 use desk_storage::StorageFault;
-use desk_store::OpenFault;
+use desk_store::{Cause, OpenFault, cause_of};
 use sqlite::{Error, ErrorCode};
 
 /// The fault of files that the engine does not open. Those that it calls corrupt, or whose rows break their schema (a foreign
@@ -29,10 +30,10 @@ pub(crate) fn close_fault(error: Error) -> OpenFault
 
 // The fault of a failure of memory, or of the disk.
 fn files_fault(error: Error) -> StorageFault
-    ensures { result ≡ fault_of_files error }
+    ensures { result ≡ fault_of_files (cause_of error) }
 {
-    match error {
-        Error::SqliteFailure(ErrorCode::OutOfMemory) => StorageFault::Memory,
-        _ => StorageFault::Device,
+    match cause_of(error) {
+        Cause::Memory => StorageFault::Memory,
+        Cause::Device | Cause::Other => StorageFault::Device,
     }
 }

@@ -15,7 +15,7 @@ use written_rows::WriteFault;
 
 /// What an error of the engine comes from.
 #[derive(Clone, Copy)]
-pub(crate) enum Cause {
+pub enum Cause {
     /// A growth was refused.
     Memory,
     /// The disk failed, or a row is too large for it.
@@ -24,8 +24,9 @@ pub(crate) enum Cause {
     Other,
 }
 
-/// What an error comes from.
-pub(crate) fn cause_of(error: Error) -> Cause
+/// What an error of the engine comes from: `OutOfMemory` from memory; a failure of the system's calls, pages that are
+/// corrupt, a full disk and a row that is too large from the device.
+pub fn cause_of(error: Error) -> Cause
     ensures { result ≡ cause_of error }
 {
     match error {

@@ -10,5 +10,6 @@ mod rows_above;
 mod storage;
 mod store;
 
+pub use faults::{Cause, cause_of};
 pub use open_fault::OpenFault;
 pub use store::{Store, Unopened};
