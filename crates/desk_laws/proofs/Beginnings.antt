@@ -32,7 +32,7 @@ fitted_all m [] F h = h
 fitted_all m (e ∷ es) F h = fitted (record { date = m; entry = e }) F (fitted_all m es (record { date = m; entry = e } ∷ F) h)
 
 -- an entry later the first is still the making of the desk
-begun : (e : Dated) (F : History) → BeginsMade F → BeginsMade (e ∷ F)
+pub begun : (e : Dated) (F : History) → BeginsMade F → BeginsMade (e ∷ F)
 begun e [] h = absurd h
 begun e (f ∷ F) h = h
 

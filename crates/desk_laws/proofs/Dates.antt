@@ -1,10 +1,11 @@
 -- No date of a row is after the latest recorded moment.
 use Rattle.std.proofs.Common.{◌≤◌, ℕ, ◌+◌, List, [], ◌∷◌, length, Option, Some, None, true, false, Bool, cond, arith}
 use Rattle.std.specs.Prelude.{◌==◌, IfSome}
+use Rattle.std.proofs.lemmas.Option.{IfSome_then}
 use Rattle.desk_model.specs.Account.{accounts, opened_by, ends as account_ends}
 use Rattle.desk_model.specs.Authorization.{answering, authorizations, count_challenges, ends, has_challenge, in_time, is_good, made_by, made_for, reporting}
 use Rattle.desk_model.specs.Entry.{History}
-use Rattle.desk_model.specs.History.{clock, earlier, first, terms}
+use Rattle.desk_model.specs.History.{clock, first, terms}
 use Rattle.desk_model.specs.Kept.{EachOf}
 use Rattle.desk_model.specs.Legal.{EachFollows}
 use Rattle.desk_model.specs.Limits.{last_moment}
@@ -25,25 +26,9 @@ use Rattle.desk_laws.specs.DateLaws.{AreDatedBy, IsChallengeDatedBy}
 use Rattle.desk_laws.proofs.Basics.{each, each_all, each-append, each-map}
 use Rattle.desk_laws.proofs.Keeps.{each-filter}
 use Rattle.desk_laws.proofs.Numbers.{made_now, ordered_now}
+use Rattle.desk_laws.proofs.StatedFacts.{first_holds, stated}
 
 -- ---- facts that an entry states
-
--- what holds of a value, if there is one, and what follows from it
-pub if_some : {X : Type 0} (P Q : X → Type 0) → ((x : X) → P x → Q x) → (o : Option X) → IfSome o P → IfSome o Q
-if_some P Q f None h = tt
-if_some P Q f (Some x) h = f x h
-
--- what holds of two facts holds of the earlier one
-earlier_holds : {X : Type 0} (P : X → Type 0) (x y : Option X) → IfSome x P → IfSome y P → IfSome (earlier x y) P
-earlier_holds P None None h k = tt
-earlier_holds P None (Some y) h k = k
-earlier_holds P (Some x) None h k = h
-earlier_holds P (Some x) (Some y) h k = h
-
--- what holds of the fact that each entry states holds of the first
-pub first_holds : {X : Type 0} (P : X → Type 0) (fact : Dated → Option X) (F : History) → EachOf (λ e. IfSome (fact e) P) F → IfSome (first fact F) P
-first_holds P fact [] h = tt
-first_holds P fact (e ∷ F) h = earlier_holds P (first fact F) (fact e) (first_holds P fact F h.1) h.0
 
 -- no entry is dated after the latest recorded moment
 entries_dated : (F : History) → EachOf (λ e. e.date ≤ clock F) F
@@ -55,12 +40,7 @@ first_dated : {X : Type 0} (date : X → ℕ) (fact : Dated → Option X) → ((
     IfSome (first fact F) (λ x. date x ≤ clock F)
 first_dated date fact states F =
     first_holds _ fact F
-    (each _ _ F (λ e le. if_some _ _ (λ x h. let same : date x ≤ e.date = h in omega arith) (fact e) (states e)) (entries_dated F))
-
--- a fact that is stated under a condition
-stated : {X : Type 0} (P : X → Type 0) (b : Bool) (x : X) → P x → IfSome (cond b (Some x) None) P
-stated P true x h = h
-stated P false x h = tt
+    (each _ _ F (λ e le. IfSome_then (fact e) (states e) (λ x h. let same : date x ≤ e.date = h in omega arith)) (entries_dated F))
 
 -- ---- each fact has the date of its entry
 

@@ -3,7 +3,7 @@ use Rattle.std.proofs.Common.{◌≡◌, ℕ, List, [], ◌∷◌, map, Option, 
 use Rattle.std.specs.Prelude.{◌==◌, ◌||◌, bytes_eq}
 use Rattle.std.specs.Cmp.Lexicographic.{pointwise}
 use Rattle.std.specs.List.{list_any, zip}
-use Rattle.std.proofs.lemmas.Bool.{eqb-true, eq-eqb}
+use Rattle.std.proofs.lemmas.Bool.{eqb-true, eq-eqb, or_parts}
 use Rattle.std.proofs.lemmas.Slice.Eq.{bytes_eq-Decides, slice_eq-Decides}
 use Rattle.desk_model.specs.History.{earlier}
 use Rattle.desk_model.specs.Account.{ends as account_ends}
@@ -25,7 +25,6 @@ use Rattle.desk_model.specs.declared.status.AuthzStatus.{AuthzStatus}
 use Rattle.desk_model.specs.declared.status.AuthzStatus.TheVariants as authz
 use Rattle.desk_model.specs.declared.status.OrderStatus.{OrderStatus}
 use Rattle.desk_model.specs.declared.status.OrderStatus.TheVariants as order
-use Rattle.desk_laws.proofs.Basics.{or_false}
 use Rattle.desk_laws.proofs.RowFacts.{kept_challenges}
 
 -- ---- statuses by their codes
@@ -123,8 +122,8 @@ same_contacts xs ys h = sym ((slice_eq-Decides bytes_eq-Decides xs ys (pointwise
 pub account_unmoved : (e : Entry) (m : ℕ) (row : AccountRow) → account_differs row (noted_account e m row) ≡ false → noted_account e m row ≡ row
 account_unmoved e m row h =
     let after : AccountRow = noted_account e m row in
-    let p = or_false (not (pointwise bytes_eq row.contacts after.contacts)) _ h in
-    let q = or_false (is_gained row.ended after.ended) _ p.1 in
+    let p = or_parts (not (pointwise bytes_eq row.contacts after.contacts)) _ h in
+    let q = or_parts (is_gained row.ended after.ended) _ p.1 in
     let contacts : after.contacts ≡ row.contacts = same_contacts row.contacts after.contacts p.0 in
     let ended : after.ended ≡ row.ended = earlier_stays row.ended (account_ends row.number e m) q.0 in
     let status : after.status ≡ row.status = same_coded account_code account_by_code account_coded row.status after.status q.1 in
@@ -147,8 +146,8 @@ challenge_unmoved (answered n) m row h = by (n == row.number) h
   where
     by : (b : Bool) → challenge_differs row (cond b (answered_challenge m row) row) ≡ false → cond b (answered_challenge m row) row ≡ row
     by true k =
-        let p = or_false (is_gained row.answered (answered_challenge m row).answered) _ k in
-        let q = or_false (is_gained row.reported row.reported) _ p.1 in
+        let p = or_parts (is_gained row.answered (answered_challenge m row).answered) _ k in
+        let q = or_parts (is_gained row.reported row.reported) _ p.1 in
         let fact : (answered_challenge m row).answered ≡ row.answered = earlier_stays row.answered (Some m) p.0 in
         let status : (answered_challenge m row).status ≡ row.status =
         same_coded chall_code chall_by_code chall_coded row.status (answered_challenge m row).status q.1 in
@@ -158,8 +157,8 @@ challenge_unmoved (reported n o) m row h = by (n == row.number) h
   where
     by : (b : Bool) → challenge_differs row (cond b (reported_challenge o m row) row) ≡ false → cond b (reported_challenge o m row) row ≡ row
     by true k =
-        let p = or_false (is_gained row.answered row.answered) _ k in
-        let q = or_false (is_gained row.reported (reported_challenge o m row).reported) _ p.1 in
+        let p = or_parts (is_gained row.answered row.answered) _ k in
+        let q = or_parts (is_gained row.reported (reported_challenge o m row).reported) _ p.1 in
         let fact : (reported_challenge o m row).reported ≡ row.reported = earlier_stays row.reported (Some (record { date = m; outcome = o })) q.0 in
         let status : (reported_challenge o m row).status ≡ row.status =
         same_coded chall_code chall_by_code chall_coded row.status (reported_challenge o m row).status q.1 in
@@ -179,7 +178,7 @@ challenges_unmoved : (e : Entry) (m : ℕ) (cs : List ChallengeRow) →
     EachOf (λ c. noted_challenge e m c ≡ c) cs
 challenges_unmoved e m [] h = tt
 challenges_unmoved e m (c ∷ cs) h =
-    let p = or_false (challenge_differs c (noted_challenge e m c)) _ h in
+    let p = or_parts (challenge_differs c (noted_challenge e m c)) _ h in
     (challenge_unmoved e m c p.0, challenges_unmoved e m cs p.1)
 
 -- an authorization's row that does not differ is the same
@@ -188,8 +187,8 @@ pub authorization_unmoved : (e : Entry) (m : ℕ) (row : AuthorizationRow) →
     restated_authorization m (noted_authorization e m row) ≡ row
 authorization_unmoved e m row h =
     let after : AuthorizationRow = restated_authorization m (noted_authorization e m row) in
-    let p = or_false (is_gained row.ended after.ended) _ h in
-    let q = or_false (not (authz_code row.status == authz_code after.status)) _ p.1 in
+    let p = or_parts (is_gained row.ended after.ended) _ h in
+    let q = or_parts (not (authz_code row.status == authz_code after.status)) _ p.1 in
     let ended : after.ended ≡ row.ended = earlier_stays row.ended _ p.0 in
     let status : after.status ≡ row.status = same_coded authz_code authz_by_code authz_coded row.status after.status q.0 in
     let challenges : after.challenges ≡ row.challenges =
@@ -212,9 +211,9 @@ pub order_unmoved : (e : Entry) (m : ℕ) (rows : List AuthorizationRow) (row : 
     order_differs row (restated_order m rows (noted_order e m row)) ≡ false → restated_order m rows (noted_order e m row) ≡ row
 order_unmoved e m rows row h =
     let after : OrderRow = restated_order m rows (noted_order e m row) in
-    let p = or_false (is_gained row.finalized after.finalized) _ h in
-    let q = or_false (is_gained row.certified after.certified) _ p.1 in
-    let r = or_false (is_gained row.failed after.failed) _ q.1 in
+    let p = or_parts (is_gained row.finalized after.finalized) _ h in
+    let q = or_parts (is_gained row.certified after.certified) _ p.1 in
+    let r = or_parts (is_gained row.failed after.failed) _ q.1 in
     let finalized : after.finalized ≡ row.finalized = earlier_stays row.finalized _ p.0 in
     let certified : after.certified ≡ row.certified = earlier_stays row.certified _ q.0 in
     let failed : after.failed ≡ row.failed = earlier_stays row.failed _ r.0 in

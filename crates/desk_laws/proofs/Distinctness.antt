@@ -3,8 +3,7 @@ use Rattle.std.proofs.Common.{◌≡◌, ◌≢◌, ◌<◌, ℕ, ◌+◌, List,
 use Rattle.desk_model.specs.Kept.{EachOf}
 use Rattle.desk_laws.specs.Distinct.{Distinct}
 use Rattle.desk_laws.specs.Ordered.{Ascends}
-use Rattle.desk_laws.proofs.Basics.{each, each_both, each-append, each-map}
-use Rattle.desk_laws.proofs.KeptInOrder.{each_of_map, each_parts}
+use Rattle.desk_laws.proofs.Basics.{each, each_both, each_of_map, each_parts, each-append, each-map}
 use Rattle.desk_laws.proofs.RowLists.{ascends_above}
 
 -- lists that share no value

@@ -21,7 +21,7 @@ use Rattle.desk_model.specs.declared.objects.Authorization.{Authorization}
 use Rattle.desk_model.specs.declared.objects.Kind.{Kind}
 use Rattle.desk_model.specs.declared.rows.DatedProblem.{DatedProblem}
 use Rattle.desk_laws.proofs.Basics.{each-append}
-use Rattle.desk_laws.proofs.Dates.{first_holds}
+use Rattle.desk_laws.proofs.StatedFacts.{first_holds}
 use Rattle.desk_laws.proofs.Numbers.{made_now}
 
 -- ---- random bytes

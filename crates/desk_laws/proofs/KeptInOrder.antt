@@ -1,35 +1,35 @@
 -- Change after change, what is put has the children of what stands there by then.
-use Rattle.std.proofs.Common.{◌≡◌, ◌≤◌, ◌<◌, ℕ, ◌+◌, List, [], ◌∷◌, ◌++◌, map, refl, sym, ap, subst, ◌∙◌, arith}
+use Rattle.std.proofs.Common.{◌≡◌, ◌≤◌, ◌<◌, ℕ, ◌+◌, List, [], ◌∷◌, ◌++◌, map, refl, sym, subst, arith}
 use Rattle.std.specs.Prelude.{IfSome, find, ◌==◌}
 use Rattle.desk_model.specs.Entry.{History}
 use Rattle.desk_model.specs.History.{clock, record_all}
 use Rattle.desk_model.specs.Legal.{EachFollows}
-use Rattle.desk_model.specs.Tables.{Tables, tables_at, picture}
+use Rattle.desk_model.specs.Tables.{Tables, picture}
 use Rattle.desk_model.specs.Derived.{restated_authorization, restated_order}
 use Rattle.desk_model.specs.Effect.{noted_authorization, noted_order, touches_authorization, touches_order, authorizations_after}
-use Rattle.desk_model.specs.Effect.{new_authorizations, effect, effects, swept, is_overdue, falls}
-use Rattle.desk_model.specs.Change.{put, authorization_differs, order_differs, applied, applied_one, spent_by, nonces_put}
+use Rattle.desk_model.specs.Effect.{new_authorizations, is_overdue, falls}
+use Rattle.desk_model.specs.Change.{put, authorization_differs, order_differs, applied_one, spent_by, nonces_put}
 use Rattle.desk_model.specs.Change.{accounts_put, authorizations_put, orders_put, changes, nonces_gone, authorizations_expired}
-use Rattle.desk_model.specs.Change.{orders_fallen, sweep_changes, all_changes, recorded_changes}
+use Rattle.desk_model.specs.Change.{orders_fallen, sweep_changes, recorded_changes}
 use Rattle.desk_model.specs.Kept.{EachOf}
 use Rattle.desk_model.specs.declared.entry.Entry.{Entry}
 use Rattle.desk_model.specs.declared.objects.Nonce.{Nonce}
 use Rattle.desk_model.specs.declared.rows.AccountRow.{AccountRow}
 use Rattle.desk_model.specs.declared.rows.AuthorizationRow.{AuthorizationRow}
 use Rattle.desk_model.specs.declared.rows.Change.{Change}
-use Rattle.desk_model.specs.declared.rows.Change.TheVariants.{PutMeta, PutNonce, RemoveNonce, PutAccount, PutAuthorization, PutOrder}
+use Rattle.desk_model.specs.declared.rows.Change.TheVariants.{PutNonce, RemoveNonce, PutAccount, PutAuthorization, PutOrder}
 use Rattle.desk_model.specs.declared.rows.Meta.{Meta}
 use Rattle.desk_model.specs.declared.rows.OrderRow.{OrderRow}
 use Rattle.desk_model.specs.declared.status.AuthzStatus.TheVariants as authz
 use Rattle.desk_model.specs.declared.status.OrderStatus.TheVariants as order
 use Rattle.desk_laws.specs.News.{AreKept, KeepsChildren}
 use Rattle.desk_laws.specs.Ordered.{Ascends, IsOrdered}
-use Rattle.desk_laws.proofs.Basics.{each_both, each}
+use Rattle.desk_laws.proofs.Basics.{each, each_both, each_of_map, each_parts}
+use Rattle.desk_laws.proofs.InTurn.{records_in_turn, removing}
 use Rattle.desk_laws.proofs.NewsInOrder.{find_put, put_up}
 use Rattle.desk_laws.proofs.PutsDiffer.{puts_keep_children, swept_puts_keep_children}
-use Rattle.desk_laws.proofs.Recorded.{tables_ordered, changes_make, sweep_makes, ordered_up, made_up}
-use Rattle.desk_laws.proofs.RowLists.{puts, removes, Above, ascends_above, ascends_map, ascends_filter}
-use Rattle.desk_laws.proofs.Step.{follows_before, step, sweep}
+use Rattle.desk_laws.proofs.Recorded.{ordered_up, made_up}
+use Rattle.desk_laws.proofs.RowLists.{puts, Above, ascends_above, ascends_map, ascends_filter}
 
 -- ---- one table
 
@@ -41,25 +41,9 @@ still_kept number P x rows xs above h =
     each _ _ xs (λ y p. subst (λ o. IfSome o (λ z. P z y)) (sym (find_put number x (number y) rows p.0)) p.1)
     (each_both (λ y. number x < number y) (λ y. IfSome (find (λ z. number z == number y) rows) (λ z. P z y)) xs above h)
 
--- what holds of two lists, one behind the other
-pub each_parts : {X : Type 0} (P : X → Type 0) (xs ys : List X) → EachOf P (xs ++ ys) → EachOf P xs × EachOf P ys
-each_parts P [] ys h = (tt, h)
-each_parts P (x ∷ xs) ys h = let rest = each_parts P xs ys h.1 in ((h.0, rest.0), rest.1)
-
--- what holds of moved items
-pub each_of_map : {X Y : Type 0} (P : Y → Type 0) (f : X → Y) (xs : List X) → EachOf P (map f xs) → EachOf (λ x. P (f x)) xs
-each_of_map P f [] h = tt
-each_of_map P f (x ∷ xs) h = (h.0, each_of_map P f xs h.1)
-
 -- ---- changes of one table in a row, then others
 
--- removals keep all children
-removing : (ns : List ℕ) (cs : List Change) (T : Tables) → AreKept (record T { nonces = removes (λ n. n.serial) ns T.nonces }) cs →
-    AreKept T (map RemoveNonce ns ++ cs)
-removing [] cs T h = h
-removing (n ∷ ns) cs T h = (tt, removing ns cs (applied_one (RemoveNonce n) T) h)
-
--- nonces have none
+-- nonces have no children
 putting_nonces : (xs : List Nonce) (cs : List Change) (T : Tables) → AreKept (record T { nonces = puts (λ n. n.serial) xs T.nonces }) cs
     → AreKept T (map PutNonce xs ++ cs)
 putting_nonces [] cs T h = h
@@ -94,11 +78,6 @@ putting_orders k (x ∷ xs) T up kept = (
       (ascends_above (λ o. o.number) x.number (x.number + 1) xs (omega arith) up.1) kept.1),
 )
 
--- changes after changes
-kept-append : (cs ds : List Change) (T : Tables) → AreKept T cs → AreKept (applied cs T) ds → AreKept T (cs ++ ds)
-kept-append [] ds T h k = k
-kept-append (c ∷ cs) ds T h k = (h.0, kept-append cs ds (applied_one c T) h.1 k)
-
 -- ---- a sweep, an entry, and all of a record
 
 -- the changes of a sweep, beside any meta row
@@ -107,7 +86,7 @@ sweep_kept T m M h =
     let all = swept_puts_keep_children T m h in
     let rest = (each_parts (KeepsChildren T) (map RemoveNonce (nonces_gone m T)) _ all).1 in
     let parts = each_parts (KeepsChildren T) (map PutAuthorization (authorizations_expired m T)) _ rest in
-    removing (nonces_gone m T) _ (record T { meta = M })
+    removing KeepsChildren (λ T n. tt) (nonces_gone m T) _ (record T { meta = M })
     (putting_authorizations 1 (authorizations_expired m T) _ _
     (ascends_map (λ a. a.number) (λ a. a.number) (λ (r : AuthorizationRow). record r { status = authz.Expired }) (λ a. refl) 1 _
     (ascends_filter (λ a. a.number) (is_overdue m) 1 T.authorizations h.authorizations.0))
@@ -125,7 +104,7 @@ entry_kept T m e M h =
     let b = (each_parts (KeepsChildren T) (map PutNonce (nonces_put T e m)) _ a).1 in
     let c = (each_parts (KeepsChildren T) (map PutAccount (accounts_put T e m)) _ b).1 in
     let d = each_parts (KeepsChildren T) (map PutAuthorization (authorizations_put T e m)) _ c in
-    removing (spent_by e) _ (record T { meta = M })
+    removing KeepsChildren (λ T n. tt) (spent_by e) _ (record T { meta = M })
     (putting_nonces (nonces_put T e m) _ _
     (putting_accounts (accounts_put T e m) _ _
     (putting_authorizations 1 (authorizations_put T e m) _ _
@@ -139,31 +118,7 @@ entry_kept T m e M h =
     (ordered_up e m T.meta.policy (new_authorizations T e m) (T.meta.counters.orders + 1) (authorizations_after T e m)))
     (each_of_map (KeepsChildren T) PutOrder (orders_put T e m) d.1)))))
 
--- the changes of entries in a row, beside any meta row
-entries_kept : (F : History) (m : ℕ) (es : List Entry) (M : Meta) → EachFollows (record_all m es F) →
-    AreKept (record (tables_at F m) { meta = M }) (all_changes m (tables_at F m) es)
-entries_kept F m [] M h = tt
-entries_kept F m (e ∷ es) M h =
-    let G : History = record { date = m; entry = e } ∷ F in
-    let one : effect m (tables_at F m) e ≡ tables_at G m = sym (step F e m (follows_before m es G h)) in
-    let made : applied (changes m (tables_at F m) e) (record (tables_at F m) { meta = M }) ≡ record (tables_at G m) { meta = M } =
-    changes_make (tables_at F m) m e M (tables_ordered F m) ∙ ap (λ (T : Tables). record T { meta = M }) one in
-    kept-append (changes m (tables_at F m) e) (all_changes m (effect m (tables_at F m) e) es) (record (tables_at F m) { meta = M })
-    (entry_kept (tables_at F m) m e M (tables_ordered F m))
-    (subst (λ T. AreKept T (all_changes m (effect m (tables_at F m) e) es)) (sym made)
-    (subst (λ T. AreKept (record (tables_at G m) { meta = M }) (all_changes m T es)) (sym one) (entries_kept G m es M h)))
-
 -- what a call records keeps all children
 pub records_keep : (F : History) (e : Entry) (es : List Entry) (m : ℕ) → clock F ≤ m → EachFollows (record_all m (e ∷ es) F) →
     AreKept (picture F) (recorded_changes m (picture F) (e ∷ es))
-records_keep F e es m le h =
-    let P : Tables = picture F in
-    let meta : Meta = (effects m (swept m P) (e ∷ es)).meta in
-    let now : swept m P ≡ tables_at F m = sym (sweep F (clock F) m le) in
-    let made : applied (sweep_changes m P) P ≡ record (tables_at F m) { meta = P.meta } =
-    sweep_makes P m P.meta (tables_ordered F (clock F)) ∙ ap (λ (T : Tables). record T { meta = P.meta }) now in
-    kept-append (sweep_changes m P) (all_changes m (swept m P) (e ∷ es) ++ PutMeta meta ∷ []) P
-    (sweep_kept P m P.meta (tables_ordered F (clock F)))
-    (subst (λ T. AreKept T (all_changes m (swept m P) (e ∷ es) ++ PutMeta meta ∷ [])) (sym made)
-    (kept-append (all_changes m (swept m P) (e ∷ es)) (PutMeta meta ∷ []) (record (tables_at F m) { meta = P.meta })
-    (subst (λ T. AreKept (record (tables_at F m) { meta = P.meta }) (all_changes m T (e ∷ es))) (sym now) (entries_kept F m (e ∷ es) P.meta h)) (tt, tt)))
+records_keep = records_in_turn KeepsChildren sweep_kept entry_kept (λ T M. tt)

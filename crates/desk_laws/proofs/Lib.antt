@@ -10,6 +10,7 @@ pub mod Faults
 pub mod Finds
 pub mod Forms
 pub mod Fresh
+pub mod InTurn
 pub mod Keeps
 pub mod KeptInOrder
 pub mod Local
@@ -26,6 +27,7 @@ pub mod Recorded
 pub mod References
 pub mod RowFacts
 pub mod RowLists
+pub mod StatedFacts
 pub mod Step
 pub mod SweptParts
 pub mod TextFacts

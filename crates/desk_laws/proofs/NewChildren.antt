@@ -20,9 +20,9 @@ use Rattle.desk_model.specs.declared.rows.Change.TheVariants.{PutMeta, PutNonce,
 use Rattle.desk_model.specs.declared.rows.ChallengeRow.{ChallengeRow}
 use Rattle.desk_laws.specs.Distinct.{Distinct}
 use Rattle.desk_laws.specs.News.{AreKept, AreNewChildren, BringsNewChildren, KeepsChildren}
-use Rattle.desk_laws.proofs.Basics.{each, eq_turn}
+use Rattle.desk_laws.proofs.Basics.{each, each_of_map, each_parts, eq_turn}
 use Rattle.desk_laws.proofs.Distinctness.{ascends_distinct, between, distinct-map, map-distinct}
-use Rattle.desk_laws.proofs.KeptInOrder.{each_of_map, each_parts, records_keep}
+use Rattle.desk_laws.proofs.KeptInOrder.{records_keep}
 use Rattle.desk_laws.proofs.Recorded.{challenges_ordered, recorded}
 
 -- ---- one table

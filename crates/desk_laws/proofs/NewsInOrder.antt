@@ -1,18 +1,18 @@
 -- Change after change, what is put differs from what stands there by then.
-use Rattle.std.proofs.Common.{◌≡◌, ◌≢◌, ◌≤◌, ◌<◌, ℕ, ◌+◌, List, [], ◌∷◌, ◌++◌, map, Some, None, refl, sym, ap, subst, ◌∙◌, true, false, Bool, cond, not, arith}
+use Rattle.std.proofs.Common.{◌≡◌, ◌≢◌, ◌≤◌, ◌<◌, ℕ, ◌+◌, List, [], ◌∷◌, ◌++◌, map, Some, None, refl, sym, ap, ◌∙◌, true, false, Bool, cond, not, arith}
 use Rattle.std.specs.Prelude.{find, nat_lt, ◌==◌, ◌&&◌}
 use Rattle.std.proofs.lemmas.Bool.{eqb-true}
 use Rattle.desk_model.specs.Entry.{History}
 use Rattle.desk_model.specs.History.{clock, record_all}
 use Rattle.desk_model.specs.Legal.{EachFollows}
-use Rattle.desk_model.specs.Tables.{Tables, tables_at, picture}
+use Rattle.desk_model.specs.Tables.{Tables, picture}
 use Rattle.desk_model.specs.Derived.{restated_authorization, restated_order}
 use Rattle.desk_model.specs.Effect.{noted_account, noted_authorization, noted_order, touches_account, touches_authorization}
-use Rattle.desk_model.specs.Effect.{touches_order, authorizations_after, new_authorizations, effect, effects, swept, is_overdue}
+use Rattle.desk_model.specs.Effect.{touches_order, authorizations_after, new_authorizations, is_overdue}
 use Rattle.desk_model.specs.Effect.{falls}
-use Rattle.desk_model.specs.Change.{put, remove, moved_rows, account_differs, authorization_differs, order_differs, applied}
+use Rattle.desk_model.specs.Change.{put, remove, moved_rows, account_differs, authorization_differs, order_differs}
 use Rattle.desk_model.specs.Change.{applied_one, spent_by, nonces_put, accounts_put, authorizations_put, orders_put, changes}
-use Rattle.desk_model.specs.Change.{nonces_gone, authorizations_expired, orders_fallen, sweep_changes, all_changes}
+use Rattle.desk_model.specs.Change.{nonces_gone, authorizations_expired, orders_fallen, sweep_changes}
 use Rattle.desk_model.specs.Change.{recorded_changes}
 use Rattle.desk_model.specs.Kept.{EachOf}
 use Rattle.desk_model.specs.declared.entry.Entry.{Entry}
@@ -20,18 +20,18 @@ use Rattle.desk_model.specs.declared.objects.Nonce.{Nonce}
 use Rattle.desk_model.specs.declared.rows.AccountRow.{AccountRow}
 use Rattle.desk_model.specs.declared.rows.AuthorizationRow.{AuthorizationRow}
 use Rattle.desk_model.specs.declared.rows.Change.{Change}
-use Rattle.desk_model.specs.declared.rows.Change.TheVariants.{PutMeta, PutNonce, RemoveNonce, PutAccount, PutAuthorization, PutOrder}
+use Rattle.desk_model.specs.declared.rows.Change.TheVariants.{PutNonce, PutAccount, PutAuthorization, PutOrder}
 use Rattle.desk_model.specs.declared.rows.Meta.{Meta}
 use Rattle.desk_model.specs.declared.rows.OrderRow.{OrderRow}
 use Rattle.desk_model.specs.declared.status.AuthzStatus.TheVariants as authz
 use Rattle.desk_model.specs.declared.status.OrderStatus.TheVariants as order
-use Rattle.desk_laws.specs.News.{AreNews}
+use Rattle.desk_laws.specs.News.{AreNews, IsNews}
 use Rattle.desk_laws.specs.Ordered.{Ascends, Below, IsTable, IsOrdered}
 use Rattle.desk_laws.proofs.Basics.{less_differs, each_both, each}
+use Rattle.desk_laws.proofs.InTurn.{records_in_turn, removing}
 use Rattle.desk_laws.proofs.PutsDiffer.{nonces_differ, accounts_differ, authorizations_differ, orders_differ, expired_differ, fallen_differ}
-use Rattle.desk_laws.proofs.Recorded.{below_filter, below_map, tables_ordered, changes_make, sweep_makes, issued_up, opened_up, ordered_up, made_up}
+use Rattle.desk_laws.proofs.Recorded.{below_filter, below_map, issued_up, opened_up, ordered_up, made_up}
 use Rattle.desk_laws.proofs.RowLists.{puts, removes, Above, ascends_above, ascends_from, ascends_map, ascends_filter}
-use Rattle.desk_laws.proofs.Step.{follows_before, step, sweep}
 
 -- ---- one table
 
@@ -85,12 +85,6 @@ below_removes number k (n ∷ ns) rows h = below_removes number k ns (remove num
 
 -- ---- changes of one table in a row, then others
 
--- removals are always news
-removing : (ns : List ℕ) (cs : List Change) (T : Tables) → AreNews (record T { nonces = removes (λ n. n.serial) ns T.nonces }) cs →
-    AreNews T (map RemoveNonce ns ++ cs)
-removing [] cs T h = h
-removing (n ∷ ns) cs T h = (tt, removing ns cs (applied_one (RemoveNonce n) T) h)
-
 -- nonces that differ from what stands there
 putting_nonces : (k : ℕ) (xs : List Nonce) (cs : List Change) (T : Tables) → Ascends (λ n. n.serial) k xs →
     EachOf (λ x. find (λ n. n.serial == x.serial) T.nonces ≢ Some x) xs →
@@ -134,17 +128,12 @@ putting_orders k (x ∷ xs) T up differ = (
       (still_news (λ o. o.number) x T.orders xs (ascends_above (λ o. o.number) x.number (x.number + 1) xs (omega arith) up.1) differ.1),
 )
 
--- changes after changes
-news-append : (cs ds : List Change) (T : Tables) → AreNews T cs → AreNews (applied cs T) ds → AreNews T (cs ++ ds)
-news-append [] ds T h k = k
-news-append (c ∷ cs) ds T h k = (h.0, news-append cs ds (applied_one c T) h.1 k)
-
 -- ---- a sweep, an entry, and all of a record
 
 -- the changes of a sweep, beside any meta row
 sweep_news : (T : Tables) (m : ℕ) (M : Meta) → IsOrdered T → AreNews (record T { meta = M }) (sweep_changes m T)
 sweep_news T m M h =
-    removing (nonces_gone m T) _ (record T { meta = M })
+    removing IsNews (λ T n. tt) (nonces_gone m T) _ (record T { meta = M })
     (putting_authorizations 1 (authorizations_expired m T) _ _
     (ascends_map (λ a. a.number) (λ a. a.number) (λ (r : AuthorizationRow). record r { status = authz.Expired }) (λ a. refl) 1 _
     (ascends_filter (λ a. a.number) (is_overdue m) 1 T.authorizations h.authorizations.0))
@@ -157,7 +146,7 @@ sweep_news T m M h =
 -- the changes of an entry, beside any meta row
 entry_news : (T : Tables) (m : ℕ) (e : Entry) (M : Meta) → IsOrdered T → AreNews (record T { meta = M }) (changes m T e)
 entry_news T m e M h =
-    removing (spent_by e) _ (record T { meta = M })
+    removing IsNews (λ T n. tt) (spent_by e) _ (record T { meta = M })
     (putting_nonces (T.meta.counters.nonces + 1) (nonces_put T e m) _ _ (issued_up e m (T.meta.counters.nonces + 1))
     (nonces_differ T m e _ (below_removes (λ n. n.serial) (T.meta.counters.nonces + 1) (spent_by e) T.nonces h.nonces.1))
     (putting_accounts 1 (accounts_put T e m) _ _
@@ -175,31 +164,7 @@ entry_news T m e M h =
     (ordered_up e m T.meta.policy (new_authorizations T e m) (T.meta.counters.orders + 1) (authorizations_after T e m)))
     (orders_differ T m e h)))))
 
--- the changes of entries in a row, beside any meta row
-entries_news : (F : History) (m : ℕ) (es : List Entry) (M : Meta) → EachFollows (record_all m es F) →
-    AreNews (record (tables_at F m) { meta = M }) (all_changes m (tables_at F m) es)
-entries_news F m [] M h = tt
-entries_news F m (e ∷ es) M h =
-    let G : History = record { date = m; entry = e } ∷ F in
-    let one : effect m (tables_at F m) e ≡ tables_at G m = sym (step F e m (follows_before m es G h)) in
-    let made : applied (changes m (tables_at F m) e) (record (tables_at F m) { meta = M }) ≡ record (tables_at G m) { meta = M } =
-    changes_make (tables_at F m) m e M (tables_ordered F m) ∙ ap (λ (T : Tables). record T { meta = M }) one in
-    news-append (changes m (tables_at F m) e) (all_changes m (effect m (tables_at F m) e) es) (record (tables_at F m) { meta = M })
-    (entry_news (tables_at F m) m e M (tables_ordered F m))
-    (subst (λ T. AreNews T (all_changes m (effect m (tables_at F m) e) es)) (sym made)
-    (subst (λ T. AreNews (record (tables_at G m) { meta = M }) (all_changes m T es)) (sym one) (entries_news G m es M h)))
-
 -- what a call records puts news alone
 pub records_put_news : (F : History) (e : Entry) (es : List Entry) (m : ℕ) → clock F ≤ m → EachFollows (record_all m (e ∷ es) F) →
     AreNews (picture F) (recorded_changes m (picture F) (e ∷ es))
-records_put_news F e es m le h =
-    let P : Tables = picture F in
-    let meta : Meta = (effects m (swept m P) (e ∷ es)).meta in
-    let now : swept m P ≡ tables_at F m = sym (sweep F (clock F) m le) in
-    let made : applied (sweep_changes m P) P ≡ record (tables_at F m) { meta = P.meta } =
-    sweep_makes P m P.meta (tables_ordered F (clock F)) ∙ ap (λ (T : Tables). record T { meta = P.meta }) now in
-    news-append (sweep_changes m P) (all_changes m (swept m P) (e ∷ es) ++ PutMeta meta ∷ []) P
-    (sweep_news P m P.meta (tables_ordered F (clock F)))
-    (subst (λ T. AreNews T (all_changes m (swept m P) (e ∷ es) ++ PutMeta meta ∷ [])) (sym made)
-    (news-append (all_changes m (swept m P) (e ∷ es)) (PutMeta meta ∷ []) (record (tables_at F m) { meta = P.meta })
-    (subst (λ T. AreNews (record (tables_at F m) { meta = P.meta }) (all_changes m T (e ∷ es))) (sym now) (entries_news F m (e ∷ es) P.meta h)) (tt, tt)))
+records_put_news = records_in_turn IsNews sweep_news entry_news (λ T M. tt)

@@ -3,6 +3,8 @@ use Rattle.std.proofs.Common.{◌≡◌, ◌≤◌, ℕ, ◌+◌, List, [], ◌�
 use Rattle.std.specs.Prelude.{nat_lt, ◌==◌, ◌&&◌, ◌||◌, is_some}
 use Rattle.std.specs.List.{list_any, list_all}
 use Rattle.std.specs.Option.{option_map}
+use Rattle.std.proofs.lemmas.Bool.{or_parts}
+use Rattle.std.proofs.lemmas.List.Folds.{list_all-map}
 use Rattle.desk_model.specs.Entry.{History}
 use Rattle.desk_model.specs.History.{clock, terms, earlier}
 use Rattle.desk_model.specs.Lookup.{holds}
@@ -30,7 +32,7 @@ use Rattle.desk_model.specs.declared.rows.AuthorizationRow.{AuthorizationRow}
 use Rattle.desk_model.specs.declared.rows.DatedBytes.{DatedBytes}
 use Rattle.desk_model.specs.declared.rows.DatedProblem.{DatedProblem}
 use Rattle.desk_model.specs.declared.rows.OrderRow.{OrderRow}
-use Rattle.desk_laws.proofs.Basics.{or_false, list_any-map, list_all-map, list_any-same, any_or, each, each-append, each_after}
+use Rattle.desk_laws.proofs.Basics.{list_any-map, list_any-same, any_or, each, each-append, each_after}
 use Rattle.desk_laws.proofs.Basics.{map-each, find-map, find-append, IsNumbered, numbered-append}
 use Rattle.desk_laws.proofs.RowLists.{ascends_found, numbered_ascends}
 use Rattle.desk_laws.proofs.RowFacts.{authorization_kept, authorization_later, past_later}
@@ -153,7 +155,7 @@ none_listed F t p test (a ∷ xs) h = λ i. holds test (numbered_row F t a h.0 i
 -- where no item passes, each fails
 each_not : {X : Type 0} (p : X → Bool) (xs : List X) → list_any p xs ≡ false → EachOf (λ x. p x ≡ false) xs
 each_not p [] h = tt
-each_not p (x ∷ xs) h = let k = or_false (p x) _ h in (k.0, each_not p xs k.1)
+each_not p (x ∷ xs) h = let k = or_parts (p x) _ h in (k.0, each_not p xs k.1)
 
 -- the three facts of an order that the entry doesn't name
 csr_other : (F : History) (e : Entry) (m n : ℕ) → names_order e n ≡ false → earlier (csr n F) (finalizing n e m) ≡ csr n F
@@ -179,7 +181,7 @@ pub order_untouched : (F : History) (e : Entry) (m : ℕ) (o : Order) → EachFo
     ≡ order_row F m o
 order_untouched F e m o each_follows le found h =
     let G : History = record { date = m; entry = e } ∷ F in
-    let parts = or_false (names_order e o.number) _ h in
+    let parts = or_parts (names_order e o.number) _ h in
     let others : EachOf (λ a. touches_authorization e (authorization_row F m a) ≡ false) o.authorizations =
     each_not _ o.authorizations (sym (none_listed F m 1 (touches_authorization e) o.authorizations found) ∙ parts.1) in
     let statuses : statuses_of G m o.authorizations ≡ statuses_of F m o.authorizations =

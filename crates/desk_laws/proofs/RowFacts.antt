@@ -2,7 +2,7 @@
 use Rattle.std.proofs.Common.{◌≡◌, ◌≤◌, ◌<◌, ℕ, List, [], ◌∷◌, map, Option, Some, None, refl, sym, ap, ◌∙◌, true, false, Bool, cond, arith, ltb, leb}
 use Rattle.std.specs.Prelude.{nat_lt, ◌==◌, ◌&&◌, ◌||◌, is_some}
 use Rattle.std.specs.List.{list_any}
-use Rattle.std.proofs.lemmas.Bool.{leb-true, le-leb, ltb-true, lt-ltb, eqb-true, and_parts}
+use Rattle.std.proofs.lemmas.Bool.{leb-true, le-leb, ltb-true, lt-ltb, eqb-true, and_parts, or_parts}
 use Rattle.desk_model.specs.Entry.{History}
 use Rattle.desk_model.specs.History.{clock, first, earlier}
 use Rattle.desk_model.specs.Lookup.{holds}
@@ -29,7 +29,7 @@ use Rattle.desk_model.specs.declared.objects.EndKind.{EndKind}
 use Rattle.desk_model.specs.declared.objects.Report.{Report}
 use Rattle.desk_model.specs.declared.rows.AuthorizationRow.{AuthorizationRow}
 use Rattle.desk_model.specs.declared.rows.ChallengeRow.{ChallengeRow}
-use Rattle.desk_laws.proofs.Basics.{earlier-some, none_earlier, or_none, or_false, list_any-map, list_any-same, any_or, each, each_all, map-moved}
+use Rattle.desk_laws.proofs.Basics.{earlier-some, none_earlier, or_none, list_any-map, list_any-same, any_or, each, each_all, map-moved}
 
 -- ---- challenges: by computing
 
@@ -252,7 +252,7 @@ authorization_noted F e m t a each le =
 -- an authorization that the entry doesn't touch keeps its row
 has_none : (n : ℕ) (cs : List ChallengeRow) → list_any (λ c. n == c.number) cs ≡ false → EachOf (λ c. (n == c.number) ≡ false) cs
 has_none n [] h = tt
-has_none n (c ∷ cs) h = let p = or_false (n == c.number) _ h in (p.0, has_none n cs p.1)
+has_none n (c ∷ cs) h = let p = or_parts (n == c.number) _ h in (p.0, has_none n cs p.1)
 
 -- challenges that stay what they are
 pub kept_challenges : (move : ChallengeRow → ChallengeRow) (cs : List ChallengeRow) → EachOf (λ c. move c ≡ c) cs → map move cs ≡ cs

@@ -1,19 +1,18 @@
 -- The texts that a history keeps are UTF-8.
-use Rattle.std.proofs.Common.{◌≡◌, ℕ, ◌+◌, List, [], ◌∷◌, length, Option, Some, None, IsUtf8, IfSome, Bool, true, false, cond}
+use Rattle.std.proofs.Common.{◌≡◌, ℕ, ◌+◌, List, [], ◌∷◌, length, Option, Some, None, IsUtf8, IfSome, true}
 use Rattle.std.specs.Prelude.{◌==◌, unwrap_or}
 use Rattle.std.proofs.lemmas.Bool.{and_parts}
 use Rattle.std.proofs.lemmas.Str.{IsUtf8-nil}
 use Rattle.desk_model.specs.Account.{accounts, changing, opened_by}
 use Rattle.desk_model.specs.Authorization.{authorizations}
 use Rattle.desk_model.specs.Entry.{History}
-use Rattle.desk_model.specs.History.{earlier, first, latest, terms}
+use Rattle.desk_model.specs.History.{terms}
 use Rattle.desk_model.specs.Kept.{EachOf}
 use Rattle.desk_model.specs.Legal.{EachFollows, IsFormed, is_empty, may_follow}
 use Rattle.desk_model.specs.Order.{failing, failure, orders}
 use Rattle.desk_model.specs.Tables.{account_row, authorization_row, order_row, tables_at}
 use Rattle.desk_model.specs.Terms.{are_terms}
 use Rattle.desk_model.specs.Texts.{AreTexts, IsTextProblem, HoldsTextAccount, HoldTexts}
-use Rattle.desk_model.specs.declared.entry.Dated.{Dated}
 use Rattle.desk_model.specs.declared.entry.Entry.{Entry}
 use Rattle.desk_model.specs.declared.entry.Entry.TheVariants.{Made as made, Opened as opened, ContactsChanged as contacts_changed, Failed as failed}
 use Rattle.desk_model.specs.declared.objects.Account.{Account}
@@ -21,30 +20,9 @@ use Rattle.desk_model.specs.declared.rows.DatedProblem.{DatedProblem}
 use Rattle.desk_laws.proofs.AsciiTexts.{base_text, base_name_text, key_text}
 use Rattle.desk_laws.proofs.Basics.{each, each_all, each-append, each-map}
 use Rattle.desk_laws.proofs.Keeps.{names_formed}
+use Rattle.desk_laws.proofs.StatedFacts.{first_holds, latest_holds, stated}
 
 -- ---- facts
-
--- what holds of both facts holds of the earlier
-earlier_keeps : {X : Type 0} (P : X → Type 0) (x y : Option X) → IfSome x P → IfSome y P → IfSome (earlier x y) P
-earlier_keeps P None None h k = tt
-earlier_keeps P None (Some y) h k = k
-earlier_keeps P (Some x) None h k = h
-earlier_keeps P (Some x) (Some y) h k = h
-
--- what holds of each fact holds of the first
-first_keeps : {X : Type 0} (P : X → Type 0) (fact : Dated → Option X) (F : History) → EachOf (λ d. IfSome (fact d) P) F → IfSome (first fact F) P
-first_keeps P fact [] h = tt
-first_keeps P fact (e ∷ F) h = earlier_keeps P (first fact F) (fact e) (first_keeps P fact F h.1) h.0
-
--- and of the latest
-latest_keeps : {X : Type 0} (P : X → Type 0) (fact : Dated → Option X) (F : History) → EachOf (λ d. IfSome (fact d) P) F → IfSome (latest fact F) P
-latest_keeps P fact [] h = tt
-latest_keeps P fact (e ∷ F) h = earlier_keeps P (fact e) (latest fact F) h.0 (latest_keeps P fact F h.1)
-
--- what holds of a fact holds where it is told for one number alone
-told_keeps : {X : Type 0} (P : X → Type 0) (b : Bool) (x : X) → P x → IfSome (cond b (Some x) None) P
-told_keeps P true x h = h
-told_keeps P false x h = tt
 
 -- each entry that follows is formed
 each_formed : (F : History) → EachFollows F → EachOf (λ d. IsFormed d.entry) F
@@ -69,7 +47,7 @@ accounts_open (e ∷ F) h = each-append _ (accounts F) _ (accounts_open F h.1) (
 
 -- an entry changes contacts to texts
 changing_keeps : (n : ℕ) (entry : Entry) → IsFormed entry → IfSome (changing n entry) AreTexts
-changing_keeps n (contacts_changed k cs) formed = told_keeps AreTexts (k == n) cs formed
+changing_keeps n (contacts_changed k cs) formed = stated AreTexts (k == n) cs formed
 changing_keeps n _ formed = tt
 
 -- the contacts now are those changed to, if there are some
@@ -83,19 +61,19 @@ account_row_holds F h a held =
     record {
       canonical = held.canonical;
       contact = now_keeps _ a.contacts
-          (latest_keeps AreTexts _ F (each _ _ F (λ d formed. changing_keeps a.number d.entry formed) (each_formed F h))) held.contact;
+          (latest_holds AreTexts _ F (each _ _ F (λ d formed. changing_keeps a.number d.entry formed) (each_formed F h))) held.contact;
     }
 
 -- ---- orders
 
 -- an entry fails an order by texts
 failing_keeps : (n : ℕ) (entry : Entry) (m : ℕ) → IsFormed entry → IfSome (failing n entry m) (λ (f : DatedProblem). IsTextProblem f.problem)
-failing_keeps n (failed k p) m formed = told_keeps (λ (f : DatedProblem). IsTextProblem f.problem) (k == n) (record { date = m; problem = p }) formed
+failing_keeps n (failed k p) m formed = stated (λ (f : DatedProblem). IsTextProblem f.problem) (k == n) (record { date = m; problem = p }) formed
 failing_keeps n _ m formed = tt
 
 -- why an order failed is told in texts
 failure_keeps : (F : History) → EachFollows F → (n : ℕ) → IfSome (failure n F) (λ (f : DatedProblem). IsTextProblem f.problem)
-failure_keeps F h n = first_keeps _ _ F (each _ _ F (λ d formed. failing_keeps n d.entry d.date formed) (each_formed F h))
+failure_keeps F h n = first_holds _ _ F (each _ _ F (λ d formed. failing_keeps n d.entry d.date formed) (each_formed F h))
 
 -- ---- the base
 

@@ -30,17 +30,19 @@ BringsNewChildren T (PutAuthorization x) =
     Distinct (λ c. c.number) x.challenges × (authorization_on T x.number ≡ None → EachOf (λ c. owner_on T c.number ≡ None) x.challenges)
 BringsNewChildren T _ = Unit {0}
 
--- one after the other: each row that is put differs from the one that the changes before it left in its place
+-- one after the other: each change is so to the tables that those before it left
+abbrev pub InTurn : (Tables → Change → Type 0) → Tables → List Change → Type 0
+InTurn P T [] = Unit {0}
+InTurn P T (c ∷ cs) = P T c × InTurn P (applied_one c T) cs
+
+-- each row that is put differs from the one that the changes before it left in its place
 abbrev pub AreNews : Tables → List Change → Type 0
-AreNews T [] = Unit {0}
-AreNews T (c ∷ cs) = IsNews T c × AreNews (applied_one c T) cs
+AreNews T cs = InTurn IsNews T cs
 
--- and so: each row that is put has the children of the one that the changes before it left in its place
+-- each row that is put has the children of the one that the changes before it left in its place
 abbrev pub AreKept : Tables → List Change → Type 0
-AreKept T [] = Unit {0}
-AreKept T (c ∷ cs) = KeepsChildren T c × AreKept (applied_one c T) cs
+AreKept T cs = InTurn KeepsChildren T cs
 
--- and so: the challenges of each authorization that is new are new to what the changes before it left
+-- the challenges of each authorization that is new are new to what the changes before it left
 abbrev pub AreNewChildren : Tables → List Change → Type 0
-AreNewChildren T [] = Unit {0}
-AreNewChildren T (c ∷ cs) = BringsNewChildren T c × AreNewChildren (applied_one c T) cs
+AreNewChildren T cs = InTurn BringsNewChildren T cs

@@ -16,6 +16,7 @@ use Rattle.desk_model.specs.declared.payload.Identifier.{Identifier}
 use Rattle.desk_model.specs.Rules.{and_name, and_subproblem, fault_of, is_dns, kept, names_in, pieces, subproblems, wanted}
 use Rattle.desk_model.specs.Run.{count_tokens}
 use Rattle.desk_model.specs.Kept.{EachOf}
+use Rattle.desk_laws.proofs.Keeps.{each-filter}
 
 -- ---- names
 
@@ -111,16 +112,7 @@ kept_some : (ns : List Name) → 1 ≤ length ns → 1 ≤ length (kept ns)
 kept_some [] h = h
 kept_some (n ∷ ns) h = omega arith
 
--- what holds of each item holds of those that are left
-each-filter : {X : Type 0} (P : X → Type 0) (test : X → Bool) (xs : List X) → EachOf P xs → EachOf P (filter test xs)
-each-filter P test [] h = tt
-each-filter P test (x ∷ xs) h = by (test x) (each-filter P test xs h.1)
-  where
-    by : (b : Bool) → EachOf P (filter test xs) → EachOf P (cond b (x ∷ filter test xs) (filter test xs))
-    by true k = (h.0, k)
-    by false k = k
-
--- and so of the names that are kept
+-- what holds of each name holds of those that are kept
 each-kept : (P : Name → Type 0) (ns : List Name) → EachOf P ns → EachOf P (kept ns)
 each-kept P [] h = tt
 each-kept P (n ∷ ns) h = (h.0, each-filter P (λ other. not (same_name n other)) (kept ns) (each-kept P ns h.1))

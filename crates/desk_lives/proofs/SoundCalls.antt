@@ -5,7 +5,6 @@ use Rattle.std.specs.Prelude.{IsTrue, nat_lt}
 use Rattle.std.proofs.lemmas.Bool.{eq-eqb, ltb-false}
 use Rattle.desk_model.specs.Entry.{History, entry_of}
 use Rattle.desk_model.specs.declared.entry.Entry.{Entry}
-use Rattle.desk_model.specs.declared.entry.Dated.{Dated}
 use Rattle.desk_model.specs.declared.entry.Entry.TheVariants.{Issued as issued, Spent as spent, Opened as opened, Ordered as ordered}
 use Rattle.desk_model.specs.History.{clock, moment_of, record_all}
 use Rattle.desk_model.specs.Tables.{tables_at}
@@ -23,6 +22,8 @@ use Rattle.desk_model.specs.declared.call.Ask.TheVariants as ask
 use Rattle.desk_model.specs.declared.call.OfficeAsk.{OfficeAsk}
 use Rattle.desk_model.specs.declared.call.Signed.{Signed}
 use Rattle.desk_laws.proofs.AllowedFacts.{legal_grows}
+use Rattle.desk_laws.proofs.Beginnings.{begun}
+use Rattle.desk_laws.proofs.Dates.{clock_in_time}
 use Rattle.desk_laws.proofs.Recorded.{tables_ordered}
 use Rattle.desk_lives.proofs.Sound.{IsSound, MayRecord, signed_sound, office_sound, open_serial}
 
@@ -32,12 +33,7 @@ use Rattle.desk_lives.proofs.Sound.{IsSound, MayRecord, signed_sound, office_sou
 pub moment_later : (F : History) (call : Call) → clock F ≤ moment_of call.at F
 moment_later F call = omega arith
 
--- no recorded moment is later than the last
-pub clock_in_time : (F : History) → EachFollows F → clock F ≤ last_moment
-clock_in_time [] each = omega arith
-clock_in_time (e ∷ F) each = omega (arith, clock_in_time F each.1, each.0.in_time)
-
--- nor does a call act later that was made no later
+-- nor later than the last, where it was made no later
 pub moment_in_time : (F : History) (call : Call) → EachFollows F → call.at ≤ last_moment → moment_of call.at F ≤ last_moment
 moment_in_time F call each early = let past : clock F ≤ last_moment = clock_in_time F each in omega arith
 
@@ -127,15 +123,10 @@ call_follows F call legal formed early enough =
 
 -- ---- legal histories stay legal
 
--- what begins with the making of the desk still does with one more entry
-begins_more : (e : Dated) (F : History) → BeginsMade F → BeginsMade (e ∷ F)
-begins_more e [] h = absurd h
-begins_more e (f ∷ F) h = h
-
--- and with some more
+-- what begins with the making of the desk still does with some more entries
 begins_after : (m : ℕ) (es : List Entry) (F : History) → BeginsMade F → BeginsMade (record_all m es F)
 begins_after m [] F h = h
-begins_after m (e ∷ es) F h = begins_after m es (record { date = m; entry = e } ∷ F) (begins_more (record { date = m; entry = e }) F h)
+begins_after m (e ∷ es) F h = begins_after m es (record { date = m; entry = e } ∷ F) (begun (record { date = m; entry = e }) F h)
 
 -- a history whose entries follow and whose numbers fit is legal
 pub legal_by_numbers : (F : History) (call : Call) → Legal F → EachFollows (after F call) → IsTrue (numbers_fit (after F call)) → Legal (after F call)

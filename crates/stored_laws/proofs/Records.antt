@@ -3,11 +3,10 @@ use Rattle.std.proofs.Common.{◌≡◌, ◌≤◌, ℕ, List, [], ◌∷◌, �
 use Rattle.std.specs.Prelude.{◌&&◌}
 use Rattle.std.proofs.lemmas.Bool.{and_parts}
 use Rattle.desk_columns.specs.Limits.{IsNumber, IsStoredAccount, IsStoredMeta, IsStoredNonce}
-use Rattle.desk_laws.proofs.Basics.{each, each-append, each-map, each_after}
+use Rattle.desk_laws.proofs.Basics.{each, each_parts, each-append, each-map, each_after}
 use Rattle.desk_laws.proofs.Beginnings.{legal_between}
 use Rattle.desk_laws.proofs.Dates.{clock_in_time}
 use Rattle.desk_laws.proofs.Keeps.{each-filter}
-use Rattle.desk_laws.proofs.KeptInOrder.{each_parts}
 use Rattle.desk_laws.proofs.PutsDiffer.{each_change, each_sweep}
 use Rattle.desk_laws.proofs.Step.{picture_more, step, sweep}
 use Rattle.desk_model.specs.Change.{account_differs, all_changes, authorization_differs, changes, moved_rows, order_differs}

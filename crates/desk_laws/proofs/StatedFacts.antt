@@ -1,0 +1,29 @@
+-- Facts that entries state.
+use Rattle.std.proofs.Common.{[], ◌∷◌, Option, Some, None, true, false, Bool, cond}
+use Rattle.std.specs.Prelude.{IfSome}
+use Rattle.desk_model.specs.Entry.{History}
+use Rattle.desk_model.specs.History.{earlier, first, latest}
+use Rattle.desk_model.specs.Kept.{EachOf}
+use Rattle.desk_model.specs.declared.entry.Dated.{Dated}
+
+-- what holds of two facts holds of the earlier one
+earlier_holds : {X : Type 0} (P : X → Type 0) (x y : Option X) → IfSome x P → IfSome y P → IfSome (earlier x y) P
+earlier_holds P None None h k = tt
+earlier_holds P None (Some y) h k = k
+earlier_holds P (Some x) None h k = h
+earlier_holds P (Some x) (Some y) h k = h
+
+-- what holds of the fact that each entry states holds of the first
+pub first_holds : {X : Type 0} (P : X → Type 0) (fact : Dated → Option X) (F : History) → EachOf (λ e. IfSome (fact e) P) F → IfSome (first fact F) P
+first_holds P fact [] h = tt
+first_holds P fact (e ∷ F) h = earlier_holds P (first fact F) (fact e) (first_holds P fact F h.1) h.0
+
+-- and of the latest
+pub latest_holds : {X : Type 0} (P : X → Type 0) (fact : Dated → Option X) (F : History) → EachOf (λ e. IfSome (fact e) P) F → IfSome (latest fact F) P
+latest_holds P fact [] h = tt
+latest_holds P fact (e ∷ F) h = earlier_holds P (fact e) (latest fact F) h.0 (latest_holds P fact F h.1)
+
+-- a fact that is stated under a condition
+pub stated : {X : Type 0} (P : X → Type 0) (b : Bool) (x : X) → P x → IfSome (cond b (Some x) None) P
+stated P true x h = h
+stated P false x h = tt
