@@ -31,9 +31,7 @@ pub(crate) enum Fault {
 impl From<OpenFault> for Fault {
     fn from(fault: OpenFault) -> Fault {
         Fault::Desk(match fault {
-            OpenFault::Storage(StorageFault::Memory) => DeskFault::Memory,
-            OpenFault::Storage(StorageFault::Device) => DeskFault::Device,
-            OpenFault::Storage(StorageFault::Reopen) => DeskFault::Reopen,
+            OpenFault::Storage(fault) => DeskFault::from(fault),
             OpenFault::NotADesk => DeskFault::NotADesk,
             OpenFault::NewerFormat => DeskFault::NewerFormat,
         })

@@ -1,6 +1,6 @@
 //! The book of a desk: its rows in memory.
-ghost use Rattle.std.specs.Prelude.{◌≡◌, ◌==◌, ◌∷◌, [], List, find, bytes_eq, IfOk, OnOk, OnErr, option_copied};
-ghost use Rattle.desk_model.specs.declared.entry.Entry.TheVariants.{Made as made};
+ghost use Rattle.std.specs.Prelude.{◌≡◌, ◌==◌, List, find, bytes_eq, IfOk, OnOk, OnErr, option_copied};
+ghost use Rattle.desk_model.specs.History.{first_history};
 ghost use Rattle.desk_model.specs.Legal.{Legal};
 ghost use Rattle.desk_model.specs.Tables.{Tables, picture};
 ghost use Rattle.desk_model.specs.Questions.{nonce_on, account_on, account_with_key, order_on, authorization_on, owner_on};
@@ -37,8 +37,8 @@ impl Model for Book {
 impl Book {
     /// The book of a desk that is made at a moment.
     pub fn new(alloc: Global, policy: Policy, at: Clock) -> Book
-        ensures legal { Legal ((record { date = at; entry = made policy }) ∷ []) }
-        ensures picture { result ≡ picture ((record { date = at; entry = made policy }) ∷ []) }
+        ensures legal { Legal (first_history policy at) }
+        ensures picture { result ≡ picture (first_history policy at) }
     {
         Book {
             meta: Meta {

@@ -8,11 +8,7 @@ use Rattle.desk_model.specs.Life.{IsStart, made_by}
 use Rattle.desk_model.specs.declared.call.Call.{Call}
 use Rattle.desk_model.specs.declared.entry.Entry.{Entry}
 use Rattle.desk_model.specs.declared.entry.Entry.TheVariants.{Made as made}
-
--- a longer history's entries follow, and so do those of the shorter one
-each_before : (m : ℕ) (es : List Entry) (F : History) → EachFollows (record_all m es F) → EachFollows F
-each_before m [] F h = h
-each_before m (e ∷ es) F h = (each_before m es (record { date = m; entry = e } ∷ F) h).1
+use Rattle.desk_laws.proofs.Step.{follows_before}
 
 -- an entry that may follow others leaves the terms
 same_terms : (F : History) (e : Entry) (m : ℕ) → is_empty F ≡ false → may_follow F e m ≡ true → terms_after e (terms F) ≡ terms F
@@ -28,7 +24,7 @@ terms_stay : (m : ℕ) (es : List Entry) (F : History) → is_empty F ≡ false 
 terms_stay m [] F begun h = refl
 terms_stay m (e ∷ es) F begun h =
     let longer : History = record { date = m; entry = e } ∷ F in
-    terms_stay m es longer refl h ∙ same_terms F e m begun (each_before m es longer h).0.allowed
+    terms_stay m es longer refl h ∙ same_terms F e m begun (follows_before m es longer h).0.allowed
 
 -- a history that is recorded further is not empty
 stays_begun : (m : ℕ) (es : List Entry) (F : History) → is_empty F ≡ false → is_empty (record_all m es F) ≡ false
@@ -47,7 +43,7 @@ calls_leave start (c ∷ calls) begun h =
     let before = made_by start calls in
     let m = moment_of c.at before in
     let es = (decide before c).entries in
-    terms_stay m es before (made_begun start calls begun) h ∙ calls_leave start calls begun (each_before m es before h)
+    terms_stay m es before (made_begun start calls begun) h ∙ calls_leave start calls begun (follows_before m es before h)
 
 -- the policy is the one that the desk was made with
 pub policy_stays : (start : History) (calls : List Call) → IsStart start → Legal (made_by start calls) → terms (made_by start calls) ≡ terms start

@@ -1,6 +1,6 @@
 //! A store in memory.
-ghost use Rattle.std.specs.Prelude.{◌≡◌, ◌∷◌, []};
-ghost use Rattle.desk_model.specs.declared.entry.Entry.TheVariants.{Made as made};
+ghost use Rattle.std.specs.Prelude.{◌≡◌};
+ghost use Rattle.desk_model.specs.History.{first_history};
 ghost use Rattle.desk_model.specs.Legal.{Legal};
 ghost use Rattle.desk_model.specs.Tables.{picture};
 
@@ -28,8 +28,8 @@ impl Model for Memory {
 impl Memory {
     /// The store of a desk that is made with a policy at a moment.
     pub fn make(alloc: Global, policy: Policy, at: Clock) -> Memory
-        ensures legal { Legal ((record { date = at; entry = made policy }) ∷ []) }
-        ensures picture { result ≡ picture ((record { date = at; entry = made policy }) ∷ []) }
+        ensures legal { Legal (first_history policy at) }
+        ensures picture { result ≡ picture (first_history policy at) }
     {
         Memory {
             book: Book::new(alloc, policy, at),

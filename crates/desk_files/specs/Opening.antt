@@ -12,11 +12,12 @@ use Rattle.sqlite.specs.declared.error.ErrorCode.TheVariants as code
 use Rattle.sqlite.specs.declared.file.Leftover.{Leftover}
 use Rattle.sqlite.specs.Tree.{Trees}
 use Rattle.desk_model.specs.Tables.{Tables, picture}
+use Rattle.desk_model.specs.History.{first_history}
 use Rattle.desk_model.specs.Terms.{Terms}
 use Rattle.desk_storage.specs.Sight.{Keeps, Opens}
 use Rattle.desk_store.specs.Causes.{cause_of}
 use Rattle.desk_store.specs.Desks.{AreOfDesk}
-use Rattle.desk_store.specs.Making.{IsOfStorage, first_history}
+use Rattle.desk_store.specs.Making.{IsOfStorage}
 use Rattle.desk_storage.specs.declared.fault.StorageFault.{StorageFault}
 use Rattle.desk_storage.specs.declared.fault.StorageFault.TheVariants as fault
 use Rattle.desk_store.specs.declared.faults.Cause.{Cause}

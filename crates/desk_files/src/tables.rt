@@ -4,11 +4,12 @@ ghost use Rattle.sqlite.specs.Held.{state};
 ghost use Rattle.sqlite.specs.State.{HasCleanDisk};
 ghost use Rattle.sqlite.specs.Tree.{Trees};
 ghost use Rattle.sqlite.specs.View.{doubt};
+ghost use Rattle.desk_model.specs.History.{first_history};
 ghost use Rattle.desk_model.specs.Tables.{Tables, picture};
 ghost use Rattle.desk_schema.specs.Schema.{no_schema};
 ghost use Rattle.desk_storage.specs.Sight.{Keeps};
 ghost use Rattle.desk_store.specs.Desks.{HasDesk, store_sight};
-ghost use Rattle.desk_store.specs.Making.{IsOfStorage, first_history};
+ghost use Rattle.desk_store.specs.Making.{IsOfStorage};
 ghost use Rattle.desk_files.specs.Opening.{LeavesNewDesk};
 
 use desk_model::{Clock, Policy};

@@ -2,6 +2,7 @@
 use Rattle.std.proofs.Common.{◌≡◌, ℕ, ◌+◌, List, [], ◌∷◌, ◌++◌, map, filter, Option, Some, None, refl, sym, ap, ◌∙◌, true, false, Bool, cond, not}
 use Rattle.std.specs.Prelude.{nat_lt, ◌==◌, ◌&&◌, ◌||◌, is_some, find}
 use Rattle.std.specs.List.{list_any, list_all}
+use Rattle.std.specs.Option.{option_or}
 use Rattle.std.proofs.lemmas.Bool.{eqb-true, and_parts}
 use Rattle.desk_model.specs.Lookup.{holds}
 use Rattle.desk_model.specs.Account.{opened_by}
@@ -76,19 +77,13 @@ find_kept number kept n (x ∷ xs) h = by (kept (number x)) refl (number x == n)
     by false e true r ih = let same : number x ≡ n = eqb-true (number x) n r in let yes : kept (number x) ≡ true = rw same h in cc
     by false e false r ih = ih
 
--- the first value there is
-or_else : {X : Type 0} → Option X → Option X → Option X
-or_else None y = y
-or_else (Some x) y = Some x
-
 -- the first that passes, of two lists
-find_in_both : {X : Type 0} (p : X → Bool) (xs ys : List X) → find p (xs ++ ys) ≡ or_else (find p xs) (find p ys)
-unfolding or_else
+find_in_both : {X : Type 0} (p : X → Bool) (xs ys : List X) → find p (xs ++ ys) ≡ option_or (find p xs) (find p ys)
 find_in_both p [] ys = refl
 find_in_both p (x ∷ xs) ys = by (p x) (find_in_both p xs ys)
   where
-    by : (b : Bool) → find p (xs ++ ys) ≡ or_else (find p xs) (find p ys) →
-        cond b (Some x) (find p (xs ++ ys)) ≡ or_else (cond b (Some x) (find p xs)) (find p ys)
+    by : (b : Bool) → find p (xs ++ ys) ≡ option_or (find p xs) (find p ys) →
+        cond b (Some x) (find p (xs ++ ys)) ≡ option_or (cond b (Some x) (find p xs)) (find p ys)
     by true ih = refl
     by false ih = ih
 
@@ -150,7 +145,7 @@ kept_after k T e m ns h =
     let rows : List AuthorizationRow = map (moved_authorization e m) T.authorizations in
     ap (authorization_numbered n) (after_part k T e m)
     ∙ find_in_both (λ a. a.number == n) (filter (λ a. k.authorizations a.number) rows) new
-    ∙ ap (λ o. or_else o (find (λ a. a.number == n) new)) (find_kept (λ (a : AuthorizationRow). a.number) k.authorizations n rows yes)
+    ∙ ap (λ o. option_or o (find (λ a. a.number == n) new)) (find_kept (λ (a : AuthorizationRow). a.number) k.authorizations n rows yes)
     ∙ sym (find_in_both (λ a. a.number == n) rows new)) h
 
 -- ---- the sweep

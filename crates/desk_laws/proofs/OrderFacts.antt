@@ -36,6 +36,7 @@ use Rattle.desk_laws.proofs.Basics.{list_any-map, list_any-same, any_or, each, e
 use Rattle.desk_laws.proofs.Basics.{map-each, find-map, find-append, IsNumbered, numbered-append}
 use Rattle.desk_laws.proofs.RowLists.{ascends_found, numbered_ascends}
 use Rattle.desk_laws.proofs.RowFacts.{authorization_kept, authorization_later, past_later}
+use Rattle.desk_laws.specs.Ordered.{Ascends}
 
 -- ---- the authorizations of an order are found by their numbers
 
@@ -90,6 +91,11 @@ listed_found (e ∷ F) =
         (length (orders F) + 1))
     now (ordered account ws) h = (h, tt)
     now _ h = tt
+
+-- places count up
+pub places_ascend : (place : ℕ) (xs : List Authorization) → Ascends (λ l. l.place) place (listed_from place xs)
+places_ascend place [] = tt
+places_ascend place (x ∷ xs) = (omega arith, places_ascend (place + 1) xs)
 
 -- the numbers of authorizations in their places are their numbers
 pub numbers_listed : (place : ℕ) (xs : List Authorization) → numbers_of (listed_from place xs) ≡ map (λ a. a.number) xs

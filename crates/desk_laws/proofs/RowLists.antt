@@ -66,7 +66,7 @@ not_below k n h = by (ltb k n) refl
     by false e = refl
 
 -- a row with a greater number is put further on
-put_past : {X : Type 0} (number : X → ℕ) (x y : X) (ys : List X) → number y < number x → put number x (y ∷ ys) ≡ y ∷ put number x ys
+pub put_past : {X : Type 0} (number : X → ℕ) (x y : X) (ys : List X) → number y < number x → put number x (y ∷ ys) ≡ y ∷ put number x ys
 put_past number x y ys h =
     λ i. cond (more_differs (number x) (number y) h i) (x ∷ ys) (cond (not_below (number x) (number y) h i) (x ∷ y ∷ ys) (y ∷ put number x ys))
 

@@ -1,8 +1,8 @@
 -- The lives of a desk: what may happen to it, and what holds over every life.
 use Rattle.std.specs.Prelude.{ℕ, ◌≡◌, List, [], ◌∷◌, ◌++◌, Bool, true, false, Option, Some, None, IsTrue, is_some}
 use Rattle.desk_model.specs.Terms.{Terms}
-use Rattle.desk_model.specs.Entry.{made, History}
-use Rattle.desk_model.specs.History.{moment_of}
+use Rattle.desk_model.specs.Entry.{History}
+use Rattle.desk_model.specs.History.{first_history, moment_of}
 use Rattle.desk_model.specs.Legal.{Legal}
 use Rattle.desk_model.specs.Authorization.{is_over}
 use Rattle.desk_model.specs.Tables.{Tables, AccountRow, ChallengeRow, AuthorizationRow, OrderRow, tables_at, picture}
@@ -58,7 +58,7 @@ MayHappen Reopened F earlier = Unit {0}
 pub record IsStart (F : History) : Type 0 where
   pub terms : Terms
   pub date : ℕ
-  pub is : F ≡ (record { date = date; entry = made terms }) ∷ []
+  pub is : F ≡ first_history terms date
   pub legal : Legal F
 
 abbrev pub IsLife : History → List Event → Type 0

@@ -14,13 +14,15 @@ use Rattle.desk_model.specs.Change.{put}
 use Rattle.desk_model.specs.declared.rows.Listed.{Listed}
 use Rattle.desk_model.specs.declared.rows.OrderRow.{OrderRow}
 use Rattle.desk_saving.specs.Makes.{ArePlaced}
-use Rattle.desk_saving.proofs.Numbered.{each_parts, find_here, find_later, find_none, put_before, put_behind, put_instead}
-use Rattle.desk_saving.proofs.PlacedRows.{has_image, has_left, has_parts, has_right, has_through, image_of, new_rows, owners_apart, stays}
+use Rattle.desk_saving.proofs.Numbered.{find_here, find_later, find_none, put_before, put_behind, put_instead}
+use Rattle.desk_saving.proofs.PlacedRows.{has_left, has_parts, has_right, has_through, image_of, new_rows, owners_apart, stays}
 use Rattle.desk_tables.specs.Effects.{is_same_place}
 use Rattle.desk_tables.specs.Hidden.{number, row_of}
 use Rattle.desk_tables.specs.Holds.{AreApart}
 use Rattle.desk_tables.specs.Layouts.{IsRising}
 use Rattle.desk_tables.proofs.Keyed.{ranked}
+use Rattle.desk_laws.proofs.Basics.{each_parts}
+use Rattle.desk_tables.proofs.HiddenUpsert.{has_map}
 
 -- the number of an order
 abbrev number_of : OrderRow → ℕ
@@ -133,7 +135,7 @@ listed_after x orders ts after rising up same apart apart_after kept placed = go
     go None is k =
         let none = λ (l : Owned Listed) (h : Has (owned_by x.number x.listed) l) (t : ℕ × Owned Listed) (in_t : Has ts t).
         let back = IsPermutation-sym (map row_of ts) (listed_rows orders) same in
-        let there = has_through (listed_rows orders) (map row_of ts) t.1 back (has_image row_of ts t in_t) in
+        let there = has_through (listed_rows orders) (map row_of ts) t.1 back (has_map row_of ts t in_t) in
         owners_apart l t.1 (λ e. none_own x orders is t.1 there (sym e ∙ owned_are x.number x.listed l h)) in
         let grown = new_rows (owned_by x.number x.listed) ts after up (own_apart x orders apart_after) none placed in
         subst (λ ls. IsPermutation ls (listed_rows (put number_of x orders))) (sym grown)

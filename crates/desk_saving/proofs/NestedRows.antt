@@ -7,8 +7,9 @@ use Rattle.desk_laws.specs.Ordered.{Ascends}
 use Rattle.desk_model.specs.Change.{put}
 use Rattle.desk_model.specs.Kept.{EachOf}
 use Rattle.desk_saving.specs.Makes.{puts}
-use Rattle.desk_saving.proofs.Numbered.{each_parts, find_here, find_later, put_before, put_behind, put_instead, puts_behind_all, puts_first, puts_instead}
+use Rattle.desk_saving.proofs.Numbered.{find_here, find_later, put_before, put_behind, put_instead, puts_behind_all, puts_first, puts_instead}
 use Rattle.desk_tables.proofs.Keyed.{ranked}
+use Rattle.desk_laws.proofs.Basics.{each_parts}
 
 module _ {P C : Type 0} (parent : P → ℕ) (children : P → List C) (key : C → ℕ) where
   -- the children of all rows

@@ -8,11 +8,7 @@ use Rattle.desk_model.specs.Change.{put}
 use Rattle.desk_model.specs.Kept.{EachOf}
 use Rattle.desk_saving.specs.Makes.{puts}
 use Rattle.desk_tables.proofs.Keyed.{ranked}
-
--- what holds of each item of two lists
-pub each_parts : {X : Type 0} (P : X → Type 0) (xs ys : List X) → EachOf P (xs ++ ys) → EachOf P xs × EachOf P ys
-each_parts P [] ys h = (tt, h)
-each_parts P (x ∷ xs) ys h = let rest = each_parts P xs ys h.1 in ((h.0, rest.0), rest.1)
+use Rattle.desk_laws.proofs.Basics.{each_parts}
 
 module _ {X : Type 0} (key : X → ℕ) where
   -- ---- look-ups

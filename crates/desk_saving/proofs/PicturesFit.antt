@@ -26,6 +26,7 @@ use Rattle.desk_saving.proofs.PlacedRows.{owners_apart}
 use Rattle.desk_tables.specs.Effects.{is_same_place}
 use Rattle.desk_tables.specs.Holds.{AreApart}
 use Rattle.desk_tables.specs.Layouts.{challenge_layout}
+use Rattle.desk_laws.proofs.OrderFacts.{places_ascend}
 
 -- ---- challenges
 
@@ -88,11 +89,6 @@ apart_listed m (o ∷ os) up places =
     apart_joined o.number (o.number + 1) o.listed os (omega arith) up.1 (apart_own o.number 1 o.listed places.0)
     (apart_listed (o.number + 1) os up.1 places.1)
 
--- places count up
-places_up : (k : ℕ) (xs : List Authorization) → Ascends (λ l. l.place) k (listed_from k xs)
-places_up k [] = tt
-places_up k (x ∷ xs) = (omega arith, places_up (k + 1) xs)
-
 -- ---- pictures
 
 -- the children of the tables of a history
@@ -104,7 +100,7 @@ picture_in_order F t =
           (keys_of_all rows)
           (ascends_from (λ c. c.number) 0 1 (flat_map (λ (a : AuthorizationRow). a.challenges) rows) (omega arith) (challenges_ordered F t));
       listed = apart_listed 1 (tables_at F t).orders (tables_ordered F t).orders.0
-          (each-map _ (order_row F t) (orders F) (each_all _ (orders F) (λ o. places_up 1 o.authorizations)));
+          (each-map _ (order_row F t) (orders F) (each_all _ (orders F) (λ o. places_ascend 1 o.authorizations)));
     }
 
 -- changes that keep children and lead from picture to picture fit

@@ -23,6 +23,7 @@ use Rattle.desk_tables.specs.Hidden.{IsPlaced, next, number, row_of}
 use Rattle.desk_tables.specs.Holds.{AreApart}
 use Rattle.desk_tables.specs.Layouts.{IsRising}
 use Rattle.desk_tables.proofs.Keyed.{put_ascends}
+use Rattle.desk_tables.proofs.HiddenUpsert.{has_map}
 
 -- ---- members of lists
 
@@ -78,12 +79,6 @@ pub image_of : {X Y : Type 0} (f : X → Y) (xs : List X) (y : Y) → Has (map f
 image_of f [] y h = absurd h
 image_of f (x ∷ xs) y (inl here) = (x, inl refl, here)
 image_of f (x ∷ xs) y (inr there) = let it = image_of f xs y there in (it.0, inr it.1, it.2)
-
--- and it has the image of each item
-pub has_image : {X Y : Type 0} (f : X → Y) (xs : List X) (x : X) → Has xs x → Has (map f xs) (f x)
-has_image f [] x h = absurd h
-has_image f (z ∷ zs) x (inl here) = inl (ap f here)
-has_image f (z ∷ zs) x (inr there) = inr (has_image f zs x there)
 
 -- ---- places
 
@@ -147,7 +142,7 @@ stays_one : (L : List (Owned Listed)) (l : Owned Listed) (ts after : List (ℕ �
     → after ≡ ts
 stays_one L l ts after up same apart in_it (inl found) =
     let t = found.0 in
-    let there : Has L t.1 = has_through L (map row_of ts) t.1 (IsPermutation-sym (map row_of ts) L same) (has_image row_of ts t found.1) in
+    let there : Has L t.1 = has_through L (map row_of ts) t.1 (IsPermutation-sym (map row_of ts) L same) (has_map row_of ts t found.1) in
     let is : l ≡ t.1 = one_place L l t.1 apart in_it there found.2 in
     found.3 ∙ ap (λ k. put number (t.0, k) ts) is ∙ put_there 0 t ts up found.1
 stays_one L l ts after up same apart in_it (inr fresh) =

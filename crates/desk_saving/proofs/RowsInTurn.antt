@@ -23,6 +23,7 @@ use Rattle.desk_tables.specs.Effects.{Places, PlacesColumns, Puts, is_same_place
 use Rattle.desk_tables.specs.Hidden.{IsPlaced}
 use Rattle.desk_tables.specs.Holds.{Holds}
 use Rattle.desk_tables.specs.Layouts.{HasRows, Layout}
+use Rattle.desk_laws.proofs.Recorded.{applied-append}
 
 -- ---- one row
 
@@ -100,11 +101,6 @@ advances_placed n first old new xs i d low survives before last =
 
 -- ---- changes
 
--- applied one more
-applied_snoc : (cs : List Change) (c : Change) (T : Tables) → applied (cs ++ c ∷ []) T ≡ applied_one c (applied cs T)
-applied_snoc [] c T = refl
-applied_snoc (d ∷ ds) c T = applied_snoc ds c (applied_one d T)
-
 -- several that fit, and the last
 fit_snoc : (cs : List Change) (c : Change) (T : Tables) → AreFit T (cs ++ c ∷ []) → AreFit T cs × IsFit (applied cs T) c
 fit_snoc [] c T h = (tt, h.0)
@@ -114,7 +110,7 @@ fit_snoc (d ∷ ds) c T h = let rest = fit_snoc ds c (applied_one d T) h.1 in ((
 one_more_made : (cs : List Change) (c : Change) (a b d : Database) → MakesAll cs a b → Makes c b d → MakesAll (cs ++ c ∷ []) a d
 one_more_made cs c a b d before last T has fits =
     let parts = fit_snoc cs c T fits in
-    subst (Holds d) (sym (applied_snoc cs c T)) (last (applied cs T) (before T has parts.0) parts.1)
+    subst (Holds d) (sym (applied-append cs (c ∷ []) T)) (last (applied cs T) (before T has parts.0) parts.1)
 
 -- one more change
 pub advances_made : (first old new : State) (cs : List Change) (i : ℕ) (c : Change) → i < length cs → c ≡ get_or cs i c → Survives old new (λ _. ⊥)

@@ -6,13 +6,14 @@ use Rattle.sqlite.specs.State.{State}
 use Rattle.sqlite.specs.Tree.{Trees}
 use Rattle.desk_model.specs.Legal.{Legal}
 use Rattle.desk_model.specs.Tables.{Tables, picture}
+use Rattle.desk_model.specs.History.{first_history}
 use Rattle.desk_model.specs.Terms.{Terms}
 use Rattle.desk_saving.specs.Committing.{HasCommitted, IsLeft}
 use Rattle.desk_saving.specs.Making.{MakesDesk, tables_of}
 use Rattle.desk_schema.specs.Schema.{no_schema}
 use Rattle.desk_tables.specs.Holds.{Holds}
 use Rattle.desk_store.specs.Desks.{IsDesk}
-use Rattle.desk_store.specs.Making.{IsNewDesk, Makes, first_history}
+use Rattle.desk_store.specs.Making.{IsNewDesk, Makes}
 
 module _ (policy : Terms) (at : ℕ) (book : Tables) (is : book ≡ picture (first_history policy at)) (legal : Legal (first_history policy at)) where
   -- a new desk has its row of `meta` and no other row

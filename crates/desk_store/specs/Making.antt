@@ -1,20 +1,15 @@
 -- What making a desk leaves.
-use Rattle.std.specs.Prelude.{◌≡◌, ℕ, [], ◌∷◌, None}
+use Rattle.std.specs.Prelude.{◌≡◌, ℕ, [], None}
 use Rattle.sqlite.specs.State.{State}
 use Rattle.sqlite.specs.Tree.{Trees}
-use Rattle.desk_model.specs.Entry.{History}
+use Rattle.desk_model.specs.History.{first_history}
 use Rattle.desk_model.specs.Terms.{Terms}
 use Rattle.desk_model.specs.Tables.{picture}
-use Rattle.desk_model.specs.declared.entry.Entry.TheVariants.{Made as made}
 use Rattle.desk_schema.specs.Schema.{no_schema}
 use Rattle.desk_storage.specs.declared.fault.StorageFault.{StorageFault}
 use Rattle.desk_store.specs.Desks.{AreOfDesk, HasDesk}
 use Rattle.desk_store.specs.declared.open_fault.OpenFault.{OpenFault}
 use Rattle.desk_store.specs.declared.open_fault.OpenFault.TheVariants.{Storage}
-
--- the history of a desk that was just made
-abbrev pub first_history : Terms → ℕ → History
-first_history policy at = (record { date = at; entry = made policy }) ∷ []
 
 -- what a stop in the commit leaves, where there was nothing: the new desk
 abbrev pub IsNewDesk : Terms → ℕ → State → Trees → Type 0

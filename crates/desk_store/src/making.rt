@@ -2,10 +2,11 @@
 ghost use Rattle.std.specs.Prelude.{◌≡◌, false, None, OnOk, OnErr, IfErr, Err, IsTrue};
 ghost use Rattle.sqlite.specs.State.{HasCleanDisk, Survives};
 ghost use Rattle.sqlite.specs.Held.{state};
+ghost use Rattle.desk_model.specs.History.{first_history};
 ghost use Rattle.desk_model.specs.Tables.{picture};
 ghost use Rattle.desk_saving.specs.Committing.{GoesBack};
 ghost use Rattle.desk_storage.specs.declared.fault.StorageFault.TheVariants.{Memory as memory};
-ghost use Rattle.desk_store.specs.Making.{IsNewDesk, Makes, first_history};
+ghost use Rattle.desk_store.specs.Making.{IsNewDesk, Makes};
 
 use crate::faults::saving_fault;
 use desk_book::Book;

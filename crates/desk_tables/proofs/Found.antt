@@ -18,6 +18,7 @@ use Rattle.sqlite_sql.specs.Term.{Term, Env, lit, col, op2, eval_all, holds}
 use Rattle.sqlite_sql.specs.Query.{Query, Output, inner, end, IsAnswer, output, page}
 use Rattle.sqlite.proofs.Callers.{one_permutation}
 use Rattle.desk_tables.proofs.Keyed.{with_key, three}
+use Rattle.std.proofs.lemmas.List.{nil_from_length}
 
 -- the rows of a table whose key is the parameter at a place
 abbrev pub by_key : ℕ → ℕ → List Term → Query
@@ -42,12 +43,8 @@ pub equal_is : (m n : ℤ) → is_true (binary (Compare Eq Binary) (Int m) (Int 
 unfolding binary
 equal_is m n = rw (value_cmp-Int m n) (told (is_eq (int_cmp m n)))
 
-empty_of : {X : Type 0} (xs : List X) → length xs ≡ 0 → xs ≡ []
-empty_of [] none = refl
-empty_of (x ∷ xs) none = absurd (let e = none in cc)
-
 no_permutation : {X : Type 0} (ys : List X) → IsPermutation [] ys → ys ≡ []
-no_permutation ys h = empty_of ys (length_permutation [] ys h)
+no_permutation ys h = nil_from_length ys (length_permutation [] ys h)
 
 module _ {X : Type 0} (key : X → ℕ) (row : X → Row) (first : (x : X) → rowid (row x) ≡ Int (pos (key x))) where
   test_is : (params : Row) (at n : ℕ) (x : X) → column params at ≡ Int (pos n)

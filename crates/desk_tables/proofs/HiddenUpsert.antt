@@ -25,18 +25,16 @@ use Rattle.desk_tables.specs.Hidden.{hidden, next, number, IsPlaced}
 use Rattle.desk_tables.specs.Layouts.{IsRising}
 use Rattle.desk_tables.proofs.Keyed.{one_with, with_key, three}
 use Rattle.desk_tables.proofs.Found.{by_key, answered}
-use Rattle.desk_tables.proofs.Inserts.{NoWorks, went, same_value}
+use Rattle.desk_tables.proofs.Inserts.{NoWorks}
 use Rattle.desk_tables.proofs.Upsert.{inserted, edited_as, row_behind, uncounts, tried}
+use Rattle.desk_schema.proofs.Making.{same_value, went}
+use Rattle.std.proofs.lemmas.Bool.{false_from_ne_true}
 
 -- what is in a list is in the mapped one
-has_map : {A B : Type 0} (f : A → B) (xs : List A) (x : A) → Has xs x → Has (map f xs) (f x)
+pub has_map : {A B : Type 0} (f : A → B) (xs : List A) (x : A) → Has xs x → Has (map f xs) (f x)
 has_map f [] x h = h
 has_map f (y ∷ ys) x (inl here) = inl (ap f here)
 has_map f (y ∷ ys) x (inr there) = inr (has_map f ys x there)
-
-not_true : (b : Bool) → (b ≡ true → ⊥) → b ≡ false
-not_true true h = absurd (h refl)
-not_true false h = refl
 
 -- a row without a number gets the next one
 chosen_of : (task : Task) (top : ℤ) (rows : List Row) (c : Row) → task.table.is_counted ≡ false
@@ -123,7 +121,7 @@ module _ {X : Type 0} (cells : X → Row) (same : X → X → Bool) (places : Li
           → IsHiddenPut cells same task db ts x w.trees
       go [] none h =
           let stands = λ (t : ℕ × X) (in_it : Has ts t). subst (λ rows. Has rows (hidden cells t)) (sym has) (has_map (hidden cells) ts t in_it) in
-          fresh (λ t in_it. not_true (same x t.1) (λ tied. none.complete (hidden cells t) (stands t in_it) (clash (next ts) t ∙ tied))) h.0 h.2
+          fresh (λ t in_it. false_from_ne_true (same x t.1) (λ tied. none.complete (hidden cells t) (stands t in_it) (clash (next ts) t ∙ tied))) h.0 h.2
       go (there ∷ more) some h =
           let it = some.sound there (inl refl) in
           let inside : Has (map (hidden cells) ts) it.0 = subst (λ rows. Has rows it.0) has it.1 in

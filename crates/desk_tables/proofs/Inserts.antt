@@ -15,15 +15,7 @@ use Rattle.sqlite.specs.Effect.{Database}
 use Rattle.sqlite.specs.Rows.{Task, Written, Puts}
 use Rattle.sqlite.proofs.Callers.{one_step}
 use Rattle.desk_schema.specs.Schema.{desk_schema}
-
--- a part that gave a value did not stop on the way
-pub went : {B E R : Type 0} {b : B} {Stops : E → Type 0} → ((stop : E) × Stops stop × (Ok b ≡ Err stop)) ⊎ R → R
-went (inl stopped) = absurd (let e = stopped.2 in cc)
-went (inr on) = on
-
--- one value, if the answers are one
-pub same_value : {B E : Type 0} {a b : B} → ◌≡◌ {A = Result B E} (Ok a) (Ok b) → a ≡ b
-same_value e = cc
+use Rattle.desk_schema.proofs.Making.{same_value, went}
 
 -- without RETURNING a statement leaves what it wrote
 pub concluded : (task : Task) (mode : Mode) (w : Written) (end : Tally × Database) → Concludes task mode None w (Ok end)

@@ -13,6 +13,7 @@ use Rattle.sqlite_rules.specs.Lists.{Has}
 use Rattle.desk_laws.specs.Ordered.{Ascends}
 use Rattle.desk_laws.proofs.RowLists.{ascends_from}
 use Rattle.desk_model.specs.Change.{put, remove}
+use Rattle.desk_laws.proofs.Basics.{less_differs, more_differs}
 
 -- ---- two numbers
 
@@ -47,12 +48,6 @@ Ranked a b = IsLess a b ⊎ (IsTied a b ⊎ IsMore a b)
 three_is : (a b : ℕ) → three a b ≡ nat_cmp a b
 three_is a b = grind (arith, nat_tests)
 
-apart_low : (a b : ℕ) → a < b → (b == a) ≡ false
-apart_low a b h = grind (arith, nat_tests)
-
-apart_high : (a b : ℕ) → b < a → (b == a) ≡ false
-apart_high a b h = grind (arith, nat_tests)
-
 tied_is : (a b : ℕ) → a ≡ b → (b == a) ≡ true
 tied_is a b h = grind (arith, nat_tests)
 
@@ -67,9 +62,9 @@ pub ranked : (a b : ℕ) → Ranked a b
 ranked a b = go (three a b) refl (nat_ranked a b (three a b) (three_is a b))
   where
     go : (o : Ordering) → three a b ≡ o → MatchOrdering o (a < b) (a ≡ b) (b < a) → Ranked a b
-    go Less is h = inl (record { low = h; ranks = is; apart = apart_low a b h; under = over_is a b h })
+    go Less is h = inl (record { low = h; ranks = is; apart = more_differs b a h; under = over_is a b h })
     go Equal is h = inr (inl (record { same = h; ranks = is; tied = tied_is a b h }))
-    go Greater is h = inr (inr (record { high = h; ranks = is; apart = apart_high a b h; under = under_is a b h }))
+    go Greater is h = inr (inr (record { high = h; ranks = is; apart = less_differs b a h; under = under_is a b h }))
 
 -- SQL finds two numbers equal where the model does
 pub eq_is : (a b : ℕ) → is_eq (three a b) ≡ (b == a)

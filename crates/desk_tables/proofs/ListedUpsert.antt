@@ -33,8 +33,10 @@ use Rattle.desk_tables.specs.Texts.{upsert_listed}
 use Rattle.desk_tables.proofs.Casts.{cast_int, new_kept, row_kept}
 use Rattle.desk_tables.proofs.Found.{equal_is}
 use Rattle.desk_tables.proofs.HiddenUpsert.{clause_on, puts_hidden}
-use Rattle.desk_tables.proofs.Inserts.{concluded, no_works, went}
+use Rattle.desk_tables.proofs.Inserts.{concluded, no_works}
 use Rattle.desk_tables.proofs.Keyed.{eq_is, put_ascends, same_of_eq}
+use Rattle.desk_schema.proofs.Making.{same_value, went}
+use Rattle.std.proofs.lemmas.Bool.{and_parts}
 
 -- the row that is inserted, in terms of the parameters
 abbrev terms : List Term
@@ -67,16 +69,11 @@ clash n x t =
     rw (first_key-plain, equal_is (pos t.1.owner) (pos x.owner), equal_is (pos t.1.row.place) (pos x.row.place)) (both _ _)
     ∙ (λ i. eq_is t.1.owner x.owner i && eq_is t.1.row.place x.row.place i)
 
-parts_of : (a b : Bool) → (a && b) ≡ true → (a ≡ true) × (b ≡ true)
-parts_of true true h = (refl, refl)
-parts_of true false h = (refl, h)
-parts_of false b h = absurd (let e = h in cc)
-
 -- an order's place is the one that is there
 sets : (k : ℕ) (x y : Owned Listed) → is_same_place x y ≡ true
     → Int (pos k) ∷ Int (pos k) ∷ Int (pos y.owner) ∷ Int (pos y.row.place) ∷ Int (pos x.row.authorization) ∷ [] ≡ Int (pos k) ∷ hidden listed_cells (k, x)
 sets k x y same =
-    let parts = parts_of (x.owner == y.owner) (x.row.place == y.row.place) same in
+    let parts = and_parts (x.owner == y.owner) (x.row.place == y.row.place) same in
     let owner = same_of_eq y.owner x.owner (eq_is y.owner x.owner ∙ parts.0) in
     let place = same_of_eq y.row.place x.row.place (eq_is y.row.place x.row.place ∙ parts.1) in
     λ i. Int (pos k) ∷ Int (pos k) ∷ Int (pos (owner i)) ∷ Int (pos (place i)) ∷ Int (pos x.row.authorization) ∷ []

@@ -19,8 +19,9 @@ use Rattle.desk_tables.specs.Effects.{Removes, RemovesNumbered}
 use Rattle.desk_tables.specs.Layouts.{nonce_layout}
 use Rattle.desk_tables.specs.Texts.{delete_nonce}
 use Rattle.desk_tables.proofs.Found.{by_key}
-use Rattle.desk_tables.proofs.Inserts.{concluded, no_works, went}
+use Rattle.desk_tables.proofs.Inserts.{concluded, no_works}
 use Rattle.desk_tables.proofs.Removal.{keys, removes}
+use Rattle.desk_schema.proofs.Making.{same_value, went}
 
 delete_is : command_of (understood desk_schema delete_nonce) ≡ Delete 1 (record { lets = []; body = by_key 1 0 keys })
 unfolding understood everything

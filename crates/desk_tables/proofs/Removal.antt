@@ -14,7 +14,8 @@ use Rattle.desk_model.specs.Change.{remove}
 use Rattle.desk_tables.specs.Layouts.{IsRising}
 use Rattle.desk_tables.proofs.Keyed.{none_out, one_or_none, without_as}
 use Rattle.desk_tables.proofs.Found.{answered, answered_none, by_key}
-use Rattle.desk_tables.proofs.Inserts.{NoWorks, went, same_value}
+use Rattle.desk_tables.proofs.Inserts.{NoWorks}
+use Rattle.desk_schema.proofs.Making.{same_value, went}
 
 -- the key of the row that goes
 abbrev pub keys : List Term

@@ -25,7 +25,8 @@ use Rattle.desk_model.specs.Change.{put, remove}
 use Rattle.desk_tables.specs.Layouts.{IsRising}
 use Rattle.desk_tables.proofs.Keyed.{three, same_of_eq, with_key, one_with, put_row_as, without_as, put_anew}
 use Rattle.desk_tables.proofs.Found.{by_key, answered}
-use Rattle.desk_tables.proofs.Inserts.{NoWorks, went, same_value, puts}
+use Rattle.desk_tables.proofs.Inserts.{NoWorks, puts}
+use Rattle.desk_schema.proofs.Making.{same_value, went}
 
 -- a row of the tree is that of a typed row
 pub row_behind : {X : Type 0} (row : X → Row) (xs : List X) (r : Row) → Has (map row xs) r → (x : X) × (r ≡ row x)

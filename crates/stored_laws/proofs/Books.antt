@@ -22,6 +22,8 @@ use Rattle.desk_model.specs.declared.objects.Authorization.{Authorization}
 use Rattle.desk_model.specs.declared.rows.AuthorizationRow.{AuthorizationRow}
 use Rattle.desk_model.specs.declared.rows.ChallengeRow.{ChallengeRow}
 use Rattle.stored_rows.specs.IsBook.{AreInOrder, HaveReferences, IsBook, KeepCounters}
+use Rattle.desk_laws.proofs.Distinctness.{ascends_distinct}
+use Rattle.desk_laws.proofs.OrderFacts.{places_ascend}
 
 -- ---- in order
 
@@ -42,11 +44,6 @@ parts_ascend : {X Y : Type 0} (number : Y → ℕ) (part : X → List Y) (n : �
 parts_ascend number part n [] h = tt
 parts_ascend number part n (x ∷ xs) h =
     (ascends_front number n (part x) _ h, parts_ascend number part n xs (ascends_back number n (part x) _ h))
-
--- places count up
-places_ascend : (place : ℕ) (xs : List Authorization) → Ascends (λ l. l.place) place (listed_from place xs)
-places_ascend place [] = tt
-places_ascend place (x ∷ xs) = (omega arith, places_ascend (place + 1) xs)
 
 -- the tables of a history are in order
 in_order : (F : History) (t : ℕ) → AreInOrder (tables_at F t)
@@ -123,14 +120,6 @@ have_references F h t =
 
 -- ---- books
 
--- numbers that ascend differ
-ascending_differ : {X : Type 0} (number : X → ℕ) (n : ℕ) (xs : List X) → Ascends number n xs → Distinct number xs
-ascending_differ number n [] h = tt
-ascending_differ number n (x ∷ xs) h = (
-  each _ _ xs (λ y above same. let lt : number x < number y = above in omega arith) (ascends_above number (number x) (number x + 1) xs (omega arith) h.1),
-  ascending_differ number (number x + 1) xs h.1,
-)
-
 -- the tables of a history are a book, at each moment
 pub tables_book : (F : History) → EachFollows F → (t : ℕ) → IsBook (tables_at F t)
 tables_book F h t =
@@ -139,6 +128,6 @@ tables_book F h t =
       sound = record {
         counters = keep_counters F t;
         references = have_references F h t;
-        distinct = record { keys = row_keys_differ F h t; challenges = ascending_differ _ 1 _ (challenges_ordered F t) };
+        distinct = record { keys = row_keys_differ F h t; challenges = ascends_distinct _ 1 _ (challenges_ordered F t) };
       };
     }

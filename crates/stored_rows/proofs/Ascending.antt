@@ -1,17 +1,14 @@
 -- The test of ascending numbers, and rows put one after the other.
-use Rattle.std.proofs.Common.{◌≡◌, ℕ, ◌+◌, ◌<◌, ◌≤◌, Bool, true, false, cond, List, [], ◌∷◌, ◌++◌, refl, ap, ◌∙◌, arith}
-use Rattle.std.specs.Prelude.{◌&&◌, ◌==◌, nat_le, nat_lt}
+use Rattle.std.proofs.Common.{◌≡◌, ℕ, ◌+◌, ◌<◌, ◌≤◌, Bool, true, false, List, [], ◌∷◌, ◌++◌, refl, ap, ◌∙◌, arith}
+use Rattle.std.specs.Prelude.{◌&&◌, nat_le}
 use Rattle.std.specs.List.{list_all}
 use Rattle.std.proofs.lemmas.Bool.Decides.{nat_tests}
 use Rattle.desk_model.specs.Change.{put}
 use Rattle.desk_model.specs.Kept.{EachOf}
 use Rattle.desk_laws.specs.Ordered.{Ascends}
 use Rattle.stored_rows.specs.Nesting.{ascends}
-
--- a test of two that holds
-pub both : (a b : Bool) → (a && b) ≡ true → (a ≡ true) × (b ≡ true)
-both true b h = (refl, h)
-both false b h = cc
+use Rattle.std.proofs.lemmas.Bool.{and_parts}
+use Rattle.desk_laws.proofs.RowLists.{put_past}
 
 at_most : (m n : ℕ) → nat_le m n ≡ true → m ≤ n
 at_most m n h = grind (arith, nat_tests)
@@ -23,7 +20,7 @@ at_most-test m n h = grind (arith, nat_tests)
 pub Ascends-from_test : {X : Type 0} (number : X → ℕ) (n : ℕ) (xs : List X) → ascends number n xs ≡ true → Ascends number n xs
 Ascends-from_test number n [] h = tt
 Ascends-from_test number n (x ∷ xs) h =
-    let parts = both (nat_le n (number x)) (ascends number (number x + 1) xs) h in
+    let parts = and_parts (nat_le n (number x)) (ascends number (number x + 1) xs) h in
     (at_most n (number x) parts.0, Ascends-from_test number (number x + 1) xs parts.1)
 
 -- and numbers that ascend pass it
@@ -36,7 +33,7 @@ ascends-true number n (x ∷ xs) h =
 pub EachOf-from_test : {X : Type 0} (test : X → Bool) (P : X → Type 0) → ((x : X) → test x ≡ true → P x) → (xs : List X) → list_all test xs ≡ true → EachOf P xs
 EachOf-from_test test P says [] h = tt
 EachOf-from_test test P says (x ∷ xs) h =
-    let parts = both (test x) (list_all test xs) h in (says x parts.0, EachOf-from_test test P says xs parts.1)
+    let parts = and_parts (test x) (list_all test xs) h in (says x parts.0, EachOf-from_test test P says xs parts.1)
 
 pub list_all-true : {X : Type 0} (test : X → Bool) (P : X → Type 0) → ((x : X) → P x → test x ≡ true) → (xs : List X) → EachOf P xs → list_all test xs ≡ true
 list_all-true test P says [] h = refl
@@ -48,23 +45,12 @@ last-above number m [] y zs h = h.0
 last-above number m (x ∷ xs) y zs h =
     let first : m ≤ number x = h.0 in let rest : number x + 1 ≤ number y = last-above number (number x + 1) xs y zs h.1 in omega arith
 
-differs : (m n : ℕ) → n < m → (m == n) ≡ false
-differs m n h = grind (arith, nat_tests)
-
-not_less : (m n : ℕ) → n < m → nat_lt m n ≡ false
-not_less m n h = grind (arith, nat_tests)
-
--- a row with a greater number is put further on
-put-past : {X : Type 0} (number : X → ℕ) (x y : X) (ys : List X) → number y < number x → put number x (y ∷ ys) ≡ y ∷ put number x ys
-put-past number x y ys h =
-    λ i. cond (differs (number x) (number y) h i) (x ∷ ys) (cond (not_less (number x) (number y) h i) (x ∷ y ∷ ys) (y ∷ put number x ys))
-
 -- a row is put last, where the numbers ascend
 pub put-ascending : {X : Type 0} (number : X → ℕ) (n : ℕ) (xs : List X) (y : X) (zs : List X) → Ascends number n (xs ++ y ∷ zs) → put number y xs ≡ xs ++ y ∷ []
 put-ascending number n [] y zs h = refl
 put-ascending number n (x ∷ xs) y zs h =
     let above : number x + 1 ≤ number y = last-above number (number x + 1) xs y zs h.1 in
-    put-past number y x xs (omega arith) ∙ ap (λ l. x ∷ l) (put-ascending number (number x + 1) xs y zs h.1)
+    put_past number y x xs (omega arith) ∙ ap (λ l. x ∷ l) (put-ascending number (number x + 1) xs y zs h.1)
 
 -- one step of the test: the first number is above the last one
 pub ascends-step : {X : Type 0} (number : X → ℕ) (last : ℕ) (x : X) (xs : List X) → last < number x

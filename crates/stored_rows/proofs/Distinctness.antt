@@ -13,6 +13,8 @@ use Rattle.desk_model.specs.Kept.{EachOf}
 use Rattle.desk_laws.specs.Distinct.{Distinct}
 use Rattle.stored_rows.proofs.Nests.{append-nil}
 use Rattle.stored_rows.proofs.SortedLists.{equal_flips, strictly-from_distinct}
+use Rattle.desk_laws.proofs.Basics.{each-map}
+use Rattle.desk_laws.proofs.Distinctness.{map-distinct}
 
 -- an order that says less
 less : (r : Ordering) → is_lt r ≡ true → r ≡ Ordering.Less
@@ -84,21 +86,9 @@ unfolding IsDistinct
 values-distinct e value same [] h = tt
 values-distinct e value same (k ∷ ks) h = (all-apart e value same k ks h.0, values-distinct e value same ks h.1)
 
-each-map : {X Y : Type 0} (value : X → Y) (P : Y → Type 0) (xs : List X) → EachOf (λ x. P (value x)) xs → EachOf P (map value xs)
-each-map value P [] h = tt
-each-map value P (x ∷ xs) h = (h.0, each-map value P xs h.1)
-
-map-each : {X Y : Type 0} (value : X → Y) (P : Y → Type 0) (xs : List X) → EachOf P (map value xs) → EachOf (λ x. P (value x)) xs
-map-each value P [] h = tt
-map-each value P (x ∷ xs) h = (h.0, map-each value P xs h.1)
-
 distinct-map : {X Y : Type 0} (value : X → Y) (xs : List X) → Distinct value xs → Distinct (λ y. y) (map value xs)
 distinct-map value [] h = tt
-distinct-map value (x ∷ xs) h = (each-map value (λ y. value x ≢ y) xs h.0, distinct-map value xs h.1)
-
-map-distinct : {X Y : Type 0} (value : X → Y) (xs : List X) → Distinct (λ y. y) (map value xs) → Distinct value xs
-map-distinct value [] h = tt
-map-distinct value (x ∷ xs) h = (map-each value (λ y. value x ≢ y) xs h.0, map-distinct value xs h.1)
+distinct-map value (x ∷ xs) h = (each-map (λ y. value x ≢ y) value xs h.0, distinct-map value xs h.1)
 
 -- rows whose keys are these have different ones exactly where no key stands twice
 pub distinct-rows : {K X Y : Type 0} (c : K → K → Ordering) (key : K → Y) (value : X → Y) →

@@ -1,18 +1,13 @@
 -- Rows that are nested under their owners have these parents and these children, and none else do.
-use Rattle.std.proofs.Common.{◌≡◌, ℕ, ◌+◌, ◌<◌, ◌≤◌, Bool, true, false, cond, List, [], ◌∷◌, ◌++◌, length, map, refl, sym, ap, ◌∙◌, arith, append_assoc}
+use Rattle.std.proofs.Common.{◌≡◌, ℕ, ◌+◌, ◌<◌, ◌≤◌, Bool, true, false, cond, List, [], ◌∷◌, ◌++◌, map, refl, sym, ap, ◌∙◌, arith, append_assoc}
 use Rattle.std.specs.Prelude.{◌==◌}
 use Rattle.std.specs.List.{AllByRecursion}
 use Rattle.std.proofs.lemmas.Bool.{eqb-true, eq-eqb}
-use Rattle.std.proofs.lemmas.Bool.Decides.{nat_tests}
 use Rattle.desk_laws.specs.Ordered.{Ascends}
 use Rattle.desk_columns.specs.declared.flat_rows.Owned.{Owned}
 use Rattle.desk_columns.specs.Flat.{owned_by}
 use Rattle.stored_rows.specs.Nesting.{IsNesting, child_rows, first_of, behind, nested, left_over}
-
--- nothing is left where none is counted
-pub no_items : {X : Type 0} (xs : List X) → length xs ≡ 0 → xs ≡ []
-no_items [] none = refl
-no_items (x ∷ xs) none = absurd (omega (arith, none))
+use Rattle.desk_laws.proofs.Basics.{more_differs}
 
 -- what is taken and what is left are all
 first-behind : {T : Type 0} (n : ℕ) (rs : List (Owned T)) → owned_by n (first_of n rs) ++ behind n rs ≡ rs
@@ -51,17 +46,11 @@ AreAbove n rs = AllByRecursion (λ r. n < r.owner) rs
 
 first-above : {T : Type 0} (n : ℕ) (rs : List (Owned T)) → AreAbove n rs → first_of n rs ≡ []
 first-above n [] h = refl
-first-above {T} n (r ∷ rs) h = ap (λ b. cond b (r.row ∷ first_of n rs) []) (differs r.owner n h.0)
-  where
-    differs : (m n : ℕ) → n < m → (m == n) ≡ false
-    differs m n h = grind (arith, nat_tests)
+first-above {T} n (r ∷ rs) h = ap (λ b. cond b (r.row ∷ first_of n rs) []) (more_differs r.owner n h.0)
 
 behind-above : {T : Type 0} (n : ℕ) (rs : List (Owned T)) → AreAbove n rs → behind n rs ≡ rs
 behind-above n [] h = refl
-behind-above {T} n (r ∷ rs) h = ap (λ b. cond b (behind n rs) (r ∷ rs)) (differs r.owner n h.0)
-  where
-    differs : (m n : ℕ) → n < m → (m == n) ≡ false
-    differs m n h = grind (arith, nat_tests)
+behind-above {T} n (r ∷ rs) h = ap (λ b. cond b (behind n rs) (r ∷ rs)) (more_differs r.owner n h.0)
 
 -- the first rows of an owner are its own, before rows of higher owners
 first-own : {T : Type 0} (n : ℕ) (ts : List T) (rs : List (Owned T)) → AreAbove n rs → first_of n (owned_by n ts ++ rs) ≡ ts

@@ -22,10 +22,11 @@ use Rattle.stored_rows.specs.IsBook.{AreDistinct, AreFlat, AreInOrder, HaveRefer
 use Rattle.stored_rows.specs.Nesting.{IsNestOf}
 use Rattle.stored_rows.specs.Tests.{are_given, has_row_of, have_references, keep_counters}
 use Rattle.desk_columns.specs.declared.flat_rows.FlatRows.{FlatRows}
-use Rattle.stored_rows.proofs.Ascending.{both, EachOf-from_test, list_all-true}
+use Rattle.stored_rows.proofs.Ascending.{EachOf-from_test, list_all-true}
 use Rattle.stored_rows.proofs.Nests.{same_nest}
 use Rattle.stored_rows.proofs.OrderedRows.{same_ascending}
 use Rattle.stored_rows.proofs.SortedLists.{same_single}
+use Rattle.std.proofs.lemmas.Bool.{and_parts}
 
 given-below : (m n : ℕ) → nat_le m n ≡ true → m < n + 1
 given-below m n h = grind (arith, nat_tests)
@@ -42,11 +43,11 @@ given-true number last xs h = list_all-true (λ r. nat_le (number r) last) (λ r
 -- tables that pass the test keep their counters
 counters-from_test : (T : Tables) → keep_counters T ≡ true → KeepCounters T
 counters-from_test T h =
-    let first = both _ _ h in
-    let second = both _ _ first.1 in
-    let third = both _ _ second.1 in
-    let fourth = both _ _ third.1 in
-    let fifth = both _ _ fourth.1 in
+    let first = and_parts _ _ h in
+    let second = and_parts _ _ first.1 in
+    let third = and_parts _ _ second.1 in
+    let fourth = and_parts _ _ third.1 in
+    let fifth = and_parts _ _ fourth.1 in
     record {
       nonces = Below-from_test _ T.meta.counters.nonces T.nonces first.0;
       accounts = Below-from_test _ T.meta.counters.accounts T.accounts second.0;
@@ -74,9 +75,9 @@ counters-true T h =
 -- tables that pass the test have what they refer to
 references-from_test : (T : Tables) → have_references T ≡ true → HaveReferences T
 references-from_test T h =
-    let first = both _ _ h in
-    let second = both _ _ first.1 in
-    let third = both _ _ second.1 in
+    let first = and_parts _ _ h in
+    let second = and_parts _ _ first.1 in
+    let third = and_parts _ _ second.1 in
     record {
       authorizations = EachOf-from_test (λ (a : AuthorizationRow). has_row_of (λ b. b.number) T.accounts a.account)
           (λ a. IsSome (account_on T a.account)) (λ a k. k) T.authorizations first.0;
@@ -105,9 +106,9 @@ pub sound-answer : (T : Tables) (r a b d : Bool) → r ≡ list_all (λ x. x) (a
     IsTrue r ↔ IsSound T
 sound-answer T r a b d all counters references distinct = (
   λ yes.
-      let first = both a (b && (d && true)) (sym all ∙ yes) in
-      let second = both b (d && true) first.1 in
-      let third = both d true second.1 in
+      let first = and_parts a (b && (d && true)) (sym all ∙ yes) in
+      let second = and_parts b (d && true) first.1 in
+      let third = and_parts d true second.1 in
       record {
         counters = counters-from_test T (sym counters ∙ first.0);
         references = references-from_test T (sym references ∙ second.0);

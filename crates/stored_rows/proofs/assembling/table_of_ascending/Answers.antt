@@ -1,9 +1,9 @@
 use Rattle.std.proofs.Common.{◌++◌, ◌∷◌, [], ◌∙◌, sym, ap, append_assoc, arith, subst}
 use Rattle.desk_laws.specs.Ordered.{Ascends}
 use Rattle.stored_rows.proofs.Ascending.{put-ascending}
-use Rattle.stored_rows.proofs.NestedRows.{no_items}
 use Rattle.stored_rows.proofs.Nests.{append-nil}
 use Rattle.stored_rows.proofs.assembling.table_of_ascending.Goals as goal
+use Rattle.std.proofs.lemmas.List.{nil_from_length}
 
 pub loop-row-preserved : goal.loop-row-preserved
 loop-row-preserved g c =
@@ -16,5 +16,5 @@ loop-row-preserved g c =
 
 pub returns : goal.returns
 returns g c =
-    let none = no_items c.loop-row.row-iterator.rest.items (omega (arith, c.loop-row.row-iterator.rest.ok, c.in-None.ensures.steps.0)) in
+    let none = nil_from_length c.loop-row.row-iterator.rest.items (omega (arith, c.loop-row.row-iterator.rest.ok, c.in-None.ensures.steps.0)) in
     sym (append-nil c.loop-row.table) ∙ ap (λ l. c.loop-row.table ++ l) (sym none) ∙ c.loop-row.invariant

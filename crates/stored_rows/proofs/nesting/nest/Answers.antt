@@ -1,9 +1,9 @@
 use Rattle.std.proofs.Common.{◌≡◌, true, false, length, deque_len, ◌++◌, [], ◌∷◌, ◌∙◌, sym, ap, append_assoc, arith}
 use Rattle.std.proofs.lemmas.Bool.{eqb-true, eq-eqb}
 use Rattle.stored_rows.specs.Nesting.{first_of, behind, nested, left_over}
-use Rattle.stored_rows.proofs.NestedRows.{no_items}
 use Rattle.stored_rows.proofs.Nests.{append-nil}
 use Rattle.stored_rows.proofs.nesting.nest.Goals as goal
+use Rattle.std.proofs.lemmas.List.{nil_from_length}
 
 pub loop-parent-preserved : goal.loop-parent-preserved
 loop-parent-preserved g c =
@@ -30,9 +30,9 @@ loop-parent-preserved g c =
 
 pub returns-then-is_empty : goal.returns-then-is_empty
 returns-then-is_empty g c =
-    let none = no_items c.loop-parent.parent-iterator.rest.items (omega (arith, c.loop-parent.parent-iterator.rest.ok, c.in-None.ensures.steps.0)) in
+    let none = nil_from_length c.loop-parent.parent-iterator.rest.items (omega (arith, c.loop-parent.parent-iterator.rest.ok, c.in-None.ensures.steps.0)) in
     let zero = eqb-true (deque_len c.loop-parent.rest) 0 (sym c.is_empty.ensures ∙ c.if-is_empty.true) in
-    let empty = no_items c.loop-parent.rest.items (omega (arith, c.loop-parent.rest.ok, zero)) in (
+    let empty = nil_from_length c.loop-parent.rest.items (omega (arith, c.loop-parent.rest.ok, zero)) in (
       sym c.loop-parent.invariant.rest ∙ (λ i. left_over (λ r. g.P.Row.number r) (none i) (empty i)),
       sym (append-nil c.loop-parent.rows.items)
           ∙ ap (λ ps. c.loop-parent.rows.items ++ nested (λ r. g.P.Row.number r) g.P.Parent.with_children ps c.loop-parent.rest.items) (sym none)
@@ -41,7 +41,7 @@ returns-then-is_empty g c =
 
 pub returns : goal.returns
 returns g c = λ _ all.
-    let none = no_items c.loop-parent.parent-iterator.rest.items (omega (arith, c.loop-parent.parent-iterator.rest.ok, c.in-None.ensures.steps.0)) in
+    let none = nil_from_length c.loop-parent.parent-iterator.rest.items (omega (arith, c.loop-parent.parent-iterator.rest.ok, c.in-None.ensures.steps.0)) in
     let empty : c.loop-parent.rest.items ≡ [] = ap (λ ps. left_over (λ r. g.P.Row.number r) ps c.loop-parent.rest.items) (sym none)
     ∙ c.loop-parent.invariant.rest ∙ all in
     let zero : deque_len c.loop-parent.rest ≡ 0 = omega (arith, c.loop-parent.rest.ok, ap length empty) in
