@@ -24,12 +24,8 @@ struct AccountHead {
     status: AccountStatus,
 }
 
-/// The account with these columns, or `None` where none in its limits has them.
-///
-/// # Errors
-///
-/// Where there is no memory to read the contacts.
-pub fn read_account(
+// The account with these columns, or `None` where none in its limits has them.
+fn read_account(
     alloc: Global,
     columns: AccountColumns,
 ) -> Result<Option<AccountRow>, AllocError>

@@ -25,8 +25,8 @@ struct AuthorizationHead {
     status: AuthzStatus,
 }
 
-/// The authorization with these columns and no challenges, or `None` where none in its limits has them.
-pub fn read_authorization(alloc: Global, columns: AuthzColumns) -> Option<AuthorizationRow>
+// The authorization with these columns and no challenges, or `None` where none in its limits has them.
+fn read_authorization(alloc: Global, columns: AuthzColumns) -> Option<AuthorizationRow>
     ensures { IsRead authorization_columns IsStoredAuthorization columns result }
 {
     let head = read_head(&columns)?;

@@ -27,8 +27,8 @@ struct ChallengeHead {
     status: ChallengeStatus,
 }
 
-/// The challenge with these columns, under its authorization, or `None` where none in its limits has them.
-pub fn read_challenge(columns: ChallColumns) -> Option<Owned<ChallengeRow>>
+// The challenge with these columns, under its authorization, or `None` where none in its limits has them.
+fn read_challenge(columns: ChallColumns) -> Option<Owned<ChallengeRow>>
     ensures { IsRead challenge_columns IsStoredChallenge columns result }
 {
     let head = read_head(&columns)?;

@@ -20,19 +20,13 @@ mod stored;
 mod table;
 mod values;
 
-pub use account::read_account;
-pub use authorization::read_authorization;
-pub use challenge::read_challenge;
 pub use columns::{
     AccountColumns, AuthzColumns, ChallColumns, FORMAT, MetaColumns, NonceColumns,
     OrderAuthzColumns, OrderColumns, StoredRows,
 };
 pub use flat_rows::{FlatRows, Owned};
 pub use laws::{columns_tell_rows_apart, texts_are_written};
-pub use listed::read_listed;
-pub use meta::read_meta;
-pub use nonce::read_nonce;
-pub use order::read_order;
 pub use problem::problem_text;
 pub use spelling::read_order_status;
 pub use stored::read_rows;
+pub use table::{Columns, read_table};

@@ -10,8 +10,8 @@ use crate::table::Columns;
 use desk_model::Listed;
 use std::alloc::{AllocError, Global};
 
-/// The listed authorization with these columns, under its order, or `None` where none in its limits has them.
-pub fn read_listed(columns: OrderAuthzColumns) -> Option<Owned<Listed>>
+// The listed authorization with these columns, under its order, or `None` where none in its limits has them.
+fn read_listed(columns: OrderAuthzColumns) -> Option<Owned<Listed>>
     ensures { IsRead listed_columns IsStoredListed columns result }
 {
     let owner = read_number(columns.ord)?;

@@ -12,12 +12,8 @@ use crate::table::Columns;
 use desk_model::{Clock, Counters, Meta, Policy};
 use std::alloc::{AllocError, Global};
 
-/// The row with these columns, or `None` where none in its limits has them.
-///
-/// # Errors
-///
-/// Where there is no memory for the base.
-pub fn read_meta(alloc: Global, columns: MetaColumns) -> Result<Option<Meta>, AllocError>
+// The row with these columns, or `None` where none in its limits has them.
+fn read_meta(alloc: Global, columns: MetaColumns) -> Result<Option<Meta>, AllocError>
     ensures { IfOk result (λ row. IsRead meta_columns IsStoredMeta columns row) }
 {
     if !is_of_format(&columns) {

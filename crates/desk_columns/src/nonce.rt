@@ -10,8 +10,8 @@ use crate::table::Columns;
 use desk_model::Nonce;
 use std::alloc::{AllocError, Global};
 
-/// The nonce with these columns, or `None` where none in its limits has them.
-pub fn read_nonce(columns: NonceColumns) -> Option<Nonce>
+// The nonce with these columns, or `None` where none in its limits has them.
+fn read_nonce(columns: NonceColumns) -> Option<Nonce>
     ensures { IsRead nonce_columns IsStoredNonce columns result }
 {
     let serial = read_number(columns.serial)?;

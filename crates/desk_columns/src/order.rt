@@ -25,12 +25,8 @@ struct OrderHead {
     status: OrderStatus,
 }
 
-/// The order with these columns and nothing listed, or `None` where none in its limits has them.
-///
-/// # Errors
-///
-/// Where there is no memory to read the problem.
-pub fn read_order(alloc: Global, columns: OrderColumns) -> Result<Option<OrderRow>, AllocError>
+// The order with these columns and nothing listed, or `None` where none in its limits has them.
+fn read_order(alloc: Global, columns: OrderColumns) -> Result<Option<OrderRow>, AllocError>
     ensures { IfOk result (λ row. IsRead order_columns IsStoredOrder columns row) }
 {
     match read_dated_problem(alloc, columns.failed, &columns.problem)? {

@@ -7,7 +7,7 @@ use desk_model::Sequence;
 use std::alloc::{AllocError, Global};
 
 /// Columns that spell the rows of a table.
-pub(crate) trait Columns: Drop {
+pub trait Columns: Drop {
     type Row: Drop;
 
     // The columns of a row.
@@ -16,13 +16,21 @@ pub(crate) trait Columns: Drop {
     // What a row keeps in the table.
     ghost IsStored: { Self.Row → Type 0 };
 
-    /// The row with these columns.
+    /// The row with these columns, or `None` where none in its limits has them.
+    ///
+    /// # Errors
+    ///
+    /// Where there is no memory for it.
     fn read(self, alloc: Global) -> Result<Option<Self::Row>, AllocError>
         ensures { IfOk result (λ row. IsRead write IsStored self row) };
 }
 
 /// The rows with these columns, or `None` where no row in its limits has some of them.
-pub(crate) fn read_table<C: Columns>(
+///
+/// # Errors
+///
+/// Where there is no memory for them.
+pub fn read_table<C: Columns>(
     alloc: Global,
     table: Sequence<C>,
 ) -> Result<Option<Sequence<C::Row>>, AllocError>

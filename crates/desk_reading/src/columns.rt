@@ -7,15 +7,15 @@ ghost use Rattle.desk_reading.specs.Spelled.{account_in, authorization_in, chall
 
 use crate::values::{bytes, bytes_or_none, number, number_or_none, text, text_or_none};
 use desk_columns::{
-    AccountColumns, AuthzColumns, ChallColumns, MetaColumns, NonceColumns, OrderAuthzColumns,
-    OrderColumns,
+    AccountColumns, AuthzColumns, ChallColumns, Columns, MetaColumns, NonceColumns,
+    OrderAuthzColumns, OrderColumns,
 };
 use desk_model::Sequence;
 use sqlite::{Error, Row};
 use std::alloc::Global;
 
 /// Columns that a row of an answer spells.
-pub(crate) trait Columns: Drop {
+pub(crate) trait Selected: Columns {
     // The columns that a row spells.
     ghost spelled: { SqlRow → Self };
 
@@ -23,7 +23,7 @@ pub(crate) trait Columns: Drop {
     ghost Fits: { SqlRow → Type 0 };
 
     /// The columns of a row.
-    fn read(row: &Row) -> Result<Self, Error>
+    fn of(row: &Row) -> Result<Self, Error>
         ensures read { IfOk result (λ c. c ≡ spelled row.now) }
         ensures fails { Fits row.now → IfErr result IsOutOfMemory };
 }
@@ -33,23 +33,23 @@ pub(crate) trait Columns: Drop {
 /// # Errors
 ///
 /// Where a row has other values, or there is no memory.
-pub(crate) fn read_all<C: Columns>(alloc: Global, rows: &[Row]) -> Result<Sequence<C>, Error>
+pub(crate) fn read_all<C: Selected>(alloc: Global, rows: &[Row]) -> Result<Sequence<C>, Error>
     ensures read { IfOk result (λ all. all ≡ map C.spelled rows.now) }
     ensures fails { All C.Fits rows.now → IfErr result IsOutOfMemory }
 {
     let mut all = Vec::new(alloc);
     for row in rows {
-        all.push(C::read(row)?)?;
+        all.push(C::of(row)?)?;
     }
     Ok(Sequence::new(all))
 }
 
-impl Columns for MetaColumns {
+impl Selected for MetaColumns {
     ghost spelled = { meta_in };
 
     ghost Fits = { FitsMeta };
 
-    fn read(row: &Row) -> Result<MetaColumns, Error> {
+    fn of(row: &Row) -> Result<MetaColumns, Error> {
         Ok(MetaColumns {
             id: number(row, 0)?,
             format: number(row, 1)?,
@@ -67,12 +67,12 @@ impl Columns for MetaColumns {
     }
 }
 
-impl Columns for NonceColumns {
+impl Selected for NonceColumns {
     ghost spelled = { nonce_in };
 
     ghost Fits = { FitsNonce };
 
-    fn read(row: &Row) -> Result<NonceColumns, Error> {
+    fn of(row: &Row) -> Result<NonceColumns, Error> {
         Ok(NonceColumns {
             serial: number(row, 0)?,
             issued: number(row, 2)?,
@@ -81,12 +81,12 @@ impl Columns for NonceColumns {
     }
 }
 
-impl Columns for AccountColumns {
+impl Selected for AccountColumns {
     ghost spelled = { account_in };
 
     ghost Fits = { FitsAccount };
 
-    fn read(row: &Row) -> Result<AccountColumns, Error> {
+    fn of(row: &Row) -> Result<AccountColumns, Error> {
         Ok(AccountColumns {
             num: number(row, 0)?,
             opened: number(row, 3)?,
@@ -99,12 +99,12 @@ impl Columns for AccountColumns {
     }
 }
 
-impl Columns for OrderColumns {
+impl Selected for OrderColumns {
     ghost spelled = { order_in };
 
     ghost Fits = { FitsOrder };
 
-    fn read(row: &Row) -> Result<OrderColumns, Error> {
+    fn of(row: &Row) -> Result<OrderColumns, Error> {
         Ok(OrderColumns {
             num: number(row, 0)?,
             account: number(row, 1)?,
@@ -121,12 +121,12 @@ impl Columns for OrderColumns {
     }
 }
 
-impl Columns for AuthzColumns {
+impl Selected for AuthzColumns {
     ghost spelled = { authorization_in };
 
     ghost Fits = { FitsAuthorization };
 
-    fn read(row: &Row) -> Result<AuthzColumns, Error> {
+    fn of(row: &Row) -> Result<AuthzColumns, Error> {
         Ok(AuthzColumns {
             num: number(row, 0)?,
             account: number(row, 1)?,
@@ -141,12 +141,12 @@ impl Columns for AuthzColumns {
     }
 }
 
-impl Columns for OrderAuthzColumns {
+impl Selected for OrderAuthzColumns {
     ghost spelled = { listed_in };
 
     ghost Fits = { FitsListed };
 
-    fn read(row: &Row) -> Result<OrderAuthzColumns, Error> {
+    fn of(row: &Row) -> Result<OrderAuthzColumns, Error> {
         Ok(OrderAuthzColumns {
             ord: number(row, 0)?,
             place: number(row, 1)?,
@@ -155,12 +155,12 @@ impl Columns for OrderAuthzColumns {
     }
 }
 
-impl Columns for ChallColumns {
+impl Selected for ChallColumns {
     ghost spelled = { challenge_in };
 
     ghost Fits = { FitsChallenge };
 
-    fn read(row: &Row) -> Result<ChallColumns, Error> {
+    fn of(row: &Row) -> Result<ChallColumns, Error> {
         Ok(ChallColumns {
             num: number(row, 0)?,
             authz: number(row, 1)?,

@@ -8,7 +8,7 @@ ghost use Rattle.desk_schema.specs.Stays.{Asks};
 ghost use Rattle.desk_reading.specs.Failures.{FailsToRead};
 ghost use Rattle.desk_reading.specs.Selecting.{IsQuery};
 
-use crate::columns::{Columns, read_all};
+use crate::columns::{Selected, read_all};
 use desk_model::Sequence;
 use sqlite::types::ValueRef;
 use sqlite::{Alter, Connection, Error, Row};
@@ -40,7 +40,7 @@ pub(crate) fn all_rows<S: Alter>(
 /// # Errors
 ///
 /// The engine's.
-pub(crate) fn read_query<S: Alter, C: Columns>(
+pub(crate) fn read_query<S: Alter, C: Selected>(
     alloc: Global,
     conn: &mut Connection<S>,
     text: &str,

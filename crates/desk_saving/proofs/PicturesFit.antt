@@ -14,8 +14,7 @@ use Rattle.desk_model.specs.Entry.{History}
 use Rattle.desk_model.specs.History.{clock}
 use Rattle.desk_model.specs.Kept.{EachOf}
 use Rattle.desk_model.specs.Order.{orders}
-use Rattle.desk_model.specs.Tables.{listed_from, order_row, tables_at}
-use Rattle.desk_model.specs.declared.objects.Authorization.{Authorization}
+use Rattle.desk_model.specs.Tables.{order_row, tables_at}
 use Rattle.desk_model.specs.declared.rows.AuthorizationRow.{AuthorizationRow}
 use Rattle.desk_model.specs.declared.rows.Listed.{Listed}
 use Rattle.desk_model.specs.declared.rows.OrderRow.{OrderRow}

@@ -1,6 +1,6 @@
 -- The parts of a statement, and INSERT of one row where no foreign key acts.
 use Rattle.std.specs.Prelude.{flat_map, filter_map, length, ◌==◌}
-use Rattle.std.proofs.Common.{◌≡◌, ◌⊎◌, inl, inr, ℕ, List, [], ◌∷◌, Bool, true, false, None, Result, Ok, Err, refl, sym, ap, subst}
+use Rattle.std.proofs.Common.{◌≡◌, ℕ, List, [], ◌∷◌, Bool, true, false, None, Ok, refl, sym, ap, subst}
 use Rattle.sqlite_value.specs.Order.{Row}
 use Rattle.sqlite_trees.specs.Tree.{Trees, put_row}
 use Rattle.sqlite_schema.specs.declared.schema.Keys.TheVariants.{Enforced}

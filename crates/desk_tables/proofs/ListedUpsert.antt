@@ -35,7 +35,7 @@ use Rattle.desk_tables.proofs.Found.{equal_is}
 use Rattle.desk_tables.proofs.HiddenUpsert.{clause_on, puts_hidden}
 use Rattle.desk_tables.proofs.Inserts.{concluded, no_works}
 use Rattle.desk_tables.proofs.Keyed.{eq_is, put_ascends, same_of_eq}
-use Rattle.desk_schema.proofs.Making.{same_value, went}
+use Rattle.desk_schema.proofs.Making.{went}
 use Rattle.std.proofs.lemmas.Bool.{and_parts}
 
 -- the row that is inserted, in terms of the parameters

@@ -21,7 +21,7 @@ use Rattle.desk_tables.specs.Texts.{delete_nonce}
 use Rattle.desk_tables.proofs.Found.{by_key}
 use Rattle.desk_tables.proofs.Inserts.{concluded, no_works}
 use Rattle.desk_tables.proofs.Removal.{keys, removes}
-use Rattle.desk_schema.proofs.Making.{same_value, went}
+use Rattle.desk_schema.proofs.Making.{went}
 
 delete_is : command_of (understood desk_schema delete_nonce) ≡ Delete 1 (record { lets = []; body = by_key 1 0 keys })
 unfolding understood everything

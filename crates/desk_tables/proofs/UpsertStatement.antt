@@ -26,7 +26,7 @@ use Rattle.desk_tables.specs.Layouts.{Layout}
 use Rattle.desk_tables.proofs.Inserts.{concluded, no_works}
 use Rattle.desk_tables.proofs.Keyed.{put_ascends, three}
 use Rattle.desk_tables.proofs.Upsert.{clause, puts_row}
-use Rattle.desk_schema.proofs.Making.{same_value, went}
+use Rattle.desk_schema.proofs.Making.{went}
 
 -- the text puts a row of the layout, whose parameters are these
 pub record IsUpsert {X : Type 0} (L : Layout X) (params : X → Row) (text : List ℕ) : Type 0 where

@@ -2,4 +2,4 @@ use Rattle.std.proofs.Common.{◌≡◌, map, take}
 use Rattle.desk_reading.proofs.columns.read_all.Given as goal
 
 abbrev pub invariant-loop-row : goal.invariant-loop-row
-invariant-loop-row g l = l.all.items ≡ map g.C.Columns.spelled (take l.row-index l.rows)
+invariant-loop-row g l = l.all.items ≡ map g.C.Selected.spelled (take l.row-index l.rows)
