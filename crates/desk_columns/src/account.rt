@@ -25,10 +25,7 @@ struct AccountHead {
 }
 
 // The account with these columns, or `None` where none in its limits has them.
-fn read_account(
-    alloc: Global,
-    columns: AccountColumns,
-) -> Result<Option<AccountRow>, AllocError>
+fn read_account(alloc: Global, columns: AccountColumns) -> Result<Option<AccountRow>, AllocError>
     ensures { IfOk result (λ row. IsRead account_columns IsStoredAccount columns row) }
 {
     match read_contacts(alloc, columns.contacts.as_str())? {

@@ -5,91 +5,144 @@ use desk_model::{Sequence, Text};
 /// The format of the tables.
 pub const FORMAT: i64 = 1;
 
-/// A row of the table `meta`.
+/// A row of the table `meta`, of which there is one. Counters are the last numbers given.
 #[derive(Drop)]
 pub struct MetaColumns {
+    /// 1.
     pub id: i64,
+    /// The format of the tables, `FORMAT`.
     pub format: i64,
+    /// What each URL begins with.
     pub base: Text,
+    /// How long a nonce is open, in seconds.
     pub nonce_life: i64,
+    /// How long an order lives, in seconds.
     pub order_life: i64,
+    /// How long an authorization lives, in seconds.
     pub authz_life: i64,
+    /// The latest recorded moment, in seconds since 1970.
     pub clock: i64,
+    /// The counter of nonces.
     pub nonces: i64,
+    /// The counter of accounts.
     pub accounts: i64,
+    /// The counter of orders.
     pub orders: i64,
+    /// The counter of authorizations.
     pub authzs: i64,
+    /// The counter of challenges.
     pub challs: i64,
 }
 
 /// A row of the table `nonce`.
 #[derive(Drop)]
 pub struct NonceColumns {
+    /// The key.
     pub serial: i64,
+    /// 16 bytes.
     pub random: Sequence<u8>,
+    /// When it was issued, in seconds since 1970.
     pub issued: i64,
 }
 
 /// A row of the table `account`.
 #[derive(Drop)]
 pub struct AccountColumns {
+    /// The key.
     pub num: i64,
+    /// The canonical text of its key (RFC 7638, 3).
     pub jwk: Text,
+    /// Its contacts, as a compact JSON list.
     pub contacts: Text,
+    /// When it was opened, in seconds since 1970.
     pub opened: i64,
+    /// When it ended, in seconds since 1970.
     pub ended: Option<i64>,
+    /// How it ended.
     pub end_kind: Option<Text>,
+    /// Its status (RFC 8555, 7.1.6).
     pub status: Text,
 }
 
 /// A row of the table `ord`.
 #[derive(Drop)]
 pub struct OrderColumns {
+    /// The key.
     pub num: i64,
+    /// The number of its account.
     pub account: i64,
+    /// When it was made, in seconds since 1970.
     pub made: i64,
+    /// The last moment of its life, in seconds since 1970.
     pub expires: i64,
+    /// When it was finalized, in seconds since 1970.
     pub finalized: Option<i64>,
+    /// The CSR, in DER.
     pub csr: Option<Sequence<u8>>,
+    /// When its certificate was handed in, in seconds since 1970.
     pub certified: Option<i64>,
+    /// The certificate, as it was handed in.
     pub cert: Option<Sequence<u8>>,
+    /// When it failed, in seconds since 1970.
     pub failed: Option<i64>,
+    /// Why it failed, as a compact JSON object of `detail` and `type`.
     pub problem: Option<Text>,
+    /// Its status (RFC 8555, 7.1.6).
     pub status: Text,
 }
 
 /// A row of the table `authz`.
 #[derive(Drop)]
 pub struct AuthzColumns {
+    /// The key.
     pub num: i64,
+    /// The number of its account.
     pub account: i64,
+    /// The name without a wildcard.
     pub name: Text,
+    /// 1 for a wildcard, else 0.
     pub wildcard: i64,
+    /// When it was made, in seconds since 1970.
     pub made: i64,
+    /// The last moment of its life, in seconds since 1970.
     pub expires: i64,
+    /// When it ended, in seconds since 1970.
     pub ended: Option<i64>,
+    /// How it ended.
     pub end_kind: Option<Text>,
+    /// Its status (RFC 8555, 7.1.6).
     pub status: Text,
 }
 
-/// A row of the table `ord_authz`.
+/// A row of the table `ord_authz`, whose key is the first two columns.
 #[derive(Clone, Copy)]
 pub struct OrderAuthzColumns {
+    /// The number of the order.
     pub ord: i64,
+    /// From 1, in the order of its names.
     pub place: i64,
+    /// The number of the authorization.
     pub authz: i64,
 }
 
 /// A row of the table `chall`.
 #[derive(Drop)]
 pub struct ChallColumns {
+    /// The key.
     pub num: i64,
+    /// The number of its authorization.
     pub authz: i64,
+    /// Its type (RFC 8555, 8.3 and 8.4).
     pub kind: Text,
+    /// 16 bytes.
     pub token: Sequence<u8>,
+    /// When the client answered it, in seconds since 1970.
     pub answered: Option<i64>,
+    /// When the validator reported on it, in seconds since 1970.
     pub reported: Option<i64>,
+    /// What the report was.
     pub outcome: Option<Text>,
+    /// Its status (RFC 8555, 7.1.6).
     pub status: Text,
 }
 
