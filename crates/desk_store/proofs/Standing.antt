@@ -1,11 +1,13 @@
 -- What a connection still holds after calls that change nothing.
 use Rattle.std.proofs.Common.{◌≡◌, Result, Ok, Err, inl, inr, sym, subst, ◌∙◌, arith}
-use Rattle.std.specs.Prelude.{IsTrue, false}
+use Rattle.std.specs.Prelude.{IfOk, IsTrue, false}
 use Rattle.sqlite.specs.Held.{Held, state}
 use Rattle.sqlite.specs.State.{State, HasCleanDisk, IsUnchanged, Survives}
 use Rattle.sqlite.specs.Store.{Ghosts}
 use Rattle.sqlite.specs.Tree.{Trees}
 use Rattle.desk_model.specs.Tables.{Tables}
+use Rattle.desk_reading.specs.Held.{ForHeld}
+use Rattle.desk_reading.specs.StoredBook.{IsStoredBook}
 use Rattle.desk_saving.specs.Committing.{GoesBack}
 use Rattle.desk_schema.specs.Stays.{Asks}
 use Rattle.desk_storage.specs.Sight.{Reads, Stands}
@@ -13,6 +15,7 @@ use Rattle.desk_storage.specs.declared.fault.StorageFault.{StorageFault}
 use Rattle.desk_storage.specs.declared.fault.StorageFault.TheVariants as fault
 use Rattle.desk_schema.proofs.StaysLemmas.{asks_then}
 use Rattle.desk_store.specs.Desks.{HasDesk, IsDesk, sight_by}
+use Rattle.desk_store.proofs.Books.{stored_book}
 
 -- ---- states
 
@@ -93,3 +96,11 @@ module _ {S X : Type 0} (g : Ghosts S) (conn : X → Held S) where
         tables = tt;
         without_memory = λ memory clean T has. desk_stays (state g (conn old)) (state g (conn new)) T (same clean memory).0.is_open asks clean has;
       }
+
+-- what a reading found is found by what hands it on
+pub hands_on : {R E : Type 0} (P : Tables → R → Type 0) (old mid new : State) (read : Result R E) (result : Result R StorageFault)
+    → ForHeld old mid (λ T. IsStoredBook T → IfOk read (P T)) → IfOk result (λ found. read ≡ Ok found) → (HasCleanDisk new → HasCleanDisk mid)
+    → HasCleanDisk new → (T : Tables) → HasDesk old T → IfOk result (P T)
+hands_on P old mid new read (Ok found) of same honest clean T has =
+    subst (λ r. IfOk r (P T)) same (of (honest clean) T has.desk.holds (stored_book _ T has.desk))
+hands_on P old mid new read (Err why) of same honest clean T has = tt

@@ -1,5 +1,4 @@
 //! The store as a source of rows: one statement a look-up, and one more for the children of each row.
-use crate::faults::reading_fault;
 use crate::store::Store;
 use desk_loading::LookUps;
 use desk_model::{
@@ -19,52 +18,38 @@ impl<S: Alter> LookUps for Store<S> {
     ghost sight = { store_sight S.Store };
 
     fn meta_row(&mut self, alloc: Global) -> Result<Meta, StorageFault> {
-        match rows::meta_row(alloc, &mut self.conn) {
-            Ok(found) => Ok(found),
-            Err(fault) => Err(reading_fault(&mut self.conn, fault)),
-        }
+        let read = rows::meta_row(alloc, &mut self.conn);
+        self.told(read)
     }
 
     fn all_nonces(&mut self, alloc: Global) -> Result<Vec<Nonce>, StorageFault> {
-        match rows::all_nonces(alloc, &mut self.conn) {
-            Ok(found) => Ok(found),
-            Err(fault) => Err(reading_fault(&mut self.conn, fault)),
-        }
+        let read = rows::all_nonces(alloc, &mut self.conn);
+        self.told(read)
     }
 
     fn all_accounts(&mut self, alloc: Global) -> Result<Vec<AccountRow>, StorageFault> {
-        match rows::all_accounts(alloc, &mut self.conn) {
-            Ok(found) => Ok(found),
-            Err(fault) => Err(reading_fault(&mut self.conn, fault)),
-        }
+        let read = rows::all_accounts(alloc, &mut self.conn);
+        self.told(read)
     }
 
     fn all_orders(&mut self, alloc: Global) -> Result<Vec<OrderRow>, StorageFault> {
-        match rows::all_orders(alloc, &mut self.conn) {
-            Ok(found) => Ok(found),
-            Err(fault) => Err(reading_fault(&mut self.conn, fault)),
-        }
+        let read = rows::all_orders(alloc, &mut self.conn);
+        self.told(read)
     }
 
     fn all_authorizations(&mut self, alloc: Global) -> Result<Vec<AuthorizationRow>, StorageFault> {
-        match rows::all_authorizations(alloc, &mut self.conn) {
-            Ok(found) => Ok(found),
-            Err(fault) => Err(reading_fault(&mut self.conn, fault)),
-        }
+        let read = rows::all_authorizations(alloc, &mut self.conn);
+        self.told(read)
     }
 
     fn nonces_numbered(&mut self, alloc: Global, serial: u64) -> Result<Vec<Nonce>, StorageFault> {
-        match rows::nonces_numbered(alloc, &mut self.conn, serial) {
-            Ok(found) => Ok(found),
-            Err(fault) => Err(reading_fault(&mut self.conn, fault)),
-        }
+        let read = rows::nonces_numbered(alloc, &mut self.conn, serial);
+        self.told(read)
     }
 
     fn nonces_before(&mut self, alloc: Global, moment: u64) -> Result<Vec<Nonce>, StorageFault> {
-        match rows::nonces_before(alloc, &mut self.conn, moment) {
-            Ok(found) => Ok(found),
-            Err(fault) => Err(reading_fault(&mut self.conn, fault)),
-        }
+        let read = rows::nonces_before(alloc, &mut self.conn, moment);
+        self.told(read)
     }
 
     fn accounts_numbered(
@@ -72,10 +57,8 @@ impl<S: Alter> LookUps for Store<S> {
         alloc: Global,
         number: u64,
     ) -> Result<Vec<AccountRow>, StorageFault> {
-        match rows::accounts_numbered(alloc, &mut self.conn, number) {
-            Ok(found) => Ok(found),
-            Err(fault) => Err(reading_fault(&mut self.conn, fault)),
-        }
+        let read = rows::accounts_numbered(alloc, &mut self.conn, number);
+        self.told(read)
     }
 
     fn accounts_with_key(
@@ -83,10 +66,8 @@ impl<S: Alter> LookUps for Store<S> {
         alloc: Global,
         key: &Jwk,
     ) -> Result<Vec<AccountRow>, StorageFault> {
-        match rows::accounts_with_key(alloc, &mut self.conn, key) {
-            Ok(found) => Ok(found),
-            Err(fault) => Err(reading_fault(&mut self.conn, fault)),
-        }
+        let read = rows::accounts_with_key(alloc, &mut self.conn, key);
+        self.told(read)
     }
 
     fn orders_numbered(
@@ -94,17 +75,13 @@ impl<S: Alter> LookUps for Store<S> {
         alloc: Global,
         number: u64,
     ) -> Result<Vec<OrderRow>, StorageFault> {
-        match rows::orders_numbered(alloc, &mut self.conn, number) {
-            Ok(found) => Ok(found),
-            Err(fault) => Err(reading_fault(&mut self.conn, fault)),
-        }
+        let read = rows::orders_numbered(alloc, &mut self.conn, number);
+        self.told(read)
     }
 
     fn orders_of(&mut self, alloc: Global, account: u64) -> Result<Vec<OrderRow>, StorageFault> {
-        match rows::orders_of(alloc, &mut self.conn, account) {
-            Ok(found) => Ok(found),
-            Err(fault) => Err(reading_fault(&mut self.conn, fault)),
-        }
+        let read = rows::orders_of(alloc, &mut self.conn, account);
+        self.told(read)
     }
 
     fn orders_past(
@@ -113,10 +90,8 @@ impl<S: Alter> LookUps for Store<S> {
         status: OrderStatus,
         moment: u64,
     ) -> Result<Vec<OrderRow>, StorageFault> {
-        match rows::orders_past(alloc, &mut self.conn, status, moment) {
-            Ok(found) => Ok(found),
-            Err(fault) => Err(reading_fault(&mut self.conn, fault)),
-        }
+        let read = rows::orders_past(alloc, &mut self.conn, status, moment);
+        self.told(read)
     }
 
     fn authorizations_numbered(
@@ -124,10 +99,8 @@ impl<S: Alter> LookUps for Store<S> {
         alloc: Global,
         number: u64,
     ) -> Result<Vec<AuthorizationRow>, StorageFault> {
-        match rows::authorizations_numbered(alloc, &mut self.conn, number) {
-            Ok(found) => Ok(found),
-            Err(fault) => Err(reading_fault(&mut self.conn, fault)),
-        }
+        let read = rows::authorizations_numbered(alloc, &mut self.conn, number);
+        self.told(read)
     }
 
     fn authorizations_of(
@@ -135,10 +108,8 @@ impl<S: Alter> LookUps for Store<S> {
         alloc: Global,
         account: u64,
     ) -> Result<Vec<AuthorizationRow>, StorageFault> {
-        match rows::authorizations_of(alloc, &mut self.conn, account) {
-            Ok(found) => Ok(found),
-            Err(fault) => Err(reading_fault(&mut self.conn, fault)),
-        }
+        let read = rows::authorizations_of(alloc, &mut self.conn, account);
+        self.told(read)
     }
 
     fn authorizations_past(
@@ -147,10 +118,8 @@ impl<S: Alter> LookUps for Store<S> {
         status: AuthzStatus,
         moment: u64,
     ) -> Result<Vec<AuthorizationRow>, StorageFault> {
-        match rows::authorizations_past(alloc, &mut self.conn, status, moment) {
-            Ok(found) => Ok(found),
-            Err(fault) => Err(reading_fault(&mut self.conn, fault)),
-        }
+        let read = rows::authorizations_past(alloc, &mut self.conn, status, moment);
+        self.told(read)
     }
 
     fn orders_listing(
@@ -158,23 +127,17 @@ impl<S: Alter> LookUps for Store<S> {
         alloc: Global,
         authorization: u64,
     ) -> Result<Vec<u64>, StorageFault> {
-        match rows::orders_listing(alloc, &mut self.conn, authorization) {
-            Ok(found) => Ok(found),
-            Err(fault) => Err(reading_fault(&mut self.conn, fault)),
-        }
+        let read = rows::orders_listing(alloc, &mut self.conn, authorization);
+        self.told(read)
     }
 
     fn listed_by(&mut self, alloc: Global, order: u64) -> Result<Vec<u64>, StorageFault> {
-        match rows::listed_by(alloc, &mut self.conn, order) {
-            Ok(found) => Ok(found),
-            Err(fault) => Err(reading_fault(&mut self.conn, fault)),
-        }
+        let read = rows::listed_by(alloc, &mut self.conn, order);
+        self.told(read)
     }
 
     fn owners_of(&mut self, alloc: Global, challenge: u64) -> Result<Vec<u64>, StorageFault> {
-        match rows::owners_of(alloc, &mut self.conn, challenge) {
-            Ok(found) => Ok(found),
-            Err(fault) => Err(reading_fault(&mut self.conn, fault)),
-        }
+        let read = rows::owners_of(alloc, &mut self.conn, challenge);
+        self.told(read)
     }
 }

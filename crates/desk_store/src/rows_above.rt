@@ -1,5 +1,4 @@
 //! The store as a source of rows one by one: one statement a row, and one more for its children.
-use crate::faults::reading_fault;
 use crate::store::Store;
 use desk_loading::RowsAbove;
 use desk_model::{AccountRow, AuthorizationRow, ChallengeRow, OrderRow};
@@ -14,17 +13,13 @@ impl<S: Alter> RowsAbove for Store<S> {
         alloc: Global,
         number: u64,
     ) -> Result<Vec<AccountRow>, StorageFault> {
-        match rows::account_above(alloc, &mut self.conn, number) {
-            Ok(found) => Ok(found),
-            Err(fault) => Err(reading_fault(&mut self.conn, fault)),
-        }
+        let read = rows::account_above(alloc, &mut self.conn, number);
+        self.told(read)
     }
 
     fn order_above(&mut self, alloc: Global, number: u64) -> Result<Vec<OrderRow>, StorageFault> {
-        match rows::order_above(alloc, &mut self.conn, number) {
-            Ok(found) => Ok(found),
-            Err(fault) => Err(reading_fault(&mut self.conn, fault)),
-        }
+        let read = rows::order_above(alloc, &mut self.conn, number);
+        self.told(read)
     }
 
     fn authorization_above(
@@ -32,10 +27,8 @@ impl<S: Alter> RowsAbove for Store<S> {
         alloc: Global,
         number: u64,
     ) -> Result<Vec<AuthorizationRow>, StorageFault> {
-        match rows::authorization_above(alloc, &mut self.conn, number) {
-            Ok(found) => Ok(found),
-            Err(fault) => Err(reading_fault(&mut self.conn, fault)),
-        }
+        let read = rows::authorization_above(alloc, &mut self.conn, number);
+        self.told(read)
     }
 
     fn challenge_above(
@@ -43,9 +36,7 @@ impl<S: Alter> RowsAbove for Store<S> {
         alloc: Global,
         number: u64,
     ) -> Result<Vec<ChallengeRow>, StorageFault> {
-        match rows::challenge_above(alloc, &mut self.conn, number) {
-            Ok(found) => Ok(found),
-            Err(fault) => Err(reading_fault(&mut self.conn, fault)),
-        }
+        let read = rows::challenge_above(alloc, &mut self.conn, number);
+        self.told(read)
     }
 }

@@ -1,5 +1,5 @@
 //! The store of a desk.
-ghost use Rattle.std.specs.Prelude.{◌≡◌, false, Err, IfErr, IfOk, IsTrue, MatchResult};
+ghost use Rattle.std.specs.Prelude.{◌≡◌, false, Err, IfErr, IfOk, IsTrue, MatchResult, Ok, OnOk};
 ghost use Rattle.sqlite.specs.State.{HasCleanDisk, IsUnchanged, Survives};
 ghost use Rattle.sqlite.specs.Held.{state};
 ghost use Rattle.desk_model.specs.Tables.{Tables};
@@ -15,12 +15,14 @@ ghost use Rattle.desk_store.specs.Making.{IsNewDesk, IsOfStorage, Makes};
 ghost use Rattle.desk_store.specs.Opening.{IsWhole, ShowsKnownFormat, ShowsNewerFormat};
 ghost use Rattle.desk_store.specs.declared.open_fault.OpenFault.TheVariants.{NewerFormat as newer_format, NotADesk as not_a_desk, Storage as of_storage};
 
+use crate::faults::reading_fault;
 use crate::making::make_desk;
 use crate::open_fault::OpenFault;
 use crate::opening::{check_desk, read_book};
 use desk_book::Book;
 use desk_loading::load_part;
 use desk_model::{Call, Clock, Policy};
+use desk_reading::ReadFault;
 use desk_schema::uses_names;
 use desk_storage::StorageFault;
 use sqlite::{Alter, Connection};
@@ -133,6 +135,20 @@ impl<S: Alter> Store<S> {
         ensures touched { ForTables (store_sight S.Store) self.old self.new (λ T. IfOk result (λ book. book ≡ touched T call.now)) }
     {
         load_part(alloc, self, call)
+    }
+
+    // What a reading found, or the fault of the store where it failed.
+    pub(crate) fn told<R>(&mut self, read: Result<R, ReadFault>) -> Result<R, StorageFault>
+        ensures reads { (was : Store S) → Asks (state S.Store was.conn) (state S.Store self.old.conn)
+            → (HasCleanDisk (state S.Store self.old.conn) → OnOk read (IsUnchanged (state S.Store was.conn) (state S.Store self.old.conn)))
+            → Reads (store_sight S.Store) was self.new result }
+        ensures found { IfOk result (λ found. read ≡ Ok found) }
+        ensures honest { HasCleanDisk (state S.Store self.new.conn) → HasCleanDisk (state S.Store self.old.conn) }
+    {
+        match read {
+            Ok(found) => Ok(found),
+            Err(fault) => Err(reading_fault(&mut self.conn, fault)),
+        }
     }
 
     /// The connection, as it is.

@@ -1,18 +1,11 @@
 use Rattle.sqlite.specs.Held.{state}
-use Rattle.desk_store.proofs.Books.{stored_book}
-use Rattle.desk_store.proofs.Standing.{reads_err, reads_ok}
+use Rattle.desk_store.proofs.Standing.{hands_on}
 use Rattle.desk_store.proofs.look_ups.StoreLookUps.authorizations_of.Goals as goal
 
-pub returns-in-Ok-clause-reads : goal.returns-in-Ok-clause-reads
-returns-in-Ok-clause-reads g c =
-    reads_ok g.S.Store (λ store. store.conn) c.args.self.now (record { conn = c.authorizations_of.new.conn }) c.in-Ok.found
-    c.authorizations_of.ensures.asks c.in-Ok.ensures.unchanged
+pub returns-clause-reads : goal.returns-clause-reads
+returns-clause-reads g c = c.told.ensures.reads c.args.self.now c.authorizations_of-read.ensures.asks c.authorizations_of-read.ensures.unchanged
 
-pub returns-in-Ok-clause-found : goal.returns-in-Ok-clause-found
-returns-in-Ok-clause-found g c clean T has = c.in-Ok.ensures.found clean T has.desk.holds (stored_book _ T has.desk)
-
-pub returns-in-Err-clause-reads : goal.returns-in-Err-clause-reads
-returns-in-Err-clause-reads g c =
-    reads_err g.S.Store (λ store. store.conn) c.args.self.now (record { conn = c.reading_fault.new.conn })
-    (state g.S.Store c.authorizations_of.new.conn) c.reading_fault.result c.authorizations_of.ensures.asks c.reading_fault.ensures.asks
-    c.reading_fault.ensures.unchanged
+pub returns-clause-found : goal.returns-clause-found
+returns-clause-found g c =
+    hands_on _ (state g.S.Store c.args.self.now.conn) (state g.S.Store c.authorizations_of-read.new.conn) (state g.S.Store c.told.new.self.conn) _ c.told.result
+    c.authorizations_of-read.ensures.found c.told.ensures.found c.told.ensures.honest
