@@ -1,6 +1,6 @@
 -- The rules on requests: which are refused, and what the others record and show, by the tables at their moment.
 use Rattle.std.specs.Prelude.{ℕ, suc, zero, ◌*◌, List, [], ◌∷◌, length, take, drop, filter, Bool, false, true, not, ◌&&◌, ◌==◌}
-use Rattle.std.specs.Prelude.{nat_le, Option, Some, None, Ok, Err, is_none, if◌then◌else◌, bytes_eq, codes, option_and_then}
+use Rattle.std.specs.Prelude.{nat_le, Option, Some, None, Ok, Err, is_none, if◌then◌else◌, bytes_eq, option_and_then}
 use Rattle.desk_model.specs.Lookup.{holds}
 use Rattle.desk_model.specs.Name.{Name, same_name}
 use Rattle.desk_model.specs.Names.{dns_type, name_of}
