@@ -65,7 +65,7 @@ pub(crate) fn noted_account(
 fn answered_challenge(moment: u64, row: &ChallengeRow) -> ChallengeRow
     ensures { result ≡ answered_challenge moment row.now }
 {
-    let mut answered = copied_challenge(row);
+    let mut answered = *row;
     answered.answered = row.answered.or(Some(moment));
     answered.status = derived_challenge(&answered);
     answered
@@ -74,26 +74,13 @@ fn answered_challenge(moment: u64, row: &ChallengeRow) -> ChallengeRow
 fn reported_challenge(outcome: Outcome, moment: u64, row: &ChallengeRow) -> ChallengeRow
     ensures { result ≡ reported_challenge outcome moment row.now }
 {
-    let mut reported = copied_challenge(row);
+    let mut reported = *row;
     reported.reported = row.reported.or(Some(Report {
         date: moment,
         outcome,
     }));
     reported.status = derived_challenge(&reported);
     reported
-}
-
-fn copied_challenge(row: &ChallengeRow) -> ChallengeRow
-    ensures { result ≡ row.now }
-{
-    ChallengeRow {
-        number: row.number,
-        kind: row.kind,
-        token: row.token,
-        answered: row.answered,
-        reported: row.reported,
-        status: row.status,
-    }
 }
 
 /// The row of a challenge after a move.
@@ -105,15 +92,15 @@ pub(crate) fn noted_challenge(moved: &Move, moment: u64, row: &ChallengeRow) -> 
             if *number == row.number {
                 return answered_challenge(moment, row);
             }
-            copied_challenge(row)
+            *row
         }
         Move::Reported(number, outcome) => {
             if *number == row.number {
                 return reported_challenge(*outcome, moment, row);
             }
-            copied_challenge(row)
+            *row
         }
-        _ => copied_challenge(row),
+        _ => *row,
     }
 }
 

@@ -82,7 +82,7 @@ impl Clone for AccountRow {
 }
 
 /// A challenge as it stands, within its authorization (RFC 8555, 7.1.5, 8).
-#[derive(Drop)]
+#[derive(Clone, Copy)]
 pub struct ChallengeRow {
     /// The key of the table, from 1, over all authorizations.
     pub number: u64,
@@ -96,21 +96,6 @@ pub struct ChallengeRow {
     pub reported: Option<Report>,
     /// The stored status, which no passing of time moves.
     pub status: ChallengeStatus,
-}
-
-impl Clone for ChallengeRow {
-    ghost is_clone = { λ row copy. copy ≡ row };
-
-    fn clone(&self) -> Result<ChallengeRow, AllocError> {
-        Ok(ChallengeRow {
-            number: self.number,
-            kind: self.kind,
-            token: self.token,
-            answered: self.answered,
-            reported: self.reported,
-            status: self.status,
-        })
-    }
 }
 
 /// An authorization with its challenges.
