@@ -1,5 +1,5 @@
 -- The JSON documents of replies (RFC 8555, 7.1), by the rows that they show.
-use Rattle.std.specs.Prelude.{ℕ, List, [], ◌∷◌, ◌++◌, map, Bool, false, true, ◌&&◌, ◌==◌, Option, Some, None, is_some, if◌then◌else◌, bytes_eq, codes, decimal}
+use Rattle.std.specs.Prelude.{ℕ, List, [], ◌∷◌, ◌++◌, map, Bool, false, true, not, ◌&&◌, ◌==◌, Option, Some, None, is_some, if◌then◌else◌, bytes_eq, codes, decimal}
 use Rattle.std.specs.List.{filter, flat_map, slice_split}
 use Rattle.serde_json.specs.Data.{unsigned, Data, boolean, number, string}
 use Rattle.desk_model.specs.Json.{document, list, when}
@@ -9,9 +9,11 @@ use Rattle.desk_model.specs.Names.{dns_type, shown_name}
 use Rattle.desk_model.specs.Moment.{moment_text}
 use Rattle.desk_model.specs.Tokens.{base64url, token_text, authorization_of, dns_value_of}
 use Rattle.sha2.specs.Sha256.{sha256}
-use Rattle.desk_model.specs.Refusals.{error_type}
+use Rattle.desk_model.specs.Refusals.{error_type, refusal_of}
+use Rattle.desk_model.specs.declared.refusal.Refusal.TheVariants as refusal
+use Rattle.desk_model.specs.Facts.{outcome_text}
 use Rattle.desk_model.specs.Entry.{Outcome, good, incorrect_response, connection, dns}
-use Rattle.desk_model.specs.Authorization.{Kind, http_01, dns_01, Report, is_pending}
+use Rattle.desk_model.specs.Authorization.{Kind, http_01, dns_01, Report, is_good, is_pending}
 use Rattle.desk_model.specs.Order.{DatedBytes, DatedProblem, is_processing}
 use Rattle.desk_model.specs.Legal.{is_processing_challenge}
 use Rattle.desk_model.specs.Tables.{Tables, AccountRow, ChallengeRow, AuthorizationRow, OrderRow}
@@ -120,9 +122,11 @@ error kind detail status =
     ∷ []
     )
 
--- serverInternal is 500, badCSR 400
+-- the status of serverInternal, else that of badCSR
 abbrev pub problem_status : List ℕ → ℕ
-problem_status kind = if bytes_eq kind (codes "serverInternal") then 500 else 400
+problem_status kind =
+    if bytes_eq kind (refusal_of refusal.ServerInternal).error_type then (refusal_of refusal.ServerInternal).status
+    else (refusal_of refusal.BadCsr).status
 
 abbrev pub order_error : Option DatedProblem → List (List ℕ × Data)
 order_error None = []
@@ -167,11 +171,24 @@ abbrev pub orders_document : Tables → ℕ → Data
 orders_document T account =
     document ((codes "orders", list (map (λ o. string (order_url T.meta.policy o.number)) (filter (is_listed account) T.orders))) ∷ [])
 
+-- the text for people of the error that a report shows
+abbrev pub outcome_detail : Outcome → List ℕ
+outcome_detail good = []
+outcome_detail incorrect_response = codes "the response did not match"
+outcome_detail connection = codes "the validator could not connect"
+outcome_detail dns = codes "the validator found no records"
+
+-- the HTTP status of that error
+abbrev pub outcome_status : Outcome → ℕ
+outcome_status good = 200
+outcome_status incorrect_response = 403
+outcome_status connection = 400
+outcome_status dns = 400
+
+-- a good report shows no error
 abbrev pub report_error : Outcome → List (List ℕ × Data)
-report_error good = []
-report_error incorrect_response = (codes "error", error (codes "incorrectResponse") (codes "the response did not match") 403) ∷ []
-report_error connection = (codes "error", error (codes "connection") (codes "the validator could not connect") 400) ∷ []
-report_error dns = (codes "error", error (codes "dns") (codes "the validator found no records") 400) ∷ []
+report_error outcome =
+    when (not (is_good outcome)) (codes "error", error (outcome_text outcome) (outcome_detail outcome) (outcome_status outcome))
 
 abbrev pub error_of : Option Report → List (List ℕ × Data)
 error_of None = []

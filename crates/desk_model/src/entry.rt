@@ -1,6 +1,7 @@
 //! The dated facts of a desk.
 ghost use Rattle.std.specs.Prelude.{◌≡◌};
 ghost use Rattle.desk_model.specs.Authorization.{is_good, kind_of};
+ghost use Rattle.desk_model.specs.Document.{outcome_detail, outcome_status};
 ghost use Rattle.desk_model.specs.Facts.{ending_text, outcome_text};
 
 use crate::call::OrderProblem;
@@ -65,6 +66,30 @@ impl Outcome {
             Outcome::IncorrectResponse => "incorrectResponse",
             Outcome::Connection => "connection",
             Outcome::Dns => "dns",
+        }
+    }
+
+    /// The text for people of the error that its challenge shows; empty for a good one, which shows none.
+    pub fn detail(self) -> &'static str
+        ensures { result.now ≡ outcome_detail self }
+    {
+        match self {
+            Outcome::Good => "",
+            Outcome::IncorrectResponse => "the response did not match",
+            Outcome::Connection => "the validator could not connect",
+            Outcome::Dns => "the validator found no records",
+        }
+    }
+
+    /// The HTTP status of that error (RFC 8555, 6.7, 8).
+    pub fn status(self) -> u16
+        ensures { result ≡ outcome_status self }
+    {
+        match self {
+            Outcome::Good => 200,
+            Outcome::IncorrectResponse => 403,
+            Outcome::Connection => 400,
+            Outcome::Dns => 400,
         }
     }
 

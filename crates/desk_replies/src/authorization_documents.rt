@@ -28,13 +28,10 @@ fn put_error(
 ) -> Result<(), AllocError>
     ensures { OnOk result (members_view members.new.entries ≡ with_members (report_error outcome) (members_view members.old.entries)) }
 {
-    let (detail, status) = match outcome {
-        Outcome::Good => return Ok(()),
-        Outcome::IncorrectResponse => ("the response did not match", 403),
-        Outcome::Connection => ("the validator could not connect", 400),
-        Outcome::Dns => ("the validator found no records", 400),
-    };
-    let error = error_value(alloc, outcome.as_str(), detail, status)?;
+    if outcome.is_good() {
+        return Ok(());
+    }
+    let error = error_value(alloc, outcome.as_str(), outcome.detail(), outcome.status())?;
     put(members, alloc, "error", error)
 }
 
