@@ -1,5 +1,5 @@
 -- What an insertion into the router leaves.
-use Rattle.std.proofs.Common.{◌≡◌, inl, inr, List, ℕ}
+use Rattle.std.proofs.Common.{◌≡◌, inl, inr, List, ℕ, subst}
 use Rattle.std.specs.Prelude.{Result, Ok, Err}
 use Rattle.matchit.specs.Rows.{RowsOf}
 use Rattle.matchit.specs.Router.{RouteOf, InsertsRead}
@@ -7,6 +7,7 @@ use Rattle.matchit.specs.Route.{Scan, parse_route}
 use Rattle.matchit.specs.declared.error.InsertError.{InsertError}
 use Rattle.requests.specs.declared.routes.Route.{Route}
 use Rattle.requests.specs.Router.{on_scan, add_route}
+use Rattle.requests.specs.Routes.{text_of}
 
 -- what an insertion leaves of a route's text that was read
 on_scan_inserted : (scan : Result Scan InsertError) (v : Route) (old new : RowsOf (RouteOf Route)) (u : Unit {0})
@@ -14,8 +15,9 @@ on_scan_inserted : (scan : Result Scan InsertError) (v : Route) (old new : RowsO
 on_scan_inserted (Ok s) v old new u h = h.1
 on_scan_inserted (Err e) v old new u h = elim h.1 [ inl q ↦ cc | inr q ↦ cc ]
 
--- a route that was inserted is in its place
-pub inserted : (text : List ℕ) (v : Route) (old new : RowsOf (RouteOf Route)) (u : Unit {0})
-    → InsertsRead (parse_route text) v old new (Ok u) → new ≡ add_route old text v
+-- a route that was inserted by its text is in its place
+pub inserted : (text : List ℕ) (v : Route) (old new : RowsOf (RouteOf Route)) (u : Unit {0}) → text ≡ text_of v
+    → InsertsRead (parse_route text) v old new (Ok u) → new ≡ add_route old v
 unfolding add_route
-inserted text v old new u h = on_scan_inserted (parse_route text) v old new u h
+inserted text v old new u is h =
+    on_scan_inserted (parse_route (text_of v)) v old new u (subst (λ (t : List ℕ). InsertsRead (parse_route t) v old new (Ok u)) is h)

@@ -1,5 +1,5 @@
 -- The path that leads to each resource of clients.
-use Rattle.std.proofs.Common.{ℕ, ◌≤◌, ◌^◌, List, [], ◌++◌, codes, decimal, refl, sym, ap, append-nil}
+use Rattle.std.proofs.Common.{ℕ, ◌≤◌, List, [], ◌++◌, codes, decimal, refl, sym, ap, append-nil}
 use Rattle.desk_model.specs.declared.call.Target.TheVariants as target
 use Rattle.requests.specs.Routes.{HasNumber, IsResourceAt}
 use Rattle.requests.specs.declared.routes.Resource.TheVariants as resource

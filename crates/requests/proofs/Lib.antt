@@ -1,4 +1,5 @@
 pub mod Numbers
+pub mod Parts
 pub mod Finding
 pub mod Resources
 pub mod Inserted

@@ -1,5 +1,5 @@
 -- The resources of the desk: their paths, and the methods that they serve.
-use Rattle.std.specs.Prelude.{◌≡◌, ℕ, ◌≤◌, ◌^◌, ◌++◌, Bool, true, false, not, ◌&&◌, ◌||◌, nat_eq, nat_le, List, [], codes, bytes_eq, decimal}
+use Rattle.std.specs.Prelude.{◌≡◌, ℕ, ◌≤◌, ◌++◌, Bool, true, false, not, ◌&&◌, ◌||◌, nat_eq, nat_le, List, [], codes, bytes_eq, decimal}
 use Rattle.std.specs.List.{list_all, starts_with}
 use Rattle.desk_model.specs.declared.call.Target.TheVariants as target
 use Rattle.desk_model.specs.declared.reply.Allow.{Allow}
@@ -63,6 +63,14 @@ is_numbered route.NewOrder = false
 is_numbered route.ChallengeWork = false
 is_numbered route.OrderWork = false
 is_numbered _ = true
+
+-- the text of a route: that of its paths, with `{n}` in the place of their number
+abbrev pub text_by : Bool → Route → List ℕ
+text_by false r = prefix r
+text_by true r = prefix r ++ (codes "{n}" ++ suffix r)
+
+abbrev pub text_of : Route → List ℕ
+text_of r = text_by (is_numbered r) r
 
 -- the path is of this route: its text, with a number in decimal where it has one (0 stands for none)
 abbrev pub IsPathText : Bool → List ℕ → Route → ℕ → Type 0

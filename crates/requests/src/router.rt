@@ -1,9 +1,9 @@
 //! The routes of the desk in a router.
 ghost use Rattle.std.specs.Prelude.{◌≡◌, IfOk, OnOk, option_map};
 ghost use Rattle.matchit.specs.Seek.{first};
-ghost use Rattle.requests.specs.Router.{add_route, desk_routes, first_routes, object_routes, office_routes, value_of};
+ghost use Rattle.requests.specs.Router.{add_route, desk_routes, value_of};
 
-use crate::routes::Route;
+use crate::routes::{Route, text_of};
 use matchit::Router;
 use std::alloc::{AllocError, Global};
 
@@ -34,52 +34,31 @@ fn desk_router(alloc: Global) -> Result<Router<Route>, AllocError>
     ensures { IfOk result (λ r. r ≡ desk_routes) }
 {
     let mut router = Router::new(alloc);
-    add_first_routes(&mut router)?;
-    add_object_routes(&mut router)?;
-    add_office_routes(&mut router)?;
+    add(&mut router, Route::Directory)?;
+    add(&mut router, Route::NewNonce)?;
+    add(&mut router, Route::NewAccount)?;
+    add(&mut router, Route::NewOrder)?;
+    add(&mut router, Route::Account)?;
+    add(&mut router, Route::Orders)?;
+    add(&mut router, Route::Order)?;
+    add(&mut router, Route::Finalize)?;
+    add(&mut router, Route::Cert)?;
+    add(&mut router, Route::Authz)?;
+    add(&mut router, Route::Chall)?;
+    add(&mut router, Route::Key)?;
+    add(&mut router, Route::ChallengeWork)?;
+    add(&mut router, Route::OrderWork)?;
+    add(&mut router, Route::Report)?;
+    add(&mut router, Route::Certify)?;
+    add(&mut router, Route::FailOrder)?;
     Ok(router)
 }
 
-// Adds the routes of the directory and of what is made (RFC 8555, 7.1).
-fn add_first_routes(router: &mut Router<Route>) -> Result<(), AllocError>
-    ensures { OnOk result (router.new ≡ first_routes router.old) }
+// Adds a route.
+fn add(router: &mut Router<Route>, route: Route) -> Result<(), AllocError>
+    ensures { OnOk result (router.new ≡ add_route router.old route) }
 {
-    add(router, "/directory", Route::Directory)?;
-    add(router, "/new-nonce", Route::NewNonce)?;
-    add(router, "/new-account", Route::NewAccount)?;
-    add(router, "/new-order", Route::NewOrder)
-}
-
-// Adds the routes of the objects of clients.
-fn add_object_routes(router: &mut Router<Route>) -> Result<(), AllocError>
-    ensures { OnOk result (router.new ≡ object_routes router.old) }
-{
-    add(router, "/account/{n}", Route::Account)?;
-    add(router, "/account/{n}/orders", Route::Orders)?;
-    add(router, "/order/{n}", Route::Order)?;
-    add(router, "/order/{n}/finalize", Route::Finalize)?;
-    add(router, "/cert/{n}", Route::Cert)?;
-    add(router, "/authz/{n}", Route::Authz)?;
-    add(router, "/chall/{n}", Route::Chall)
-}
-
-// Adds the routes for the validator and the signing office.
-fn add_office_routes(router: &mut Router<Route>) -> Result<(), AllocError>
-    ensures { OnOk result (router.new ≡ office_routes router.old) }
-{
-    add(router, "/office/key/{n}", Route::Key)?;
-    add(router, "/office/challenges", Route::ChallengeWork)?;
-    add(router, "/office/orders", Route::OrderWork)?;
-    add(router, "/office/report/{n}", Route::Report)?;
-    add(router, "/office/certify/{n}", Route::Certify)?;
-    add(router, "/office/fail/{n}", Route::FailOrder)
-}
-
-// Adds the route of this text.
-fn add(router: &mut Router<Route>, text: &str, route: Route) -> Result<(), AllocError>
-    ensures { OnOk result (router.new ≡ add_route router.old text.now route) }
-{
-    let Ok(()) = router.insert(text, route) else {
+    let Ok(()) = router.insert(text_of(route), route) else {
         return Err(AllocError);
     };
     Ok(())

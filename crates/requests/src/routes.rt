@@ -2,7 +2,7 @@
 ghost use Rattle.std.specs.Prelude.{◌≡◌, ◌≢◌, ◌++◌, ◌↔◌, ℕ, List, Some, IfOk, MatchOption, IsTrue, slice_index};
 ghost use Rattle.std.specs.Int.{IsInRange};
 ghost use Rattle.requests.specs.Routes.{HasNumber, IsNumberText, IsPathText, IsResourceAt, has_index, is_inside, is_numbered};
-ghost use Rattle.requests.specs.Routes.{is_visible, is_visible_byte, methods_of, prefix, resource_of, serves, suffix};
+ghost use Rattle.requests.specs.Routes.{is_visible, is_visible_byte, methods_of, resource_of, serves, text_of};
 
 use crate::router::route_at;
 use desk_model::{Allow, LAST_NUMBER, Target};
@@ -82,62 +82,36 @@ pub(crate) fn resource_at(alloc: Global, path: &str) -> Result<Option<Resource>,
 fn number_at(path: &str, route: Route) -> Option<u64>
     ensures { MatchOption result ((n : ℕ) → ¬ (IsPathText (is_numbered route) path.now route n)) (λ n. IsPathText (is_numbered route) path.now route n) }
 {
-    if is_numbered(route) {
-        return number_between(path, prefix_of(route), suffix_of(route));
-    }
-    if path == prefix_of(route) {
-        Some(0)
-    } else {
-        None
+    let text = text_of(route);
+    match text.split_once("{n}") {
+        Some((before, after)) => number_between(path, before, after),
+        None if path == text => Some(0),
+        None => None,
     }
 }
 
-// The text of a route's paths before their number, or all of it.
-fn prefix_of(route: Route) -> &'static str
-    ensures { result.now ≡ prefix route }
+/// The text of a route's paths, with `{n}` in the place of their number.
+pub(crate) fn text_of(route: Route) -> &'static str
+    ensures { result.now ≡ text_of route }
 {
     match route {
         Route::Directory => "/directory",
         Route::NewNonce => "/new-nonce",
         Route::NewAccount => "/new-account",
         Route::NewOrder => "/new-order",
-        Route::Account | Route::Orders => "/account/",
-        Route::Order | Route::Finalize => "/order/",
-        Route::Cert => "/cert/",
-        Route::Authz => "/authz/",
-        Route::Chall => "/chall/",
-        Route::Key => "/office/key/",
+        Route::Account => "/account/{n}",
+        Route::Orders => "/account/{n}/orders",
+        Route::Order => "/order/{n}",
+        Route::Finalize => "/order/{n}/finalize",
+        Route::Cert => "/cert/{n}",
+        Route::Authz => "/authz/{n}",
+        Route::Chall => "/chall/{n}",
+        Route::Key => "/office/key/{n}",
         Route::ChallengeWork => "/office/challenges",
         Route::OrderWork => "/office/orders",
-        Route::Report => "/office/report/",
-        Route::Certify => "/office/certify/",
-        Route::FailOrder => "/office/fail/",
-    }
-}
-
-// The text behind the number of a route's paths.
-fn suffix_of(route: Route) -> &'static str
-    ensures { result.now ≡ suffix route }
-{
-    match route {
-        Route::Orders => "/orders",
-        Route::Finalize => "/finalize",
-        _ => "",
-    }
-}
-
-// Whether a route's paths have a number.
-fn is_numbered(route: Route) -> bool
-    ensures { result ≡ is_numbered route }
-{
-    match route {
-        Route::Directory
-        | Route::NewNonce
-        | Route::NewAccount
-        | Route::NewOrder
-        | Route::ChallengeWork
-        | Route::OrderWork => false,
-        _ => true,
+        Route::Report => "/office/report/{n}",
+        Route::Certify => "/office/certify/{n}",
+        Route::FailOrder => "/office/fail/{n}",
     }
 }
 
