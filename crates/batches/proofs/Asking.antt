@@ -1,19 +1,12 @@
 -- What a line asks, where memory was found.
-use Rattle.std.proofs.Common.{◌≡◌, true, false, Result, Ok, Err}
+use Rattle.std.proofs.Common.{◌≡◌, true, Result, Ok, Err}
 use Rattle.std.specs.Prelude.{IfOk}
-use Rattle.requests.specs.Request.{IsUnserved}
 use Rattle.requests.specs.declared.lines.Line.{Line}
 use Rattle.requests.specs.declared.request.Request.{Request}
 use Rattle.http_requests.specs.Spelled.{Spells}
-use Rattle.batches.specs.LineRequests.{IsRequestOf, are_given, are_visible, not_given, request_bytes, spelled}
+use Rattle.batches.specs.LineRequests.{IsRequestOf, are_given, are_visible, request_bytes, spelled}
 
--- a line of which no bytes can be made is refused as not served
-pub refused_unserved : {E : Type 0} (l : Line) (res : Result Request E) → are_visible l ≡ true → are_given l ≡ false
-    → IfOk res (λ r. IsUnserved l.path r) → IfOk res (λ r. IsRequestOf l r)
-refused_unserved {E} l (Err e) visible given h = tt
-refused_unserved {E} l (Ok r) visible given h = not_given r visible given h
-
--- the others ask what their bytes spell
+-- a line with a method and a path asks what their bytes spell
 pub asks_by_bytes : {E : Type 0} (l : Line) (res : Result Request E) → are_visible l ≡ true → are_given l ≡ true
     → IfOk res (λ r. Spells (request_bytes l) r) → IfOk res (λ r. IsRequestOf l r)
 asks_by_bytes {E} l (Err e) visible given h = tt

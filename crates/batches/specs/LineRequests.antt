@@ -4,6 +4,7 @@ use Rattle.desk_model.specs.declared.call.Ask.{Ask}
 use Rattle.desk_model.specs.declared.call.Call.{Call}
 use Rattle.desk_model.specs.declared.refusal.Refusal.TheVariants as refusal
 use Rattle.desk_model.specs.declared.reply.Allow.TheVariants as allow
+use Rattle.desk_model.specs.declared.reply.Reply.{Reply}
 use Rattle.requests.specs.Request.{IsUnserved, refused_request}
 use Rattle.requests.specs.Routes.{is_visible}
 use Rattle.requests.specs.declared.lines.Line.{Line}
@@ -32,7 +33,7 @@ are_given l = nat_lt 0 (length l.method) && nat_lt 0 (length l.path)
 -- and is refused as not served; else its bytes are read
 pub data IsRequestOf (l : Line) : Request → Type 0 where
   ill_formed : are_visible l ≡ false → IsRequestOf l (request.Refused (refused_request refusal.Malformed allow.No true))
-  not_given : (r : Request) → are_visible l ≡ true → are_given l ≡ false → IsUnserved l.path r → IsRequestOf l r
+  not_given : (reply : Reply) → are_visible l ≡ true → are_given l ≡ false → IsUnserved l.path reply → IsRequestOf l (request.Refused reply)
   spelled : (r : Request) → are_visible l ≡ true → are_given l ≡ true → Spells (request_bytes l) r → IsRequestOf l r
 
 -- the call of a line that asks this

@@ -5,7 +5,7 @@ ghost use Rattle.batches.specs.LineRequests.{IsRequestOf, are_given, are_visible
 
 use desk_model::{Allow, Refusal};
 use http_requests::read_call;
-use requests::{Line, Request, is_visible, refused, unserved};
+use requests::{Line, Request, is_visible, refusal_reply, unserved};
 use std::alloc::{AllocError, Global};
 
 /// What a line asks, or the refusal of its request, which is read by the rules for a connection (RFC 9112, 2 to 6).
@@ -17,11 +17,12 @@ pub(crate) fn request_of(alloc: Global, line: &Line) -> Result<Request, AllocErr
     ensures { IfOk result (λ r. IsRequestOf line.now r) }
 {
     if !are_visible(line) {
-        return Ok(refused(alloc, Refusal::Malformed, Allow::No, true));
+        let reply = refusal_reply(alloc, Refusal::Malformed, Allow::No, true);
+        return Ok(Request::Refused(reply));
     }
     // Without a method or a path no bytes can be made of it.
     if !are_given(line) {
-        return unserved(alloc, line.path.as_str());
+        return Ok(Request::Refused(unserved(alloc, line.path.as_str())?));
     }
     spelled_by(alloc, line)
 }

@@ -25,7 +25,7 @@ pub record Hears (input : List ℕ) (heard : Heard) : Type 0 where
 
 -- what is known before the body is read
 abbrev pub IsPlan : (method path : List ℕ) → List (List ℕ × List ℕ) → Plan → Type 0
-IsPlan method path fields (plan.Answered r) = (rest : List ℕ) → IsRequestWith method path fields rest r
+IsPlan method path fields (plan.Answered reply) = (rest : List ℕ) → IsRequestWith method path fields rest (request.Refused reply)
 IsPlan method path fields (plan.Takes r n) = IsServed method path r × (framing_for r fields ≡ frame.Takes n)
 
 -- the first n bytes of the rest, or none where it has fewer

@@ -5,6 +5,7 @@ use Rattle.httparse.specs.Spans.{name_and_value}
 use Rattle.desk_model.specs.declared.call.Ask.{Ask}
 use Rattle.desk_model.specs.declared.refusal.Refusal.TheVariants as refusal
 use Rattle.desk_model.specs.declared.reply.Allow.TheVariants as allow
+use Rattle.desk_model.specs.declared.reply.Reply.{Reply}
 use Rattle.requests.specs.Request.{IsAskIn, IsServed, IsUnserved, refused_request}
 use Rattle.requests.specs.Routes.{has_index}
 use Rattle.requests.specs.declared.request.Request.{Request}
@@ -18,7 +19,8 @@ use Rattle.http_requests.specs.declared.call.Manner.{Manner}
 -- what a request asks by its method, its path, its fields and what follows them, or how it is refused:
 -- the path is looked at first, then the method, the fields, the length of the body and the body
 pub data IsRequestWith (method path : List ℕ) (fields : List (List ℕ × List ℕ)) (rest : List ℕ) : Request → Type 0 where
-  unserved : (q : Request) → ((r : Resource) → IsServed method path r → ⊥) → IsUnserved path q → IsRequestWith method path fields rest q
+  unserved : (reply : Reply) → ((r : Resource) → IsServed method path r → ⊥) → IsUnserved path reply
+      → IsRequestWith method path fields rest (request.Refused reply)
   ill_framed : (r : Resource) → IsServed method path r → framing_for r fields ≡ frame.Malformed
       → IsRequestWith method path fields rest (request.Refused (refused_request refusal.Malformed allow.No (has_index path)))
   too_large : (r : Resource) → IsServed method path r → framing_for r fields ≡ frame.TooLarge

@@ -5,7 +5,7 @@ ghost use Rattle.http_requests.specs.Heard.{IsAnswerTo, IsBody};
 
 use crate::head::{ReadFailed, fill_from};
 use desk_model::{Allow, Refusal};
-use requests::{Request, Resource, ask_in, refused};
+use requests::{Request, Resource, ask_in, refusal_reply};
 use std::alloc::{AllocError, Global};
 use std::io::Read;
 
@@ -68,11 +68,15 @@ pub(crate) fn answer_to(
 ) -> Result<Request, AllocError>
     ensures { IfOk result (λ q. IsAnswerTo resource method.now index (option_map (λ v. v.items) body) q) }
 {
-    let Some(body) = body else {
-        return Ok(refused(alloc, Refusal::Malformed, Allow::No, index));
+    let asked = match body {
+        Some(body) => ask_in(alloc, resource, method, body.as_slice())?,
+        None => None,
     };
-    match ask_in(alloc, resource, method, body.as_slice())? {
+    match asked {
         Some(ask) => Ok(Request::Asks(ask)),
-        None => Ok(refused(alloc, Refusal::Malformed, Allow::No, index)),
+        None => {
+            let reply = refusal_reply(alloc, Refusal::Malformed, Allow::No, index);
+            Ok(Request::Refused(reply))
+        }
     }
 }

@@ -13,7 +13,7 @@ use crate::head::{HeadRead, ReadFailed, read_head};
 use crate::plan::{Plan, plan_for};
 use desk_model::{Allow, LONGEST_HEAD, Refusal};
 use httparse::spans::{EMPTY_HEADER_SPAN, HeaderSpan, RequestSpans};
-use requests::{Request, has_index, refused};
+use requests::{Request, has_index, refusal_reply};
 use std::alloc::{AllocError, Global};
 use std::io::Read;
 
@@ -116,12 +116,13 @@ fn unread(alloc: Global, refusal: Refusal) -> Heard
     ensures manner { result.manner ≡ record { head_only = false; index = true } }
     ensures request { result.request ≡ Ok (Request.Refused (refused_request refusal Allow.No true)) }
 {
+    let reply = refusal_reply(alloc, refusal, Allow::No, true);
     Heard {
         manner: Manner {
             head_only: false,
             index: true,
         },
-        request: Ok(refused(alloc, refusal, Allow::No, true)),
+        request: Ok(Request::Refused(reply)),
     }
 }
 
@@ -163,7 +164,7 @@ fn read_with<R: Read>(
         Err(error) => return Ok(Err(error)),
     };
     match plan {
-        Plan::Answered(request) => Ok(Ok(request)),
+        Plan::Answered(reply) => Ok(Ok(Request::Refused(reply))),
         Plan::Takes(resource, count) => {
             let body = match read_body(alloc, reader, begun, count)? {
                 Ok(body) => body,

@@ -4,16 +4,16 @@ ghost use Rattle.httparse.specs.Spans.{IsHeaderWithin, header_bytes};
 ghost use Rattle.http_requests.specs.Heard.{IsPlan};
 
 use crate::framing::{Framing, framing_for};
-use desk_model::{Allow, Refusal};
+use desk_model::{Allow, Refusal, Reply};
 use httparse::spans::HeaderSpan;
-use requests::{Place, Request, Resource, has_index, place_of, refused};
+use requests::{Place, Resource, has_index, place_of, refusal_reply};
 use std::alloc::{AllocError, Global};
 
 /// What is done with a request whose head is read.
 #[derive(Drop)]
 pub enum Plan {
-    /// It is refused, whatever follows.
-    Answered(Request),
+    /// It has this reply, whatever follows.
+    Answered(Reply),
     /// So many bytes are taken for this resource.
     Takes(Resource, usize),
 }
@@ -35,15 +35,15 @@ pub(crate) fn plan_for(
 {
     let index = has_index(path);
     match place_of(alloc, method, path)? {
-        Place::Unserved(request) => Ok(Plan::Answered(request)),
+        Place::Unserved(reply) => Ok(Plan::Answered(reply)),
         Place::Served(resource) => match framing_for(resource, buffer, headers) {
-            Framing::Malformed => Ok(Plan::Answered(refused(
+            Framing::Malformed => Ok(Plan::Answered(refusal_reply(
                 alloc,
                 Refusal::Malformed,
                 Allow::No,
                 index,
             ))),
-            Framing::TooLarge => Ok(Plan::Answered(refused(
+            Framing::TooLarge => Ok(Plan::Answered(refusal_reply(
                 alloc,
                 Refusal::TooLarge,
                 Allow::No,

@@ -16,8 +16,6 @@ use Rattle.requests.specs.Offices.{finding, order_problem}
 use Rattle.requests.specs.Routes.{IsResourceAt, has_index, methods_of, serves}
 use Rattle.requests.specs.declared.request.Place.{Place}
 use Rattle.requests.specs.declared.request.Place.TheVariants as place
-use Rattle.requests.specs.declared.request.Request.{Request}
-use Rattle.requests.specs.declared.request.Request.TheVariants as request
 use Rattle.requests.specs.declared.routes.OfficeResource.{OfficeResource}
 use Rattle.requests.specs.declared.routes.OfficeResource.TheVariants as office
 use Rattle.requests.specs.declared.routes.Resource.{Resource}
@@ -31,49 +29,36 @@ IsSignedAsk target text None = (e : Envelope) → IsEnvelopeText text e → ⊥
 IsSignedAsk target text (Some what) = (e : Envelope) × (s : Signed) × IsEnvelopeText text e × IsSigned target e s × (what ≡ ask.Signed s)
 
 -- what the validator reports of a challenge
-abbrev pub report_ask : ℕ → List ℕ → Option Ask
-report_ask challenge text = option_map (λ found. ask.Office (asks.Report challenge found)) (finding text)
+abbrev pub IsReportAsk : ℕ → List ℕ → Option Ask → Type 0
+IsReportAsk challenge text asked = asked ≡ option_map (λ found. ask.Office (asks.Report challenge found)) (finding text)
 
 -- the certificate of an order: the bytes of the body, as they are
 abbrev pub certify_ask : ℕ → List ℕ → Option Ask
-certify_ask order text = Some (ask.Office (asks.Certify order text))
+certify_ask order bytes = Some (ask.Office (asks.Certify order bytes))
 
 -- why the signing office gives an order up
-abbrev pub fail_ask : ℕ → List ℕ → Option Ask
-fail_ask order text = option_map (λ problem. ask.Office (asks.FailOrder order problem)) (order_problem text)
-
-abbrev pub office_ask : OfficeResource → List ℕ → Option Ask
-office_ask (office.Key account) text = Some (ask.Office (asks.KeyOf account))
-office_ask office.ChallengeWork text = Some (ask.Office asks.ChallengeWork)
-office_ask office.OrderWork text = Some (ask.Office asks.OrderWork)
-office_ask (office.Report challenge) text = report_ask challenge text
-office_ask (office.Certify order) text = certify_ask order text
-office_ask (office.FailOrder order) text = fail_ask order text
-
--- what a request of this method and body asks of a resource; None: the body is none for it
-abbrev pub IsAskOf : Resource → List ℕ → List ℕ → Option Ask → Type 0
-IsAskOf resource.Directory method text asked = asked ≡ Some (ask.Office asks.Directory)
-IsAskOf resource.NewNonce method text asked = asked ≡ Some (ask.NewNonce (bytes_eq method (codes "HEAD")))
-IsAskOf (resource.Signed target) method text asked = IsSignedAsk target text asked
-IsAskOf (resource.Office o) method text asked = asked ≡ office_ask o text
-
--- the order whose certificate a body is
-abbrev pub certified_order : Resource → Option ℕ
-certified_order (resource.Office (office.Certify order)) = Some order
-certified_order _ = None
+abbrev pub IsFailAsk : ℕ → List ℕ → Option Ask → Type 0
+IsFailAsk order text asked = asked ≡ option_map (λ problem. ask.Office (asks.FailOrder order problem)) (order_problem text)
 
 -- what a body asks that is to be text: UTF-8, or it asks nothing
-abbrev pub IsTextAsk : Resource → List ℕ → List ℕ → Option Ask → Type 0
-IsTextAsk r method body asked = (IsUtf8 body × IsAskOf r method body asked) ⊎ ((IsUtf8 body → ⊥) × (asked ≡ None))
+abbrev pub IsOfText : (List ℕ → Option Ask → Type 0) → List ℕ → Option Ask → Type 0
+IsOfText IsAsked body asked = (IsUtf8 body × IsAsked body asked) ⊎ ((IsUtf8 body → ⊥) × (asked ≡ None))
 
--- a certificate is the bytes as they are, all else is text
-abbrev pub IsAskBy : Option ℕ → Resource → List ℕ → List ℕ → Option Ask → Type 0
-IsAskBy (Some order) r method body asked = asked ≡ certify_ask order body
-IsAskBy None r method body asked = IsTextAsk r method body asked
+-- what the validator and the signing office ask; a certificate may be any bytes
+abbrev pub IsOfficeAsk : OfficeResource → List ℕ → Option Ask → Type 0
+IsOfficeAsk (office.Key account) body asked = asked ≡ Some (ask.Office (asks.KeyOf account))
+IsOfficeAsk office.ChallengeWork body asked = asked ≡ Some (ask.Office asks.ChallengeWork)
+IsOfficeAsk office.OrderWork body asked = asked ≡ Some (ask.Office asks.OrderWork)
+IsOfficeAsk (office.Report challenge) body asked = IsOfText (IsReportAsk challenge) body asked
+IsOfficeAsk (office.Certify order) body asked = asked ≡ certify_ask order body
+IsOfficeAsk (office.FailOrder order) body asked = IsOfText (IsFailAsk order) body asked
 
--- what a request asks of a resource by the bytes of its body; a certificate may be any bytes
+-- what a request of this method asks of a resource by the bytes of its body; None: the body is none for it
 abbrev pub IsAskIn : Resource → List ℕ → List ℕ → Option Ask → Type 0
-IsAskIn r method body asked = IsAskBy (certified_order r) r method body asked
+IsAskIn resource.Directory method body asked = asked ≡ Some (ask.Office asks.Directory)
+IsAskIn resource.NewNonce method body asked = asked ≡ Some (ask.NewNonce (bytes_eq method (codes "HEAD")))
+IsAskIn (resource.Signed target) method body asked = IsOfText (IsSignedAsk target) body asked
+IsAskIn (resource.Office o) method body asked = IsOfficeAsk o body asked
 
 -- ---- requests
 
@@ -87,13 +72,13 @@ pub record IsServed (method path : List ℕ) (r : Resource) : Type 0 where
   pub serves : serves (methods_of r) method ≡ true
 
 -- how a request of a method that the path does not serve is refused: nothing is there, or a resource of these methods
-pub data IsUnserved (path : List ℕ) : Request → Type 0 where
+pub data IsUnserved (path : List ℕ) : Reply → Type 0 where
   not_here : ((r : Resource) → IsResourceAt path r → ⊥)
-      → IsUnserved path (request.Refused (refused_request refusal.NotFound allow.No (has_index path)))
+      → IsUnserved path (refused_request refusal.NotFound allow.No (has_index path))
   not_served : (r : Resource) → IsResourceAt path r
-      → IsUnserved path (request.Refused (refused_request refusal.MethodNotAllowed (methods_of r) (has_index path)))
+      → IsUnserved path (refused_request refusal.MethodNotAllowed (methods_of r) (has_index path))
 
 -- where a request of this method and path goes, or how it is refused where no resource serves it
 abbrev pub IsPlace : List ℕ → List ℕ → Place → Type 0
 IsPlace method path (place.Served r) = IsServed method path r
-IsPlace method path (place.Unserved q) = ((r : Resource) → IsServed method path r → ⊥) × IsUnserved path q
+IsPlace method path (place.Unserved reply) = ((r : Resource) → IsServed method path r → ⊥) × IsUnserved path reply

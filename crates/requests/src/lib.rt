@@ -9,5 +9,5 @@ mod router;
 mod routes;
 
 pub use lines::{Line, LineFault, read_line, reply_line};
-pub use request::{Place, Request, ask_in, place_of, refusal_reply, refused, unserved};
+pub use request::{Place, Request, ask_in, place_of, refusal_reply, unserved};
 pub use routes::{OfficeResource, Resource, has_index, is_visible, methods_of};

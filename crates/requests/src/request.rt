@@ -1,7 +1,7 @@
 //! From a request's method, path and body to what is asked.
 ghost use Rattle.std.specs.Prelude.{◌≡◌, None, IfOk, MatchOption};
-ghost use Rattle.requests.specs.Request.{IsAskIn, IsAskOf, IsPlace, IsSignedAsk, IsTextAsk, IsUnserved, certified_order};
-ghost use Rattle.requests.specs.Request.{certify_ask, fail_ask, office_ask, refused_request, report_ask};
+ghost use Rattle.requests.specs.Request.{IsAskIn, IsFailAsk, IsOfText, IsOfficeAsk, IsPlace, IsReportAsk, IsSignedAsk, IsUnserved};
+ghost use Rattle.requests.specs.Request.{certify_ask, refused_request};
 ghost use Rattle.requests.specs.Routes.{IsResourceAt};
 
 use crate::envelopes::signed_in;
@@ -24,8 +24,8 @@ pub enum Request {
 pub enum Place {
     /// To a resource that serves the method.
     Served(Resource),
-    /// Nowhere: the path does not serve the method, and the request is refused so.
-    Unserved(Request),
+    /// Nowhere: the path does not serve the method, and the request has this reply.
+    Unserved(Reply),
 }
 
 /// Where a request of this method and path goes (RFC 8555, 7.1).
@@ -48,27 +48,27 @@ pub fn place_of(alloc: Global, method: &str, path: &str) -> Result<Place, AllocE
 /// # Errors
 ///
 /// Where there is no memory for the routes.
-pub fn unserved(alloc: Global, path: &str) -> Result<Request, AllocError>
-    ensures { IfOk result (λ q. IsUnserved path.now q) }
+pub fn unserved(alloc: Global, path: &str) -> Result<Reply, AllocError>
+    ensures { IfOk result (λ reply. IsUnserved path.now reply) }
 {
     let found = resource_at(alloc, path)?;
     Ok(unserved_at(alloc, found, path))
 }
 
 // The same, by what the path leads to.
-fn unserved_at(alloc: Global, found: Option<Resource>, path: &str) -> Request
+fn unserved_at(alloc: Global, found: Option<Resource>, path: &str) -> Reply
     requires { MatchOption found ((r : Resource) → ¬ (IsResourceAt path.now r)) (λ r. IsResourceAt path.now r) }
     ensures { IsUnserved path.now result }
 {
     let index = has_index(path);
     match found {
-        Some(resource) => refused(
+        Some(resource) => refusal_reply(
             alloc,
             Refusal::MethodNotAllowed,
             methods_of(resource),
             index,
         ),
-        None => refused(alloc, Refusal::NotFound, Allow::No, index),
+        None => refusal_reply(alloc, Refusal::NotFound, Allow::No, index),
     }
 }
 
@@ -86,46 +86,6 @@ pub fn ask_in(
 ) -> Result<Option<Ask>, AllocError>
     ensures { IfOk result (λ o. IsAskIn resource method.now body.now o) }
 {
-    match certified_order(resource) {
-        Some(order) => certify_ask(alloc, order, body),
-        None => text_ask(alloc, resource, method, body),
-    }
-}
-
-// The order whose certificate a body is.
-fn certified_order(resource: Resource) -> Option<u64>
-    ensures { result ≡ certified_order resource }
-{
-    match resource {
-        Resource::Office(OfficeResource::Certify(order)) => Some(order),
-        _ => None,
-    }
-}
-
-// What a request asks whose body is text.
-fn text_ask(
-    alloc: Global,
-    resource: Resource,
-    method: &str,
-    body: &[u8],
-) -> Result<Option<Ask>, AllocError>
-    ensures { IfOk result (λ o. IsTextAsk resource method.now body.now o) }
-{
-    match str::from_utf8(body) {
-        Ok(text) => ask_of(alloc, resource, method, text),
-        Err(_) => Ok(None),
-    }
-}
-
-// What a request asks of a resource that serves its method, or `None` where its body is none for it.
-fn ask_of(
-    alloc: Global,
-    resource: Resource,
-    method: &str,
-    body: &str,
-) -> Result<Option<Ask>, AllocError>
-    ensures { IfOk result (λ o. IsAskOf resource method.now body.now o) }
-{
     match resource {
         Resource::Directory => Ok(Some(Ask::Office(OfficeAsk::Directory))),
         Resource::NewNonce => Ok(Some(Ask::NewNonce {
@@ -137,10 +97,13 @@ fn ask_of(
 }
 
 // What a signed request asks of its target, or `None` where its body is no envelope (RFC 8555, 6.2).
-fn signed_ask(alloc: Global, target: Target, body: &str) -> Result<Option<Ask>, AllocError>
-    ensures { IfOk result (λ o. IsSignedAsk target body.now o) }
+fn signed_ask(alloc: Global, target: Target, body: &[u8]) -> Result<Option<Ask>, AllocError>
+    ensures { IfOk result (λ o. IsOfText (IsSignedAsk target) body.now o) }
 {
-    match signed_in(alloc, target, body)? {
+    let Ok(text) = str::from_utf8(body) else {
+        return Ok(None);
+    };
+    match signed_in(alloc, target, text)? {
         Some(signed) => Ok(Some(Ask::Signed(signed))),
         None => Ok(None),
     }
@@ -150,25 +113,28 @@ fn signed_ask(alloc: Global, target: Target, body: &str) -> Result<Option<Ask>, 
 fn office_ask(
     alloc: Global,
     resource: OfficeResource,
-    body: &str,
+    body: &[u8],
 ) -> Result<Option<Ask>, AllocError>
-    ensures { IfOk result (λ o. o ≡ office_ask resource body.now) }
+    ensures { IfOk result (λ o. IsOfficeAsk resource body.now o) }
 {
     match resource {
         OfficeResource::Key(account) => Ok(Some(Ask::Office(OfficeAsk::KeyOf(account)))),
         OfficeResource::ChallengeWork => Ok(Some(Ask::Office(OfficeAsk::ChallengeWork))),
         OfficeResource::OrderWork => Ok(Some(Ask::Office(OfficeAsk::OrderWork))),
         OfficeResource::Report(challenge) => report_ask(alloc, challenge, body),
-        OfficeResource::Certify(order) => certify_ask(alloc, order, body.as_bytes()),
+        OfficeResource::Certify(order) => certify_ask(alloc, order, body),
         OfficeResource::FailOrder(order) => fail_ask(alloc, order, body),
     }
 }
 
 // What the validator reports of this challenge.
-fn report_ask(alloc: Global, challenge: u64, body: &str) -> Result<Option<Ask>, AllocError>
-    ensures { IfOk result (λ o. o ≡ report_ask challenge body.now) }
+fn report_ask(alloc: Global, challenge: u64, body: &[u8]) -> Result<Option<Ask>, AllocError>
+    ensures { IfOk result (λ o. IsOfText (IsReportAsk challenge) body.now o) }
 {
-    match finding(alloc, body)? {
+    let Ok(text) = str::from_utf8(body) else {
+        return Ok(None);
+    };
+    match finding(alloc, text)? {
         Some(finding) => Ok(Some(Ask::Office(OfficeAsk::Report { challenge, finding }))),
         None => Ok(None),
     }
@@ -185,23 +151,19 @@ fn certify_ask(alloc: Global, order: u64, body: &[u8]) -> Result<Option<Ask>, Al
 }
 
 // Why this order is given up.
-fn fail_ask(alloc: Global, order: u64, body: &str) -> Result<Option<Ask>, AllocError>
-    ensures { IfOk result (λ o. o ≡ fail_ask order body.now) }
+fn fail_ask(alloc: Global, order: u64, body: &[u8]) -> Result<Option<Ask>, AllocError>
+    ensures { IfOk result (λ o. IsOfText (IsFailAsk order) body.now o) }
 {
-    match order_problem(alloc, body)? {
+    let Ok(text) = str::from_utf8(body) else {
+        return Ok(None);
+    };
+    match order_problem(alloc, text)? {
         Some(problem) => Ok(Some(Ask::Office(OfficeAsk::FailOrder { order, problem }))),
         None => Ok(None),
     }
 }
 
-/// The refusal of a request that is no call.
-pub fn refused(alloc: Global, refusal: Refusal, allow: Allow, index: bool) -> Request
-    ensures { result ≡ Request.Refused (refused_request refusal allow index) }
-{
-    Request::Refused(refusal_reply(alloc, refusal, allow, index))
-}
-
-/// The reply that refuses a request, without a nonce.
+/// The reply to a request that is no call, without a nonce.
 pub fn refusal_reply(alloc: Global, refusal: Refusal, allow: Allow, index: bool) -> Reply
     ensures { result ≡ refused_request refusal allow index }
 {

@@ -6,17 +6,17 @@ use Rattle.http_requests.proofs.plan.plan_for.Goals as goal
 
 pub returns-in-Unserved : goal.returns-in-Unserved
 returns-in-Unserved c = λ rest.
-    let p : IsPlace c.args.method.now c.args.path.now (place.Unserved c.in-Unserved.request) = rw c.in-Unserved.is at c.in_ok-request.ensures in
-    unserved c.in-Unserved.request p.0 p.1
+    let p : IsPlace c.args.method.now c.args.path.now (place.Unserved c.in-Unserved.reply) = rw c.in-Unserved.is at c.in_ok-reply.ensures in
+    unserved c.in-Unserved.reply p.0 p.1
 
 pub returns-in-Malformed : goal.returns-in-Malformed
 returns-in-Malformed c = λ rest.
-    let s : IsServed c.args.method.now c.args.path.now c.in-Served.resource = rw c.in-Served.is at c.in_ok-request.ensures in
-    rw (c.refused.ensures, c.has_index-index.ensures)
+    let s : IsServed c.args.method.now c.args.path.now c.in-Served.resource = rw c.in-Served.is at c.in_ok-reply.ensures in
+    rw (c.refusal_reply.ensures, c.has_index-index.ensures)
     (ill_framed c.in-Served.resource s (sym c.framing_for.ensures ∙ c.in-Malformed.is))
 
 pub returns-in-TooLarge : goal.returns-in-TooLarge
 returns-in-TooLarge c = λ rest.
-    let s : IsServed c.args.method.now c.args.path.now c.in-Served.resource = rw c.in-Served.is at c.in_ok-request.ensures in
-    rw (c.refused-in-TooLarge.ensures, c.has_index-index.ensures)
+    let s : IsServed c.args.method.now c.args.path.now c.in-Served.resource = rw c.in-Served.is at c.in_ok-reply.ensures in
+    rw (c.refusal_reply-in-TooLarge.ensures, c.has_index-index.ensures)
     (too_large c.in-Served.resource s (sym c.framing_for.ensures ∙ c.in-TooLarge.is))
