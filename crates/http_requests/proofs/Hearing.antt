@@ -15,7 +15,7 @@ use Rattle.desk_model.specs.declared.reply.Allow.TheVariants as allow
 use Rattle.requests.specs.Request.{refused_request}
 use Rattle.requests.specs.declared.request.Request.{Request}
 use Rattle.requests.specs.declared.request.Request.TheVariants as request
-use Rattle.http_requests.specs.Head.{BeginsWith, HasNoHead, HeadSays, IsTooLarge, front}
+use Rattle.http_requests.specs.Head.{BeginsWith, HasNoHead, HeadSays, IsTooLarge, front, most_fields}
 use Rattle.http_requests.specs.Heard.{Hears}
 use Rattle.http_requests.specs.Heard as heard
 use Rattle.http_requests.specs.Spelled.{IsManner, IsRequestWith, Spells, manner_by}
@@ -38,7 +38,7 @@ full_front : (bytes ys : List ℕ) → length bytes ≡ longest_head → front (
 full_front bytes ys e = take-append-le longest_head bytes ys (omega arith) ∙ take_all longest_head bytes (omega arith)
 
 -- too many fields stay too many, whatever follows
-overflows_more : (bytes zs : List ℕ) → RequestOverflows 64 bytes → RequestOverflows 64 (bytes ++ zs)
+overflows_more : (bytes zs : List ℕ) → RequestOverflows most_fields bytes → RequestOverflows most_fields (bytes ++ zs)
 overflows_more bytes zs over = λ more h rest reads. over (zs ++ more) h rest (reads.0, sym (append_assoc bytes zs more) ∙ reads.1)
 
 -- a text that begins with p, cut no shorter than p, begins with p
@@ -59,9 +59,9 @@ heard_none input h why none m q s =
     record { manner = subst M (sym m) (spelled.unread none); request = rw q s }
 
 -- too many fields make no head
-overflow_has_no_head : (bytes ys : List ℕ) → RequestOverflows 64 bytes → HasNoHead (bytes ++ ys)
-overflow_has_no_head bytes ys over = λ h rest b. absurd (let many : 64 < length h.fields = over ys h rest b.reads in
-    let few : length h.fields ≤ 64 = b.fields in omega arith)
+overflow_has_no_head : (bytes ys : List ℕ) → RequestOverflows most_fields bytes → HasNoHead (bytes ++ ys)
+overflow_has_no_head bytes ys over = λ h rest b. absurd (let many : most_fields < length h.fields = over ys h rest b.reads in
+    let few : length h.fields ≤ most_fields = b.fields in omega arith)
 
 -- the request is refused so, as one without a head
 abbrev IsRefusedBy : Refusal → Heard → Type 0
@@ -70,11 +70,12 @@ IsRefusedBy why h =
 
 -- of an input that begins with these bytes
 malformed_input : (bytes ys : List ℕ) (h : Heard) → length bytes ≤ longest_head
-    → (RequestOverflows 64 bytes ⊎ ((length bytes < longest_head) × HasNoRequest bytes × (ys ≡ []))) → IsRefusedBy refusal.Malformed h → Hears (bytes ++ ys) h
+    → (RequestOverflows most_fields bytes ⊎ ((length bytes < longest_head) × HasNoRequest bytes × (ys ≡ [])))
+    → IsRefusedBy refusal.Malformed h → Hears (bytes ++ ys) h
 malformed_input bytes ys h le (inl over) r =
     let f : front (bytes ++ ys) ≡ bytes ++ take (longest_head - length bytes) ys = front_of bytes ys le in
-    let O : List ℕ → Type 0 = λ l. RequestOverflows 64 l in
-    let more : RequestOverflows 64 (front (bytes ++ ys)) = subst O (sym f) (overflows_more bytes (take (longest_head - length bytes) ys) over) in
+    let O : List ℕ → Type 0 = λ l. RequestOverflows most_fields l in
+    let more : RequestOverflows most_fields (front (bytes ++ ys)) = subst O (sym f) (overflows_more bytes (take (longest_head - length bytes) ys) over) in
     heard_none (bytes ++ ys) h refusal.Malformed (overflow_has_no_head bytes ys over) r.0 r.1 (spelled.malformed (inl more))
 malformed_input bytes ys h le (inr short) r =
     let H : List ℕ → Type 0 = λ l. Hears l h in
@@ -112,8 +113,8 @@ too_large_heard (Some xs) (Some ys) bytes headers h says k r =
 -- ---- a head
 
 -- there are as many fields as spans that cover them
-fields_few : (buffer : List ℕ) (headers : List HeaderSpan) (count : ℕ) (fields : List Field) → length headers ≡ 64
-    → map (header_bytes buffer) (take count headers) ≡ map name_and_value fields → length fields ≤ 64
+fields_few : (buffer : List ℕ) (headers : List HeaderSpan) (count : ℕ) (fields : List Field) → length headers ≡ most_fields
+    → map (header_bytes buffer) (take count headers) ≡ map name_and_value fields → length fields ≤ most_fields
 fields_few buffer headers count fields n e =
     let many : length (map (header_bytes buffer) (take count headers)) ≡ length (map name_and_value fields) = ap length e in
     let spans : length (map (header_bytes buffer) (take count headers)) ≡ length (take count headers) = length-map (take count headers) (header_bytes buffer) in
@@ -121,7 +122,7 @@ fields_few buffer headers count fields n e =
     omega (arith, length-take count headers)
 
 -- a head that lies in the bytes begins the input
-begins : (bytes ys : List ℕ) (headers : List HeaderSpan) (spans : RequestSpans) (h : RequestHead) → length bytes ≤ longest_head → length headers ≡ 64
+begins : (bytes ys : List ℕ) (headers : List HeaderSpan) (spans : RequestSpans) (h : RequestHead) → length bytes ≤ longest_head → length headers ≡ most_fields
     → IsRequestWithin bytes headers spans → IsRequestAt bytes headers spans h → BeginsWith (bytes ++ ys) h (drop spans.len bytes ++ ys)
 begins bytes ys headers spans h le n within at =
     let fits : spans.len ≤ length bytes = within.section.len_fits in
@@ -159,7 +160,7 @@ inner {E} (Ok q) ys P h = h
 
 -- what lies behind a whole head is heard as it is
 pub complete_heard : (known left : Option (List ℕ)) (bytes : List ℕ) (headers : List HeaderSpan) (spans : RequestSpans) (h : Heard)
-    → length bytes ≤ longest_head → length headers ≡ 64
+    → length bytes ≤ longest_head → length headers ≡ most_fields
     → HeadSays bytes headers left (read.Complete spans) → Consumes known left bytes
     → h.manner ≡ manner_by (span_bytes bytes spans.method) (span_bytes bytes spans.path)
     → IfOk h.request (λ q. IfSome left (λ ys. heard.IsRequestAt bytes headers spans ys q))
@@ -177,7 +178,7 @@ complete_heard (Some xs) (Some ys) bytes headers spans h le n says k m r =
 
 -- the same, unless the reader failed
 pub complete_read : {E : Type 0} (known left : Option (List ℕ)) (bytes : List ℕ) (headers : List HeaderSpan) (spans : RequestSpans) (res : Result Heard E)
-    → length bytes ≤ longest_head → length headers ≡ 64
+    → length bytes ≤ longest_head → length headers ≡ most_fields
     → HeadSays bytes headers left (read.Complete spans) → Consumes known left bytes
     → IfOk res (λ h. h.manner ≡ manner_by (span_bytes bytes spans.method) (span_bytes bytes spans.path))
     → IfOk res (λ h. IfOk h.request (λ q. IfSome left (λ ys. heard.IsRequestAt bytes headers spans ys q)))

@@ -8,13 +8,17 @@ use Rattle.http_requests.specs.declared.head.HeadRead.{HeadRead}
 use Rattle.http_requests.specs.declared.head.HeadRead.TheVariants as read
 use Rattle.desk_model.specs.Limits.{longest_head}
 
+-- the most fields of a head
+abbrev pub most_fields : ℕ
+most_fields = 64
+
 -- ---- what the input begins with
 
 -- a head of 16384 bytes and 64 fields at most, and then the rest
 pub record BeginsWith (input : List ℕ) (h : RequestHead) (rest : List ℕ) : Type 0 where
   pub reads : ReadsRequest input h rest
   pub size : length (print_request h) ≤ longest_head
-  pub fields : length h.fields ≤ 64
+  pub fields : length h.fields ≤ most_fields
 
 -- there is no such head
 abbrev pub HasNoHead : List ℕ → Type 0
@@ -26,7 +30,7 @@ front input = take longest_head input
 
 -- whatever follows, there are too many fields or no head; or the input ends before one does
 abbrev pub IsMalformed : List ℕ → Type 0
-IsMalformed input = RequestOverflows 64 (front input) ⊎ ((length input < longest_head) × HasNoRequest input)
+IsMalformed input = RequestOverflows most_fields (front input) ⊎ ((length input < longest_head) × HasNoRequest input)
 
 -- 16384 bytes end before a head does, though more may make one
 pub record IsTooLarge (input : List ℕ) : Type 0 where
@@ -47,5 +51,5 @@ TakesAtMost known left most = (bytes : List ℕ) × Consumes known left bytes ×
 -- what the bytes that were read say of the head, and how the reader stands then
 abbrev pub HeadSays : List ℕ → List HeaderSpan → Option (List ℕ) → HeadRead → Type 0
 HeadSays bytes headers left (read.Complete spans) = IsRequestWithin bytes headers spans × IsRequestOf bytes headers spans
-HeadSays bytes headers left read.Malformed = RequestOverflows 64 bytes ⊎ ((length bytes < longest_head) × HasNoRequest bytes × IsAtEnd left)
+HeadSays bytes headers left read.Malformed = RequestOverflows most_fields bytes ⊎ ((length bytes < longest_head) × HasNoRequest bytes × IsAtEnd left)
 HeadSays bytes headers left read.TooLarge = (length bytes ≡ longest_head) × HasNoRequest bytes × MayBecomeRequest bytes

@@ -3,7 +3,7 @@ ghost use Rattle.std.specs.Prelude.{◌≡◌, ◌≤◌, ◌++◌, ℕ, List, O
 ghost use Rattle.http_requests.specs.Head.{TakesAtMost};
 ghost use Rattle.http_requests.specs.Heard.{IsAnswerTo, IsBody};
 
-use crate::head::{ReadFailed, fill_from};
+use crate::filling::{ReadFailed, fill_from};
 use desk_model::{Allow, Refusal};
 use requests::{Request, Resource, ask_in, refusal_reply};
 use std::alloc::{AllocError, Global};

@@ -9,7 +9,8 @@ ghost use Rattle.http_requests.specs.Heard.{Hears, IsRequestAt};
 ghost use Rattle.desk_model.specs.Limits.{longest_body, longest_head};
 
 use crate::body::{answer_to, read_body};
-use crate::head::{HeadRead, ReadFailed, read_head};
+use crate::filling::ReadFailed;
+use crate::head::{HeadRead, MOST_FIELDS, read_head};
 use crate::plan::{Plan, plan_for};
 use desk_model::{Allow, LONGEST_HEAD, Refusal};
 use httparse::spans::{EMPTY_HEADER_SPAN, HeaderSpan, RequestSpans};
@@ -47,7 +48,7 @@ pub fn read_call<R: Read>(alloc: Global, reader: &mut R) -> Result<Heard, ReadFa
     ensures taken { TakesAtMost (R.remaining reader.old) (R.remaining reader.new) (longest_head + longest_body) }
 {
     let mut buffer = [0u8; LONGEST_HEAD];
-    let mut headers = [EMPTY_HEADER_SPAN; 64];
+    let mut headers = [EMPTY_HEADER_SPAN; MOST_FIELDS];
     let (head, filled) = read_head(reader, &mut buffer, &mut headers)?;
     let bytes = &buffer[..filled];
     match head {

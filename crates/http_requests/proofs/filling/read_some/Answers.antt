@@ -1,5 +1,5 @@
 use Rattle.http_requests.proofs.Bytes.{kept_consumes}
-use Rattle.http_requests.proofs.head.read_some.Goals as goal
+use Rattle.http_requests.proofs.filling.read_some.Goals as goal
 
 pub returns-in-Ok-clause-bytes : goal.returns-in-Ok-clause-bytes
 returns-in-Ok-clause-bytes g c =

@@ -2,7 +2,7 @@ use Rattle.std.proofs.Common.{◌-◌, arith, take, length, rules}
 use Rattle.std.proofs.lemmas.List.{length-take}
 use Rattle.http_requests.specs.Head.{TakesAtMost}
 use Rattle.http_requests.proofs.Bytes.{adds_more, adds_none, takes_added, where_failed}
-use Rattle.http_requests.proofs.head.fill_from.Goals as goal
+use Rattle.http_requests.proofs.filling.fill_from.Goals as goal
 
 pub more-init : goal.more-init
 more-init g c = (omega arith, search rules, adds_none (g.R.Read.remaining c.args.reader.now) (take c.args.start c.args.buffer.now))

@@ -1,6 +1,6 @@
 use Rattle.std.proofs.Common.{◌≡◌, ◌≤◌, ◌-◌, take, length}
 use Rattle.http_requests.specs.Head.{Adds}
-use Rattle.http_requests.proofs.head.fill_from.Given as goal
+use Rattle.http_requests.proofs.filling.fill_from.Given as goal
 
 abbrev pub invariant-more : goal.invariant-more
 invariant-more g l =
