@@ -7,7 +7,7 @@ use Rattle.std.proofs.lemmas.List.Elements.{filter-append}
 use Rattle.desk_model.specs.Tables.{Tables}
 use Rattle.desk_model.specs.declared.rows.AuthorizationRow.{AuthorizationRow}
 use Rattle.desk_model.specs.declared.rows.OrderRow.{OrderRow}
-use Rattle.desk_parts.specs.LookUps.{listed_by, orders_listing, owners_of}
+use Rattle.desk_parts.specs.LookUps.{orders_listing, owners_of}
 
 -- what is picked of the items of all rows is what is picked of each row's
 picked-flat_map : {X Y Z : Type 0} (value : Y → Z) (test : Y → Bool) (items : X → List Y) (xs : List X) →
@@ -35,13 +35,6 @@ flat_map-same : {X Y : Type 0} (f g : X → List Y) → ((x : X) → f x ≡ g x
 flat_map-same f g same [] = refl
 flat_map-same f g same (x ∷ xs) = λ i. same x i ++ flat_map-same f g same xs i
 
--- all, or nothing
-picked-all : {X Y : Type 0} (value : X → Y) (b : Bool) (xs : List X) → map value (filter (λ x. b) xs) ≡ cond b (map value xs) []
-picked-all value true [] = refl
-picked-all value true (x ∷ xs) = ap (λ l. value x ∷ l) (picked-all value true xs)
-picked-all value false [] = refl
-picked-all value false (x ∷ xs) = picked-all value false xs
-
 -- what is made of what is made
 map-map : {X Y Z : Type 0} (g : Y → Z) (f : X → Y) (xs : List X) → map g (map f xs) ≡ map (λ x. g (f x)) xs
 map-map g f [] = refl
@@ -54,15 +47,6 @@ orders_listing_rows T n =
     ∙ flat_map-same _ _ (λ (o : OrderRow).
     ap (λ (ps : List (ℕ × ℕ)). map (λ (p : ℕ × ℕ). p.0) (filter (λ (p : ℕ × ℕ). p.1 == n) ps)) (map-map (λ j. (o.number, j)) (λ l. l.authorization) o.listed)
     ∙ picked-map (λ (p : ℕ × ℕ). p.0) (λ (p : ℕ × ℕ). p.1 == n) (λ l. (o.number, l.authorization)) o.listed) T.orders
-
--- the authorizations that the order of a number lists
-pub listed_by_rows : (T : Tables) (n : ℕ) → listed_by T n ≡ flat_map (λ o. cond (o.number == n) (map (λ l. l.authorization) o.listed) []) T.orders
-listed_by_rows T n =
-    picked-flat_map (λ (p : ℕ × ℕ). p.1) (λ (p : ℕ × ℕ). p.0 == n) (λ o. map (λ j. (o.number, j)) (map (λ l. l.authorization) o.listed)) T.orders
-    ∙ flat_map-same _ _ (λ (o : OrderRow).
-    ap (λ (ps : List (ℕ × ℕ)). map (λ (p : ℕ × ℕ). p.1) (filter (λ (p : ℕ × ℕ). p.0 == n) ps)) (map-map (λ j. (o.number, j)) (λ l. l.authorization) o.listed)
-    ∙ picked-map (λ (p : ℕ × ℕ). p.1) (λ (p : ℕ × ℕ). p.0 == n) (λ l. (o.number, l.authorization)) o.listed
-    ∙ picked-all (λ l. l.authorization) (o.number == n) o.listed) T.orders
 
 -- the authorization of a challenge, once for each challenge of the number
 pub owners_of_rows : (T : Tables) (n : ℕ) → owners_of T n ≡ flat_map (λ r. map (λ c. r.number) (filter (λ c. c.number == n) r.challenges)) T.authorizations

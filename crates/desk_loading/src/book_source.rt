@@ -1,14 +1,14 @@
 //! A book in memory as a source of rows.
-ghost use Rattle.std.specs.Prelude.{◌≡◌, ◌==◌, ◌&&◌, ◌++◌, Bool, List, nat_lt, map, filter, [], if◌then◌else◌, IfOk, OnOk};
+ghost use Rattle.std.specs.Prelude.{◌≡◌, ◌==◌, ◌&&◌, ◌++◌, Bool, List, nat_lt, map, filter, IfOk, OnOk};
 ghost use Rattle.std.specs.Fn.{FnReturnsAt};
 ghost use Rattle.std.specs.List.{flat_map};
 ghost use Rattle.desk_model.specs.Derived.{authz_code, order_code};
-ghost use Rattle.desk_parts.specs.LookUps.{listed_by as listed_in, orders_listing as listing_in, owners_of as owners_in};
+ghost use Rattle.desk_parts.specs.LookUps.{orders_listing as listing_in, owners_of as owners_in};
 
 use crate::look_ups::LookUps;
 use desk_book::{Book, Row, Table, is_past};
 use desk_model::{
-    AccountRow, AuthorizationRow, AuthzStatus, Jwk, Listed, Meta, Nonce, OrderRow, OrderStatus,
+    AccountRow, AuthorizationRow, AuthzStatus, Jwk, Meta, Nonce, OrderRow, OrderStatus,
 };
 use desk_storage::StorageFault;
 use std::alloc::{AllocError, Global};
@@ -78,27 +78,6 @@ fn push_listing(
     Ok(())
 }
 
-// Adds the authorizations of these places.
-fn push_authorizations(numbers: &mut Vec<u64>, places: &[Listed]) -> Result<(), AllocError>
-    ensures { OnOk result (numbers.new.items ≡ numbers.old.items ++ map (λ l. l.authorization) places.now) }
-{
-    for listed in places {
-        numbers.push(listed.authorization)?;
-    }
-    Ok(())
-}
-
-// Adds the authorizations that an order lists, where it has this number.
-fn push_listed(numbers: &mut Vec<u64>, order: &OrderRow, number: u64) -> Result<(), AllocError>
-    ensures { OnOk result (numbers.new.items ≡ numbers.old.items
-        ++ (if order.now.number == number then map (λ l. l.authorization) order.now.listed else [])) }
-{
-    if order.number == number {
-        return push_authorizations(numbers, order.listed.as_slice());
-    }
-    Ok(())
-}
-
 // Adds the number of an authorization once for each of its challenges with this number.
 fn push_owner(
     numbers: &mut Vec<u64>,
@@ -124,18 +103,6 @@ fn orders_listing(alloc: Global, book: &Book, authorization: u64) -> Result<Vec<
     let mut numbers = Vec::new(alloc);
     for order in book.orders().iter() {
         push_listing(&mut numbers, order, authorization)?;
-    }
-    Ok(numbers)
-}
-
-// The authorizations that an order lists.
-#[tactic(auto, using(crate::proofs::Pairs::listed_by_rows))]
-fn listed_by(alloc: Global, book: &Book, number: u64) -> Result<Vec<u64>, AllocError>
-    ensures { IfOk result (λ numbers. numbers.items ≡ listed_in book.now number) }
-{
-    let mut numbers = Vec::new(alloc);
-    for order in book.orders().iter() {
-        push_listed(&mut numbers, order, number)?;
     }
     Ok(numbers)
 }
@@ -267,10 +234,6 @@ impl LookUps for Book {
         authorization: u64,
     ) -> Result<Vec<u64>, StorageFault> {
         Ok(orders_listing(alloc, self, authorization)?)
-    }
-
-    fn listed_by(&mut self, alloc: Global, order: u64) -> Result<Vec<u64>, StorageFault> {
-        Ok(listed_by(alloc, self, order)?)
     }
 
     fn owners_of(&mut self, alloc: Global, challenge: u64) -> Result<Vec<u64>, StorageFault> {

@@ -37,7 +37,7 @@ use Rattle.desk_parts.specs.Loaded.{named_accounts, named_authorizations, named_
 use Rattle.desk_parts.specs.Loaded.{own_authorizations, own_orders, past_authorizations, past_orders, serials, target_accounts}
 use Rattle.desk_parts.specs.Loaded.{target_authorization_numbers, target_challenge_numbers, target_order_numbers}
 use Rattle.desk_parts.specs.LookUps.{accounts_numbered, accounts_with_key, authorizations_numbered, authorizations_of, challenges}
-use Rattle.desk_parts.specs.LookUps.{listed_by, nonces_numbered, orders_listing, orders_numbered, orders_of, orders_past}
+use Rattle.desk_parts.specs.LookUps.{nonces_numbered, orders_listing, orders_numbered, orders_of, orders_past}
 use Rattle.desk_parts.specs.LookUps.{owners_of, places}
 use Rattle.desk_model.specs.Asked.{asks_authorizations, asks_orders, carries, has_key, names_account, names_authorization}
 use Rattle.desk_model.specs.Asked.{names_order, names_owner, target_account, target_authorization, target_order, target_owner}
@@ -68,10 +68,6 @@ any_beside p b (x ∷ xs) = ap (λ z. (p x && b) || z) (any_beside p b xs) ∙ b
     by false true c = refl
     by false false c = refl
 
-pub any_each : {X : Type 0} (p q : X → Bool) (xs : List X) → EachOf (λ x. p x ≡ q x) xs → list_any p xs ≡ list_any q xs
-any_each p q [] h = refl
-any_each p q (x ∷ xs) h = λ i. h.0 i || any_each p q xs h.1 i
-
 pub eq_turn : (a b : ℕ) → (a == b) ≡ (b == a)
 eq_turn a b = by (a == b) refl (b == a) refl
   where
@@ -80,12 +76,6 @@ eq_turn a b = by (a == b) refl (b == a) refl
     by true e false f = let yes : (b == a) ≡ true = eq-eqb b a (sym (eqb-true a b e)) in cc
     by false e true f = let yes : (a == b) ≡ true = eq-eqb a b (sym (eqb-true b a f)) in cc
     by false e false f = refl
-
-pub and_turn : (a b : Bool) → (a && b) ≡ (b && a)
-and_turn true true = refl
-and_turn true false = refl
-and_turn false true = refl
-and_turn false false = refl
 
 -- ---- what an ask names
 
@@ -183,22 +173,6 @@ listing_found T ordered j =
     list_any-map (λ p. (p.1 == j) && (o.number == p.0)) (λ i. (x.number, i)) (numbers_of x.listed)
     ∙ any_beside (λ i. i == j) (o.number == x.number) (numbers_of x.listed)
     ∙ ap (λ b. b && lists x j) (eq_turn o.number x.number))
-    ∙ e)
-    (numbered (λ (o : OrderRow). o.number) (λ x. lists x j) 1 T.orders ordered.orders.0)
-
--- an authorization's number is found at an order that lists it
-listed_found : (T : Tables) → IsOrdered T → (j : ℕ) → EachOf (λ o. list_any (λ n. j == n) (listed_by T o.number) ≡ lists o j) T.orders
-listed_found T ordered j =
-    each _ _ T.orders
-    (λ o e.
-    list_any-map (λ n. j == n) (λ p. p.1) (filter (λ p. p.0 == o.number) (places T))
-    ∙ any_filter (λ p. p.0 == o.number) (λ p. j == p.1) (places T)
-    ∙ any_flat (λ p. (p.0 == o.number) && (j == p.1)) (λ (x : OrderRow). map (λ i. (x.number, i)) (numbers_of x.listed)) T.orders
-    ∙ list_any-same _ _ T.orders (λ x.
-    list_any-map (λ p. (p.0 == o.number) && (j == p.1)) (λ i. (x.number, i)) (numbers_of x.listed)
-    ∙ list_any-same _ _ (numbers_of x.listed) (λ i. and_turn (x.number == o.number) (j == i))
-    ∙ any_beside (λ i. j == i) (x.number == o.number) (numbers_of x.listed)
-    ∙ ap (λ b. (x.number == o.number) && b) (list_any-same _ _ (numbers_of x.listed) (λ i. eq_turn j i)))
     ∙ e)
     (numbered (λ (o : OrderRow). o.number) (λ x. lists x j) 1 T.orders ordered.orders.0)
 
@@ -355,11 +329,11 @@ authorizations_listed : (T : Tables) (test : OrderRow → Bool) (rows : List Ord
     IsFound of_authorization (λ r. list_any (λ o. test o && lists o r.number) T.orders) T.authorizations (listed_authorizations T rows)
 authorizations_listed T test rows h is =
     found_same of_authorization _ _ T.authorizations (listed_authorizations T rows)
-    (each_all _ T.authorizations (λ r. is.tests (λ o. list_any (λ n. r.number == n) (listed_by T o.number))
-    ∙ any_each _ _ T.orders (each _ _ T.orders (λ o e. ap (λ b. test o && b) e) (listed_found T h r.number))))
-    (found_by of_authorization (λ (o : OrderRow) r. list_any (λ n. r.number == n) (listed_by T o.number))
-    (λ o. flat_map (authorizations_numbered T) (listed_by T o.number)) T.authorizations
-    (λ o. authorizations_at T h (listed_by T o.number)) rows)
+    (each_all _ T.authorizations (λ r. is.tests (λ o. list_any (λ n. r.number == n) (numbers_of o.listed))
+    ∙ list_any-same _ _ T.orders (λ o. ap (λ b. test o && b) (list_any-same _ _ (numbers_of o.listed) (λ n. eq_turn r.number n)))))
+    (found_by of_authorization (λ (o : OrderRow) r. list_any (λ n. r.number == n) (numbers_of o.listed))
+    (λ o. flat_map (authorizations_numbered T) (numbers_of o.listed)) T.authorizations
+    (λ o. authorizations_at T h (numbers_of o.listed)) rows)
 
 authorizations_found : (T : Tables) (m : ℕ) (a : Ask) → IsOrdered T
     → IsFound of_authorization (is_touched_authorization T m a) T.authorizations (found_authorizations T m a)

@@ -2,6 +2,7 @@
 use Rattle.std.specs.Prelude.{ℕ, ◌-◌, max, List, [], ◌∷◌, ◌++◌, if◌then◌else◌, Option, Some, None, Ok, Err, option_and_then}
 use Rattle.std.specs.List.{flat_map}
 use Rattle.desk_model.specs.Change.{put}
+use Rattle.desk_model.specs.Derived.{numbers_of}
 use Rattle.desk_model.specs.Tables.{Tables}
 use Rattle.desk_model.specs.Tokens.{NonceText, nonce_in}
 use Rattle.desk_model.specs.declared.call.Ask.{Ask}
@@ -17,7 +18,7 @@ use Rattle.desk_model.specs.declared.rows.OrderRow.{OrderRow}
 use Rattle.desk_model.specs.declared.status.AuthzStatus.TheVariants as authz
 use Rattle.desk_model.specs.declared.status.OrderStatus.TheVariants as order
 use Rattle.desk_parts.specs.LookUps.{accounts_numbered, accounts_with_key, authorizations_numbered, authorizations_of}
-use Rattle.desk_parts.specs.LookUps.{authorizations_past, listed_by, nonces_before, nonces_numbered, orders_listing}
+use Rattle.desk_parts.specs.LookUps.{authorizations_past, nonces_before, nonces_numbered, orders_listing}
 use Rattle.desk_parts.specs.LookUps.{orders_numbered, orders_of, orders_past, owners_of}
 use Rattle.desk_model.specs.Asked.{asks_authorizations, asks_orders}
 use Rattle.desk_model.specs.Touched.{only_meta}
@@ -133,7 +134,7 @@ found_orders T m a = (named_orders T a ++ (own_orders T a ++ past_orders T m)) +
 
 -- the authorizations that these orders list
 abbrev pub listed_authorizations : Tables → List OrderRow → List AuthorizationRow
-listed_authorizations T rows = flat_map (λ o. flat_map (authorizations_numbered T) (listed_by T o.number)) rows
+listed_authorizations T rows = flat_map (λ o. flat_map (authorizations_numbered T) (numbers_of o.listed)) rows
 
 abbrev pub found_authorizations : Tables → ℕ → Ask → List AuthorizationRow
 found_authorizations T m a = first_authorizations T m a ++ listed_authorizations T (orders_once (found_orders T m a))

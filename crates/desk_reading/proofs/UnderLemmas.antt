@@ -17,7 +17,7 @@ use Rattle.desk_model.specs.declared.rows.AuthorizationRow.{AuthorizationRow}
 use Rattle.desk_model.specs.declared.rows.ChallengeRow.{ChallengeRow}
 use Rattle.desk_model.specs.declared.rows.Listed.{Listed}
 use Rattle.desk_model.specs.declared.rows.OrderRow.{OrderRow}
-use Rattle.desk_parts.specs.LookUps.{challenges, listed_by, orders_listing, owners_of, places}
+use Rattle.desk_parts.specs.LookUps.{challenges, orders_listing, owners_of, places}
 use Rattle.stored_rows.specs.Nesting.{child_rows}
 use Rattle.desk_reading.specs.Under.{HasItsChallenges, HasItsListed, rows_under}
 use Rattle.desk_reading.proofs.Lists.{filter-map, map-map}
@@ -136,13 +136,6 @@ picked_of pair test part as' ps are =
 -- the orders that list an authorization
 pub listing_is : (T : Tables) (n : ℕ) → map (λ (l : Owned Listed). l.owner) (filter (λ l. l.row.authorization == n) (listed_rows T.orders)) ≡ orders_listing T n
 listing_is T n = sym (picked_of (λ (l : Owned Listed). (l.owner, l.row.authorization)) (λ p. p.1 == n) (λ p. p.0) (listed_rows T.orders) (places T)
-    (places_are T.orders))
-
--- the authorizations that an order lists
-pub listed_is : (T : Tables) (n : ℕ) → map (λ l. l.authorization) (rows_under n (listed_rows T.orders)) ≡ listed_by T n
-listed_is T n =
-    map-map (λ (l : Listed). l.authorization) (λ l. l.row) (filter (λ l. l.owner == n) (listed_rows T.orders))
-    ∙ sym (picked_of (λ (l : Owned Listed). (l.owner, l.row.authorization)) (λ p. p.0 == n) (λ p. p.1) (listed_rows T.orders) (places T)
     (places_are T.orders))
 
 -- the authorization of a challenge

@@ -27,7 +27,7 @@ pub use format::is_newer;
 pub use meta::meta_row;
 pub use nonces::{all_nonces, nonces_before, nonces_numbered};
 pub use orders::{
-    all_orders, listed_by, order_above, orders_listing, orders_numbered, orders_of, orders_past,
+    all_orders, order_above, orders_listing, orders_numbered, orders_of, orders_past,
 };
 pub use stored::load_stored;
 pub use tables::{

@@ -6,7 +6,7 @@ ghost use Rattle.desk_columns.specs.Flat.{listed_rows, without_listed};
 ghost use Rattle.desk_model.specs.Kept.{EachOf};
 ghost use Rattle.desk_model.specs.declared.rows.OrderRow.{OrderRow as Row};
 ghost use Rattle.desk_parts.specs.Above.{first_of, orders_above};
-ghost use Rattle.desk_parts.specs.LookUps.{listed_by, orders_listing, orders_numbered, orders_of, orders_past};
+ghost use Rattle.desk_parts.specs.LookUps.{orders_listing, orders_numbered, orders_of, orders_past};
 ghost use Rattle.desk_schema.specs.Stays.{Asks};
 ghost use Rattle.desk_reading.specs.Held.{ForHeld};
 ghost use Rattle.desk_reading.specs.StoredBook.{IsStoredBook};
@@ -20,7 +20,7 @@ use crate::tables::order_table;
 use desk_columns::{OrderAuthzColumns, OrderColumns};
 use desk_model::{Listed, OrderRow, OrderStatus, Sequence};
 use sqlite::{Alter, Connection};
-use std::alloc::{AllocError, Global};
+use std::alloc::Global;
 
 // What the order of a number lists. It fails as `find_rows` does.
 fn listed_under<S: Alter>(
@@ -183,34 +183,6 @@ pub fn orders_listing<S: Alter>(
         &params,
     )?;
     Ok(owners(alloc, rows)?)
-}
-
-fn authorizations_of(alloc: Global, rows: Vec<Listed>) -> Result<Vec<u64>, AllocError>
-    ensures { IfOk result (λ numbers. numbers.items ≡ map (λ l. l.authorization) rows.items) }
-{
-    let mut numbers = Vec::new(alloc);
-    for row in rows {
-        numbers.push(row.authorization)?;
-    }
-    Ok(numbers)
-}
-
-/// The numbers of the authorizations that an order lists.
-///
-/// # Errors
-///
-/// The engine's, and `NotARow` where a row is not one of a desk; nothing is changed.
-pub fn listed_by<S: Alter>(
-    alloc: Global,
-    conn: &mut Connection<S>,
-    order: u64,
-) -> Result<Vec<u64>, ReadFault>
-    ensures found { ForHeld (state S.Store conn.old) (state S.Store conn.new) (λ T. IsStoredBook T → IfOk result (λ rows. rows.items ≡ listed_by T order)) }
-    ensures unchanged { HasCleanDisk (state S.Store conn.new) → OnOk result (IsUnchanged (state S.Store conn.old) (state S.Store conn.new)) }
-    ensures asks { Asks (state S.Store conn.old) (state S.Store conn.new) }
-{
-    let listed = listed_under(alloc, conn, order)?;
-    Ok(authorizations_of(alloc, listed)?)
 }
 
 /// The order of the least number above this one, if there is one.

@@ -131,11 +131,6 @@ impl<S: Alter> LookUps for Store<S> {
         self.told(read)
     }
 
-    fn listed_by(&mut self, alloc: Global, order: u64) -> Result<Vec<u64>, StorageFault> {
-        let read = rows::listed_by(alloc, &mut self.conn, order);
-        self.told(read)
-    }
-
     fn owners_of(&mut self, alloc: Global, challenge: u64) -> Result<Vec<u64>, StorageFault> {
         let read = rows::owners_of(alloc, &mut self.conn, challenge);
         self.told(read)

@@ -1,8 +1,9 @@
 use Rattle.std.proofs.Common.{rules, ap}
 use Rattle.std.specs.List.{flat_map}
+use Rattle.desk_model.specs.Derived.{numbers_of}
 use Rattle.desk_model.specs.declared.rows.AuthorizationRow.{AuthorizationRow}
 use Rattle.desk_model.specs.declared.rows.OrderRow.{OrderRow}
-use Rattle.desk_parts.specs.LookUps.{authorizations_numbered, listed_by}
+use Rattle.desk_parts.specs.LookUps.{authorizations_numbered}
 use Rattle.desk_loading.proofs.Gathered.{gathered}
 use Rattle.desk_loading.proofs.gathering.put_listed.Goals as goal
 
@@ -10,12 +11,10 @@ pub loop-order-preserved : goal.loop-order-preserved
 loop-order-preserved g c = record {
   stands = search rules;
   found = λ honest T held.
-      let put_so_far = c.in_ok-put_authorizations.ensures.reads.honest honest in
-      let so_far = c.in_ok-numbers.ensures.reads.honest put_so_far in
+      let so_far = c.in_ok-put_places.ensures.reads.honest honest in
       let has = c.loop-order.invariant.stands.tables so_far T held in
-      gathered (λ (a : AuthorizationRow). a.number) (λ (o : OrderRow). flat_map (authorizations_numbered T) (listed_by T o.number))
+      gathered (λ (a : AuthorizationRow). a.number) (λ (o : OrderRow). flat_map (authorizations_numbered T) (numbers_of o.listed))
       c.in-Some.order.now _ _ _ _ _ _ c.in-Some.ensures.steps
-      (ap (flat_map (authorizations_numbered T)) (c.in_ok-numbers.ensures.found put_so_far T has))
-      (c.in_ok-put_authorizations.ensures.found honest T (c.in_ok-numbers.ensures.reads.tables put_so_far T has))
+      (ap (λ l. flat_map (authorizations_numbered T) (numbers_of l)) c.as_slice.ensures) (c.in_ok-put_places.ensures.found honest T has)
       (c.loop-order.invariant.found so_far T held);
 }

@@ -1,0 +1,28 @@
+use Rattle.std.proofs.Common.{rules, ◌∙◌, add-one, ap, arith, drop-cons, sym}
+use Rattle.std.specs.List.{flat_map}
+use Rattle.std.proofs.lemmas.List.{drop_all}
+use Rattle.desk_model.specs.Derived.{numbers_of}
+use Rattle.desk_model.specs.declared.rows.AuthorizationRow.{AuthorizationRow}
+use Rattle.desk_parts.specs.Loaded.{all_put}
+use Rattle.desk_parts.specs.LookUps.{authorizations_numbered}
+use Rattle.desk_loading.proofs.Gathered.{gathered}
+use Rattle.desk_loading.proofs.gathering.put_places.Goals as goal
+
+pub loop-place-preserved : goal.loop-place-preserved
+loop-place-preserved g c = record {
+  stands = search rules;
+  found = λ honest T held.
+      let so_far = c.in_ok-rows.ensures.reads.honest honest in
+      rw (add-one c.loop-place.place-index)
+      (gathered (λ (a : AuthorizationRow). a.number) (authorizations_numbered T) _ _ _ _ _ _ _
+      (ap numbers_of (drop-cons c.args.places.now c.loop-place.place-index _ (omega arith)))
+      (c.in_ok-rows.ensures.found honest T (c.loop-place.invariant.stands.tables so_far T held))
+      c.in_ok-put_all.ensures
+      (c.loop-place.invariant.found so_far T held));
+}
+
+pub returns-clause-found : goal.returns-clause-found
+returns-clause-found g c honest T held =
+    ap (λ l. all_put (λ (a : AuthorizationRow). a.number) (flat_map (authorizations_numbered T) (numbers_of l)) c.loop-place.authorizations)
+    (sym (drop_all c.loop-place.place-index c.args.places.now (omega arith)))
+    ∙ c.loop-place.invariant.found honest T held
