@@ -68,7 +68,7 @@ fn show_order(alloc: Global, book: &Book, row: &OrderRow) -> Result<Reply, Alloc
     ensures { IfOk result (λ r. (T : Tables) → IsNamedAs T book.now → row.now.expires ≤ last_end → r ≡ order_reply 200 T row.now) }
 {
     let names = order_names(alloc, book, row)?;
-    let reply = order_reply(alloc, &book.meta().policy, 200, row, &names)?;
+    let reply = order_reply(alloc, &book.meta().policy, row, &names)?;
     Ok(reply)
 }
 
@@ -162,7 +162,7 @@ fn show_at(alloc: Global, book: &Book, at: &At, shows: Shows) -> Result<Reply, A
 {
     match shows {
         Shows::List(listing) => list_reply(alloc, at, listing),
-        Shows::Account(number) => account_reply(alloc, at.policy(), 200, account_at(at, number)),
+        Shows::Account(number) => account_reply(alloc, at.policy(), account_at(at, number)),
         Shows::KnownAccount(number) => {
             located_account(alloc, at.policy(), 200, account_at(at, number))
         }
@@ -202,10 +202,10 @@ pub(crate) fn show_moved(
     let policy = &book.meta().policy;
     match moved {
         Move::ContactsChanged(number, _) => {
-            account_reply(alloc, policy, 200, &rows.account(*number).unwrap())
+            account_reply(alloc, policy, &rows.account(*number).unwrap())
         }
         Move::AccountEnded(number, _) => {
-            account_reply(alloc, policy, 200, &rows.account(*number).unwrap())
+            account_reply(alloc, policy, &rows.account(*number).unwrap())
         }
         Move::Answered(number) => {
             show_client_challenge(alloc, policy, *number, &rows.owner(*number).unwrap())

@@ -3,7 +3,6 @@ ghost use Rattle.std.specs.Prelude.{◌≡◌, IfOk};
 ghost use Rattle.serde_json.specs.View.{view};
 ghost use Rattle.desk_model.specs.Document.{directory, account_document};
 
-pub(crate) use crate::urls::account_url;
 use crate::urls::{orders_url, url};
 use desk_model::{AccountRow, Document, Policy};
 use json_values::text_list;

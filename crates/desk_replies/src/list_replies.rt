@@ -24,5 +24,5 @@ pub fn list_reply(alloc: Global, at: &At, listing: Listing) -> Result<Reply, All
         Listing::ChallengeWork => challenge_work(alloc, at)?,
         Listing::OrderWork => order_work(alloc, at)?,
     };
-    Ok(json_reply(200, document))
+    Ok(json_reply(document))
 }

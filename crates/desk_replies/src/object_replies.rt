@@ -2,7 +2,7 @@
 ghost use Rattle.std.specs.Prelude.{◌≡◌, ◌≤◌, map, IfOk, Some};
 ghost use Rattle.desk_model.specs.Limits.{last_end};
 ghost use Rattle.desk_model.specs.Document.{authorization_url, key_document, listed_rows};
-ghost use Rattle.desk_model.specs.Shown.{account_reply, authorization_reply, below, certificate_reply, challenge_reply, located_order, ok, order_reply};
+ghost use Rattle.desk_model.specs.Shown.{account_reply, authorization_reply, below, certificate_reply, challenge_reply, located_account, located_order, ok, order_reply};
 ghost use Rattle.desk_model.specs.Tables.{Tables};
 ghost use Rattle.desk_replies.specs.Shown.{HasDatedReport, HasMoments};
 
@@ -10,7 +10,7 @@ use crate::authorization_documents::{authorization_document, challenge_document}
 use crate::documents::account_document;
 use crate::key_documents::key_document;
 use crate::order_documents::order_document;
-use crate::urls::{authorization_url, order_url};
+use crate::urls::{account_url, authorization_url, order_url};
 use desk_model::{
     AccountRow, AuthorizationRow, Body, ChallengeRow, DatedBytes, DnsName, Document, OrderRow,
     Policy, Reply, Text,
@@ -18,11 +18,11 @@ use desk_model::{
 use std::alloc::{AllocError, Global};
 
 /// A reply with a document.
-pub(crate) fn json_reply(status: u16, document: Document) -> Reply
-    ensures { result ≡ ok status document }
+pub(crate) fn json_reply(document: Document) -> Reply
+    ensures { result ≡ ok 200 document }
 {
     Reply {
-        status,
+        status: 200,
         location: None,
         up: None,
         nonce: None,
@@ -35,16 +35,33 @@ pub(crate) fn json_reply(status: u16, document: Document) -> Reply
 /// # Errors
 ///
 /// Where there is no memory for the document.
-pub fn account_reply(
+pub fn account_reply(alloc: Global, policy: &Policy, row: &AccountRow) -> Result<Reply, AllocError>
+    ensures { IfOk result (λ r. (T : Tables) → T.meta.policy ≡ policy.now → r ≡ account_reply 200 T row.now) }
+{
+    let document = account_document(alloc, policy, row)?;
+    Ok(json_reply(document))
+}
+
+/// The reply with an account and its Location (RFC 8555, 7.3).
+///
+/// # Errors
+///
+/// Where there is no memory for the document or the URL.
+pub fn located_account(
     alloc: Global,
     policy: &Policy,
     status: u16,
     row: &AccountRow,
 ) -> Result<Reply, AllocError>
-    ensures { IfOk result (λ r. (T : Tables) → T.meta.policy ≡ policy.now → r ≡ account_reply status T row.now) }
+    ensures { IfOk result (λ r. (T : Tables) → T.meta.policy ≡ policy.now → r ≡ located_account status T row.now) }
 {
-    let document = account_document(alloc, policy, row)?;
-    Ok(json_reply(status, document))
+    let location = account_url(alloc, policy, row.number)?;
+    let reply = account_reply(alloc, policy, row)?;
+    Ok(Reply {
+        status,
+        location: Some(Text::new(location)),
+        ..reply
+    })
 }
 
 /// The reply with an order whose authorizations have these names (RFC 8555, 7.1.3).
@@ -55,15 +72,14 @@ pub fn account_reply(
 pub fn order_reply(
     alloc: Global,
     policy: &Policy,
-    status: u16,
     row: &OrderRow,
     names: &[DnsName],
 ) -> Result<Reply, AllocError>
     ensures { IfOk result (λ r. (T : Tables) → T.meta.policy ≡ policy.now → map (λ a. a.name) (listed_rows T row.now) ≡ names.now
-        → row.now.expires ≤ last_end → r ≡ order_reply status T row.now) }
+        → row.now.expires ≤ last_end → r ≡ order_reply 200 T row.now) }
 {
     let document = order_document(alloc, policy, row, names)?;
-    Ok(json_reply(status, document))
+    Ok(json_reply(document))
 }
 
 /// The reply with an order and its Location (RFC 8555, 7.4).
@@ -82,8 +98,9 @@ pub fn located_order(
         → row.now.expires ≤ last_end → r ≡ located_order status T row.now) }
 {
     let location = order_url(alloc, policy, row.number)?;
-    let reply = order_reply(alloc, policy, status, row, names)?;
+    let reply = order_reply(alloc, policy, row, names)?;
     Ok(Reply {
+        status,
         location: Some(Text::new(location)),
         ..reply
     })
@@ -120,7 +137,7 @@ pub fn authorization_reply(
     ensures { IfOk result (λ r. (T : Tables) → T.meta.policy ≡ policy.now → HasMoments row.now → r ≡ authorization_reply T row.now) }
 {
     let document = authorization_document(alloc, policy, row)?;
-    Ok(json_reply(200, document))
+    Ok(json_reply(document))
 }
 
 /// The reply with a challenge (RFC 8555, 8).
@@ -136,7 +153,7 @@ pub fn challenge_reply(
     ensures { IfOk result (λ r. (T : Tables) → T.meta.policy ≡ policy.now → HasDatedReport row.now.reported → r ≡ challenge_reply T row.now) }
 {
     let document = challenge_document(alloc, policy, row)?;
-    Ok(json_reply(200, document))
+    Ok(json_reply(document))
 }
 
 /// The reply with a challenge to its client, which names the authorization of this number (RFC 8555, 7.5.1).
@@ -170,5 +187,5 @@ pub fn key_reply(alloc: Global, row: &AccountRow) -> Result<Reply, AllocError>
     ensures { IfOk result (λ r. r ≡ ok 200 (key_document row.now.key)) }
 {
     let document = key_document(alloc, &row.key)?;
-    Ok(json_reply(200, document))
+    Ok(json_reply(document))
 }

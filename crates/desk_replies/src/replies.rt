@@ -1,12 +1,10 @@
 //! Replies (RFC 8555, 6.5, 6.7, 7).
 ghost use Rattle.std.specs.Prelude.{◌≡◌, ◌<◌, IfOk};
 ghost use Rattle.desk_model.specs.Tokens.{nonce_text};
-ghost use Rattle.desk_model.specs.Shown.{refusal_reply, nonce_reply, with_nonce, located_account, plain};
+ghost use Rattle.desk_model.specs.Shown.{refusal_reply, nonce_reply, with_nonce, plain};
 ghost use Rattle.desk_model.specs.declared.reply.Body.TheVariants.{Empty};
-ghost use Rattle.desk_model.specs.Tables.{Tables};
 
-use crate::documents::{account_document, account_url};
-use desk_model::{AccountRow, Allow, Body, Policy, Refusal, Reply, Sequence, Subproblem, Text};
+use desk_model::{Allow, Body, Refusal, Reply, Sequence, Subproblem, Text};
 use std::alloc::{AllocError, Global};
 
 /// A refusal; `index` says whether the reply has the link to the directory.
@@ -40,30 +38,6 @@ pub fn with_nonce(
     Ok(Reply {
         nonce: Some(Text::new(text)),
         ..reply
-    })
-}
-
-/// An account with its Location.
-///
-/// # Errors
-///
-/// Where there is no memory for the document or the URL.
-pub fn located_account(
-    alloc: Global,
-    policy: &Policy,
-    status: u16,
-    row: &AccountRow,
-) -> Result<Reply, AllocError>
-    ensures { IfOk result (λ r. (T : Tables) → T.meta.policy ≡ policy.now → r ≡ located_account status T row.now) }
-{
-    let location = account_url(alloc, policy, row.number)?;
-    let document = account_document(alloc, policy, row)?;
-    Ok(Reply {
-        status,
-        location: Some(Text::new(location)),
-        up: None,
-        nonce: None,
-        body: Body::Json(document),
     })
 }
 
