@@ -1,5 +1,5 @@
 -- What each arm of a verdict records and shows is what the verdict does.
-use Rattle.std.proofs.Common.{◌≡◌, ◌++◌, ◌∷◌, [], ℕ, Bool, List, Result, Ok, Err, OnOk, ap, subst, sym}
+use Rattle.std.proofs.Common.{◌≡◌, ◌++◌, ◌∷◌, [], ℕ, true, false, List, Result, Ok, Err, OnOk, refl, ap, subst, sym}
 use Rattle.desk_laws.specs.Ordered.{IsOrdered}
 use Rattle.desk_model.specs.Decide.{entries_of, verdict_reply}
 use Rattle.desk_model.specs.Effect.{effects, swept}
@@ -12,7 +12,7 @@ use Rattle.desk_model.specs.declared.moves.Move.{Move}
 use Rattle.desk_model.specs.declared.reply.Reply.{Reply}
 use Rattle.desk_model.specs.declared.rows.Change.{Change}
 use Rattle.desk_model.specs.declared.verdict.Verdict.{Verdict}
-use Rattle.desk_model.specs.declared.verdict.Verdict.TheVariants.{Moves as moves}
+use Rattle.desk_model.specs.declared.verdict.Verdict.TheVariants.{Refused as refused, Answers as answers, Opens as opens, Orders as orders, Moves as moves}
 use Rattle.desk_changes.specs.Recorded.{IsAt, IsRecorded, IsUntouched}
 use Rattle.desk_decisions.specs.HasTexts.{HasTexts}
 use Rattle.desk_decisions.proofs.ActingRows.{same_entries}
@@ -23,10 +23,10 @@ Records B done C after D v =
     (m : ℕ) (es : List Entry) → IsOrdered B → IsUntouched m B es → IsRecorded m B es done C → IsRecorded m B (es ++ entries_of v) after D
 
 -- the reply is that of the verdict
-abbrev pub Replies : Bool → Tables → Counters → Verdict → Reply → Type 0
-Replies index B C v r =
+abbrev pub Replies : Tables → Counters → Verdict → Reply → Type 0
+Replies B C v r =
     (m : ℕ) → IsAt m B C → IsOrdered B → HasTexts (effects m (swept m B) (entries_of v))
-    → r ≡ verdict_reply index (effects m (swept m B) (entries_of v)) v
+    → r ≡ verdict_reply true (effects m (swept m B) (entries_of v)) v
 
 -- a verdict without an entry records nothing
 pub records_nothing : (B : Tables) (done : List Change) (C : Counters) (v : Verdict) → ((es : List Entry) → es ++ entries_of v ≡ es) → Records B done C done C v
@@ -42,8 +42,16 @@ where_answered (Ok x) p = p
 where_answered (Err e) p = tt
 
 -- what is shown of a move at the moment of the counters is its reply
-pub replies_move : (index : Bool) (B : Tables) (C : Counters) (v : Move) (r : Reply)
+pub replies_move : (B : Tables) (C : Counters) (v : Move) (r : Reply)
     → (HasTexts (effects C.clock (swept C.clock B) (entry_of v ∷ [])) → r ≡ moved_reply (effects C.clock (swept C.clock B) (entry_of v ∷ [])) v)
-    → Replies index B C (moves v) r
-replies_move index B C v r said m at ordered =
+    → Replies B C (moves v) r
+replies_move B C v r said m at ordered =
     subst (λ n. HasTexts (effects n (swept n B) (entry_of v ∷ [])) → r ≡ moved_reply (effects n (swept n B) (entry_of v ∷ [])) v) (clock_at m B C at) said
+
+-- the link to the directory is no matter where something is recorded
+pub linked : (T : Tables) (v : Verdict) (e : Entry) (es : List Entry) → entries_of v ≡ e ∷ es → verdict_reply true T v ≡ verdict_reply false T v
+linked T (refused why subproblems) e es is = cc is
+linked T (answers what) e es is = refl
+linked T (opens key contacts) e es is = refl
+linked T (orders account wanted) e es is = refl
+linked T (moves move) e es is = refl

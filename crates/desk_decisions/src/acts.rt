@@ -1,5 +1,5 @@
 //! What a verdict records and shows.
-ghost use Rattle.std.specs.Prelude.{◌≡◌, ◌++◌, ◌∷◌, [], ◌<◌, ◌≤◌, ◌+◌, ℕ, List, length, map, IfOk, OnOk};
+ghost use Rattle.std.specs.Prelude.{◌≡◌, ◌++◌, ◌∷◌, [], ◌<◌, ◌≤◌, ◌+◌, ℕ, List, true, length, map, IfOk, OnOk};
 ghost use Rattle.desk_model.specs.Limits.{last_end, last_number};
 ghost use Rattle.desk_laws.specs.Ordered.{IsOrdered};
 ghost use Rattle.desk_model.specs.Decide.{entries_of, verdict_reply};
@@ -116,13 +116,12 @@ fn act_on_order(
     Ok(reply)
 }
 
-/// What a verdict records, and its reply without a nonce; `index` says whether a refusal has the link to the directory.
+/// What a verdict records, and its reply without a nonce; a refusal has the link to the directory.
 pub(crate) fn act(
     alloc: Global,
     book: &Book,
     recording: &mut Recording,
     verdict: Verdict,
-    index: bool,
 ) -> Result<Reply, AllocError>
     requires numbers { NumbersLeft recording.old.counters verdict }
     requires there { NamesRows (swept recording.old.counters.clock book.now) verdict }
@@ -131,13 +130,13 @@ pub(crate) fn act(
         → IsRecorded m book.now (es ++ entries_of verdict) recording.new.changes.items recording.new.counters) }
     ensures reply { IfOk result (λ r. (m : ℕ) → IsAt m book.now recording.old.counters → IsOrdered book.now
         → HasTexts (effects m (swept m book.now) (entries_of verdict))
-        → r ≡ verdict_reply index (effects m (swept m book.now) (entries_of verdict)) verdict) }
+        → r ≡ verdict_reply true (effects m (swept m book.now) (entries_of verdict)) verdict) }
 {
     match verdict {
         Verdict::Refused {
             refusal,
             subproblems,
-        } => Ok(refusal_reply(refusal, subproblems, index)),
+        } => Ok(refusal_reply(refusal, subproblems, true)),
         Verdict::Answers(shows) => show(alloc, book, recording.counters.clock.moment(), shows),
         Verdict::Opens(key, contacts) => act_on_account(alloc, book, recording, key, contacts),
         Verdict::Orders(account, wanted) => {

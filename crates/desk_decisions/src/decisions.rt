@@ -129,7 +129,7 @@ fn act_with_nonce(
         → r ≡ with_nonce (nonce_text (book.now.meta.counters.nonces + 1) random)
         (verdict_reply true (effects m (swept m book.now) (entries_of verdict)) verdict)) }
 {
-    let reply = act(alloc, book, recording, verdict, true)?;
+    let reply = act(alloc, book, recording, verdict)?;
     let reply = with_nonce(alloc, book.meta().counters.nonces + 1, random, reply)?;
     Ok(reply)
 }
@@ -234,11 +234,12 @@ fn recorded(
     requires there { NamesRows (swept moment book.now) verdict }
     ensures changes { IfOk result (λ o. IsOrdered book.now → (e : EntryOf) (es : List EntryOf) → entries_of verdict ≡ e ∷ es
         → o.changes.items ≡ recorded_changes moment book.now (entries_of verdict)) }
-    ensures reply { IfOk result (λ o. IsOrdered book.now → HasTexts (effects moment (swept moment book.now) (entries_of verdict))
+    ensures reply { IfOk result (λ o. IsOrdered book.now → (e : EntryOf) (es : List EntryOf) → entries_of verdict ≡ e ∷ es
+        → HasTexts (effects moment (swept moment book.now) (entries_of verdict))
         → o.reply ≡ verdict_reply false (effects moment (swept moment book.now) (entries_of verdict)) verdict) }
 {
     let mut recording = Recording::begin(alloc, book, moment)?;
-    let reply = act(alloc, book, &mut recording, verdict, false)?;
+    let reply = act(alloc, book, &mut recording, verdict)?;
     let changes = recording.finish(&book.meta().policy)?;
     Ok(Outcome { changes, reply })
 }

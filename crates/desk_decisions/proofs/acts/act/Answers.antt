@@ -16,7 +16,7 @@ returns-in-Refused-clause-recorded c =
 
 pub returns-in-Refused-clause-reply : goal.returns-in-Refused-clause-reply
 returns-in-Refused-clause-reply c =
-    subst (λ v. Replies c.args.index c.args.book.now c.args.recording.now.counters v c.refusal_reply.result) (sym c.in-Refused.is)
+    subst (λ v. Replies c.args.book.now c.args.recording.now.counters v c.refusal_reply.result) (sym c.in-Refused.is)
     (λ m at ordered texts. c.refusal_reply.ensures)
 
 pub returns-in-Answers-clause-recorded : goal.returns-in-Answers-clause-recorded
@@ -32,7 +32,7 @@ returns-in-Answers-clause-reply c =
     let book = c.args.book.now in
     let counters = c.args.recording.now.counters in
     let shows = c.in-Answers.shows in
-    subst (λ v. IfOk c.show.result (Replies c.args.index book counters v)) (sym c.in-Answers.is)
+    subst (λ v. IfOk c.show.result (Replies book counters v)) (sym c.in-Answers.is)
     (ok_so c.show.result
     (λ r said m at ordered. subst (λ n. HasTexts (swept n book) → r ≡ reply_of (swept n book) shows) (c.moment.ensures.same ∙ clock_at m book counters at) said)
     c.show.ensures)
@@ -47,7 +47,7 @@ returns-in-Opens-clause-recorded c =
 
 pub returns-in-Opens-clause-reply : goal.returns-in-Opens-clause-reply
 returns-in-Opens-clause-reply c =
-    subst (λ v. IfOk c.act_on_account.result (Replies c.args.index c.args.book.now c.args.recording.now.counters v)) (sym c.in-Opens.is)
+    subst (λ v. IfOk c.act_on_account.result (Replies c.args.book.now c.args.recording.now.counters v)) (sym c.in-Opens.is)
     (ok_so c.act_on_account.result (λ _ it m at ordered texts. it m at ordered) c.act_on_account.ensures.reply)
 
 pub returns-in_ok-reply-in-Orders-clause-recorded : goal.returns-in_ok-reply-in-Orders-clause-recorded
@@ -60,7 +60,7 @@ returns-in_ok-reply-in-Orders-clause-recorded c =
 
 pub returns-in_ok-reply-in-Orders-clause-reply : goal.returns-in_ok-reply-in-Orders-clause-reply
 returns-in_ok-reply-in-Orders-clause-reply c =
-    subst (λ v. Replies c.args.index c.args.book.now c.args.recording.now.counters v c.in_ok-reply-in-Orders.reply)
+    subst (λ v. Replies c.args.book.now c.args.recording.now.counters v c.in_ok-reply-in-Orders.reply)
     (ap (orders c.in-Orders.account) c.as_slice.ensures ∙ sym c.in-Orders.is)
     c.in_ok-reply-in-Orders.ensures.reply
 
@@ -75,5 +75,5 @@ pub returns-in_ok-reply-in-Moves-clause-reply : goal.returns-in_ok-reply-in-Move
 returns-in_ok-reply-in-Moves-clause-reply c =
     let book = c.args.book.now in
     let counters = c.args.recording.now.counters in
-    subst (λ v. Replies c.args.index book counters v c.in_ok-reply-in-Moves.reply) (sym c.in-Moves.is)
-    (replies_move c.args.index book counters c.in-Moves.moved c.in_ok-reply-in-Moves.reply c.in_ok-reply-in-Moves.ensures.reply)
+    subst (λ v. Replies book counters v c.in_ok-reply-in-Moves.reply) (sym c.in-Moves.is)
+    (replies_move book counters c.in-Moves.moved c.in_ok-reply-in-Moves.reply c.in_ok-reply-in-Moves.ensures.reply)

@@ -1,7 +1,10 @@
 use Rattle.std.proofs.Common.{[], ap, sym, ◌∙◌}
 use Rattle.desk_model.specs.Change.{recorded_changes}
+use Rattle.desk_model.specs.Decide.{entries_of}
+use Rattle.desk_model.specs.Effect.{effects, swept}
 use Rattle.desk_model.specs.declared.rows.Meta.{Meta}
 use Rattle.desk_changes.specs.Recorded.{IsAt}
+use Rattle.desk_decisions.proofs.Acting.{linked}
 use Rattle.desk_decisions.proofs.ActingRows.{at_begun, same_entries}
 use Rattle.desk_changes.proofs.Moving.{untouched_none}
 use Rattle.desk_decisions.proofs.decisions.recorded.Goals as goal
@@ -21,5 +24,6 @@ returns-clause-changes c =
 
 pub returns-clause-reply : goal.returns-clause-reply
 returns-clause-reply c =
-    λ ordered texts.
+    λ ordered e es is texts.
     c.in_ok-reply.ensures.reply c.args.moment (begun_at c) ordered texts
+    ∙ linked (effects c.args.moment (swept c.args.moment c.args.book.now) (entries_of c.args.verdict)) c.args.verdict e es is
