@@ -9,7 +9,7 @@ use Rattle.desk_model.specs.Entry.{History}
 use Rattle.desk_model.specs.Contact.{contacts_pass}
 use Rattle.desk_model.specs.Nonce.{nonces, is_open}
 use Rattle.desk_model.specs.Account.{accounts, is_valid as is_valid_account}
-use Rattle.desk_model.specs.Authorization.{authorizations, authorization_of, has_challenge, authorization_status, challenge_status, is_pending, is_valid}
+use Rattle.desk_model.specs.Authorization.{authorizations, authorization_of, has_challenge, authorization_status, challenge_status, is_live, is_pending}
 use Rattle.desk_model.specs.Order.{orders, is_ready, is_processing}
 use Rattle.desk_model.specs.History.{clock}
 use Rattle.desk_model.specs.Legal.{EachFollows, IsFormed, may_follow, is_pending_challenge, is_processing_challenge, has_length}
@@ -148,7 +148,7 @@ allowed F (ordered n ws) m h =
 allowed F (answered n) m h = challenge_allowed F m is_pending_challenge n
 allowed F (reported n o) m h = challenge_allowed F m is_processing_challenge n
 allowed F (authorization_ended n s) m h =
-    sym (row_holds (λ a. is_pending a.status || is_valid a.status) (λ a. a.number == n) (authorization_row F m) (authorizations F))
+    sym (row_holds (λ a. is_live a.status) (λ a. a.number == n) (authorization_row F m) (authorizations F))
 allowed F (finalized n csr) m h =
     ap (λ b. b && has_length 1 longest_csr csr) (sym (row_holds (λ o. is_ready o.status) (λ o. o.number == n) (order_row F m) (orders F)))
 allowed F (certified n c) m h =

@@ -1,12 +1,12 @@
 -- What may follow by a part is what may follow by the whole, where the rows that the test reads are kept.
 use Rattle.std.proofs.Common.{◌≡◌, map, refl, ap}
-use Rattle.std.specs.Prelude.{◌==◌, ◌&&◌, ◌||◌, is_some, is_none, find, bytes_eq}
+use Rattle.std.specs.Prelude.{◌==◌, ◌&&◌, is_some, is_none, find, bytes_eq}
 use Rattle.std.specs.List.{list_all}
 use Rattle.desk_model.specs.Limits.{longest_certificate, longest_csr, most_names}
 use Rattle.desk_model.specs.Lookup.{holds}
 use Rattle.desk_model.specs.Contact.{contacts_pass}
 use Rattle.desk_model.specs.Account.{is_valid as is_valid_account}
-use Rattle.desk_model.specs.Authorization.{is_pending, is_valid}
+use Rattle.desk_model.specs.Authorization.{is_live, is_pending}
 use Rattle.desk_model.specs.Order.{is_ready, is_processing}
 use Rattle.desk_model.specs.Legal.{is_pending_challenge, is_processing_challenge, has_length, all_different, is_wanted, wanted_name, is_problem}
 use Rattle.desk_model.specs.Tables.{Tables}
@@ -41,7 +41,7 @@ may_local k T (reported n o) h =
     ap (holds (λ a. is_pending a.status && holds (λ c. is_processing_challenge c.status) (find (λ c. n == c.number) a.challenges)))
     (find_part (has_row n) (λ a. k.authorizations a.number) T.authorizations h)
 may_local k T (authorization_ended n s) h =
-    ap (holds (λ a. is_pending a.status || is_valid a.status)) (find_part (λ a. a.number == n) (λ a. k.authorizations a.number) T.authorizations h)
+    ap (holds (λ a. is_live a.status)) (find_part (λ a. a.number == n) (λ a. k.authorizations a.number) T.authorizations h)
 may_local k T (finalized n csr) h =
     ap (λ o. holds (λ x. is_ready x.status) o && has_length 1 longest_csr csr) (find_part (λ o. o.number == n) (λ o. k.orders o.number) T.orders h)
 may_local k T (certified n c) h =

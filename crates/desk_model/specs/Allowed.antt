@@ -1,12 +1,12 @@
 -- Which entry may follow, by the tables at its moment.
-use Rattle.std.specs.Prelude.{ℕ, length, Bool, false, ◌&&◌, ◌||◌, ◌==◌, is_some, is_none, find, bytes_eq, map}
+use Rattle.std.specs.Prelude.{ℕ, length, Bool, false, ◌&&◌, ◌==◌, is_some, is_none, find, bytes_eq, map}
 use Rattle.std.specs.List.{list_all}
 use Rattle.desk_model.specs.Lookup.{holds}
 use Rattle.desk_model.specs.Entry.{Entry, made, issued, spent, opened, contacts_changed, account_ended, ordered, answered}
 use Rattle.desk_model.specs.Entry.{reported, authorization_ended, finalized, certified, failed}
 use Rattle.desk_model.specs.Contact.{contacts_pass}
 use Rattle.desk_model.specs.Account.{is_valid as is_valid_account}
-use Rattle.desk_model.specs.Authorization.{is_pending, is_valid}
+use Rattle.desk_model.specs.Authorization.{is_live, is_pending}
 use Rattle.desk_model.specs.Order.{is_ready, is_processing}
 use Rattle.desk_model.specs.Legal.{is_pending_challenge, is_processing_challenge, has_length, all_different, is_wanted, wanted_name, is_problem}
 use Rattle.desk_model.specs.Limits.{longest_certificate, longest_csr, most_names}
@@ -29,7 +29,7 @@ may_on T (ordered n wanted) = holds (λ a. is_valid_account a.status) (account_o
     && (has_length 1 most_names wanted && (all_different (map wanted_name wanted) && list_all is_wanted wanted))
 may_on T (answered n) = challenge_passes is_pending_challenge T n
 may_on T (reported n outcome) = challenge_passes is_processing_challenge T n
-may_on T (authorization_ended n ending) = holds (λ a. is_pending a.status || is_valid a.status) (authorization_on T n)
+may_on T (authorization_ended n ending) = holds (λ a. is_live a.status) (authorization_on T n)
 may_on T (finalized n csr) = holds (λ o. is_ready o.status) (order_on T n) && has_length 1 longest_csr csr
 may_on T (certified n certificate) = holds (λ o. is_processing o.status) (order_on T n) && has_length 1 longest_certificate certificate
 may_on T (failed n problem) = holds (λ o. is_processing o.status) (order_on T n) && is_problem problem

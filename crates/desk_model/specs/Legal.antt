@@ -11,7 +11,7 @@ use Rattle.desk_model.specs.Lookup.{holds}
 use Rattle.desk_model.specs.Nonce.{nonce, nonces, is_open}
 use Rattle.desk_model.specs.Account.{accounts, account_by_number, account_by_key, account_status, is_valid as is_valid_account}
 use Rattle.desk_model.specs.Authorization.{authorizations, authorization, authorization_of, authorization_status}
-use Rattle.desk_model.specs.Authorization.{challenge_status, is_pending, is_valid, kinds_of, count_challenges}
+use Rattle.desk_model.specs.Authorization.{challenge_status, is_live, is_pending, kinds_of, count_challenges}
 use Rattle.desk_model.specs.Order.{orders, order_by_number, order_status, is_ready, is_processing}
 use Rattle.desk_model.specs.BaseName.{is_base_name}
 use Rattle.desk_model.specs.Keys.{IsKeyText}
@@ -73,8 +73,7 @@ may_follow F (answered challenge) m =
 may_follow F (reported challenge outcome) m =
     holds (λ a. is_pending (authorization_status a F m)) (authorization_of challenge F)
     && is_processing_challenge (challenge_status challenge F)
-may_follow F (authorization_ended number ending) m =
-    holds (λ a. is_pending (authorization_status a F m) || is_valid (authorization_status a F m)) (authorization number F)
+may_follow F (authorization_ended number ending) m = holds (λ a. is_live (authorization_status a F m)) (authorization number F)
 may_follow F (finalized order csr) m = holds (λ o. is_ready (order_status o F m)) (order_by_number order F) && has_length 1 longest_csr csr
 may_follow F (certified order certificate) m =
     holds (λ o. is_processing (order_status o F m)) (order_by_number order F) && has_length 1 longest_certificate certificate

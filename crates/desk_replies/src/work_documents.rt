@@ -17,9 +17,7 @@ use crate::document_values::{list_value, text_value};
 use crate::order_documents::order_names;
 use base64::engine::general_purpose::URL_SAFE_NO_PAD;
 use desk_book::Book;
-use desk_model::{
-    AuthorizationRow, AuthzStatus, ChallengeRow, DatedBytes, DnsName, Document, OrderRow,
-};
+use desk_model::{AuthorizationRow, ChallengeRow, DatedBytes, DnsName, Document, OrderRow};
 use keys::expected_text;
 use serde_json::{Value, json};
 use std::alloc::{AllocError, Global};
@@ -84,10 +82,10 @@ fn push_pending(
 ) -> Result<(), AllocError>
     ensures { OnOk result (map (λ d. view d) work.new.items ≡ map (λ d. view d) work.old.items ++ work_at moment book.now row.now) }
 {
-    match authorization_status(moment, row) {
-        AuthzStatus::Pending => push_answered(work, alloc, book, row),
-        _ => Ok(()),
+    if !authorization_status(moment, row).is_pending() {
+        return Ok(());
     }
+    push_answered(work, alloc, book, row)
 }
 
 fn waiting_challenges(alloc: Global, book: &Book, moment: u64) -> Result<Vec<Value>, AllocError>

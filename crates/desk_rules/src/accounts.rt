@@ -13,8 +13,8 @@ use crate::limits::has_room;
 use crate::payload::new_account;
 use crate::verdicts::refused;
 use desk_model::{
-    AccountChange, AccountRow, AccountStatus, Ending, Jwk, Move, NewAccount, Refusal, Sequence,
-    Shows, Text, Verdict,
+    AccountChange, AccountRow, Ending, Jwk, Move, NewAccount, Refusal, Sequence, Shows, Text,
+    Verdict,
 };
 use std::alloc::{AllocError, Global};
 use swept_rows::At;
@@ -50,7 +50,7 @@ fn known_account_verdict(
     ensures { IfOk result (λ v. (v ≡ known_account_verdict row.now (new_account payload.now))
         × ((counters : Counters) (random : List ℕ) → NumbersLeft counters v × BytesLeft random v)) }
 {
-    if row.status != AccountStatus::Valid {
+    if !row.status.is_valid() {
         return Ok(refused(alloc, Refusal::Unauthorized));
     }
     if new_account(alloc, payload)?.is_none() {

@@ -10,9 +10,9 @@ ghost use Rattle.desk_model.specs.declared.call.OfficeAsk.TheVariants.{KeyOf};
 use crate::challenge_rules::{expected, outcome_of, outcome_verdict};
 use crate::verdicts::refused;
 use desk_model::{
-    AccountRow, AccountStatus, AuthorizationRow, AuthzStatus, Ending, Finding, LONGEST_CERTIFICATE,
-    Listing, Move, OfficeAsk, OrderProblem, OrderRow, OrderStatus, Refusal, Sequence, Shows,
-    Verdict, is_same_bytes,
+    AccountRow, AuthorizationRow, AuthzStatus, Ending, Finding, LONGEST_CERTIFICATE, Listing, Move,
+    OfficeAsk, OrderProblem, OrderRow, OrderStatus, Refusal, Sequence, Shows, Verdict,
+    is_same_bytes,
 };
 use std::alloc::{AllocError, Global};
 use swept_rows::At;
@@ -151,7 +151,7 @@ fn revoke_account(alloc: Global, number: u64, row: &AccountRow) -> Verdict
     if is_revoked(row) {
         return Verdict::Answers(Shows::Account(number));
     }
-    if row.status != AccountStatus::Valid {
+    if !row.status.is_valid() {
         return refused(alloc, Refusal::Conflict);
     }
     Verdict::Moves(Move::AccountEnded(number, Ending::Revoked))
