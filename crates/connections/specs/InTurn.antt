@@ -7,9 +7,9 @@ use Rattle.desk_calls.specs.State.{DeskState}
 use Rattle.desk_calls.specs.declared.fault.DeskFault.{DeskFault}
 use Rattle.desk_calls.specs.declared.fault.DeskFault.TheVariants as deskfault
 use Rattle.desk_http.specs.Serving.{Breaks, Serves}
-use Rattle.desk_http.specs.declared.serving.Cause.{Cause}
-use Rattle.desk_http.specs.declared.serving.Cause.TheVariants as cause
-use Rattle.desk_http.specs.declared.serving.IoFault.{IoFault}
+use Rattle.desk_http.specs.declared.saying.Cause.{Cause}
+use Rattle.desk_http.specs.declared.saying.Cause.TheVariants as cause
+use Rattle.desk_http.specs.declared.sending.IoFault.{IoFault}
 use Rattle.desk_http.specs.declared.serving.Served.{Served}
 use Rattle.connections.specs.declared.fault.ServeFault.{ServeFault}
 use Rattle.connections.specs.declared.fault.ServeFault.TheVariants as servefault

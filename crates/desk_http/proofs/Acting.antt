@@ -11,10 +11,10 @@ use Rattle.requests.specs.declared.request.Request.{Request}
 use Rattle.requests.specs.declared.request.Request.TheVariants as request
 use Rattle.http_requests.specs.declared.call.Manner.{Manner}
 use Rattle.desk_http.specs.Serving.{Breaks, Fails, HasAnswer, IsAnswer, IsLeft, Responds, Serves, ServesBy, call_of}
-use Rattle.desk_http.specs.declared.serving.Cause.{Cause}
-use Rattle.desk_http.specs.declared.serving.Cause.TheVariants as cause
-use Rattle.desk_http.specs.declared.serving.IoFault.{IoFault}
-use Rattle.desk_http.specs.declared.serving.IoFault.TheVariants as iofault
+use Rattle.desk_http.specs.declared.saying.Cause.{Cause}
+use Rattle.desk_http.specs.declared.saying.Cause.TheVariants as cause
+use Rattle.desk_http.specs.declared.sending.IoFault.{IoFault}
+use Rattle.desk_http.specs.declared.sending.IoFault.TheVariants as iofault
 use Rattle.desk_http.specs.declared.serving.Served.{Served}
 
 module _ {S C : Type 0} (v : Sight S C) (may_meet : StorageFault → Type 0) where

@@ -12,8 +12,8 @@ use Rattle.http_requests.specs.Heard.{Hears}
 use Rattle.http_requests.specs.Spelled.{IsManner, Spells}
 use Rattle.http_requests.specs.declared.call.Heard.{Heard}
 use Rattle.desk_http.specs.Serving.{Fails, HasAnswer, LacksReply, LacksText, ReadAnswer}
-use Rattle.desk_http.specs.declared.serving.Cause.{Cause}
-use Rattle.desk_http.specs.declared.serving.Cause.TheVariants as cause
+use Rattle.desk_http.specs.declared.saying.Cause.{Cause}
+use Rattle.desk_http.specs.declared.saying.Cause.TheVariants as cause
 
 -- the request that was read is the input's
 spelled : (known : Option (List ℕ)) (h : Heard) (q : Request) → IfSome known (λ input. Hears input h) → h.request ≡ Ok q

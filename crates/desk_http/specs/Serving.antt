@@ -20,10 +20,10 @@ use Rattle.requests.specs.declared.request.Request.TheVariants as request
 use Rattle.http_replies.specs.Replies.{reply_bytes}
 use Rattle.http_requests.specs.Spelled.{IsManner, Spells}
 use Rattle.http_requests.specs.declared.call.Manner.{Manner}
-use Rattle.desk_http.specs.declared.serving.Cause.{Cause}
-use Rattle.desk_http.specs.declared.serving.Cause.TheVariants as cause
-use Rattle.desk_http.specs.declared.serving.IoFault.{IoFault}
-use Rattle.desk_http.specs.declared.serving.IoFault.TheVariants as iofault
+use Rattle.desk_http.specs.declared.saying.Cause.{Cause}
+use Rattle.desk_http.specs.declared.saying.Cause.TheVariants as cause
+use Rattle.desk_http.specs.declared.sending.IoFault.{IoFault}
+use Rattle.desk_http.specs.declared.sending.IoFault.TheVariants as iofault
 use Rattle.desk_http.specs.declared.serving.Served.{Served}
 use Rattle.desk_model.specs.Limits.{last_moment}
 

@@ -5,6 +5,8 @@
 mod failing_streams;
 #[cfg(test)]
 mod loopback;
+mod saying;
+mod sending;
 mod serving;
 #[cfg(test)]
 mod tests;
@@ -16,4 +18,6 @@ mod worked_replies;
 pub use http_replies::reply_text;
 pub use http_requests::{Heard, Manner, ReadFailed, read_call};
 pub use refusals::problem_document;
-pub use serving::{Cause, IoFault, Served, serve_one};
+pub use saying::Cause;
+pub use sending::IoFault;
+pub use serving::{Served, serve_one};

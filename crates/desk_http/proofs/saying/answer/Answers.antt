@@ -1,4 +1,4 @@
-use Rattle.desk_http.proofs.serving.answer.Goals as goal
+use Rattle.desk_http.proofs.saying.answer.Goals as goal
 
 pub returns : goal.returns
 returns g c =

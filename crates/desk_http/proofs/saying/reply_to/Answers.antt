@@ -1,6 +1,6 @@
 use Rattle.std.proofs.Common.{◌≡◌, sym, subst, Ok}
 use Rattle.desk_http.specs.Serving.{IsAnswer, Responds, call_of}
-use Rattle.desk_http.proofs.serving.reply_to.Goals as goal
+use Rattle.desk_http.proofs.saying.reply_to.Goals as goal
 
 pub returns-in-Ok-answer-clause-reply : goal.returns-in-Ok-answer-clause-reply
 returns-in-Ok-answer-clause-reply g c =
