@@ -9,8 +9,8 @@ use Rattle.desk_model.specs.Limits.{most_names}
 use Rattle.desk_model.specs.Order.{is_processing, is_ready}
 use Rattle.desk_model.specs.Questions.{account_on, account_with_key, authorization_on, order_on, owner_on}
 use Rattle.desk_model.specs.Rules.{account_verdict, authorization_verdict, certificate_verdict, certify_verdict}
-use Rattle.desk_model.specs.Rules.{challenge_verdict, csr_in, fail_verdict, finalize_verdict, holder_verdict, key_verdict}
-use Rattle.desk_model.specs.Rules.{new_account_verdict, new_order_verdict, office_verdict, open_account, order_of, own}
+use Rattle.desk_model.specs.Rules.{challenge_verdict, csr_in, fail_verdict, finalize_verdict, key_verdict}
+use Rattle.desk_model.specs.Rules.{new_order_verdict, office_verdict, open_account, order_of, own}
 use Rattle.desk_model.specs.Rules.{report_verdict, revoke_account, revoke_authorization, signed_verdict, stands_open, subproblems}
 use Rattle.desk_model.specs.Rules.{target_verdict}
 use Rattle.desk_model.specs.Tables.{Tables}
@@ -87,12 +87,6 @@ by_number T key a is = found_by _ (λ x. x.number == a.number) T.accounts a (sam
 open_there : (T : Tables) (key : List ℕ) (p : NewAccount) → NamesRows T (open_account key p)
 open_there T key p = check_there T _ refusal.AccountDoesNotExist _ (step.fault_keeps (NamesRows T) (contacts_fault p.contacts) _ (λ _. tt) (λ _. tt))
 
--- newAccount
-new_account_there : (T : Tables) (key : List ℕ) (o : Option AccountRow) (p : Option NewAccount) → account_with_key T key ≡ o
-    → NamesRows T (new_account_verdict key o p)
-new_account_there T key (Some a) p is = check_there T _ refusal.Unauthorized _ (given_there T p refusal.Malformed _ (λ _ _. by_number T key a is))
-new_account_there T key None p is = given_there T p refusal.Malformed _ (λ x _. open_there T key x)
-
 -- a change of an account
 account_there : (T : Tables) (n : ℕ) (p : AccountChange) → IsSome (account_on T n) → NamesRows T (account_verdict n p)
 account_there T n change.Read h = h
@@ -135,7 +129,7 @@ own_there account n o x is = there o x (own_found account n o x is)
 
 -- a request of an account
 target_there : (T : Tables) (r : List ℕ) (n : ℕ) (p : List ℕ) (t : Target) → IsSome (account_on T n) → NamesRows T (target_verdict T r n p t)
-target_there T r n p to.NewAccount h = h
+target_there T r n p to.NewAccount h = given_there T _ refusal.Malformed _ (λ _ _. h)
 target_there T r n p to.NewOrder h = given_there T _ refusal.Malformed _ (λ ids _. new_order_there T r n ids)
 target_there T r n p (to.Account k) h = check_there T _ refusal.NotFound _ (given_there T _ refusal.Malformed _ (λ x _. account_there T n x h))
 target_there T r n p (to.Orders k) h = check_there T _ refusal.NotFound _ (check_there T _ refusal.Malformed _ tt)
@@ -149,24 +143,19 @@ target_there T r n p (to.Authz k) h =
 target_there T r n p (to.Chall k) h =
     given_there T _ refusal.NotFound _ (λ a is. given_there T _ refusal.Malformed _ (λ x _. challenge_there T k a x (own_there _ n _ a is)))
 
--- a request of a key that has an account
-holder_there : (T : Tables) (r key p : List ℕ) (t : Target) → NamesRows T (holder_verdict T r p t (account_with_key T key))
-holder_there T r key p t =
-    given_there T (account_with_key T key) refusal.AccountDoesNotExist _
-    (λ a is. check_there T _ refusal.Unauthorized _ (target_there T r a.number p t (by_number T key a is)))
-
--- a request of a key
-key_there : (T : Tables) (r key p : List ℕ) (t : Target) → NamesRows T (key_verdict T r key p t)
-key_there T r key p to.NewAccount = new_account_there T key (account_with_key T key) _ refl
-key_there T r key p t = holder_there T r key p t
+-- a request of a key, by its account
+key_there : (T : Tables) (r key p : List ℕ) (t : Target) (o : Option AccountRow) → account_with_key T key ≡ o → NamesRows T (key_verdict T r key p t o)
+key_there T r key p t (Some a) is = check_there T _ refusal.Unauthorized _ (target_there T r a.number p t (by_number T key a is))
+key_there T r key p to.NewAccount None is = given_there T _ refusal.Malformed _ (λ x _. open_there T key x)
+key_there T r key p t None is = tt
 
 -- a signed request
 pub signed_there : (T : Tables) (r : List ℕ) (s : Signed) → NamesRows T (signed_verdict T r s)
 signed_there T r s = by s.key
   where
-    by : (k : Result (List ℕ) BadKey) → NamesRows T (elim k [ Err e ↦ refused refusal.BadPublicKey [] | Ok key ↦ key_verdict T r key s.payload s.target ])
+    by : (k : Result (List ℕ) BadKey) → NamesRows T (elim k [ Err e ↦ refused refusal.BadPublicKey [] | Ok key ↦ key_verdict T r key s.payload s.target (account_with_key T key) ])
     by (Err e) = tt
-    by (Ok key) = key_there T r key s.payload s.target
+    by (Ok key) = key_there T r key s.payload s.target (account_with_key T key) refl
 
 -- so it is of what is judged so
 pub judged_there : (T : Tables) (asked : Verdict) (C : Counters) (random : List ℕ) (r : Result Verdict CoreFault) → NamesRows T asked

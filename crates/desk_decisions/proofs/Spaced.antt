@@ -16,9 +16,9 @@ use Rattle.desk_model.specs.Run.{count_pieces}
 use Rattle.desk_model.specs.Tables.{Tables}
 use Rattle.desk_model.specs.Kept.{EachOf}
 use Rattle.desk_model.specs.Verdict.{check, given, unless_fault, choose}
-use Rattle.desk_model.specs.Rules.{open_account, new_account_verdict, account_verdict, kept, names_in, wanted, order_of}
+use Rattle.desk_model.specs.Rules.{open_account, account_verdict, kept, names_in, wanted, order_of}
 use Rattle.desk_model.specs.Rules.{new_order_verdict, subproblems, csr_in, finalize_verdict, authorization_verdict, stands_open}
-use Rattle.desk_model.specs.Rules.{challenge_verdict, target_verdict, holder_verdict, key_verdict, signed_verdict}
+use Rattle.desk_model.specs.Rules.{challenge_verdict, target_verdict, key_verdict, signed_verdict}
 use Rattle.desk_model.specs.Rules.{outcome_verdict, report_verdict, certify_verdict, fail_verdict, revoke_authorization}
 use Rattle.desk_model.specs.Rules.{revoke_account, office_verdict}
 use Rattle.desk_model.specs.declared.call.OfficeAsk.{OfficeAsk}
@@ -78,12 +78,6 @@ open_spaced : (key : List ℕ) (p : NewAccount) → IsSpaced (open_account key p
 open_spaced key p = check_keeps IsSpaced (not p.only_existing) refusal.AccountDoesNotExist _ tt
     (fault_keeps IsSpaced (contacts_fault p.contacts) _ (λ _. tt) tt)
 
--- newAccount
-new_account_spaced : (key : List ℕ) (o : Option AccountRow) (p : Option NewAccount) → IsSpaced (new_account_verdict key o p)
-new_account_spaced key (Some a) p = check_keeps IsSpaced (is_valid_account a.status) refusal.Unauthorized _ tt
-    (given_keeps IsSpaced p refusal.Malformed _ tt (λ _. tt))
-new_account_spaced key None p = given_keeps IsSpaced p refusal.Malformed _ tt (open_spaced key)
-
 -- a change of an account
 account_spaced : (n : ℕ) (p : AccountChange) → IsSpaced (account_verdict n p)
 account_spaced n change.Read = tt
@@ -122,7 +116,7 @@ challenge_spaced n a chall_change.Answer = choose_keeps IsSpaced (stands_open (�
 
 -- a request of an account
 target_spaced : (T : Tables) (r : List ℕ) (n : ℕ) (p : List ℕ) (t : Target) → IsSpaced (target_verdict T r n p t)
-target_spaced T r n p to.NewAccount = tt
+target_spaced T r n p to.NewAccount = given_keeps IsSpaced _ refusal.Malformed _ tt (λ _. tt)
 target_spaced T r n p to.NewOrder = given_keeps IsSpaced _ refusal.Malformed _ tt (new_order_spaced r n)
 target_spaced T r n p (to.Account k) = check_keeps IsSpaced _ refusal.NotFound _ tt (given_keeps IsSpaced _ refusal.Malformed _ tt (account_spaced n))
 target_spaced T r n p (to.Orders k) = check_keeps IsSpaced _ refusal.NotFound _ tt (check_keeps IsSpaced _ refusal.Malformed _ tt tt)
@@ -134,23 +128,19 @@ target_spaced T r n p (to.Authz k) = given_keeps IsSpaced _ refusal.NotFound _ t
     (λ a. given_keeps IsSpaced _ refusal.Malformed _ tt (authorization_spaced k a))
 target_spaced T r n p (to.Chall k) = given_keeps IsSpaced _ refusal.NotFound _ tt (λ a. given_keeps IsSpaced _ refusal.Malformed _ tt (challenge_spaced k a))
 
--- a request of a key that has an account
-holder_spaced : (T : Tables) (r p : List ℕ) (t : Target) (o : Option AccountRow) → IsSpaced (holder_verdict T r p t o)
-holder_spaced T r p t o = given_keeps IsSpaced o refusal.AccountDoesNotExist _ tt
-    (λ a. check_keeps IsSpaced _ refusal.Unauthorized _ tt (target_spaced T r a.number p t))
-
--- a request of a key
-key_spaced : (T : Tables) (r key p : List ℕ) (t : Target) → IsSpaced (key_verdict T r key p t)
-key_spaced T r key p to.NewAccount = new_account_spaced key (account_with_key T key) _
-key_spaced T r key p t = holder_spaced T r p t (account_with_key T key)
+-- a request of a key, by its account
+key_spaced : (T : Tables) (r key p : List ℕ) (t : Target) (o : Option AccountRow) → IsSpaced (key_verdict T r key p t o)
+key_spaced T r key p t (Some a) = check_keeps IsSpaced _ refusal.Unauthorized _ tt (target_spaced T r a.number p t)
+key_spaced T r key p to.NewAccount None = given_keeps IsSpaced _ refusal.Malformed _ tt (open_spaced key)
+key_spaced T r key p t None = tt
 
 -- a signed request
 pub signed_spaced : (T : Tables) (r : List ℕ) (s : Signed) → IsSpaced (signed_verdict T r s)
 signed_spaced T r s = by s.key
   where
-    by : (k : Result (List ℕ) BadKey) → IsSpaced (elim k [ Err e ↦ refused refusal.BadPublicKey [] | Ok key ↦ key_verdict T r key s.payload s.target ])
+    by : (k : Result (List ℕ) BadKey) → IsSpaced (elim k [ Err e ↦ refused refusal.BadPublicKey [] | Ok key ↦ key_verdict T r key s.payload s.target (account_with_key T key) ])
     by (Err e) = tt
-    by (Ok key) = key_spaced T r key s.payload s.target
+    by (Ok key) = key_spaced T r key s.payload s.target (account_with_key T key)
 
 -- ---- the other asks
 

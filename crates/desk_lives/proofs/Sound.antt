@@ -40,7 +40,7 @@ use Rattle.desk_model.specs.Verdict.{check, given, unless_fault, choose}
 use Rattle.desk_model.specs.declared.verdict.Verdict.TheVariants.{Answers as answers, Opens as opens, Orders as orders, Moves as moves, Refused as refused}
 use Rattle.desk_model.specs.declared.verdict.Verdict.{Verdict}
 use Rattle.desk_model.specs.declared.verdict.Shows.{Shows}
-use Rattle.desk_model.specs.Rules.{open_account, new_account_verdict, account_verdict, order_of, new_order_verdict, subproblems}
+use Rattle.desk_model.specs.Rules.{open_account, unknown_key_verdict, account_verdict, order_of, new_order_verdict, subproblems}
 use Rattle.desk_model.specs.Rules.{if_fits, csr_in, finalize_verdict, authorization_verdict, stands_open, challenge_verdict, own}
 use Rattle.desk_model.specs.Rules.{target_verdict, holder_verdict, key_verdict, signed_verdict, if_spelled, open_nonce_in}
 use Rattle.desk_model.specs.Rules.{open_nonce, outcome_verdict, report_verdict, certify_verdict, fail_verdict}
@@ -121,15 +121,6 @@ open_sound r T key p formed texts unknown =
     check_sound r T (not p.only_existing) refusal.AccountDoesNotExist _ (λ _. fault_sound r T (contacts_fault p.contacts) _
     (λ pass. record { records = record { later = tt; formed = (formed, texts); allowed = rw (unknown, pass) refl } }))
 
--- newAccount
-new_account_sound : (r : List ℕ) (T : Tables) (key : List ℕ) (o : Option AccountRow) (p : Option NewAccount) → IsKeyText key →
-    IfSome p AsksWithTexts → account_with_key T key ≡ o →
-    IsSound r T (new_account_verdict key o p)
-new_account_sound r T key (Some a) p formed texts is = check_sound r T _ refusal.Unauthorized _
-    (λ _. given_sound r T p refusal.Malformed _ (λ _ _. none_sound _))
-new_account_sound r T key None p formed texts is =
-    given_sound r T p refusal.Malformed _ (λ x asked. open_sound r T key x formed (subst (λ o. IfSome o AsksWithTexts) asked texts) is)
-
 -- a change of an account that is valid
 account_sound : (r : List ℕ) (T : Tables) (n : ℕ) (a : AccountRow) (p : AccountChange) → ChangesToTexts p → account_on T n ≡ Some a →
     is_valid_account a.status ≡ true →
@@ -208,7 +199,7 @@ own_found account n (Some y) x h = by (account y == n) h
 target_sound : (r : List ℕ) (T : Tables) (n : ℕ) (a : AccountRow) (p : List ℕ) (t : Target) → IsUtf8 p → account_on T n ≡ Some a →
     is_valid_account a.status ≡ true →
     IsSound r T (target_verdict T r n p t)
-target_sound r T n a p to.NewAccount text found valid = none_sound _
+target_sound r T n a p to.NewAccount text found valid = given_sound r T _ refusal.Malformed _ (λ _ _. none_sound _)
 target_sound r T n a p to.NewOrder text found valid = given_sound r T _ refusal.Malformed _ (λ ids _. new_order_sound r T n a ids found valid)
 target_sound r T n a p (to.Account k) text found valid =
     check_sound r T _ refusal.NotFound _ (λ _. given_sound r T _ refusal.Malformed _
@@ -230,26 +221,34 @@ key_number T key a in_order found =
     each_found (λ (x : AccountRow). account_on T x.number ≡ Some x) (λ a. bytes_eq a.key key) T.accounts a
     (ascends_found (λ (x : AccountRow). x.number) 1 T.accounts in_order.accounts.0) found
 
--- a request of a key that has an account
-holder_sound : (r : List ℕ) (T : Tables) (key p : List ℕ) (t : Target) → IsOrdered T → IsUtf8 p → IsSound r T (holder_verdict T r p t (account_with_key T key))
-holder_sound r T key p t in_order text =
-    given_sound r T _ refusal.AccountDoesNotExist _
-    (λ a is. check_sound r T _ refusal.Unauthorized _ (λ valid. target_sound r T a.number a p t text (key_number T key a in_order is) valid))
+-- a request of the holder of an account
+holder_sound : (r : List ℕ) (T : Tables) (key p : List ℕ) (t : Target) (a : AccountRow) → IsOrdered T → IsUtf8 p → account_with_key T key ≡ Some a →
+    IsSound r T (holder_verdict T r p t a)
+holder_sound r T key p t a in_order text is =
+    check_sound r T _ refusal.Unauthorized _ (λ valid. target_sound r T a.number a p t text (key_number T key a in_order is) valid)
+
+-- a request of a key without an account
+unknown_key_sound : (r : List ℕ) (T : Tables) (key p : List ℕ) (t : Target) → IsKeyText key → IsUtf8 p → account_with_key T key ≡ None →
+    IsSound r T (unknown_key_verdict key p t)
+unknown_key_sound r T key p to.NewAccount formed text is =
+    given_sound r T _ refusal.Malformed _
+    (λ x asked. open_sound r T key x formed (subst (λ o. IfSome o AsksWithTexts) asked (new_account_texts p text)) is)
+unknown_key_sound r T key p t formed text is = refused_sound refusal.AccountDoesNotExist []
 
 -- a request of a key
-key_sound : (r : List ℕ) (T : Tables) (key p : List ℕ) (t : Target) → IsOrdered T → IsKeyText key → IsUtf8 p → IsSound r T (key_verdict T r key p t)
-key_sound r T key p to.NewAccount in_order formed text =
-    new_account_sound r T key (account_with_key T key) _ formed (new_account_texts p text) refl
-key_sound r T key p t in_order formed text = holder_sound r T key p t in_order text
+key_sound : (r : List ℕ) (T : Tables) (key p : List ℕ) (t : Target) → IsOrdered T → IsKeyText key → IsUtf8 p → (o : Option AccountRow) →
+    account_with_key T key ≡ o → IsSound r T (key_verdict T r key p t o)
+key_sound r T key p t in_order formed text None is = unknown_key_sound r T key p t formed text is
+key_sound r T key p t in_order formed text (Some a) is = holder_sound r T key p t a in_order text is
 
 -- a signed request
 pub signed_sound : (r : List ℕ) (T : Tables) (s : Signed) → IsOrdered T → IsFormedSigned s → IsSound r T (signed_verdict T r s)
 signed_sound r T s in_order formed = by s.key formed.key
   where
     by : (k : Result (List ℕ) BadKey) → IsFormedKey k →
-        IsSound r T (elim k [ Err e ↦ refused refusal.BadPublicKey [] | Ok key ↦ key_verdict T r key s.payload s.target ])
+        IsSound r T (elim k [ Err e ↦ refused refusal.BadPublicKey [] | Ok key ↦ key_verdict T r key s.payload s.target (account_with_key T key) ])
     by (Err e) h = refused_sound refusal.BadPublicKey []
-    by (Ok key) h = key_sound r T key s.payload s.target in_order h formed.payload
+    by (Ok key) h = key_sound r T key s.payload s.target in_order h formed.payload (account_with_key T key) refl
 
 -- ---- the other asks
 

@@ -46,16 +46,6 @@ open_account key p =
     (unless_fault (contacts_fault p.contacts)
     (opens key p.contacts))
 
--- of the payload of a known key only the form is looked at (7.3.1)
-abbrev pub known_account_verdict : AccountRow → Option NewAccount → Verdict
-known_account_verdict a payload = check (is_valid_account a.status) refusal.Unauthorized
-    (given payload refusal.Malformed (λ p. answers (show.KnownAccount a.number)))
-
--- newAccount (7.3)
-abbrev pub new_account_verdict : List ℕ → Option AccountRow → Option NewAccount → Verdict
-new_account_verdict key (Some a) payload = known_account_verdict a payload
-new_account_verdict key None payload = given payload refusal.Malformed (open_account key)
-
 -- POST to an account (7.3.2, 7.3.6)
 abbrev pub account_verdict : ℕ → AccountChange → Verdict
 account_verdict n payload.account.Read = answers (show.Account n)
@@ -158,9 +148,10 @@ abbrev pub own : {X : Type 0} → (X → ℕ) → ℕ → Option X → Option X
 own account n None = None
 own account n (Some x) = if account x == n then Some x else None
 
--- the object is there and the account's own, the payload has its form, and the rules of the target, for account n
+-- the object is there and the account's own, the payload has its form, and the rules of the target, for account n;
+-- of the payload of newAccount only the form is looked at (7.3.1)
 abbrev pub target_verdict : Tables → List ℕ → ℕ → List ℕ → Target → Verdict
-target_verdict T random n p to.NewAccount = answers (show.KnownAccount n)
+target_verdict T random n p to.NewAccount = given (new_account p) refusal.Malformed (λ asked. answers (show.KnownAccount n))
 target_verdict T random n p to.NewOrder = given (new_order p) refusal.Malformed (new_order_verdict random n)
 target_verdict T random n p (to.Account k) = check (k == n) refusal.NotFound (given (account_change p) refusal.Malformed (account_verdict n))
 target_verdict T random n p (to.Orders k) = check (k == n) refusal.NotFound (check (nothing p) refusal.Malformed (answers (show.List (list.Orders n))))
@@ -175,19 +166,25 @@ target_verdict T random n p (to.Authz k) =
 target_verdict T random n p (to.Chall k) =
     given (own (λ a. a.account) n (owner_on T k)) refusal.NotFound (λ a. given (challenge_change p) refusal.Malformed (challenge_verdict k a))
 
--- the key has an account, and it is valid (6.2)
-abbrev pub holder_verdict : Tables → List ℕ → List ℕ → Target → Option AccountRow → Verdict
-holder_verdict T random p target account =
-    given account refusal.AccountDoesNotExist (λ a. check (is_valid_account a.status) refusal.Unauthorized (target_verdict T random a.number p target))
+-- the account of the key is valid (6.2)
+abbrev pub holder_verdict : Tables → List ℕ → List ℕ → Target → AccountRow → Verdict
+holder_verdict T random p target a = check (is_valid_account a.status) refusal.Unauthorized (target_verdict T random a.number p target)
 
-abbrev pub key_verdict : Tables → List ℕ → List ℕ → List ℕ → Target → Verdict
-key_verdict T random key p to.NewAccount = new_account_verdict key (account_with_key T key) (new_account p)
-key_verdict T random key p target = holder_verdict T random p target (account_with_key T key)
+-- a key without an account: only newAccount opens one (6.2, 7.3)
+abbrev pub unknown_key_verdict : List ℕ → List ℕ → Target → Verdict
+unknown_key_verdict key p to.NewAccount = given (new_account p) refusal.Malformed (open_account key)
+unknown_key_verdict key p _ = refused refusal.AccountDoesNotExist []
+
+-- by the account that the key has
+abbrev pub key_verdict : Tables → List ℕ → List ℕ → List ℕ → Target → Option AccountRow → Verdict
+key_verdict T random key p target None = unknown_key_verdict key p target
+key_verdict T random key p target (Some a) = holder_verdict T random p target a
 
 -- a request that has passed the test of its nonce, by the tables after its nonce was spent and a fresh one issued;
 -- the random bytes are those behind the fresh nonce's
 abbrev pub signed_verdict : Tables → List ℕ → Signed → Verdict
-signed_verdict T random s = elim s.key [ Err e ↦ refused refusal.BadPublicKey [] | Ok key ↦ key_verdict T random key s.payload s.target ]
+signed_verdict T random s =
+    elim s.key [ Err e ↦ refused refusal.BadPublicKey [] | Ok key ↦ key_verdict T random key s.payload s.target (account_with_key T key) ]
 
 -- the row is that of the nonce which the text spells
 abbrev pub if_spelled : NonceText → Option Nonce → Option ℕ

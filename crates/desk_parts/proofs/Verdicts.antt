@@ -6,11 +6,11 @@ use Rattle.desk_model.specs.Account.{is_valid as is_valid_account}
 use Rattle.desk_model.specs.Document.{expected, expected_by}
 use Rattle.desk_model.specs.Effect.{has_row}
 use Rattle.desk_model.specs.Lookup.{holds}
-use Rattle.desk_model.specs.Payload.{authorization_change, challenge_change, finalize, new_account}
+use Rattle.desk_model.specs.Payload.{authorization_change, challenge_change, finalize}
 use Rattle.desk_model.specs.Questions.{account_on, account_with_key, authorization_on, order_on, owner_on, challenge_of}
 use Rattle.desk_model.specs.Rules.{certificate_verdict, certify_verdict, challenge_verdict, authorization_verdict, fail_verdict}
-use Rattle.desk_model.specs.Rules.{finalize_verdict, finding_verdict, holder_verdict, if_spelled, key_verdict}
-use Rattle.desk_model.specs.Rules.{new_account_verdict, nothing, office_verdict, open_nonce, open_nonce_in, outcome_of}
+use Rattle.desk_model.specs.Rules.{finalize_verdict, finding_verdict, if_spelled, key_verdict}
+use Rattle.desk_model.specs.Rules.{nothing, office_verdict, open_nonce, open_nonce_in, outcome_of}
 use Rattle.desk_model.specs.Rules.{outcome_verdict, own, report_verdict, revoke_account, revoke_authorization, signed_verdict}
 use Rattle.desk_model.specs.Rules.{target_verdict}
 use Rattle.desk_model.specs.Tables.{Tables}
@@ -96,30 +96,21 @@ target_same k S r n p (to.Chall j) o a c =
     ap (λ x. given (own (λ (y : AuthorizationRow). y.account) n x) refusal.NotFound
     (λ y. given (challenge_change p) refusal.Malformed (challenge_verdict j y))) (owner_same k S j c)
 
-holder_same : (k : Kept) (S : Tables) (r p : List ℕ) (t : Target) (x : Option AccountRow) →
-    ((n : ℕ) → target_verdict (restricted k S) r n p t ≡ target_verdict S r n p t) →
-    holder_verdict (restricted k S) r p t x ≡ holder_verdict S r p t x
-unfolding given
-holder_same k S r p t None h = refl
-holder_same k S r p t (Some a) h = ap (check (is_valid_account a.status) refusal.Unauthorized) (h a.number)
-
 keyed_same : (k : Kept) (S : Tables) (r key p : List ℕ) (t : Target) →
     EachOf (λ x. bytes_eq x.key key ≡ true → k.accounts x.number ≡ true) S.accounts →
     ((j : ℕ) → target_order t j ≡ true → k.orders j ≡ true) →
     ((j : ℕ) → target_authorization t j ≡ true → k.authorizations j ≡ true) →
     EachOf (λ a. target_owner t a ≡ true → k.authorizations a.number ≡ true) S.authorizations →
-    key_verdict (restricted k S) r key p t ≡ key_verdict S r key p t
-keyed_same k S r key p to.NewAccount h o a c =
-    ap (λ x. new_account_verdict key x (new_account p)) (key_same k S key h)
-keyed_same k S r key p t h o a c = rest t (λ n. target_same k S r n p t o a c)
+    key_verdict (restricted k S) r key p t (account_with_key (restricted k S) key) ≡ key_verdict S r key p t (account_with_key S key)
+keyed_same k S r key p t h o a c = ap (key_verdict (restricted k S) r key p t) (key_same k S key h) ∙ by (account_with_key S key)
   where
-    rest : (u : Target) → ((n : ℕ) → target_verdict (restricted k S) r n p u ≡ target_verdict S r n p u) →
-        holder_verdict (restricted k S) r p u (account_with_key (restricted k S) key) ≡ holder_verdict S r p u (account_with_key S key)
-    rest u f = ap (holder_verdict (restricted k S) r p u) (key_same k S key h) ∙ holder_same k S r p u (account_with_key S key) f
+    by : (x : Option AccountRow) → key_verdict (restricted k S) r key p t x ≡ key_verdict S r key p t x
+    by None = refl
+    by (Some y) = ap (check (is_valid_account y.status) refusal.Unauthorized) (target_same k S r y.number p t o a c)
 
 -- the verdict by the request's key
 abbrev pub verdict_by : Tables → List ℕ → Signed → Result (List ℕ) BadKey → Verdict
-verdict_by T r s key = elim key [ Err e ↦ refused refusal.BadPublicKey [] | Ok mine ↦ key_verdict T r mine s.payload s.target ]
+verdict_by T r s key = elim key [ Err e ↦ refused refusal.BadPublicKey [] | Ok mine ↦ key_verdict T r mine s.payload s.target (account_with_key T mine) ]
 
 abbrev pub is_key : Result (List ℕ) BadKey → List ℕ → Bool
 is_key key text = elim key [ Err e ↦ false | Ok mine ↦ bytes_eq text mine ]

@@ -21,8 +21,8 @@ use Rattle.desk_model.specs.Order.{is_processing, is_ready}
 use Rattle.desk_model.specs.Payload.{account_change, authorization_change, challenge_change, finalize, new_account, new_order}
 use Rattle.desk_model.specs.Questions.{account_on, account_with_key, authorization_on, challenge_of, order_on, owner_on}
 use Rattle.desk_model.specs.Rules.{account_verdict, authorization_verdict, certify_verdict, challenge_verdict, csr_in}
-use Rattle.desk_model.specs.Rules.{fail_verdict, finalize_verdict, holder_verdict, is_revoked, is_revoked_status, key_verdict}
-use Rattle.desk_model.specs.Rules.{new_account_verdict, nothing, office_verdict, open_account, order_of, outcome_of, own}
+use Rattle.desk_model.specs.Rules.{fail_verdict, finalize_verdict, is_revoked, is_revoked_status, key_verdict}
+use Rattle.desk_model.specs.Rules.{nothing, office_verdict, open_account, order_of, outcome_of, own}
 use Rattle.desk_model.specs.Rules.{report_verdict, revoke_account, revoke_authorization, same_outcome, same_problem}
 use Rattle.desk_model.specs.Rules.{signed_verdict, stands_open, subproblems, target_verdict, wanted, kept, names_in}
 use Rattle.desk_model.specs.Tables.{Tables}
@@ -271,15 +271,6 @@ open_answered k T m a key p ready =
       opened_shown k (effect m S (opened key p.contacts)) (ready.closed.new_accounts (T.meta.counters.accounts + 1) (omega arith)),
     ))
 
-new_account_answered : (k : Kept) (T : Tables) (m : ℕ) (a : Ask) (key : List ℕ) (p : Option NewAccount) → IsReady k T m a →
-    (x : Option AccountRow) → ((y : AccountRow) → x ≡ Some y → k.accounts y.number ≡ true) →
-    IsAnswered k m (swept m T) (new_account_verdict key x p)
-new_account_answered k T m a key p ready (Some y) h =
-    check_keeps (IsAnswered k m (swept m T)) (is_valid_account y.status) refusal.Unauthorized _ tt (λ valid.
-    given_keeps (IsAnswered k m (swept m T)) p refusal.Malformed _ tt (λ q is. known_shown k (swept m T) y.number (h y refl)))
-new_account_answered k T m a key p ready None h =
-    given_keeps (IsAnswered k m (swept m T)) p refusal.Malformed _ tt (λ q is. open_answered k T m a key q ready)
-
 account_answered : (k : Kept) (T : Tables) (m : ℕ) (s : Signed) (j : ℕ) (x : AccountRow) (p : AccountChange) → IsReady k T m (sent s (to.Account j)) →
     k.accounts x.number ≡ true → is_named_account (sent s (to.Account j)) x ≡ true → ((q : AccountRow → Bool) → q x ≡ true → list_any q T.accounts ≡ true) →
     (j == x.number) ≡ true → IsAnswered k m (swept m T) (account_verdict x.number p)
@@ -346,7 +337,8 @@ target_answered : (k : Kept) (T : Tables) (m : ℕ) (s : Signed) (r : List ℕ) 
     k.accounts x.number ≡ true → is_named_account (sent s t) x ≡ true → ((q : AccountRow → Bool) → q x ≡ true → list_any q T.accounts ≡ true) →
     EachOf (λ o. asks_orders (sent s t) ≡ true → (o.account == x.number) ≡ true → k.orders o.number ≡ true) (swept m T).orders →
     IsAnswered k m (swept m T) (target_verdict (swept m T) r x.number p t)
-target_answered k T m s r x p to.NewAccount ready kept named member owned = known_shown k (swept m T) x.number kept
+target_answered k T m s r x p to.NewAccount ready kept named member owned =
+    given_keeps (IsAnswered k m (swept m T)) (new_account p) refusal.Malformed _ tt (λ q is. known_shown k (swept m T) x.number kept)
 target_answered k T m s r x p to.NewOrder ready kept named member owned =
     given_keeps (IsAnswered k m (swept m T)) (new_order p) refusal.Malformed _ tt (λ ids is.
     check_keeps (IsAnswered k m (swept m T)) (has_length 1 most_names ids) refusal.Malformed _ tt
@@ -382,24 +374,20 @@ target_answered k T m s r x p (to.Chall j) ready kept named member owned =
 keyed_answered : (k : Kept) (T : Tables) (m : ℕ) (s : Signed) (r key : List ℕ) (t : Target) → IsReady k T m (sent s t) →
     ((x : AccountRow) → bytes_eq x.key key ≡ true → is_named_account (sent s t) x ≡ true) →
     EachOf (λ x. bytes_eq x.key key ≡ true → k.accounts x.number ≡ true) T.accounts →
-    IsAnswered k m (swept m T) (key_verdict (swept m T) r key s.payload t)
-keyed_answered k T m s r key to.NewAccount ready named kept =
-    new_account_answered k T m (sent s to.NewAccount) key (new_account s.payload) ready (account_with_key T key)
-    (λ y found. found_each _ (λ a. bytes_eq a.key key) T.accounts y kept found (found_passes (λ a. bytes_eq a.key key) T.accounts y found))
-keyed_answered k T m s r key t ready named kept = rest t ready named
-  where
-    rest : (u : Target) → IsReady k T m (sent s u) → ((x : AccountRow) → bytes_eq x.key key ≡ true → is_named_account (sent s u) x ≡ true) →
-        IsAnswered k m (swept m T) (holder_verdict (swept m T) r s.payload u (account_with_key (swept m T) key))
-    rest u ready named =
-        given_keeps (IsAnswered k m (swept m T)) (account_with_key T key) refusal.AccountDoesNotExist _ tt (λ x found.
-        let is : bytes_eq x.key key ≡ true = found_passes (λ a. bytes_eq a.key key) T.accounts x found in
-        check_keeps (IsAnswered k m (swept m T)) (is_valid_account x.status) refusal.Unauthorized _ tt (λ valid.
-        target_answered k T m s r x s.payload u ready
-        (found_each _ (λ a. bytes_eq a.key key) T.accounts x kept found is)
-        (named x is)
-        (found_each (λ y. (p : AccountRow → Bool) → p y ≡ true → list_any p T.accounts ≡ true)
-        (λ a. bytes_eq a.key key) T.accounts x (each_member T.accounts) found)
-        (found_each _ (λ a. bytes_eq a.key key) T.accounts x (swept_names k T m (sent s u) ready.named).orders found (named x is))))
+    (o : Option AccountRow) → account_with_key T key ≡ o →
+    IsAnswered k m (swept m T) (key_verdict (swept m T) r key s.payload t o)
+keyed_answered k T m s r key to.NewAccount ready named kept None found =
+    given_keeps (IsAnswered k m (swept m T)) (new_account s.payload) refusal.Malformed _ tt (λ q is. open_answered k T m (sent s to.NewAccount) key q ready)
+keyed_answered k T m s r key t ready named kept None found = tt
+keyed_answered k T m s r key t ready named kept (Some x) found =
+    let is : bytes_eq x.key key ≡ true = found_passes (λ a. bytes_eq a.key key) T.accounts x found in
+    check_keeps (IsAnswered k m (swept m T)) (is_valid_account x.status) refusal.Unauthorized _ tt (λ valid.
+    target_answered k T m s r x s.payload t ready
+    (found_each _ (λ a. bytes_eq a.key key) T.accounts x kept found is)
+    (named x is)
+    (found_each (λ y. (p : AccountRow → Bool) → p y ≡ true → list_any p T.accounts ≡ true)
+    (λ a. bytes_eq a.key key) T.accounts x (each_member T.accounts) found)
+    (found_each _ (λ a. bytes_eq a.key key) T.accounts x (swept_names k T m (sent s t) ready.named).orders found (named x is)))
 
 pub signed_answered : (k : Kept) (T : Tables) (m : ℕ) (r : List ℕ) (s : Signed) → IsReady k T m (ask.Signed s) →
     IsAnswered k m (swept m T) (signed_verdict (swept m T) r s)
@@ -409,4 +397,4 @@ signed_answered k T m r s ready = by s.key (λ x h. or_left _ _ h) ready.named.k
         EachOf (λ x. is_key key x.key ≡ true → k.accounts x.number ≡ true) T.accounts →
         IsAnswered k m (swept m T) (verdict_by (swept m T) r s key)
     by (Err e) named kept = tt
-    by (Ok key) named kept = keyed_answered k T m s r key s.target ready named kept
+    by (Ok key) named kept = keyed_answered k T m s r key s.target ready named kept (account_with_key T key) refl

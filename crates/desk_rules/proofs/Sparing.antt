@@ -64,6 +64,9 @@ certificate-spares n o = given-spares _ _ _ (λ k C random. (tt, tt))
 
 -- ---- by target, for account n
 
+pub new_account_target-spares : (T : Tables) (r : List ℕ) (n : ℕ) (p : List ℕ) → Spares (target_verdict T r n p to.NewAccount)
+new_account_target-spares T r n p = given-spares _ _ _ (λ asked C random. (tt, tt))
+
 pub account_target-spares : (T : Tables) (r : List ℕ) (n : ℕ) (p : List ℕ) (k : ℕ) → Spares (target_verdict T r n p (to.Account k))
 account_target-spares T r n p k = check-spares _ _ _ (given-spares _ _ _ (account-spares n))
 

@@ -8,17 +8,10 @@ use Rattle.desk_model.specs.Decide.{entries_of}
 use Rattle.desk_model.specs.declared.rows.Counters.{Counters}
 use Rattle.desk_model.specs.declared.verdict.Verdict.{Verdict}
 use Rattle.desk_model.specs.declared.verdict.Verdict.TheVariants.{Opens as opens, Orders as orders}
-use Rattle.desk_model.specs.declared.call.Target.{Target}
-use Rattle.desk_model.specs.declared.call.Target.TheVariants as to
 use Rattle.desk_model.specs.declared.entry.Wanted.{Wanted}
 use Rattle.desk_model.specs.declared.entry.Wanted.TheVariants.{New as new}
 use Rattle.desk_rules.specs.declared.fault.CoreFault.{CoreFault}
 use Rattle.desk_rules.specs.declared.fault.CoreFault.TheVariants as fault
-
--- a request of an account that is there: of any target but newAccount
-abbrev pub IsOfAccount : Target → Type 0
-IsOfAccount to.NewAccount = ⊥
-IsOfAccount _ = Unit {0}
 
 -- the numbers of what it makes can be given
 abbrev pub NumbersLeft : Counters → Verdict → Type 0

@@ -1,11 +1,8 @@
 //! The rules on accounts (RFC 8555, 7.3).
-ghost use Rattle.std.specs.Prelude.{◌≡◌, ℕ, List, IfOk, MatchResult};
+ghost use Rattle.std.specs.Prelude.{◌≡◌, ℕ, List, MatchResult};
 ghost use Rattle.desk_rules.specs.Needs.{NumbersLeft, BytesLeft, IsNeedFault};
-ghost use Rattle.desk_model.specs.declared.rows.Counters.{Counters};
-ghost use Rattle.desk_model.specs.Payload.{new_account};
-ghost use Rattle.desk_model.specs.Questions.{account_with_key};
 ghost use Rattle.desk_model.specs.declared.payload.AccountChange.TheVariants.{Update};
-ghost use Rattle.desk_model.specs.Rules.{account_verdict, open_account, known_account_verdict, new_account_verdict};
+ghost use Rattle.desk_model.specs.Rules.{account_verdict, open_account, unknown_key_verdict};
 
 use crate::contacts::contacts_refusal;
 use crate::fault::CoreFault;
@@ -13,53 +10,34 @@ use crate::limits::has_room;
 use crate::payload::new_account;
 use crate::verdicts::refused;
 use desk_model::{
-    AccountChange, AccountRow, Ending, Jwk, Move, NewAccount, Refusal, Sequence, Shows, Text,
-    Verdict,
+    AccountChange, Ending, Jwk, Move, NewAccount, Refusal, Sequence, Shows, Target, Text, Verdict,
 };
-use std::alloc::{AllocError, Global};
+use std::alloc::Global;
 use swept_rows::At;
 
-/// A newAccount request whose key is accepted (RFC 8555, 7.3, 7.3.1).
-#[tactic(auto, unfolding(desk_model::specs::Verdict::check, desk_model::specs::Verdict::given))]
-pub(crate) fn new_account_verdict(
+/// A request of a key without an account: only newAccount opens one (RFC 8555, 6.2, 7.3).
+#[tactic(auto, unfolding(desk_model::specs::Verdict::given))]
+pub(crate) fn unknown_key_verdict(
     alloc: Global,
     at: &At,
     key: &Jwk,
     payload: &str,
+    target: Target,
 ) -> Result<Verdict, CoreFault>
-    ensures { (random : List ℕ) → (let wanted = new_account_verdict key.now (account_with_key at.now key.now) (new_account payload.now) in
-        MatchResult result (λ v. (v ≡ wanted) × NumbersLeft at.now.meta.counters v × BytesLeft random v)
-        (λ e. IsNeedFault at.now.meta.counters random wanted e)) }
+    ensures { (random : List ℕ) → (let asked = unknown_key_verdict key.now payload.now target in
+        MatchResult result (λ v. (v ≡ asked) × NumbersLeft at.now.meta.counters v × BytesLeft random v)
+        (λ e. IsNeedFault at.now.meta.counters random asked e)) }
 {
-    match at.account_with_key(key.canonical()) {
-        Some(row) => Ok(known_account_verdict(alloc, row, payload)?),
-        None => match new_account(alloc, payload)? {
+    match target {
+        Target::NewAccount => match new_account(alloc, payload)? {
             Some(asked) => open_account(alloc, at, key, asked),
             None => Ok(refused(alloc, Refusal::Malformed)),
         },
+        _ => Ok(refused(alloc, Refusal::AccountDoesNotExist)),
     }
 }
 
-// A newAccount request whose key has an account: of its payload only the form is looked at.
-#[tactic(auto, unfolding(desk_model::specs::Verdict::check, desk_model::specs::Verdict::given))]
-fn known_account_verdict(
-    alloc: Global,
-    row: &AccountRow,
-    payload: &str,
-) -> Result<Verdict, AllocError>
-    ensures { IfOk result (λ v. (v ≡ known_account_verdict row.now (new_account payload.now))
-        × ((counters : Counters) (random : List ℕ) → NumbersLeft counters v × BytesLeft random v)) }
-{
-    if !row.status.is_valid() {
-        return Ok(refused(alloc, Refusal::Unauthorized));
-    }
-    if new_account(alloc, payload)?.is_none() {
-        return Ok(refused(alloc, Refusal::Malformed));
-    }
-    Ok(Verdict::Answers(Shows::KnownAccount(row.number)))
-}
-
-// A newAccount request whose key has none.
+// An account is opened, or refused.
 #[tactic(auto, unfolding(desk_model::specs::Verdict::check, desk_model::specs::Verdict::unless_fault))]
 fn open_account(alloc: Global, at: &At, key: &Jwk, asked: NewAccount) -> Result<Verdict, CoreFault>
     ensures { (random : List ℕ) → MatchResult result

@@ -1,21 +1,20 @@
 //! Verdicts on signed requests (RFC 8555, 6).
 ghost use Rattle.std.specs.Prelude.{◌≡◌, drop, MatchResult};
-ghost use Rattle.desk_rules.specs.Needs.{NumbersLeft, BytesLeft, IsNeedFault, IsOfAccount};
+ghost use Rattle.desk_rules.specs.Needs.{NumbersLeft, BytesLeft, IsNeedFault};
 ghost use Rattle.desk_model.specs.Payload.{new_order};
-ghost use Rattle.desk_model.specs.Questions.{account_with_key};
 ghost use Rattle.desk_model.specs.Rules.{holder_verdict, new_order_verdict, signed_verdict, target_verdict};
 ghost use Rattle.desk_model.specs.Verdict.{given};
 
-use crate::accounts::new_account_verdict;
+use crate::accounts::unknown_key_verdict;
 use crate::fault::CoreFault;
 use crate::new_orders::new_order_verdict;
 use crate::payload::new_order;
 use crate::targets::{
     account_target, authorization_target, certificate_target, challenge_target, finalize_target,
-    order_target, orders_target,
+    new_account_target, order_target, orders_target,
 };
 use crate::verdicts::refused;
-use desk_model::{Jwk, Refusal, Signed, Target, Verdict};
+use desk_model::{AccountRow, Refusal, Signed, Target, Verdict};
 use std::alloc::Global;
 use swept_rows::At;
 
@@ -40,7 +39,7 @@ fn new_order_target(
     }
 }
 
-// A request of the holder of a valid account, by its target.
+// A request of the holder of a valid account, by its target (RFC 8555, 7.3 to 7.5).
 fn target_verdict(
     alloc: Global,
     at: &At,
@@ -49,13 +48,12 @@ fn target_verdict(
     payload: &str,
     target: Target,
 ) -> Result<Verdict, CoreFault>
-    requires { IsOfAccount target }
     ensures { let asked = target_verdict at.now (drop 16 random.now) sender payload.now target in
         MatchResult result (λ v. (v ≡ asked) × NumbersLeft at.now.meta.counters v × BytesLeft random.now v)
         (λ e. IsNeedFault at.now.meta.counters random.now asked e) }
 {
     match target {
-        Target::NewAccount => unreachable!(),
+        Target::NewAccount => Ok(new_account_target(alloc, sender, payload)?),
         Target::NewOrder => new_order_target(alloc, at, random, sender, payload),
         Target::Account(number) => Ok(account_target(alloc, sender, number, payload)?),
         Target::Orders(number) => Ok(orders_target(alloc, sender, number, payload)),
@@ -67,24 +65,20 @@ fn target_verdict(
     }
 }
 
-// A request whose key has to have a valid account (RFC 8555, 6.2).
-#[tactic(auto, unfolding(desk_model::specs::Verdict::check, desk_model::specs::Verdict::given))]
+// A request of the holder of an account, which has to be valid (RFC 8555, 6.2).
+#[tactic(auto, unfolding(desk_model::specs::Verdict::check))]
 fn holder_verdict(
     alloc: Global,
     at: &At,
     random: &[u8],
-    key: &Jwk,
+    row: &AccountRow,
     payload: &str,
     target: Target,
 ) -> Result<Verdict, CoreFault>
-    requires { IsOfAccount target }
-    ensures { let asked = holder_verdict at.now (drop 16 random.now) payload.now target (account_with_key at.now key.now) in
+    ensures { let asked = holder_verdict at.now (drop 16 random.now) payload.now target row.now in
         MatchResult result (λ v. (v ≡ asked) × NumbersLeft at.now.meta.counters v × BytesLeft random.now v)
         (λ e. IsNeedFault at.now.meta.counters random.now asked e) }
 {
-    let Some(row) = at.account_with_key(key.canonical()) else {
-        return Ok(refused(alloc, Refusal::AccountDoesNotExist));
-    };
     if !row.status.is_valid() {
         return Ok(refused(alloc, Refusal::Unauthorized));
     }
@@ -112,8 +106,8 @@ pub fn judge_signed(
         return Ok(refused(alloc, Refusal::BadPublicKey));
     };
     let payload = signed.payload.as_str();
-    match signed.target {
-        Target::NewAccount => new_account_verdict(alloc, at, key, payload),
-        target => holder_verdict(alloc, at, random, key, payload, target),
+    match at.account_with_key(key.canonical()) {
+        Some(row) => holder_verdict(alloc, at, random, row, payload, signed.target),
+        None => unknown_key_verdict(alloc, at, key, payload, signed.target),
     }
 }

@@ -1,6 +1,6 @@
 //! Signed requests, by their targets (RFC 8555, 6.2, 6.3).
 ghost use Rattle.std.specs.Prelude.{◌≡◌, ◌==◌, IfOk, option_map};
-ghost use Rattle.desk_model.specs.Payload.{account_change, authorization_change, challenge_change, finalize};
+ghost use Rattle.desk_model.specs.Payload.{account_change, authorization_change, challenge_change, finalize, new_account};
 ghost use Rattle.desk_model.specs.Questions.{authorization_on, order_on, owner_on};
 ghost use Rattle.desk_model.specs.Rules.{account_verdict, authorization_verdict, certificate_verdict, challenge_verdict, finalize_verdict, nothing, own};
 ghost use Rattle.desk_model.specs.Verdict.{check, given};
@@ -12,7 +12,9 @@ use crate::accounts::account_verdict;
 use crate::authorization_rules::authorization_verdict;
 use crate::challenge_rules::challenge_verdict;
 use crate::order_rules::{certificate_verdict, finalize_verdict};
-use crate::payload::{account_change, authorization_change, challenge_change, finalize};
+use crate::payload::{
+    account_change, authorization_change, challenge_change, finalize, new_account,
+};
 use crate::verdicts::refused;
 use desk_model::{
     AccountStatus, AuthorizationRow, AuthzStatus, Listing, OrderRow, OrderStatus, Refusal, Shows,
@@ -59,6 +61,21 @@ fn own_authorization<'a>(
             None
         }
         None => None,
+    }
+}
+
+/// A newAccount request of an account that is there: of its payload only the form is looked at (RFC 8555, 7.3.1).
+#[tactic(auto, unfolding(desk_model::specs::Verdict::given))]
+pub(crate) fn new_account_target(
+    alloc: Global,
+    sender: u64,
+    payload: &str,
+) -> Result<Verdict, AllocError>
+    ensures { IfOk result (λ v. v ≡ given (new_account payload.now) Refusal.Malformed (λ asked. answers (show.KnownAccount sender))) }
+{
+    match new_account(alloc, payload)? {
+        Some(_) => Ok(Verdict::Answers(Shows::KnownAccount(sender))),
+        None => Ok(refused(alloc, Refusal::Malformed)),
     }
 }
 

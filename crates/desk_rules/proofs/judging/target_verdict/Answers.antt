@@ -1,9 +1,16 @@
 use Rattle.std.proofs.Common.{drop}
 use Rattle.desk_model.specs.declared.call.Target.TheVariants as to
 use Rattle.desk_rules.proofs.Sparing.{account_target-spares, authorization_target-spares, certificate_target-spares}
-use Rattle.desk_rules.proofs.Sparing.{challenge_target-spares, finalize_target-spares, order_target-spares, orders_target-spares}
+use Rattle.desk_rules.proofs.Sparing.{challenge_target-spares, finalize_target-spares, new_account_target-spares, order_target-spares, orders_target-spares}
 use Rattle.desk_rules.proofs.Sparing.{target-spared}
 use Rattle.desk_rules.proofs.judging.target_verdict.Goals as goal
+
+pub returns-in_ok-new_account_target-in-NewAccount : goal.returns-in_ok-new_account_target-in-NewAccount
+returns-in_ok-new_account_target-in-NewAccount c =
+    target-spared c.args.at.now.meta.counters c.args.at.now c.args.random.now c.args.sender c.args.payload.now c.args.target
+    to.NewAccount c.in_ok-new_account_target-in-NewAccount.field-0
+    c.in-NewAccount.is c.in_ok-new_account_target-in-NewAccount.ensures
+    (new_account_target-spares c.args.at.now (drop 16 c.args.random.now) c.args.sender c.args.payload.now)
 
 pub returns-in_ok-account_target-in-Account : goal.returns-in_ok-account_target-in-Account
 returns-in_ok-account_target-in-Account c =
