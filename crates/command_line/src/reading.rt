@@ -6,7 +6,7 @@ use crate::order::{Listing, Order, Target, Terms};
 use crate::task::Task;
 use clap::error::ErrorKind;
 use clap::{ArgMatches, Command};
-use desk_columns::read_order_status;
+use desk_model::OrderStatus;
 use std::alloc::Global;
 
 // What the matches ask for.
@@ -71,7 +71,7 @@ fn listing(given: &ArgMatches<'_>) -> Option<Listing> {
     Some(Listing {
         account: given.get_one::<u64>(arguments::ACCOUNT),
         status: match given.get_str(arguments::STATUS) {
-            Some(word) => Some(read_order_status(word)?),
+            Some(word) => Some(OrderStatus::from_text(word)?),
             None => None,
         },
         json: given.get_flag(arguments::JSON),

@@ -11,7 +11,6 @@ use crate::columns::AccountColumns;
 use crate::contacts::read_contacts;
 use crate::facts::read_account_end;
 use crate::numbers::{read_moment, read_number};
-use crate::spelling::read_account_status;
 use crate::table::Columns;
 use desk_model::{AccountRow, AccountStatus, Jwk, Sequence, Text};
 use std::alloc::{AllocError, Global};
@@ -61,7 +60,7 @@ fn read_head(columns: &AccountColumns) -> Option<AccountHead>
     Some(AccountHead {
         number: read_number(columns.num)?,
         opened: read_moment(columns.opened)?,
-        status: read_account_status(columns.status.as_str())?,
+        status: AccountStatus::from_text(columns.status.as_str())?,
     })
 }
 

@@ -8,8 +8,7 @@ ghost use Rattle.desk_columns.specs.RowHeads.{IsAuthorizationHead};
 
 use crate::columns::AuthzColumns;
 use crate::facts::read_authorization_end;
-use crate::numbers::{read_expiry, read_moment, read_number};
-use crate::spelling::{read_authorization_status, read_wildcard};
+use crate::numbers::{read_expiry, read_moment, read_number, read_wildcard};
 use crate::table::Columns;
 use desk_model::{AuthorizationRow, AuthzStatus, DnsName, Sequence};
 use std::alloc::{AllocError, Global};
@@ -56,7 +55,7 @@ fn read_head(columns: &AuthzColumns) -> Option<AuthorizationHead>
         wildcard: read_wildcard(columns.wildcard)?,
         made: read_moment(columns.made)?,
         expires: read_expiry(columns.expires)?,
-        status: read_authorization_status(columns.status.as_str())?,
+        status: AuthzStatus::from_text(columns.status.as_str())?,
     })
 }
 

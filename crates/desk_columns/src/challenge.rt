@@ -11,7 +11,6 @@ use crate::columns::ChallColumns;
 use crate::facts::{read_answered, read_report, read_sixteen};
 use crate::flat_rows::Owned;
 use crate::numbers::read_number;
-use crate::spelling::{read_challenge_status, read_kind};
 use crate::table::Columns;
 use desk_model::{ChallengeRow, ChallengeStatus, Kind};
 use std::alloc::{AllocError, Global};
@@ -56,10 +55,10 @@ fn read_head(columns: &ChallColumns) -> Option<ChallengeHead>
     Some(ChallengeHead {
         number: read_number(columns.num)?,
         owner: read_number(columns.authz)?,
-        kind: read_kind(columns.kind.as_str())?,
+        kind: Kind::from_text(columns.kind.as_str())?,
         token: read_sixteen(columns.token.as_slice())?,
         answered: read_answered(columns.answered)?,
-        status: read_challenge_status(columns.status.as_str())?,
+        status: ChallengeStatus::from_text(columns.status.as_str())?,
     })
 }
 

@@ -6,8 +6,10 @@ ghost use Rattle.desk_columns.specs.Reading.{IsRead};
 
 use crate::numbers::read_moment;
 use crate::problem::read_problem;
-use crate::spelling::{read_end_kind, read_ending, read_outcome};
-use desk_model::{AccountEnd, AuthorizationEnd, DatedBytes, DatedProblem, Report, Sequence, Text};
+use desk_model::{
+    AccountEnd, AuthorizationEnd, DatedBytes, DatedProblem, EndKind, Ending, Outcome, Report,
+    Sequence, Text,
+};
 use std::alloc::{AllocError, Global};
 
 /// When and how an account ended.
@@ -21,7 +23,7 @@ pub(crate) fn read_account_end(
         (None, None) => Some(None),
         (Some(ended), Some(end_kind)) => {
             let date = read_moment(ended)?;
-            let ending = read_ending(end_kind.as_str())?;
+            let ending = Ending::from_text(end_kind.as_str())?;
             Some(Some(AccountEnd { date, ending }))
         }
         _ => None,
@@ -39,7 +41,7 @@ pub(crate) fn read_authorization_end(
         (None, None) => Some(None),
         (Some(ended), Some(end_kind)) => {
             let date = read_moment(ended)?;
-            let kind = read_end_kind(end_kind.as_str())?;
+            let kind = EndKind::from_text(end_kind.as_str())?;
             Some(Some(AuthorizationEnd { date, kind }))
         }
         _ => None,
@@ -54,7 +56,7 @@ pub(crate) fn read_report(reported: Option<i64>, outcome: Option<Text>) -> Optio
         (None, None) => Some(None),
         (Some(reported), Some(outcome)) => {
             let date = read_moment(reported)?;
-            let outcome = read_outcome(outcome.as_str())?;
+            let outcome = Outcome::from_text(outcome.as_str())?;
             Some(Some(Report { date, outcome }))
         }
         _ => None,

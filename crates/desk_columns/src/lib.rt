@@ -15,7 +15,6 @@ mod nonce;
 mod numbers;
 mod order;
 mod problem;
-mod spelling;
 mod stored;
 mod table;
 mod values;
@@ -27,6 +26,5 @@ pub use columns::{
 pub use flat_rows::{FlatRows, Owned};
 pub use laws::{columns_tell_rows_apart, texts_are_written};
 pub use problem::problem_text;
-pub use spelling::read_order_status;
 pub use stored::read_rows;
 pub use table::{Columns, read_table};

@@ -1,5 +1,6 @@
-//! The numbers and moments that columns hold.
+//! The numbers, moments and marks that columns hold.
 ghost use Rattle.std.specs.Prelude.{pos};
+ghost use Rattle.desk_columns.specs.Columns.{wildcard_column};
 ghost use Rattle.desk_columns.specs.Limits.{IsNumber, IsCounter, IsMoment, IsExpiry};
 ghost use Rattle.desk_columns.specs.Reading.{IsRead, IsAtMost, IsFrom, Unlimited};
 
@@ -58,5 +59,16 @@ pub(crate) fn read_natural(column: i64) -> Option<u64>
         Some(column as u64)
     } else {
         None
+    }
+}
+
+/// Whether a name is a wildcard.
+pub(crate) fn read_wildcard(column: i64) -> Option<bool>
+    ensures { IsRead wildcard_column Unlimited column result }
+{
+    match column {
+        0 => Some(false),
+        1 => Some(true),
+        _ => None,
     }
 }

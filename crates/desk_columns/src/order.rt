@@ -10,7 +10,6 @@ ghost use Rattle.desk_columns.specs.RowHeads.{IsOrderHead};
 use crate::columns::OrderColumns;
 use crate::facts::{read_dated_bytes, read_dated_problem};
 use crate::numbers::{read_expiry, read_moment, read_number};
-use crate::spelling::read_order_status;
 use crate::table::Columns;
 use desk_model::{DatedBytes, DatedProblem, OrderRow, OrderStatus, Sequence};
 use std::alloc::{AllocError, Global};
@@ -108,7 +107,7 @@ fn read_head(columns: &OrderColumns) -> Option<OrderHead>
         account: read_number(columns.account)?,
         made: read_moment(columns.made)?,
         expires: read_expiry(columns.expires)?,
-        status: read_order_status(columns.status.as_str())?,
+        status: OrderStatus::from_text(columns.status.as_str())?,
     })
 }
 

@@ -3,6 +3,7 @@ ghost use Rattle.std.specs.Prelude.{◌≡◌};
 ghost use Rattle.desk_model.specs.Authorization.{is_good, kind_of};
 ghost use Rattle.desk_model.specs.Document.{outcome_detail, outcome_status};
 ghost use Rattle.desk_model.specs.Facts.{ending_text, outcome_text};
+ghost use Rattle.desk_model.specs.Lookup.{IsValueOf};
 
 use crate::call::OrderProblem;
 use crate::dns_name::DnsName;
@@ -29,6 +30,17 @@ impl Ending {
         match self {
             Ending::Deactivated => "deactivated",
             Ending::Revoked => "revoked",
+        }
+    }
+
+    /// The end of an account that a text in columns spells (RFC 8555, 7.1.6), or `None` where it spells none.
+    pub fn from_text(text: &str) -> Option<Ending>
+        ensures { IsValueOf ending_text text.now result }
+    {
+        match text {
+            "deactivated" => Some(Ending::Deactivated),
+            "revoked" => Some(Ending::Revoked),
+            _ => None,
         }
     }
 
@@ -66,6 +78,19 @@ impl Outcome {
             Outcome::IncorrectResponse => "incorrectResponse",
             Outcome::Connection => "connection",
             Outcome::Dns => "dns",
+        }
+    }
+
+    /// The outcome of a report that a text in columns spells (RFC 8555, 6.7), or `None` where it spells none.
+    pub fn from_text(text: &str) -> Option<Outcome>
+        ensures { IsValueOf outcome_text text.now result }
+    {
+        match text {
+            "good" => Some(Outcome::Good),
+            "incorrectResponse" => Some(Outcome::IncorrectResponse),
+            "connection" => Some(Outcome::Connection),
+            "dns" => Some(Outcome::Dns),
+            _ => None,
         }
     }
 

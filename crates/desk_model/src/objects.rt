@@ -3,6 +3,7 @@ ghost use Rattle.std.specs.Prelude.{◌≡◌};
 ghost use Rattle.desk_model.specs.Authorization.{status_of};
 ghost use Rattle.desk_model.specs.Document.{kind_text};
 ghost use Rattle.desk_model.specs.Facts.{end_kind_text};
+ghost use Rattle.desk_model.specs.Lookup.{IsValueOf};
 
 use crate::dns_name::DnsName;
 use crate::entry::{Ending, Outcome};
@@ -97,6 +98,17 @@ impl Kind {
             Kind::Dns01 => "dns-01",
         }
     }
+
+    /// The type of a challenge that a text spells (RFC 8555, 8.3, 8.4), or `None` where it spells none.
+    pub fn from_text(text: &str) -> Option<Kind>
+        ensures { IsValueOf kind_text text.now result }
+    {
+        match text {
+            "http-01" => Some(Kind::Http01),
+            "dns-01" => Some(Kind::Dns01),
+            _ => None,
+        }
+    }
 }
 
 /// When a challenge was reported, and what the report showed.
@@ -137,6 +149,18 @@ impl EndKind {
             EndKind::Invalid => "invalid",
             EndKind::Deactivated => "deactivated",
             EndKind::Revoked => "revoked",
+        }
+    }
+
+    /// The end of an authorization that a text in columns spells (RFC 8555, 7.1.6), or `None` where it spells none.
+    pub fn from_text(text: &str) -> Option<EndKind>
+        ensures { IsValueOf end_kind_text text.now result }
+    {
+        match text {
+            "invalid" => Some(EndKind::Invalid),
+            "deactivated" => Some(EndKind::Deactivated),
+            "revoked" => Some(EndKind::Revoked),
+            _ => None,
         }
     }
 
