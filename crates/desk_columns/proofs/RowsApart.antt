@@ -1,5 +1,5 @@
 -- Different rows have different columns.
-use Rattle.std.proofs.Common.{◌≡◌, ℕ, ℤ, pos, List, [], ◌∷◌, map, Option, Some, None, option_map, refl, sym, ap, ◌∙◌}
+use Rattle.std.proofs.Common.{◌≡◌, ℕ, pos, List, [], ◌∷◌, map, Option, Some, None, option_map, refl, sym, ap, ◌∙◌}
 use Rattle.std.specs.Prelude.{codes, option_and_then}
 use Rattle.serde_json.specs.Data.{string}
 use Rattle.serde_json.specs.Find.{get, as_str}
@@ -14,7 +14,7 @@ use Rattle.desk_model.specs.declared.objects.Report.{Report}
 use Rattle.desk_model.specs.declared.rows.DatedBytes.{DatedBytes}
 use Rattle.desk_model.specs.declared.rows.DatedProblem.{DatedProblem}
 use Rattle.desk_columns.specs.Columns.{account_columns, account_end_columns, authorization_columns, authorization_end_columns}
-use Rattle.desk_columns.specs.Columns.{challenge_columns, dated_bytes_columns, dated_problem_columns, listed_columns}
+use Rattle.desk_columns.specs.Columns.{challenge_columns, dated_bytes_columns, dated_columns, dated_problem_columns, listed_columns}
 use Rattle.desk_columns.specs.Columns.{meta_columns, nonce_columns, order_columns, report_columns, rows_columns}
 use Rattle.desk_columns.specs.Laws.{AreToldApart, ColumnsTellRowsApart}
 use Rattle.desk_columns.specs.Limits.{AreStored, IsStoredAccount, IsStoredAuthorization, IsStoredChallenge, IsStoredListed}
@@ -59,17 +59,15 @@ problem_text-apart p q same =
 
 -- ---- the columns of one fact
 
--- a fact of a date and something else, by both columns
-abbrev pair : {X Y : Type 0} → (X → ℕ) → (X → Y) → Option X → Option ℤ × Option Y
-pair date other fact = (option_map (λ x. pos (date x)) fact, option_map other fact)
-
-pair-apart : {X Y : Type 0} (date : X → ℕ) (other : X → Y) → ((x y : X) → date x ≡ date y → other x ≡ other y → x ≡ y)
-    → (x y : Option X) → option_map (λ z. pos (date z)) x ≡ option_map (λ z. pos (date z)) y → option_map other x ≡ option_map other y → x ≡ y
-pair-apart date other apart None None p q = refl
-pair-apart date other apart None (Some y) p q = absurd (cc p)
-pair-apart date other apart (Some x) None p q = absurd (cc p)
-pair-apart date other apart (Some x) (Some y) p q =
-    ap Some (apart x y (pos-apart (date x) (date y) (some-apart (pos (date x)) (pos (date y)) p)) (some-apart (other x) (other y) q))
+-- a fact is told by its date and what else it says
+dated-apart : {X Y : Type 0} (date : X → ℕ) (other : X → Y) → ((x y : X) → date x ≡ date y → other x ≡ other y → x ≡ y)
+    → (x y : Option X) → dated_columns date other x ≡ dated_columns date other y → x ≡ y
+dated-apart date other apart None None same = refl
+dated-apart date other apart None (Some y) same = absurd (cc (ap (λ c. c.0) same))
+dated-apart date other apart (Some x) None same = absurd (cc (ap (λ c. c.0) same))
+dated-apart date other apart (Some x) (Some y) same =
+    ap Some (apart x y (pos-apart (date x) (date y) (some-apart (pos (date x)) (pos (date y)) (ap (λ c. c.0) same)))
+    (some-apart (other x) (other y) (ap (λ c. c.1) same)))
 
 number-apart : (x y : Option ℕ) → option_map (λ n. pos n) x ≡ option_map (λ n. pos n) y → x ≡ y
 number-apart None None p = refl
@@ -79,27 +77,27 @@ number-apart (Some x) (Some y) p = ap Some (pos-apart x y (some-apart (pos x) (p
 
 account_end-apart : (x y : Option AccountEnd) → account_end_columns x ≡ account_end_columns y → x ≡ y
 account_end-apart x y same =
-    pair-apart (λ e. e.date) (λ e. ending_text e.ending)
-    (λ e f date text. λ i. record { date = date i; ending = ending_text-apart e.ending f.ending text i }) x y (ap (λ c. c.0) same) (ap (λ c. c.1) same)
+    dated-apart (λ e. e.date) (λ e. ending_text e.ending)
+    (λ e f date text. λ i. record { date = date i; ending = ending_text-apart e.ending f.ending text i }) x y same
 
 authorization_end-apart : (x y : Option AuthorizationEnd) → authorization_end_columns x ≡ authorization_end_columns y → x ≡ y
 authorization_end-apart x y same =
-    pair-apart (λ e. e.date) (λ e. end_kind_text e.kind)
-    (λ e f date text. λ i. record { date = date i; kind = end_kind_text-apart e.kind f.kind text i }) x y (ap (λ c. c.0) same) (ap (λ c. c.1) same)
+    dated-apart (λ e. e.date) (λ e. end_kind_text e.kind)
+    (λ e f date text. λ i. record { date = date i; kind = end_kind_text-apart e.kind f.kind text i }) x y same
 
 dated_bytes-apart : (x y : Option DatedBytes) → dated_bytes_columns x ≡ dated_bytes_columns y → x ≡ y
 dated_bytes-apart x y same =
-    pair-apart (λ k. k.date) (λ k. k.bytes) (λ k l date bytes. λ i. record { date = date i; bytes = bytes i }) x y (ap (λ c. c.0) same) (ap (λ c. c.1) same)
+    dated-apart (λ k. k.date) (λ k. k.bytes) (λ k l date bytes. λ i. record { date = date i; bytes = bytes i }) x y same
 
 dated_problem-apart : (x y : Option DatedProblem) → dated_problem_columns x ≡ dated_problem_columns y → x ≡ y
 dated_problem-apart x y same =
-    pair-apart (λ f. f.date) (λ f. problem_text f.problem)
-    (λ f g date text. λ i. record { date = date i; problem = problem_text-apart f.problem g.problem text i }) x y (ap (λ c. c.0) same) (ap (λ c. c.1) same)
+    dated-apart (λ f. f.date) (λ f. problem_text f.problem)
+    (λ f g date text. λ i. record { date = date i; problem = problem_text-apart f.problem g.problem text i }) x y same
 
 report-apart : (x y : Option Report) → report_columns x ≡ report_columns y → x ≡ y
 report-apart x y same =
-    pair-apart (λ r. r.date) (λ r. outcome_text r.outcome)
-    (λ r s date text. λ i. record { date = date i; outcome = outcome_text-apart r.outcome s.outcome text i }) x y (ap (λ c. c.0) same) (ap (λ c. c.1) same)
+    dated-apart (λ r. r.date) (λ r. outcome_text r.outcome)
+    (λ r s date text. λ i. record { date = date i; outcome = outcome_text-apart r.outcome s.outcome text i }) x y same
 
 -- ---- rows
 

@@ -29,25 +29,29 @@ use Rattle.desk_columns.specs.declared.flat_rows.Owned.{Owned}
 
 -- ---- the columns of one fact
 
+-- a fact's date and what else it says, in two columns: both are NULL where there is no fact
+abbrev pub dated_columns : {X Y : Type 0} → (date : X → ℕ) → (other : X → Y) → Option X → Option ℤ × Option Y
+dated_columns date other fact = (option_map (λ x. pos (date x)) fact, option_map other fact)
+
 -- `ended` and `end_kind` of an account
 abbrev pub account_end_columns : Option AccountEnd → Option ℤ × Option (List ℕ)
-account_end_columns end = (option_map (λ e. pos e.date) end, option_map (λ e. ending_text e.ending) end)
+account_end_columns end = dated_columns (λ e. e.date) (λ e. ending_text e.ending) end
 
 -- `ended` and `end_kind` of an authorization
 abbrev pub authorization_end_columns : Option AuthorizationEnd → Option ℤ × Option (List ℕ)
-authorization_end_columns end = (option_map (λ e. pos e.date) end, option_map (λ e. end_kind_text e.kind) end)
+authorization_end_columns end = dated_columns (λ e. e.date) (λ e. end_kind_text e.kind) end
 
 -- `finalized` and `csr`, or `certified` and `cert`
 abbrev pub dated_bytes_columns : Option DatedBytes → Option ℤ × Option (List ℕ)
-dated_bytes_columns kept = (option_map (λ k. pos k.date) kept, option_map (λ k. k.bytes) kept)
+dated_bytes_columns kept = dated_columns (λ k. k.date) (λ k. k.bytes) kept
 
 -- `failed` and `problem`
 abbrev pub dated_problem_columns : Option DatedProblem → Option ℤ × Option (List ℕ)
-dated_problem_columns failure = (option_map (λ f. pos f.date) failure, option_map (λ f. problem_text f.problem) failure)
+dated_problem_columns failure = dated_columns (λ f. f.date) (λ f. problem_text f.problem) failure
 
 -- `reported` and `outcome`
 abbrev pub report_columns : Option Report → Option ℤ × Option (List ℕ)
-report_columns report = (option_map (λ r. pos r.date) report, option_map (λ r. outcome_text r.outcome) report)
+report_columns report = dated_columns (λ r. r.date) (λ r. outcome_text r.outcome) report
 
 -- ---- the columns of one row
 
