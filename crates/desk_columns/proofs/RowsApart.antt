@@ -194,7 +194,7 @@ challenges-apart row other kept kept2 same =
     }
 
 -- a table's rows are told apart where each row is
-table-apart : {C R : Type 0} (write : R → C) (P : R → Type 0) → AreToldApart write P
+pub table-apart : {C R : Type 0} (write : R → C) (P : R → Type 0) → AreToldApart write P
     → (rows others : List R) → EachOf P rows → EachOf P others → map write rows ≡ map write others → rows ≡ others
 table-apart write P apart [] [] kept kept2 same = refl
 table-apart write P apart [] (o ∷ os) kept kept2 same = absurd (cc same)

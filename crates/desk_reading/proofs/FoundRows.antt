@@ -3,6 +3,7 @@ use Rattle.std.proofs.Common.{◌≡◌, ℕ, Bool, List, [], ◌∷◌, map, fi
 use Rattle.sqlite_value.specs.Order.{Row}
 use Rattle.sqlite_sql.specs.Term.{Term}
 use Rattle.sqlite.specs.State.{State, Shown}
+use Rattle.desk_columns.proofs.RowsApart.{table-apart}
 use Rattle.desk_columns.specs.Laws.{AreToldApart}
 use Rattle.desk_laws.proofs.Basics.{each-map}
 use Rattle.desk_laws.proofs.Keeps.{each-filter}
@@ -16,21 +17,10 @@ use Rattle.desk_reading.proofs.Told.{IsSpelled}
 
 -- ---- rows and their columns
 
--- a list of rows in their limits is told by its columns
-pub rows_told : {C R : Type 0} (write : R → C) (P : R → Type 0) → AreToldApart write P
-    → (rows others : List R) → EachOf P rows → EachOf P others → map write rows ≡ map write others → rows ≡ others
-rows_told write P apart [] [] kept kept2 same = refl
-rows_told write P apart [] (o ∷ os) kept kept2 same = absurd (cc same)
-rows_told write P apart (r ∷ rs) [] kept kept2 same = absurd (cc same)
-rows_told write P apart (r ∷ rs) (o ∷ os) kept kept2 same =
-    let first : write r ≡ write o = cc same in
-    let rest : map write rs ≡ map write os = cc same in
-    λ i. apart r o kept.0 kept2.0 first i ∷ rows_told write P apart rs os kept.1 kept2.1 rest i
-
 -- the rows that are read of the columns of rows in their limits are these
 pub rows_back : {C R : Type 0} (write : R → C) (P : R → Type 0) → AreToldApart write P
     → (columns : List C) (rows found : List R) → EachOf P rows → columns ≡ map write rows → EachOf P found × (columns ≡ map write found) → found ≡ rows
-rows_back write P apart columns rows found stored are read = rows_told write P apart found rows read.0 stored (sym read.1 ∙ are)
+rows_back write P apart columns rows found stored are read = table-apart write P apart found rows read.0 stored (sym read.1 ∙ are)
 
 -- what holds of each item of a map
 pub each_unmap : {X Y : Type 0} (P : Y → Type 0) (f : X → Y) (xs : List X) → EachOf P (map f xs) → EachOf (λ x. P (f x)) xs
@@ -59,7 +49,7 @@ found_keyed L bare write IsStored spelled project is apart text tests params sql
     let shown = subst (λ v. Shown text v old new rows) given h in
     let columns = reads_keyed L (λ x. write (bare x)) spelled project is text tests params sql reading tests_are old new xs rows has shown in
     let same : filter sql xs ≡ filter test xs = filter-each (λ x. IsStored (bare x)) sql test agree xs limits in
-    rows_told write IsStored apart found (map bare (filter sql xs)) kept
+    table-apart write IsStored apart found (map bare (filter sql xs)) kept
     (each-map IsStored bare (filter sql xs) (each-filter (λ x. IsStored (bare x)) sql xs limits))
     (sym spells ∙ columns ∙ sym (map-map write bare (filter sql xs)))
     ∙ ap (map bare) same
@@ -79,7 +69,7 @@ found_first {X} L bare write IsStored spelled project is apart text tests params
     let limits = each_unmap IsStored bare xs stored in
     let shown = subst (λ v. Shown text v old new rows) given h in
     let columns = reads_first L (λ x. write (bare x)) spelled project is text tests params sql reading tests_are old new xs rows has shown in
-    rows_told write IsStored apart found (map bare (first_of (filter sql xs))) kept
+    table-apart write IsStored apart found (map bare (first_of (filter sql xs))) kept
     (each-map IsStored bare (first_of (filter sql xs)) (each-first P (filter sql xs) (each-filter P sql xs limits)))
     (sym spells ∙ columns ∙ sym (map-map write bare (first_of (filter sql xs))))
     ∙ ap (λ ys. map bare (first_of ys)) (filter-each P sql test agree xs limits)

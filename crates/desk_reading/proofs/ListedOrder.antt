@@ -16,7 +16,7 @@ use Rattle.desk_columns.specs.Columns.{listed_columns}
 use Rattle.desk_columns.specs.Flat.{listed_rows, owned_by}
 use Rattle.desk_columns.specs.Limits.{IsStoredListed}
 use Rattle.desk_columns.specs.declared.flat_rows.Owned.{Owned}
-use Rattle.desk_columns.proofs.RowsApart.{listed-apart}
+use Rattle.desk_columns.proofs.RowsApart.{listed-apart, table-apart}
 use Rattle.desk_laws.proofs.Keeps.{each-filter}
 use Rattle.desk_laws.specs.Ordered.{Ascends}
 use Rattle.desk_model.specs.Kept.{EachOf}
@@ -32,7 +32,7 @@ use Rattle.desk_reading.specs.Spelled.{listed_in}
 use Rattle.desk_reading.specs.StoredBook.{IsStoredBook}
 use Rattle.desk_reading.specs.Texts.{select_listed_by, select_listing}
 use Rattle.desk_reading.proofs.Answered.{IsReading, answers, by, less, passes, picked, shown_in_order}
-use Rattle.desk_reading.proofs.FoundRows.{filter-each, rows_told}
+use Rattle.desk_reading.proofs.FoundRows.{filter-each}
 use Rattle.desk_reading.proofs.KeyedReadings.{columns_of}
 use Rattle.desk_reading.proofs.LookUpReadings.{is_equal, listed_by_reading, listing_reading}
 use Rattle.desk_reading.proofs.Tests.{number_test, same_bounded}
@@ -130,7 +130,7 @@ module _ (old new : State) (T : Tables) (rows : List Row) (values : Row) (has : 
       let up = IsStrictlySortedBy-filter (ranks tests) sql ls (listed_strictly tests 0 T.orders has.rising.orders book.book.in_order.places) in
       let rows_are = shown_in_order (picked 6 tests listed_project order) placed (filter sql (map row_of ts)) (filter sql ls) rows same up answered in
       let columns = columns_of listed_in listed_params listed_columns listed_back (filter sql ls) rows rows_are in
-      rows_told listed_columns IsStoredListed listed-apart found (filter sql ls) kept (each-filter IsStoredListed sql ls book.stored.listed)
+      table-apart listed_columns IsStoredListed listed-apart found (filter sql ls) kept (each-filter IsStoredListed sql ls book.stored.listed)
       (sym spells ∙ columns)
       ∙ filter-each IsStoredListed sql test agree ls book.stored.listed
 
