@@ -159,7 +159,7 @@ fn after_number(text: &str) -> Option<&str>
 pub fn is_number(text: &str) -> bool
     ensures { result ≡ is_number_text text.now }
 {
-    is_number_len(text.len()) && has_number_bytes(text)
+    is_number_len(text.len()) && has_base64url_bytes(text)
 }
 
 // Whether a number may have this many characters.
@@ -169,8 +169,8 @@ fn is_number_len(len: usize) -> bool
     (1..=4096).contains(&len)
 }
 
-// Whether each character is one of base64url.
-fn has_number_bytes(text: &str) -> bool
+/// Whether each character of a text is one of base64url (RFC 4648, 5).
+pub fn has_base64url_bytes(text: &str) -> bool
     ensures { result ≡ list_all is_base64url_byte text.now }
 {
     text.bytes()

@@ -27,7 +27,7 @@ pub use clock::Clock;
 pub use dns_name::{DnsName, is_well_formed};
 pub use document::Document;
 pub use entry::{Dated, Ending, Entry, Outcome, Wanted};
-pub use jwk::{Jwk, is_number};
+pub use jwk::{Jwk, has_base64url_bytes, is_number};
 pub use limits::{
     LAST_END, LAST_MOMENT, LAST_NUMBER, LONGEST_BASE, LONGEST_BODY, LONGEST_CERTIFICATE,
     LONGEST_CONTACT, LONGEST_CSR, LONGEST_DETAIL, LONGEST_HEAD, LONGEST_LIFE, MOST_CONTACTS,
