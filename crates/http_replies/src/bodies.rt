@@ -1,12 +1,10 @@
 //! The bodies of replies.
-ghost use Rattle.std.specs.Prelude.{◌≡◌, ◌++◌, IfOk, OnOk, Bool, is_some, string_bytes};
-ghost use Rattle.serde_json.specs.Written.{compact_text};
-ghost use Rattle.desk_model.specs.Refusals.{problem_document};
+ghost use Rattle.std.specs.Prelude.{◌≡◌, ◌++◌, IfOk, OnOk, Bool, is_some};
 ghost use Rattle.http_replies.specs.Replies.{body_allow, body_bytes, body_fields, has_body, has_index, is_new_nonce};
 
 use crate::writing::{put_allow, put_content};
-use desk_model::{Body, Document, Problem, Reply};
-use refusals::problem_document;
+use desk_model::{Body, Reply};
+use refusals::problem_text;
 use std::alloc::{AllocError, Global};
 
 /// The bytes of a body.
@@ -15,26 +13,10 @@ pub(crate) fn body_bytes(alloc: Global, body: &Body) -> Result<Vec<u8>, AllocErr
 {
     match body {
         Body::Empty => Ok(Vec::new(alloc)),
-        Body::Json(document) => document_text(alloc, document),
-        Body::Problem(problem) => problem_text(alloc, problem),
+        Body::Json(document) => Ok(document.value().to_string(alloc)?.into_bytes()),
+        Body::Problem(problem) => Ok(problem_text(alloc, problem)?.into_bytes()),
         Body::Certificate(bytes) => Vec::from_slice(alloc, bytes.as_slice()),
     }
-}
-
-// The text of a JSON document.
-fn document_text(alloc: Global, document: &Document) -> Result<Vec<u8>, AllocError>
-    ensures { IfOk result (λ t. t.items ≡ compact_text document.now) }
-{
-    let text = document.value().to_string(alloc)?;
-    Ok(text.into_bytes())
-}
-
-// The text of a refusal's document.
-fn problem_text(alloc: Global, problem: &Problem) -> Result<Vec<u8>, AllocError>
-    ensures { IfOk result (λ t. t.items ≡ compact_text (problem_document problem.now)) }
-{
-    let document = problem_document(alloc, problem)?;
-    document_text(alloc, &document)
 }
 
 /// The fields that say how long a body is, and of what kind.

@@ -4,5 +4,5 @@
 mod problems;
 mod replies;
 
-pub use problems::{problem_document, type_text};
+pub use problems::{problem_document, problem_text, type_text};
 pub use replies::refusal_reply;

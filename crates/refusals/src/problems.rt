@@ -2,6 +2,7 @@
 ghost use Rattle.std.specs.Prelude.{◌≡◌, IfOk, OnOk, map, string_bytes};
 ghost use Rattle.serde_json.specs.Data.{string};
 ghost use Rattle.serde_json.specs.View.{view, members_view};
+ghost use Rattle.serde_json.specs.Written.{compact_text};
 ghost use Rattle.desk_model.specs.Json.{list, members};
 ghost use Rattle.desk_model.specs.Refusals.{refusal_of, error_type, problem_document, subproblem_document};
 ghost use Rattle.refusals.specs.Problems.{identifier, refusal_members, with_subproblems};
@@ -20,6 +21,17 @@ pub fn problem_document(alloc: Global, problem: &Problem) -> Result<Document, Al
 {
     let value = problem_value(alloc, problem)?;
     Ok(Document::new(value))
+}
+
+/// The text of a refusal's document.
+///
+/// # Errors
+///
+/// Where there is no memory for it.
+pub fn problem_text(alloc: Global, problem: &Problem) -> Result<String, AllocError>
+    ensures { IfOk result (λ text. string_bytes text ≡ compact_text (problem_document problem.now)) }
+{
+    problem_document(alloc, problem)?.value().to_string(alloc)
 }
 
 // The JSON value of a refusal.
