@@ -1,8 +1,6 @@
 -- Different rows have different columns.
 use Rattle.std.proofs.Common.{◌≡◌, ℕ, pos, List, [], ◌∷◌, map, Option, Some, None, option_map, refl, sym, ap, ◌∙◌}
-use Rattle.std.specs.Prelude.{codes, option_and_then}
 use Rattle.serde_json.specs.Data.{string}
-use Rattle.serde_json.specs.Find.{get, as_str}
 use Rattle.serde_json.specs.Read.{read}
 use Rattle.serde_json.specs.View.{items_of}
 use Rattle.desk_model.specs.Json.{list}
@@ -20,8 +18,9 @@ use Rattle.desk_columns.specs.Laws.{AreToldApart, ColumnsTellRowsApart}
 use Rattle.desk_columns.specs.Limits.{AreStored, IsStoredAccount, IsStoredAuthorization, IsStoredChallenge, IsStoredListed}
 use Rattle.desk_columns.specs.Limits.{IsStoredMeta, IsStoredNonce, IsStoredOrder}
 use Rattle.desk_model.specs.Facts.{ending_text, end_kind_text, outcome_text}
-use Rattle.desk_columns.specs.Spelling.{contacts_text, problem_document, problem_text}
-use Rattle.desk_columns.proofs.JsonTexts.{read-contacts_text, read-problem_text}
+use Rattle.desk_columns.specs.Spelling.{contacts_text, problem_text}
+use Rattle.desk_columns.proofs.JsonTexts.{read-contacts_text}
+use Rattle.desk_columns.proofs.ProblemTexts.{spelled}
 use Rattle.desk_columns.proofs.SpellingApart.{account_status_text-apart, order_status_text-apart, authorization_status_text-apart}
 use Rattle.desk_columns.proofs.SpellingApart.{challenge_status_text-apart, kind_text-apart, ending_text-apart}
 use Rattle.desk_columns.proofs.SpellingApart.{end_kind_text-apart, outcome_text-apart, wildcard_column-apart}
@@ -50,12 +49,7 @@ contacts_text-apart a b same =
     strings-apart a b (cc lists)
 
 problem_text-apart : (p q : OrderProblem) → problem_text p ≡ problem_text q → p ≡ q
-problem_text-apart p q same =
-    let objects : problem_document p ≡ problem_document q =
-    some-apart (problem_document p) (problem_document q) (sym (read-problem_text p) ∙ ap read same ∙ read-problem_text q) in
-    let detail : Some p.detail ≡ Some q.detail = ap (λ d. option_and_then as_str (get (codes "detail") d)) objects in
-    let kind : Some p.kind ≡ Some q.kind = ap (λ d. option_and_then as_str (get (codes "type") d)) objects in
-    λ i. record { kind = some-apart p.kind q.kind kind i; detail = some-apart p.detail q.detail detail i }
+problem_text-apart p q same = some-apart p q (sym (spelled (problem_text p) p refl) ∙ spelled (problem_text p) q same)
 
 -- ---- the columns of one fact
 

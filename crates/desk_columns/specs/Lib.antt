@@ -3,7 +3,6 @@ pub mod Flat
 pub mod Laws
 pub mod Limits
 pub mod MetaParts
-pub mod ProblemParts
 pub mod Reading
 pub mod RowHeads
 pub mod Spelling

@@ -10,9 +10,10 @@ use Rattle.desk_model.specs.declared.call.Target.{Target}
 use Rattle.desk_model.specs.declared.reply.Allow.{Allow}
 use Rattle.desk_model.specs.declared.reply.Allow.TheVariants as allow
 use Rattle.desk_model.specs.declared.reply.Reply.{Reply}
+use Rattle.json_values.specs.Problems.{order_problem}
 use Rattle.refusals.specs.Replies.{refusal_reply}
 use Rattle.requests.specs.Envelopes.{Envelope, IsEnvelopeText, IsSigned}
-use Rattle.requests.specs.Offices.{finding, order_problem}
+use Rattle.requests.specs.Offices.{finding}
 use Rattle.requests.specs.Routes.{IsResourceAt, has_index, methods_of, serves}
 use Rattle.requests.specs.declared.request.Place.{Place}
 use Rattle.requests.specs.declared.request.Place.TheVariants as place

@@ -5,9 +5,10 @@ ghost use Rattle.requests.specs.Request.{certify_ask, refused_request};
 ghost use Rattle.requests.specs.Routes.{IsResourceAt};
 
 use crate::envelopes::signed_in;
-use crate::offices::{finding, order_problem};
+use crate::offices::finding;
 use crate::routes::{OfficeResource, Resource, has_index, methods_of, resource_at, serves};
 use desk_model::{Allow, Ask, OfficeAsk, Refusal, Reply, Sequence, Target};
+use json_values::order_problem;
 use std::alloc::{AllocError, Global};
 
 /// What a request asks, or the refusal of one that is no call.
