@@ -12,8 +12,8 @@ use Rattle.desk_model.specs.declared.rows.Change.TheVariants.{PutMeta, RemoveNon
 use Rattle.desk_model.specs.declared.rows.Meta.{Meta}
 use Rattle.desk_laws.specs.News.{InTurn}
 use Rattle.desk_laws.specs.Ordered.{IsOrdered}
+use Rattle.desk_laws.specs.Placing.{removes}
 use Rattle.desk_laws.proofs.Recorded.{tables_ordered, changes_make, sweep_makes}
-use Rattle.desk_laws.proofs.RowLists.{removes}
 use Rattle.desk_laws.proofs.Step.{follows_before, step, sweep}
 
 module _ (P : Tables → Change → Type 0) where

@@ -29,7 +29,8 @@ use Rattle.desk_laws.proofs.InTurn.{records_in_turn, removing}
 use Rattle.desk_laws.proofs.NewsInOrder.{find_put, put_up}
 use Rattle.desk_laws.proofs.PutsDiffer.{puts_keep_children, swept_puts_keep_children}
 use Rattle.desk_laws.proofs.Recorded.{ordered_up, made_up}
-use Rattle.desk_laws.proofs.RowLists.{puts, Above, ascends_above, ascends_map, ascends_filter}
+use Rattle.desk_laws.specs.Placing.{puts}
+use Rattle.desk_laws.proofs.RowLists.{Above, ascends_above, ascends_map, ascends_filter}
 
 -- ---- one table
 

@@ -31,7 +31,8 @@ use Rattle.desk_laws.proofs.Basics.{less_differs, each_both, each}
 use Rattle.desk_laws.proofs.InTurn.{records_in_turn, removing}
 use Rattle.desk_laws.proofs.PutsDiffer.{nonces_differ, accounts_differ, authorizations_differ, orders_differ, expired_differ, fallen_differ}
 use Rattle.desk_laws.proofs.Recorded.{below_filter, below_map, issued_up, opened_up, ordered_up, made_up}
-use Rattle.desk_laws.proofs.RowLists.{puts, removes, Above, ascends_above, ascends_from, ascends_map, ascends_filter}
+use Rattle.desk_laws.specs.Placing.{puts, removes}
+use Rattle.desk_laws.proofs.RowLists.{Above, ascends_above, ascends_from, ascends_map, ascends_filter}
 
 -- ---- one table
 

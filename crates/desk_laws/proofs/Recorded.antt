@@ -32,8 +32,9 @@ use Rattle.desk_model.specs.declared.rows.Meta.{Meta}
 use Rattle.desk_model.specs.declared.rows.OrderRow.{OrderRow}
 use Rattle.desk_laws.proofs.Basics.{numbered-append, IsNumbered}
 use Rattle.desk_laws.specs.Ordered.{Ascends, Below, IsTable, IsOrdered}
-use Rattle.desk_laws.proofs.RowLists.{puts, removes, numbered_ascends, ascends_map, ascends_filter, puts_moved, puts_differing}
-use Rattle.desk_laws.proofs.RowLists.{puts_last, puts-append, removes_filter}
+use Rattle.desk_laws.specs.Placing.{puts, removes}
+use Rattle.desk_laws.proofs.RowLists.{numbered_ascends, ascends_map, ascends_filter, puts_moved, puts_differing}
+use Rattle.desk_laws.proofs.RowLists.{puts_last, puts_append, removes_filter}
 use Rattle.desk_laws.proofs.OrderFacts.{authorizations_numbered, made_by_numbered}
 use Rattle.desk_laws.proofs.Numbers.{AreNumbered, challenges_count, nonces_numbered, accounts_numbered, orders_numbered}
 use Rattle.desk_laws.proofs.Differing.{account_unmoved, authorization_unmoved, order_unmoved}
@@ -164,7 +165,7 @@ puts_all : {X : Type 0} (number : X → ℕ) (touched : X → Bool) (differs : X
     Ascends number (last + 1) fresh →
     puts number (moved_rows touched differs move rows ++ fresh) rows ≡ map (λ r. cond (touched r) (move r) r) rows ++ fresh
 puts_all number touched differs move same unmoved last rows fresh h up =
-    puts-append number (moved_rows touched differs move rows) fresh rows
+    puts_append number (moved_rows touched differs move rows) fresh rows
     ∙ ap (puts number fresh) (puts_differing number touched differs move same unmoved 1 rows h.0)
     ∙ puts_last number (last + 1) fresh (map (λ r. cond (touched r) (move r) r) rows) up
     (below_map number number (λ r. cond (touched r) (move r) r) (picked_same number touched move same) (last + 1) rows h.1)

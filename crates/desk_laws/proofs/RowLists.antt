@@ -1,21 +1,12 @@
 -- Rows put into their places by number.
-use Rattle.std.proofs.Common.{Some, None, ◌≡◌, ◌≤◌, ◌<◌, ℕ, ◌+◌, List, [], ◌∷◌, ◌++◌, map, filter, refl, sym, ap, ◌∙◌, true, false, Bool, cond, arith, ltb, not}
+use Rattle.std.proofs.Common.{Some, None, ◌≡◌, ◌≤◌, ◌<◌, ℕ, ◌+◌, List, [], ◌∷◌, ◌++◌, map, filter, refl, sym, ap, ◌∙◌, true, false, Bool, cond, arith, not}
 use Rattle.std.specs.Prelude.{find, nat_lt, ◌==◌, ◌&&◌}
-use Rattle.std.proofs.lemmas.Bool.{ltb-true, eq-eqb}
+use Rattle.std.proofs.lemmas.Bool.{eq-eqb, le-ltb, lt-ltb}
 use Rattle.desk_model.specs.Change.{put, remove, moved_rows}
 use Rattle.desk_model.specs.Kept.{EachOf}
 use Rattle.desk_laws.specs.Ordered.{Ascends, Below}
+use Rattle.desk_laws.specs.Placing.{puts, removes}
 use Rattle.desk_laws.proofs.Basics.{less_differs, more_differs, each, each_all, map-each, IsNumbered}
-
--- rows put one after the other
-abbrev pub puts : {X : Type 0} → (X → ℕ) → List X → List X → List X
-puts number [] rows = rows
-puts number (x ∷ xs) rows = puts number xs (put number x rows)
-
--- rows removed one after the other
-abbrev pub removes : {X : Type 0} → (X → ℕ) → List ℕ → List X → List X
-removes number [] rows = rows
-removes number (n ∷ ns) rows = removes number ns (remove number n rows)
 
 -- from a lower number on
 pub ascends_from : {X : Type 0} (number : X → ℕ) (m n : ℕ) (xs : List X) → m ≤ n → Ascends number n xs → Ascends number m xs
@@ -57,21 +48,31 @@ pub ascends_above : {X : Type 0} (number : X → ℕ) (n m : ℕ) (xs : List X) 
 ascends_above number n m [] lt h = tt
 ascends_above number n m (x ∷ xs) lt h = let a : m ≤ number x = h.0 in (omega arith, ascends_above number n (number x + 1) xs (omega arith) h.1)
 
--- a greater number is not less
-not_below : (k n : ℕ) → n < k → ltb k n ≡ false
-not_below k n h = by (ltb k n) refl
-  where
-    by : (b : Bool) → ltb k n ≡ b → b ≡ false
-    by true e = let lt : k < n = ltb-true k n e in absurd (omega arith)
-    by false e = refl
-
--- a row with a greater number is put further on
+-- a row is put behind one with a lower number
 pub put_past : {X : Type 0} (number : X → ℕ) (x y : X) (ys : List X) → number y < number x → put number x (y ∷ ys) ≡ y ∷ put number x ys
 put_past number x y ys h =
-    λ i. cond (more_differs (number x) (number y) h i) (x ∷ ys) (cond (not_below (number x) (number y) h i) (x ∷ y ∷ ys) (y ∷ put number x ys))
+    let not_less : nat_lt (number x) (number y) ≡ false = le-ltb (number x) (number y) (omega arith) in
+    λ i. cond (more_differs (number x) (number y) h i) (x ∷ ys) (cond (not_less i) (x ∷ y ∷ ys) (y ∷ put number x ys))
 
--- and so are several
-puts_past : {X : Type 0} (number : X → ℕ) (xs : List X) (y : X) (ys : List X) → Above number (number y) xs →
+-- it takes the place of one with its number
+pub put_instead : {X : Type 0} (number : X → ℕ) (x y : X) (ys : List X) → number y ≡ number x → put number x (y ∷ ys) ≡ x ∷ ys
+put_instead number x y ys same =
+    let tied : (number x == number y) ≡ true = eq-eqb (number x) (number y) (sym same) in
+    λ i. cond (tied i) (x ∷ ys) (cond (nat_lt (number x) (number y)) (x ∷ y ∷ ys) (y ∷ put number x ys))
+
+-- and goes before one with a greater number
+pub put_before : {X : Type 0} (number : X → ℕ) (x y : X) (ys : List X) → number x < number y → put number x (y ∷ ys) ≡ x ∷ y ∷ ys
+put_before number x y ys h =
+    let less : nat_lt (number x) (number y) ≡ true = lt-ltb (number x) (number y) h in
+    λ i. cond (less_differs (number x) (number y) h i) (x ∷ ys) (cond (less i) (x ∷ y ∷ ys) (y ∷ put number x ys))
+
+-- a row below all others comes first
+pub put_first : {X : Type 0} (number : X → ℕ) (x : X) (ys : List X) → Above number (number x) ys → put number x ys ≡ x ∷ ys
+put_first number x [] h = refl
+put_first number x (y ∷ ys) h = put_before number x y ys h.0
+
+-- rows are put behind one with a lower number
+pub puts_past : {X : Type 0} (number : X → ℕ) (xs : List X) (y : X) (ys : List X) → Above number (number y) xs →
     puts number xs (y ∷ ys) ≡ y ∷ puts number xs ys
 puts_past number [] y ys h = refl
 puts_past number (x ∷ xs) y ys h = ap (puts number xs) (put_past number x y ys h.0) ∙ puts_past number xs y (put number x ys) h.1
@@ -142,15 +143,19 @@ puts_last number n (x ∷ xs) rows h below =
     joined [] = refl
     joined (y ∷ ys) = ap (λ l. y ∷ l) (joined ys)
 
+-- rows that stand by number make the table of themselves
+pub puts_ascending : {X : Type 0} (number : X → ℕ) (n : ℕ) (xs : List X) → Ascends number n xs → puts number xs [] ≡ xs
+puts_ascending number n xs h = puts_last number n xs [] h tt
+
 -- rows put after rows
-pub puts-append : {X : Type 0} (number : X → ℕ) (xs ys rows : List X) → puts number (xs ++ ys) rows ≡ puts number ys (puts number xs rows)
-puts-append number [] ys rows = refl
-puts-append number (x ∷ xs) ys rows = puts-append number xs ys (put number x rows)
+pub puts_append : {X : Type 0} (number : X → ℕ) (xs ys rows : List X) → puts number (xs ++ ys) rows ≡ puts number ys (puts number xs rows)
+puts_append number [] ys rows = refl
+puts_append number (x ∷ xs) ys rows = puts_append number xs ys (put number x rows)
 
 -- ---- removals
 
 -- nothing is removed where the number stands nowhere
-remove_none : {X : Type 0} (number : X → ℕ) (k : ℕ) (xs : List X) → Above number k xs → remove number k xs ≡ xs
+pub remove_none : {X : Type 0} (number : X → ℕ) (k : ℕ) (xs : List X) → Above number k xs → remove number k xs ≡ xs
 remove_none number k [] h = refl
 remove_none number k (x ∷ xs) h =
     ap (λ b. cond (not b) (x ∷ remove number k xs) (remove number k xs)) (less_differs k (number x) h.0)

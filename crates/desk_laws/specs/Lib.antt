@@ -8,4 +8,5 @@ pub mod News
 pub mod Ordered
 pub mod PartLaws
 pub mod Parts
+pub mod Placing
 pub mod TableLaws

@@ -2,7 +2,8 @@
 ghost use Rattle.std.specs.Prelude.{◌≡◌, ◌++◌, List, IfOk, OnOk};
 ghost use Rattle.std.specs.List.{flat_map};
 ghost use Rattle.desk_laws.specs.Ordered.{IsOrdered};
-ghost use Rattle.desk_parts.specs.Loaded.{accounts_once, all_put, authorizations_once, first_authorizations};
+ghost use Rattle.desk_laws.specs.Placing.{puts};
+ghost use Rattle.desk_parts.specs.Loaded.{accounts_once, authorizations_once, first_authorizations};
 ghost use Rattle.desk_parts.specs.Loaded.{found_authorizations, found_orders, keys as keys_of, loaded_rows, named_accounts};
 ghost use Rattle.desk_parts.specs.Loaded.{named_orders, own_authorizations, own_orders, orders_once, past_orders};
 ghost use Rattle.desk_parts.specs.LookUps.{accounts_numbered, accounts_with_key};
@@ -42,7 +43,7 @@ fn put_keyed<S: LookUps>(
 ) -> Result<(), StorageFault>
     ensures reads { Reads S.sight source.old source.new result }
     ensures found { ForTables S.sight source.old source.new (λ T.
-        OnOk result (accounts.new ≡ all_put (λ x. x.number) (flat_map (accounts_with_key T) (keys_of ask.now)) accounts.old)) }
+        OnOk result (accounts.new ≡ puts (λ x. x.number) (flat_map (accounts_with_key T) (keys_of ask.now)) accounts.old)) }
 {
     if let Ask::Signed(request) = ask {
         if let Ok(key) = &request.key {
@@ -78,7 +79,7 @@ fn put_holders<S: LookUps>(
     authorizations: &Table<AuthorizationRow>,
 ) -> Result<(), StorageFault>
     ensures reads { Reads S.sight source.old source.new result }
-    ensures found { ForTables S.sight source.old source.new (λ T. OnOk result (accounts.new ≡ all_put (λ x. x.number)
+    ensures found { ForTables S.sight source.old source.new (λ T. OnOk result (accounts.new ≡ puts (λ x. x.number)
         (flat_map (λ o. accounts_numbered T o.account) orders.now ++ flat_map (λ r. accounts_numbered T r.account) authorizations.now) accounts.old)) }
 {
     put_accounts_of_orders(alloc, source, accounts, orders)?;
@@ -98,7 +99,7 @@ fn put_asked_authorizations<S: LookUps>(
 ) -> Result<(), StorageFault>
     ensures reads { Reads S.sight source.old source.new result }
     ensures found { ForTables S.sight source.old source.new (λ T. accounts.now ≡ accounts_once (named_accounts T ask.now)
-        → OnOk result (authorizations.new ≡ all_put (λ r. r.number) (own_authorizations T ask.now) authorizations.old)) }
+        → OnOk result (authorizations.new ≡ puts (λ r. r.number) (own_authorizations T ask.now) authorizations.old)) }
 {
     if asks_authorizations(ask) {
         put_own_authorizations(alloc, source, authorizations, accounts)?;
@@ -116,7 +117,7 @@ fn put_asked_orders<S: LookUps>(
 ) -> Result<(), StorageFault>
     ensures reads { Reads S.sight source.old source.new result }
     ensures found { ForTables S.sight source.old source.new (λ T. accounts.now ≡ accounts_once (named_accounts T ask.now)
-        → OnOk result (orders.new ≡ all_put (λ o. o.number) (own_orders T ask.now) orders.old)) }
+        → OnOk result (orders.new ≡ puts (λ o. o.number) (own_orders T ask.now) orders.old)) }
 {
     if asks_orders(ask) {
         put_own_orders(alloc, source, orders, accounts)?;

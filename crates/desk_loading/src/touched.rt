@@ -19,7 +19,7 @@ use std::alloc::Global;
 // ---- nonces
 
 // The nonces that are touched: the one that is carried, and those past their life.
-#[tactic(auto, using(desk_parts::proofs::Found::puts_append))]
+#[tactic(auto, using(desk_laws::proofs::RowLists::puts_append))]
 fn nonces_touched<S: LookUps>(
     alloc: Global,
     source: &mut S,

@@ -1,15 +1,15 @@
 -- Rows that are found, in any order and any number of times, and the table that they make.
-use Rattle.std.proofs.Common.{◌≡◌, ◌<◌, ℕ, ◌+◌, List, [], ◌∷◌, ◌++◌, filter, Some, refl, sym, ap, ◌∙◌, true, false, Bool, cond, arith, ltb}
+use Rattle.std.proofs.Common.{◌≡◌, ◌<◌, ℕ, ◌+◌, List, [], ◌∷◌, ◌++◌, filter, Some, refl, sym, ap, ◌∙◌, true, false, Bool, cond, arith}
 use Rattle.std.specs.Prelude.{◌==◌, ◌&&◌, ◌||◌, find, nat_lt}
 use Rattle.std.specs.List.{list_any, flat_map}
 use Rattle.std.proofs.lemmas.List.Folds.{list_any-append}
-use Rattle.std.proofs.lemmas.Bool.{eqb-true, eq-eqb, ltb-true, lt-ltb}
+use Rattle.std.proofs.lemmas.Bool.{eqb-true, eq-eqb}
 use Rattle.desk_model.specs.Change.{put}
 use Rattle.desk_model.specs.Kept.{EachOf}
 use Rattle.desk_laws.specs.Ordered.{Ascends}
+use Rattle.desk_laws.specs.Placing.{puts}
 use Rattle.desk_laws.proofs.Basics.{any_or, each, each-append, less_differs, list_any-same, more_differs, or_none}
-use Rattle.desk_laws.proofs.RowLists.{Above, ascends_above, ascends_found}
-use Rattle.desk_parts.specs.Loaded.{all_put}
+use Rattle.desk_laws.proofs.RowLists.{Above, ascends_above, ascends_found, put_first, put_past}
 use Rattle.desk_parts.proofs.Cut.{at_number, numbered}
 use Rattle.desk_parts.proofs.Lists.{filter_same, filtered_each, found_each}
 
@@ -82,25 +82,6 @@ found_if number false test xs ys h = found_none number xs
 
 -- ---- the table that they make
 
--- a row that goes first
-put_first : {X : Type 0} (number : X → ℕ) (y : X) (xs : List X) → Above number (number y) xs → put number y xs ≡ y ∷ xs
-put_first number y [] h = refl
-put_first number y (x ∷ xs) h =
-    let lt : number y < number x = h.0 in
-    λ i. cond (less_differs (number y) (number x) lt i) (y ∷ xs) (cond (lt-ltb (number y) (number x) lt i) (y ∷ x ∷ xs) (x ∷ put number y xs))
-
--- a row that goes further on
-put_later : {X : Type 0} (number : X → ℕ) (y x : X) (xs : List X) → number x < number y → put number y (x ∷ xs) ≡ x ∷ put number y xs
-put_later number y x xs h =
-    λ i. cond (more_differs (number y) (number x) h i) (y ∷ xs) (cond (not_below (number y) (number x) h i) (y ∷ x ∷ xs) (x ∷ put number y xs))
-  where
-    not_below : (k n : ℕ) → n < k → ltb k n ≡ false
-    not_below k n lt = by (ltb k n) refl
-      where
-        by : (b : Bool) → ltb k n ≡ b → b ≡ false
-        by true e = let l : k < n = ltb-true k n e in absurd (omega arith)
-        by false e = refl
-
 above_filter : {X : Type 0} (number : X → ℕ) (p : X → Bool) (n : ℕ) (xs : List X) → Above number n xs → Above number n (filter p xs)
 above_filter number p n xs h = filtered_each _ p xs (each _ _ xs (λ x f yes. f) h)
 
@@ -147,7 +128,7 @@ put_filter number y p n (x ∷ xs) h e =
         ap_above is = rw (← is) (above_filter number p (number x) xs above)
     by false apart true f ih above =
         let lt : number x < number y = found_above number y (number x) xs above f in
-        put_later number y x (filter p xs) lt ∙ ap (λ l. x ∷ l) (ih f)
+        put_past number y x (filter p xs) lt ∙ ap (λ l. x ∷ l) (ih f)
         ∙ ap (λ c. cond (c || true) (x ∷ filter (λ z. (number y == number z) || p z) xs) (filter (λ z. (number y == number z) || p z) xs))
         (sym (more_differs (number y) (number x) lt))
     by false apart false f ih above =
@@ -157,13 +138,13 @@ put_filter number y p n (x ∷ xs) h e =
         (sym (more_differs (number y) (number x) lt))
 
 -- rows of these, put among some of them
-all_put_filter : {X : Type 0} (number : X → ℕ) (n : ℕ) (xs : List X) → Ascends number n xs → (found : List X) → (p : X → Bool) →
+puts_filter : {X : Type 0} (number : X → ℕ) (n : ℕ) (xs : List X) → Ascends number n xs → (found : List X) → (p : X → Bool) →
     EachOf (λ y. find (λ x. number x == number y) xs ≡ Some y) found →
-    all_put number found (filter p xs) ≡ filter (λ x. list_any (λ y. number y == number x) found || p x) xs
-all_put_filter number n xs h [] p f = refl
-all_put_filter number n xs h (y ∷ ys) p f =
-    ap (all_put number ys) (put_filter number y p n xs h f.0)
-    ∙ all_put_filter number n xs h ys (λ x. (number y == number x) || p x) f.1
+    puts number found (filter p xs) ≡ filter (λ x. list_any (λ y. number y == number x) found || p x) xs
+puts_filter number n xs h [] p f = refl
+puts_filter number n xs h (y ∷ ys) p f =
+    ap (puts number ys) (put_filter number y p n xs h f.0)
+    ∙ puts_filter number n xs h ys (λ x. (number y == number x) || p x) f.1
     ∙ filter_all_same xs
   where
     turn : (a b c : Bool) → (b || (a || c)) ≡ ((a || b) || c)
@@ -183,10 +164,10 @@ filter_nothing (x ∷ xs) = filter_nothing xs
 
 -- what is found makes the table of the rows that pass
 pub found_table : {X : Type 0} (number : X → ℕ) (test : X → Bool) (n : ℕ) (xs found : List X) → Ascends number n xs → IsFound number test xs found →
-    all_put number found [] ≡ filter test xs
+    puts number found [] ≡ filter test xs
 found_table number test n xs found h is =
-    ap (all_put number found) (filter_nothing xs)
-    ∙ all_put_filter number n xs h found (λ x. false) is.from
+    ap (puts number found) (filter_nothing xs)
+    ∙ puts_filter number n xs h found (λ x. false) is.from
     ∙ filter_same _ test xs
     (each _ _ xs (λ x e. or_none _ ∙ is.tests (λ y. number y == number x) ∙ swap xs x ∙ e) (numbered number test n xs h))
   where
@@ -201,10 +182,5 @@ found_table number test n xs found h is =
 
 -- each row once is found as well
 pub found_once : {X : Type 0} (number : X → ℕ) (test : X → Bool) (n : ℕ) (xs found : List X) → Ascends number n xs → IsFound number test xs found →
-    IsFound number test xs (all_put number found [])
+    IsFound number test xs (puts number found [])
 found_once number test n xs found h is = rw (found_table number test n xs found h is) (found_filter number test n xs h)
-
--- rows put after rows
-pub puts_append : {X : Type 0} (number : X → ℕ) (xs ys rows : List X) → all_put number (xs ++ ys) rows ≡ all_put number ys (all_put number xs rows)
-puts_append number [] ys rows = refl
-puts_append number (x ∷ xs) ys rows = puts_append number xs ys (put number x rows)

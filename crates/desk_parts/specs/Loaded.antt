@@ -1,7 +1,7 @@
 -- The rows that a call touches, as look-ups find them, one after the other.
 use Rattle.std.specs.Prelude.{ℕ, ◌-◌, max, List, [], ◌∷◌, ◌++◌, if◌then◌else◌, Option, Some, None, Ok, Err, option_and_then}
 use Rattle.std.specs.List.{flat_map}
-use Rattle.desk_model.specs.Change.{put}
+use Rattle.desk_laws.specs.Placing.{puts}
 use Rattle.desk_model.specs.Derived.{numbers_of}
 use Rattle.desk_model.specs.Tables.{Tables}
 use Rattle.desk_model.specs.Tokens.{NonceText, nonce_in}
@@ -80,19 +80,14 @@ challenge_numbers _ = []
 
 -- ---- rows that are found, each once
 
--- the rows put one after the other, each in its place by number
-abbrev pub all_put : {X : Type 0} → (X → ℕ) → List X → List X → List X
-all_put number [] rows = rows
-all_put number (x ∷ xs) rows = all_put number xs (put number x rows)
-
 abbrev pub accounts_once : List AccountRow → List AccountRow
-accounts_once rows = all_put (λ x. x.number) rows []
+accounts_once rows = puts (λ x. x.number) rows []
 
 abbrev pub authorizations_once : List AuthorizationRow → List AuthorizationRow
-authorizations_once rows = all_put (λ r. r.number) rows []
+authorizations_once rows = puts (λ r. r.number) rows []
 
 abbrev pub orders_once : List OrderRow → List OrderRow
-orders_once rows = all_put (λ o. o.number) rows []
+orders_once rows = puts (λ o. o.number) rows []
 
 -- ---- what is found, rule by rule
 
@@ -151,10 +146,10 @@ abbrev pub loaded_rows : Tables → ℕ → Ask → Tables
 loaded_rows T m a =
     record {
       meta = T.meta;
-      nonces = all_put (λ x. x.serial) (found_nonces T m a) [];
-      accounts = all_put (λ x. x.number) (found_accounts T m a) [];
-      authorizations = all_put (λ r. r.number) (found_authorizations T m a) [];
-      orders = all_put (λ o. o.number) (found_orders T m a) [];
+      nonces = puts (λ x. x.serial) (found_nonces T m a) [];
+      accounts = puts (λ x. x.number) (found_accounts T m a) [];
+      authorizations = puts (λ r. r.number) (found_authorizations T m a) [];
+      orders = puts (λ o. o.number) (found_orders T m a) [];
     }
 
 abbrev pub loaded_at : Tables → ℕ → Ask → Tables

@@ -5,7 +5,7 @@ use Rattle.std.proofs.lemmas.List.{append_assoc}
 use Rattle.sqlite.specs.Effect.{Database}
 use Rattle.desk_columns.specs.Flat.{challenge_rows, listed_rows, owned_by}
 use Rattle.desk_columns.specs.declared.flat_rows.Owned.{Owned}
-use Rattle.desk_laws.proofs.RowLists.{ascends_filter}
+use Rattle.desk_laws.proofs.RowLists.{ascends_filter, put_before, put_past}
 use Rattle.desk_laws.specs.News.{AreKept, KeepsChildren}
 use Rattle.desk_model.specs.Change.{applied, applied_one, put}
 use Rattle.desk_model.specs.Kept.{EachOf}
@@ -20,7 +20,7 @@ use Rattle.desk_saving.specs.Makes.{MakesAll}
 use Rattle.desk_saving.proofs.ListedAfter.{found_in}
 use Rattle.desk_saving.proofs.MadeChanges.{keys_owned}
 use Rattle.desk_saving.proofs.NestedRows.{children_put}
-use Rattle.desk_saving.proofs.Numbered.{find_here, find_later, put_before, put_behind, puts_back}
+use Rattle.desk_saving.proofs.Numbered.{find_here, find_later, puts_back}
 use Rattle.desk_tables.specs.Effects.{is_same_place}
 use Rattle.desk_tables.specs.Holds.{AreApart, AreRising}
 use Rattle.desk_tables.specs.Layouts.{IsRising, account_layout, authorization_layout, challenge_layout, nonce_layout, order_layout}
@@ -78,7 +78,7 @@ parts x (p ∷ ps) none = elim (ranked p.number x.number) [
         own ++ more.0,
         more.1,
         ap (λ ls. own ++ ls) more.2 ∙ sym (append_assoc own more.0 more.1),
-        ap listed_rows (put_behind order_layout.key x p ps less.low)
+        ap listed_rows (put_past order_layout.key x p ps less.low)
             ∙ ap (λ ls. own ++ ls) more.3
             ∙ sym (append_assoc own more.0 (owned_by x.number x.listed ++ more.1)),
       )

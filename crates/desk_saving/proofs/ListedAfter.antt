@@ -8,13 +8,13 @@ use Rattle.std.proofs.lemmas.List.Sorted.{IsPermutation-append_right, IsPermutat
 use Rattle.sqlite_rules.specs.Lists.{Has}
 use Rattle.desk_columns.specs.Flat.{listed_rows, owned_by}
 use Rattle.desk_columns.specs.declared.flat_rows.Owned.{Owned}
-use Rattle.desk_laws.proofs.RowLists.{ascends_above}
+use Rattle.desk_laws.proofs.RowLists.{ascends_above, put_before, put_instead, put_past}
 use Rattle.desk_laws.specs.Ordered.{Ascends}
 use Rattle.desk_model.specs.Change.{put}
 use Rattle.desk_model.specs.declared.rows.Listed.{Listed}
 use Rattle.desk_model.specs.declared.rows.OrderRow.{OrderRow}
 use Rattle.desk_saving.specs.Makes.{ArePlaced}
-use Rattle.desk_saving.proofs.Numbered.{find_here, find_later, find_none, put_before, put_behind, put_instead}
+use Rattle.desk_saving.proofs.Numbered.{find_here, find_later, find_none}
 use Rattle.desk_saving.proofs.PlacedRows.{has_left, has_parts, has_right, has_through, image_of, new_rows, owners_apart, stays}
 use Rattle.desk_tables.specs.Effects.{is_same_place}
 use Rattle.desk_tables.specs.Hidden.{number, row_of}
@@ -47,7 +47,7 @@ found_in n x (p ∷ ps) o up found kept = elim (ranked p.number x.number) [
   | inl less ↦
       let later = sym (find_later number_of x.number p ps (λ e. omega (arith, e, less.low))) ∙ found in
       let rest = found_in (p.number + 1) x ps o up.1 later kept in (
-        ap listed_rows (put_behind number_of x p ps less.low) ∙ ap (λ ls. owned_by p.number p.listed ++ ls) rest.0,
+        ap listed_rows (put_past number_of x p ps less.low) ∙ ap (λ ls. owned_by p.number p.listed ++ ls) rest.0,
         λ l h. has_right (owned_by p.number p.listed) (listed_rows ps) l (rest.1 l h),
       )
   | inr (inl tied) ↦
@@ -99,7 +99,7 @@ added x (p ∷ ps) none = elim (ranked p.number x.number) [
       let moved = IsPermutation-append_right own (listed_rows ps ++ owned_by x.number x.listed) (listed_rows (put number_of x ps)) (added x ps later) in
       let whole : IsPermutation ((own ++ listed_rows ps) ++ owned_by x.number x.listed) (own ++ listed_rows (put number_of x ps)) =
       subst (λ ls. IsPermutation ls (own ++ listed_rows (put number_of x ps))) (sym (append_assoc own (listed_rows ps) (owned_by x.number x.listed))) moved in
-      subst (λ rows. IsPermutation (listed_rows (p ∷ ps) ++ owned_by x.number x.listed) (listed_rows rows)) (sym (put_behind number_of x p ps less.low)) whole
+      subst (λ rows. IsPermutation (listed_rows (p ∷ ps) ++ owned_by x.number x.listed) (listed_rows rows)) (sym (put_past number_of x p ps less.low)) whole
   | inr (inl tied) ↦ let some : Some p ≡ None = sym (find_here number_of x.number p ps tied.same) ∙ none in absurd (cc some)
   | inr (inr more) ↦
       subst (λ rows. IsPermutation (listed_rows (p ∷ ps) ++ owned_by x.number x.listed) (listed_rows rows)) (sym (put_before number_of x p ps more.high))
@@ -111,7 +111,7 @@ own_apart : (x : OrderRow) (os : List OrderRow) → AreApart (listed_rows (put n
 own_apart x [] h = (apart_parts (owned_by x.number x.listed) [] h).0
 own_apart x (p ∷ ps) h = elim (ranked p.number x.number) [
   | inl less ↦
-      let a : AreApart (listed_rows (p ∷ put number_of x ps)) = subst (λ os. AreApart (listed_rows os)) (put_behind number_of x p ps less.low) h in
+      let a : AreApart (listed_rows (p ∷ put number_of x ps)) = subst (λ os. AreApart (listed_rows os)) (put_past number_of x p ps less.low) h in
       own_apart x ps (apart_parts (owned_by p.number p.listed) (listed_rows (put number_of x ps)) a).1
   | inr (inl tied) ↦
       let a : AreApart (listed_rows (x ∷ ps)) = subst (λ os. AreApart (listed_rows os)) (put_instead number_of x p ps tied.same) h in

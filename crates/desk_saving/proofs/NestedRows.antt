@@ -2,12 +2,12 @@
 use Rattle.std.specs.Prelude.{◌==◌, find}
 use Rattle.std.specs.List.{flat_map}
 use Rattle.std.proofs.Common.{◌≡◌, inl, inr, ℕ, ◌+◌, ◌≤◌, ◌<◌, ◌++◌, List, [], ◌∷◌, map, Some, sym, ap, subst, ◌∙◌, arith}
-use Rattle.desk_laws.proofs.RowLists.{Above, ascends_above, ascends_from}
+use Rattle.desk_laws.proofs.RowLists.{Above, ascends_above, ascends_from, put_before, put_instead, put_past}
 use Rattle.desk_laws.specs.Ordered.{Ascends}
+use Rattle.desk_laws.specs.Placing.{puts}
 use Rattle.desk_model.specs.Change.{put}
 use Rattle.desk_model.specs.Kept.{EachOf}
-use Rattle.desk_saving.specs.Makes.{puts}
-use Rattle.desk_saving.proofs.Numbered.{find_here, find_later, put_before, put_behind, put_instead, puts_behind_all, puts_first, puts_instead}
+use Rattle.desk_saving.proofs.Numbered.{find_here, find_later, puts_past_all, puts_first, puts_instead}
 use Rattle.desk_tables.proofs.Keyed.{ranked}
 use Rattle.desk_laws.proofs.Basics.{each_parts}
 
@@ -21,7 +21,7 @@ module _ {P C : Type 0} (parent : P → ℕ) (children : P → List C) (key : C 
   among Q x [] all = (each_parts Q (children x) [] all).0
   among Q x (p ∷ ps) all = elim (ranked (parent p) (parent x)) [
     | inl less ↦
-        let a : EachOf Q (of_all (p ∷ put parent x ps)) = subst (λ l. EachOf Q (of_all l)) (put_behind parent x p ps less.low) all in
+        let a : EachOf Q (of_all (p ∷ put parent x ps)) = subst (λ l. EachOf Q (of_all l)) (put_past parent x p ps less.low) all in
         among Q x ps (each_parts Q (children p) (of_all (put parent x ps)) a).1
     | inr (inl tied) ↦
         let a : EachOf Q (of_all (x ∷ ps)) = subst (λ l. EachOf Q (of_all l)) (put_instead parent x p ps tied.same) all in
@@ -50,12 +50,12 @@ module _ {P C : Type 0} (parent : P → ℕ) (children : P → List C) (key : C 
   children_put n x [] same up = puts_first key n (children x) [] up
   children_put n x (p ∷ ps) same up = elim (ranked (parent p) (parent x)) [
     | inl less ↦
-        let is = put_behind parent x p ps less.low in
+        let is = put_past parent x p ps less.low in
         let a : Ascends key n (children p ++ of_all (put parent x ps)) = subst (λ l. Ascends key n (of_all l)) is up in
         let parts = above_others n x ps (children p) a in
         let past = find_later parent (parent x) p ps (λ e. omega (arith, less.low, e)) in
         let later = λ (q : P) (h : find (λ p. parent p == parent x) ps ≡ Some q). same q (past ∙ h) in
-        puts_behind_all key (children p) (children x) (of_all ps) parts.0
+        puts_past_all key (children p) (children x) (of_all ps) parts.0
         ∙ ap (λ l. children p ++ l) (children_put n x ps later parts.1)
         ∙ sym (ap of_all is)
     | inr (inl tied) ↦

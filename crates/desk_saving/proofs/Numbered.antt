@@ -2,11 +2,11 @@
 use Rattle.std.specs.Prelude.{◌==◌, find}
 use Rattle.std.proofs.Common.{◌≡◌, ◌≢◌, inl, inr, ℕ, ◌+◌, ◌<◌, ◌≤◌, ◌++◌, List, [], ◌∷◌, map, cond, Some, None, refl, sym, ap, subst, ◌∙◌, arith}
 use Rattle.std.proofs.lemmas.Bool.{eq-eqb, ne_eqb}
-use Rattle.desk_laws.proofs.RowLists.{Above, ascends_above}
+use Rattle.desk_laws.proofs.RowLists.{Above, ascends_above, put_before, put_first, put_instead, put_past, puts_past}
 use Rattle.desk_laws.specs.Ordered.{Ascends}
+use Rattle.desk_laws.specs.Placing.{puts}
 use Rattle.desk_model.specs.Change.{put}
 use Rattle.desk_model.specs.Kept.{EachOf}
-use Rattle.desk_saving.specs.Makes.{puts}
 use Rattle.desk_tables.proofs.Keyed.{ranked}
 use Rattle.desk_laws.proofs.Basics.{each_parts}
 
@@ -28,60 +28,26 @@ module _ {X : Type 0} (key : X → ℕ) where
 
   -- ---- one row
 
-  -- a row goes behind a lower one
-  pub put_behind : (x y : X) (ys : List X) → key y < key x → put key x (y ∷ ys) ≡ y ∷ put key x ys
-  put_behind x y ys low = elim (ranked (key y) (key x)) [
-    | inl less ↦ rw (less.apart, less.under) refl
-    | inr (inl tied) ↦ absurd (omega (arith, low, tied.same))
-    | inr (inr more) ↦ absurd (omega (arith, low, more.high))
-  ]
-
-  -- in the place of the one with its number
-  pub put_instead : (x y : X) (ys : List X) → key y ≡ key x → put key x (y ∷ ys) ≡ x ∷ ys
-  put_instead x y ys same = elim (ranked (key y) (key x)) [
-    | inl less ↦ absurd (omega (arith, same, less.low))
-    | inr (inl tied) ↦ rw (tied.tied) refl
-    | inr (inr more) ↦ absurd (omega (arith, same, more.high))
-  ]
-
-  -- and before a higher one
-  pub put_before : (x y : X) (ys : List X) → key x < key y → put key x (y ∷ ys) ≡ x ∷ y ∷ ys
-  put_before x y ys high = elim (ranked (key y) (key x)) [
-    | inl less ↦ absurd (omega (arith, high, less.low))
-    | inr (inl tied) ↦ absurd (omega (arith, high, tied.same))
-    | inr (inr more) ↦ rw (more.apart, more.under) refl
-  ]
-
-  -- a row below all others comes first
-  pub put_first : (x : X) (ys : List X) → Above key (key x) ys → put key x ys ≡ x ∷ ys
-  put_first x [] all = refl
-  put_first x (y ∷ ys) all = put_before x y ys all.0
-
   -- rows stand in order where they do with one more
   pub put_back : (n : ℕ) (y : X) (xs : List X) → Ascends key n (put key y xs) → Ascends key n xs
   put_back n y [] up = tt
   put_back n y (x ∷ xs) up = elim (ranked (key x) (key y)) [
-    | inl less ↦ let a : Ascends key n (x ∷ put key y xs) = subst (Ascends key n) (put_behind y x xs less.low) up in (a.0, put_back (key x + 1) y xs a.1)
+    | inl less ↦ let a : Ascends key n (x ∷ put key y xs) = subst (Ascends key n) (put_past key y x xs less.low) up in (a.0, put_back (key x + 1) y xs a.1)
     | inr (inl tied) ↦
-        let a : Ascends key n (y ∷ xs) = subst (Ascends key n) (put_instead y x xs tied.same) up in
+        let a : Ascends key n (y ∷ xs) = subst (Ascends key n) (put_instead key y x xs tied.same) up in
         (subst (λ k. n ≤ k) (sym tied.same) a.0, subst (λ k. Ascends key (k + 1) xs) (sym tied.same) a.1)
     | inr (inr more) ↦
-        let a : Ascends key n (y ∷ x ∷ xs) = subst (Ascends key n) (put_before y x xs more.high) up in
+        let a : Ascends key n (y ∷ x ∷ xs) = subst (Ascends key n) (put_before key y x xs more.high) up in
         let low : n ≤ key y = a.0 in
         (omega (arith, low, more.high), a.1.1)
   ]
 
   -- ---- several rows
 
-  -- they go behind a lower one
-  pub puts_behind : (y : X) (xs ys : List X) → Above key (key y) xs → puts key xs (y ∷ ys) ≡ y ∷ puts key xs ys
-  puts_behind y [] ys all = refl
-  puts_behind y (x ∷ xs) ys all = ap (puts key xs) (put_behind x y ys all.0) ∙ puts_behind y xs (put key x ys) all.1
-
-  -- and behind several lower ones
-  pub puts_behind_all : (zs xs ys : List X) → EachOf (λ z. Above key (key z) xs) zs → puts key xs (zs ++ ys) ≡ zs ++ puts key xs ys
-  puts_behind_all [] xs ys all = refl
-  puts_behind_all (z ∷ zs) xs ys all = puts_behind z xs (zs ++ ys) all.0 ∙ ap (λ l. z ∷ l) (puts_behind_all zs xs ys all.1)
+  -- they go behind several lower ones
+  pub puts_past_all : (zs xs ys : List X) → EachOf (λ z. Above key (key z) xs) zs → puts key xs (zs ++ ys) ≡ zs ++ puts key xs ys
+  puts_past_all [] xs ys all = refl
+  puts_past_all (z ∷ zs) xs ys all = puts_past key xs z (zs ++ ys) all.0 ∙ ap (λ l. z ∷ l) (puts_past_all zs xs ys all.1)
 
   -- those above the first of rows in order, in two parts
   later_parts : (x : X) (xs ys : List X) → Ascends key (key x + 1) (xs ++ ys) → Above key (key x) xs × Above key (key x) ys
@@ -92,7 +58,7 @@ module _ {X : Type 0} (key : X → ℕ) where
   puts_first n [] ys up = refl
   puts_first n (x ∷ xs) ys up =
       let parts = later_parts x xs ys up.1 in
-      ap (puts key xs) (put_first x ys parts.1) ∙ puts_behind x xs ys parts.0 ∙ ap (λ l. x ∷ l) (puts_first (key x + 1) xs ys up.1)
+      ap (puts key xs) (put_first key x ys parts.1) ∙ puts_past key xs x ys parts.0 ∙ ap (λ l. x ∷ l) (puts_first (key x + 1) xs ys up.1)
 
   -- rows take the places of those with their numbers
   pub puts_instead : (n : ℕ) (xs zs ys : List X) → map key zs ≡ map key xs → Ascends key n (xs ++ ys) → puts key xs (zs ++ ys) ≡ xs ++ ys
@@ -103,7 +69,8 @@ module _ {X : Type 0} (key : X → ℕ) where
       let first : key z ≡ key x = cc same in
       let rest : map key zs ≡ map key xs = cc same in
       let parts = later_parts x xs ys up.1 in
-      ap (puts key xs) (put_instead x z (zs ++ ys) first) ∙ puts_behind x xs (zs ++ ys) parts.0 ∙ ap (λ l. x ∷ l) (puts_instead (key x + 1) xs zs ys rest up.1)
+      ap (puts key xs) (put_instead key x z (zs ++ ys) first) ∙ puts_past key xs x (zs ++ ys) parts.0
+      ∙ ap (λ l. x ∷ l) (puts_instead (key x + 1) xs zs ys rest up.1)
 
   -- rows stand in order where they do with several more
   pub puts_back : (n : ℕ) (ys xs : List X) → Ascends key n (puts key ys xs) → Ascends key n xs

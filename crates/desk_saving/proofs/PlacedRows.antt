@@ -11,13 +11,12 @@ use Rattle.std.proofs.lemmas.List.Sorted.{All-permutation, IsPermutation-sym}
 use Rattle.sqlite_rules.specs.Lists.{Has}
 use Rattle.desk_columns.specs.declared.flat_rows.Owned.{Owned}
 use Rattle.desk_laws.proofs.Basics.{eq_turn}
-use Rattle.desk_laws.proofs.RowLists.{ascends_above, ascends_from, puts_last}
+use Rattle.desk_laws.proofs.RowLists.{ascends_above, ascends_from, put_instead, put_past, puts_last}
 use Rattle.desk_laws.specs.Ordered.{Ascends, Below}
 use Rattle.desk_model.specs.Change.{put}
 use Rattle.desk_model.specs.Kept.{EachOf}
 use Rattle.desk_model.specs.declared.rows.Listed.{Listed}
 use Rattle.desk_saving.specs.Makes.{ArePlaced}
-use Rattle.desk_saving.proofs.Numbered.{put_behind, put_instead}
 use Rattle.desk_tables.specs.Effects.{is_same_place}
 use Rattle.desk_tables.specs.Hidden.{IsPlaced, next, number, row_of}
 use Rattle.desk_tables.specs.Holds.{AreApart}
@@ -116,7 +115,7 @@ put_there n t [] up h = absurd h
 put_there n t (s ∷ ss) up (inl here) = put_instead number t s ss (sym (ap (λ u. u.0) here)) ∙ ap (λ u. u ∷ ss) here
 put_there n t (s ∷ ss) up (inr there) =
     let low : s.0 < t.0 = each_at (λ u. s.0 < u.0) ss t (ascends_above number s.0 (s.0 + 1) ss (omega arith) up.1) there in
-    put_behind number t s ss low ∙ ap (λ us. s ∷ us) (put_there (s.0 + 1) t ss up.1 there)
+    put_past number t s ss low ∙ ap (λ us. s ∷ us) (put_there (s.0 + 1) t ss up.1 there)
 
 -- the next number is above the first
 above_first : {X : Type 0} (m n : ℕ) (ts : List (ℕ × X)) → m < n → Ascends number (m + 1) ts → m < fold (λ _ t. t.0 + 1) n ts

@@ -17,7 +17,8 @@ use Rattle.desk_model.specs.declared.rows.Listed.{Listed}
 use Rattle.desk_schema.proofs.AdvanceLemmas.{advances_as, advances_then}
 use Rattle.desk_schema.specs.Advances.{Advances}
 use Rattle.desk_saving.specs.Fitting.{AreFit, IsFit}
-use Rattle.desk_saving.specs.Makes.{ArePlaced, Makes, MakesAll, PlacesAll, PutsAll, puts}
+use Rattle.desk_laws.specs.Placing.{puts}
+use Rattle.desk_saving.specs.Makes.{ArePlaced, Makes, MakesAll, PlacesAll, PutsAll}
 use Rattle.desk_saving.proofs.Numbered.{puts_snoc}
 use Rattle.desk_tables.specs.Effects.{Places, PlacesColumns, Puts, is_same_place}
 use Rattle.desk_tables.specs.Hidden.{IsPlaced}

@@ -2,7 +2,8 @@
 use Rattle.std.specs.Prelude.{◌≡◌, ℕ, List, [], ◌∷◌}
 use Rattle.sqlite.specs.Effect.{Database, IsDatabase}
 use Rattle.desk_columns.specs.declared.flat_rows.Owned.{Owned}
-use Rattle.desk_model.specs.Change.{applied, applied_one, put}
+use Rattle.desk_laws.specs.Placing.{puts}
+use Rattle.desk_model.specs.Change.{applied, applied_one}
 use Rattle.desk_model.specs.Tables.{Tables}
 use Rattle.desk_model.specs.declared.rows.Change.{Change}
 use Rattle.desk_model.specs.declared.rows.Listed.{Listed}
@@ -13,11 +14,6 @@ use Rattle.desk_tables.specs.Holds.{Holds}
 use Rattle.desk_tables.specs.Layouts.{HasRows, Layout, listed_layout}
 
 -- ---- several rows of one table
-
--- rows put one after the other
-abbrev pub puts : {X : Type 0} → (X → ℕ) → List X → List X → List X
-puts key [] rows = rows
-puts key (x ∷ xs) rows = puts key xs (put key x rows)
 
 -- each of the rows stands in the place of the one with its key
 abbrev pub PutsAll : {X : Type 0} → Layout X → List X → Database → Database → Type 0

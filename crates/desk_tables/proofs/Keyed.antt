@@ -5,13 +5,14 @@ use Rattle.std.specs.Prelude.{◌==◌, nat_lt}
 use Rattle.std.specs.Ordering.{is_eq, MatchOrdering}
 use Rattle.std.proofs.lemmas.Cmp.{ranked as nat_ranked}
 use Rattle.std.proofs.lemmas.Bool.Decides.{nat_tests}
+use Rattle.std.proofs.lemmas.Bool.{eq-eqb, le-ltb, lt-ltb}
 use Rattle.sqlite.specs.declared.types.Value.TheVariants.{Int}
 use Rattle.sqlite_value.specs.Order.{Row, value_cmp}
 use Rattle.sqlite_value.proofs.OrderLemmas.{value_cmp-Int}
 use Rattle.sqlite_trees.specs.Tree.{rowid, put_row, without_rowid, has_rowid}
 use Rattle.sqlite_rules.specs.Lists.{Has}
 use Rattle.desk_laws.specs.Ordered.{Ascends}
-use Rattle.desk_laws.proofs.RowLists.{ascends_from}
+use Rattle.desk_laws.proofs.RowLists.{ascends_above, ascends_from, put_first, put_instead, put_past, remove_none}
 use Rattle.desk_model.specs.Change.{put, remove}
 use Rattle.desk_laws.proofs.Basics.{less_differs, more_differs}
 
@@ -48,23 +49,14 @@ Ranked a b = IsLess a b ⊎ (IsTied a b ⊎ IsMore a b)
 three_is : (a b : ℕ) → three a b ≡ nat_cmp a b
 three_is a b = grind (arith, nat_tests)
 
-tied_is : (a b : ℕ) → a ≡ b → (b == a) ≡ true
-tied_is a b h = grind (arith, nat_tests)
-
-over_is : (a b : ℕ) → a < b → nat_lt b a ≡ false
-over_is a b h = grind (arith, nat_tests)
-
-under_is : (a b : ℕ) → b < a → nat_lt b a ≡ true
-under_is a b h = grind (arith, nat_tests)
-
 -- which of the three
 pub ranked : (a b : ℕ) → Ranked a b
 ranked a b = go (three a b) refl (nat_ranked a b (three a b) (three_is a b))
   where
     go : (o : Ordering) → three a b ≡ o → MatchOrdering o (a < b) (a ≡ b) (b < a) → Ranked a b
-    go Less is h = inl (record { low = h; ranks = is; apart = more_differs b a h; under = over_is a b h })
-    go Equal is h = inr (inl (record { same = h; ranks = is; tied = tied_is a b h }))
-    go Greater is h = inr (inr (record { high = h; ranks = is; apart = less_differs b a h; under = under_is a b h }))
+    go Less is h = inl (record { low = h; ranks = is; apart = more_differs b a h; under = le-ltb b a (omega arith) })
+    go Equal is h = inr (inl (record { same = h; ranks = is; tied = eq-eqb b a (sym h) }))
+    go Greater is h = inr (inr (record { high = h; ranks = is; apart = less_differs b a h; under = lt-ltb b a h }))
 
 -- SQL finds two numbers equal where the model does
 pub eq_is : (a b : ℕ) → is_eq (three a b) ≡ (b == a)
@@ -91,12 +83,7 @@ module _ {X : Type 0} (key : X → ℕ) where
 
   -- no row above a key is removed with it
   pub kept : (n : ℕ) (xs : List X) → Ascends key (n + 1) xs → remove key n xs ≡ xs
-  kept n [] up = refl
-  kept n (x ∷ xs) up = elim (ranked (key x) n) [
-    | inl less ↦ absurd (omega (arith, up.0, less.low))
-    | inr (inl tied) ↦ absurd (omega (arith, up.0, tied.same))
-    | inr (inr more) ↦ rw (more.apart) (ap (λ ys. x ∷ ys) (kept n xs (above n (key x) xs (omega (arith, more.high)) up.1)))
-  ]
+  kept n xs up = remove_none key n xs (ascends_above key n (n + 1) xs (omega arith) up)
 
   -- the rows that have a key, as a query finds them
   abbrev pub with_key : ℕ → List X → List X
@@ -110,23 +97,6 @@ module _ {X : Type 0} (key : X → ℕ) where
     | inr (inl tied) ↦ absurd (omega (arith, up.0, tied.same))
     | inr (inr more) ↦ rw (more.ranks) (none_with n xs (above n (key x) xs (omega (arith, more.high)) up.1))
   ]
-
-  -- a row is put before those above it
-  in_front : (x : X) (xs : List X) → Ascends key (key x + 1) xs → put key x xs ≡ x ∷ xs
-  in_front x [] up = refl
-  in_front x (y ∷ ys) up = elim (ranked (key y) (key x)) [
-    | inl less ↦ absurd (omega (arith, up.0, less.low))
-    | inr (inl tied) ↦ absurd (omega (arith, up.0, tied.same))
-    | inr (inr more) ↦ rw (more.apart, more.under) refl
-  ]
-
-  -- behind a lower one
-  behind : (x y : X) (ys : List X) → IsLess (key y) (key x) → put key x (y ∷ ys) ≡ y ∷ put key x ys
-  behind x y ys less = rw (less.apart, less.under) refl
-
-  -- in the place of the one with its key
-  instead : (x y : X) (ys : List X) → IsTied (key y) (key x) → put key x (y ∷ ys) ≡ x ∷ ys
-  instead x y ys tied = rw (tied.tied) refl
 
   -- another row stays
   stays : (n : ℕ) (y : X) (ys : List X) → (n == key y) ≡ false → remove key n (y ∷ ys) ≡ y ∷ remove key n ys
@@ -142,12 +112,14 @@ module _ {X : Type 0} (key : X → ℕ) where
   put_anew x m (y ∷ ys) up = elim (ranked (key y) (key x)) [
     | inl less ↦
         ap (put key x) (stays (key x) y ys less.apart)
-        ∙ behind x y (remove key (key x) ys) less
+        ∙ put_past key x y (remove key (key x) ys) less.low
         ∙ ap (λ zs. y ∷ zs) (put_anew x (key y + 1) ys up.1)
-        ∙ sym (behind x y ys less)
+        ∙ sym (put_past key x y ys less.low)
     | inr (inl tied) ↦
         let more : Ascends key (key x + 1) ys = subst (λ k. Ascends key (k + 1) ys) tied.same up.1 in
-        ap (put key x) (goes (key x) y ys tied.tied ∙ kept (key x) ys more) ∙ in_front x ys more ∙ sym (instead x y ys tied)
+        ap (put key x) (goes (key x) y ys tied.tied ∙ kept (key x) ys more)
+        ∙ put_first key x ys (ascends_above key (key x) (key x + 1) ys (omega arith) more)
+        ∙ sym (put_instead key x y ys tied.same)
     | inr (inr more) ↦
         let rest = above (key x) (key y) ys (omega (arith, more.high)) up.1 in
         ap (put key x) (stays (key x) y ys more.apart ∙ ap (λ zs. y ∷ zs) (kept (key x) ys rest))

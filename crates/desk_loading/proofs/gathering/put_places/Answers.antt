@@ -3,7 +3,7 @@ use Rattle.std.specs.List.{flat_map}
 use Rattle.std.proofs.lemmas.List.{drop_all}
 use Rattle.desk_model.specs.Derived.{numbers_of}
 use Rattle.desk_model.specs.declared.rows.AuthorizationRow.{AuthorizationRow}
-use Rattle.desk_parts.specs.Loaded.{all_put}
+use Rattle.desk_laws.specs.Placing.{puts}
 use Rattle.desk_parts.specs.LookUps.{authorizations_numbered}
 use Rattle.desk_loading.proofs.Gathered.{gathered}
 use Rattle.desk_loading.proofs.gathering.put_places.Goals as goal
@@ -23,6 +23,6 @@ loop-place-preserved g c = record {
 
 pub returns-clause-found : goal.returns-clause-found
 returns-clause-found g c honest T held =
-    ap (λ l. all_put (λ (a : AuthorizationRow). a.number) (flat_map (authorizations_numbered T) (numbers_of l)) c.loop-place.authorizations)
+    ap (λ l. puts (λ (a : AuthorizationRow). a.number) (flat_map (authorizations_numbered T) (numbers_of l)) c.loop-place.authorizations)
     (sym (drop_all c.loop-place.place-index c.args.places.now (omega arith)))
     ∙ c.loop-place.invariant.found honest T held

@@ -3,16 +3,17 @@ use Rattle.std.specs.List.{flat_map}
 use Rattle.desk_model.specs.declared.rows.AccountRow.{AccountRow}
 use Rattle.desk_model.specs.declared.rows.AuthorizationRow.{AuthorizationRow}
 use Rattle.desk_model.specs.declared.rows.OrderRow.{OrderRow}
-use Rattle.desk_parts.specs.Loaded.{all_put, authorizations_once, found_authorizations, found_orders, named_accounts, orders_once}
+use Rattle.desk_laws.specs.Placing.{puts}
+use Rattle.desk_parts.specs.Loaded.{authorizations_once, found_authorizations, found_orders, named_accounts, orders_once}
 use Rattle.desk_parts.specs.LookUps.{accounts_numbered}
 use Rattle.desk_loading.proofs.Gathered.{put_then}
 use Rattle.desk_loading.proofs.objects.objects_touched.Goals as goal
 
 -- what is put by two values is put by their equals
 put_by_both : {X Y Z : Type 0} (number : X → ℕ) (rows_of : Y → Z → List X) (y v : Y) (z w : Z) (rows later : List X) →
-    later ≡ all_put number (rows_of y z) rows → y ≡ v → z ≡ w → later ≡ all_put number (rows_of v w) rows
+    later ≡ puts number (rows_of y z) rows → y ≡ v → z ≡ w → later ≡ puts number (rows_of v w) rows
 put_by_both number rows_of y v z w rows later put_now same alike =
-    put_now ∙ ap (λ a. all_put number (rows_of a z) rows) same ∙ ap (λ b. all_put number (rows_of v b) rows) alike
+    put_now ∙ ap (λ a. puts number (rows_of a z) rows) same ∙ ap (λ b. puts number (rows_of v b) rows) alike
 
 pub returns-clause-accounts : goal.returns-clause-accounts
 returns-clause-accounts g c = λ honest T held.

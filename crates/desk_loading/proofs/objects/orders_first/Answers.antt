@@ -1,7 +1,8 @@
 use Rattle.std.proofs.Common.{[], ◌++◌, ap, ◌∙◌}
 use Rattle.std.specs.List.{flat_map}
 use Rattle.desk_model.specs.declared.rows.OrderRow.{OrderRow}
-use Rattle.desk_parts.specs.Loaded.{all_put, named_orders, own_orders, past_orders}
+use Rattle.desk_laws.specs.Placing.{puts}
+use Rattle.desk_parts.specs.Loaded.{named_orders, own_orders, past_orders}
 use Rattle.desk_parts.specs.LookUps.{orders_numbered}
 use Rattle.desk_loading.proofs.Gathered.{put_by, put_then}
 use Rattle.desk_loading.proofs.objects.orders_first.Goals as goal
@@ -14,7 +15,7 @@ returns-clause-found g c = λ honest T held named.
     let number = λ (o : OrderRow). o.number in
     put_then number (named_orders T c.args.ask.now) (own_orders T c.args.ask.now ++ past_orders T c.args.moment) [] _ _
     (put_by number (flat_map (orders_numbered T)) _ _ _ _ (c.in_ok-put_orders.ensures.found numbered T held) c.in_ok-numbers.ensures
-    ∙ ap (all_put number (named_orders T c.args.ask.now)) c.new-orders.ensures)
+    ∙ ap (puts number (named_orders T c.args.ask.now)) c.new-orders.ensures)
     (put_then number (own_orders T c.args.ask.now) (past_orders T c.args.moment) _ _ _
     (c.in_ok-put_asked_orders.ensures.found asked T has named)
     (c.in_ok-put_past_orders.ensures.found honest T (c.in_ok-put_asked_orders.ensures.reads.tables asked T has)))
