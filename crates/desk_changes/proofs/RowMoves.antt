@@ -9,13 +9,10 @@ use Rattle.desk_model.specs.Derived.{authorization_numbered, numbers_of}
 use Rattle.desk_model.specs.Effect.{swept_authorization, swept_order, touches_authorization, touches_order, names_order, lists_one, moved_authorization}
 use Rattle.desk_model.specs.Change.{moved_rows}
 use Rattle.desk_model.specs.declared.entry.Entry.{Entry}
-use Rattle.desk_model.specs.declared.entry.Entry.TheVariants.{Answered as answered, Reported as reported}
-use Rattle.desk_model.specs.declared.entry.Entry.TheVariants.{AuthorizationEnded as authorization_ended}
-use Rattle.desk_model.specs.declared.entry.Entry.TheVariants.{AccountEnded as account_ended}
 use Rattle.desk_model.specs.declared.rows.AuthorizationRow.{AuthorizationRow}
 use Rattle.desk_model.specs.declared.rows.OrderRow.{OrderRow}
-use Rattle.desk_model.specs.declared.status.AuthzStatus.{AuthzStatus}
 use Rattle.desk_laws.proofs.Local.{moved_number}
+use Rattle.desk_laws.proofs.SweptParts.{touches_swept}
 use Rattle.desk_changes.specs.Moved.{authorizations_moved, standing_rows, rows_after, moved_one, row_of, stated_authorization, touched_one}
 use Rattle.swept_rows.proofs.SweptRows.{swept_authorization-status, swept_order-status, find-moved}
 
@@ -28,18 +25,6 @@ moved_rows-one touched differs move x xs = by (touched x && differs x (move x))
         ≡ cond b (move x ∷ []) [] ++ moved_rows touched differs move xs
     by true = refl
     by false = refl
-
--- what an entry touches does not hang on a status
-touches_restated : (e : Entry) (row : AuthorizationRow) (s : AuthzStatus) → touches_authorization e (record row { status = s }) ≡ touches_authorization e row
-touches_restated (answered n) row s = refl
-touches_restated (reported n outcome) row s = refl
-touches_restated (authorization_ended n ending) row s = refl
-touches_restated (account_ended n ending) row s = refl
-touches_restated _ row s = refl
-
-pub touches_swept : (e : Entry) (m : ℕ) (row : AuthorizationRow) → touches_authorization e (swept_authorization m row) ≡ touches_authorization e row
-touches_swept e m row =
-    ap (touches_authorization e) (sym (swept_authorization-status m row)) ∙ touches_restated e row (swept_authorization m row).status
 
 -- the authorization of a number at the moment
 pub standing_numbered : (m n : ℕ) (rows : List AuthorizationRow)

@@ -1,5 +1,6 @@
 -- Different rows have different columns.
 use Rattle.std.proofs.Common.{◌≡◌, ℕ, pos, List, [], ◌∷◌, map, Option, Some, None, option_map, refl, sym, ap, ◌∙◌}
+use Rattle.std.proofs.lemmas.Option.{same_Some}
 use Rattle.serde_json.specs.Data.{string}
 use Rattle.serde_json.specs.Read.{read}
 use Rattle.serde_json.specs.View.{items_of}
@@ -28,9 +29,6 @@ use Rattle.desk_columns.proofs.SpellingApart.{end_kind_text-apart, outcome_text-
 pos-apart : (m n : ℕ) → pos m ≡ pos n → m ≡ n
 pos-apart m n same = cc same
 
-some-apart : {X : Type 0} (x y : X) → Some x ≡ Some y → x ≡ y
-some-apart x y same = cc same
-
 -- ---- the JSON columns
 
 strings-apart : (a b : List (List ℕ)) → items_of (map string a) ≡ items_of (map string b) → a ≡ b
@@ -45,11 +43,11 @@ strings-apart (s ∷ ss) (t ∷ ts) same =
 contacts_text-apart : (a b : List (List ℕ)) → contacts_text a ≡ contacts_text b → a ≡ b
 contacts_text-apart a b same =
     let lists : list (map string a) ≡ list (map string b) =
-    some-apart (list (map string a)) (list (map string b)) (sym (read-contacts_text a) ∙ ap read same ∙ read-contacts_text b) in
+    same_Some (list (map string a)) (list (map string b)) (sym (read-contacts_text a) ∙ ap read same ∙ read-contacts_text b) in
     strings-apart a b (cc lists)
 
 problem_text-apart : (p q : OrderProblem) → problem_text p ≡ problem_text q → p ≡ q
-problem_text-apart p q same = some-apart p q (sym (spelled (problem_text p) p refl) ∙ spelled (problem_text p) q same)
+problem_text-apart p q same = same_Some p q (sym (spelled (problem_text p) p refl) ∙ spelled (problem_text p) q same)
 
 -- ---- the columns of one fact
 
@@ -60,14 +58,14 @@ dated-apart date other apart None None same = refl
 dated-apart date other apart None (Some y) same = absurd (cc (ap (λ c. c.0) same))
 dated-apart date other apart (Some x) None same = absurd (cc (ap (λ c. c.0) same))
 dated-apart date other apart (Some x) (Some y) same =
-    ap Some (apart x y (pos-apart (date x) (date y) (some-apart (pos (date x)) (pos (date y)) (ap (λ c. c.0) same)))
-    (some-apart (other x) (other y) (ap (λ c. c.1) same)))
+    ap Some (apart x y (pos-apart (date x) (date y) (same_Some (pos (date x)) (pos (date y)) (ap (λ c. c.0) same)))
+    (same_Some (other x) (other y) (ap (λ c. c.1) same)))
 
 number-apart : (x y : Option ℕ) → option_map (λ n. pos n) x ≡ option_map (λ n. pos n) y → x ≡ y
 number-apart None None p = refl
 number-apart None (Some y) p = absurd (cc p)
 number-apart (Some x) None p = absurd (cc p)
-number-apart (Some x) (Some y) p = ap Some (pos-apart x y (some-apart (pos x) (pos y) p))
+number-apart (Some x) (Some y) p = ap Some (pos-apart x y (same_Some (pos x) (pos y) p))
 
 account_end-apart : (x y : Option AccountEnd) → account_end_columns x ≡ account_end_columns y → x ≡ y
 account_end-apart x y same =

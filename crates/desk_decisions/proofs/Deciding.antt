@@ -1,7 +1,7 @@
 -- From what the code answers by rows to what is promised against histories.
-use Rattle.std.proofs.Common.{◌≡◌, ℕ, ◌+◌, ◌*◌, ◌<◌, ◌≤◌, true, false, not, List, [], ◌∷◌, length, Some, None, sym, ap, subst}
+use Rattle.std.proofs.Common.{◌≡◌, ℕ, ◌+◌, ◌*◌, ◌<◌, ◌≤◌, not, List, [], ◌∷◌, length, Some, None, sym, ap, subst}
 use Rattle.std.proofs.Common.{◌∙◌, arith, length-append, append-nil, cond}
-use Rattle.std.specs.Prelude.{nat_lt, IsTrue}
+use Rattle.std.specs.Prelude.{IsTrue}
 use Rattle.desk_model.specs.Entry.{History}
 use Rattle.desk_model.specs.History.{clock, moment_of, record_all}
 use Rattle.desk_model.specs.Legal.{Legal, EachFollows, numbers_fit}
@@ -38,22 +38,16 @@ use Rattle.desk_decisions.specs.Decided.{IsDecision}
 use Rattle.desk_rules.specs.Needs.{NumbersLeft, NumbersSpent}
 use Rattle.desk_decisions.specs.SameRows.{SameRows}
 use Rattle.desk_replies.specs.Shown.{HasMoments}
-use Rattle.std.proofs.lemmas.Bool.Decides.{nat_tests}
-
-pub not_less : (a b : ℕ) → b ≤ a → nat_lt a b ≡ false
-not_less a b h = grind (arith, nat_tests)
-
-pub less : (a b : ℕ) → a < b → nat_lt a b ≡ true
-less a b h = grind (arith, nat_tests)
+use Rattle.std.proofs.lemmas.Bool.{le-ltb}
 
 -- no fault, from its three tests
 pub faultless : (F : History) (call : Call) → call.at ≤ last_moment → IsTrue (numbers_fit (after F call))
     → 16 * count_pieces (decide F call).entries ≤ length call.random →
     fault F call ≡ None
 faultless F call at fits enough =
-    λ i. cond (not_less last_moment call.at at i) (Some 24)
+    λ i. cond (le-ltb last_moment call.at at i) (Some 24)
     (cond (not (fits i)) (Some 26)
-    (cond (not_less (length call.random) (16 * count_pieces (decide F call).entries) enough i) (Some 25) None))
+    (cond (le-ltb (length call.random) (16 * count_pieces (decide F call).entries) enough i) (Some 25) None))
 
 -- ---- numbers
 

@@ -2,7 +2,7 @@
 use Rattle.std.proofs.Common.{◌≡◌, ℕ, ◌+◌, ◌*◌, ◌<◌, ◌≤◌, false, not, cond, List, [], ◌∷◌, ◌++◌, length, take, drop, max, Option}
 use Rattle.std.proofs.Common.{Some, None, refl, ap, subst, ◌∙◌, arith, length-append, ◌⊎◌, inl, inr}
 use Rattle.std.specs.Prelude.{nat_lt, nat_le, ◌&&◌, IsTrue}
-use Rattle.std.proofs.lemmas.Bool.Decides.{nat_tests}
+use Rattle.std.proofs.lemmas.Bool.{le-ltb, lt-leb, lt-ltb}
 use Rattle.desk_model.specs.Entry.{History, entry_of}
 use Rattle.desk_model.specs.declared.entry.Entry.{Entry}
 use Rattle.desk_model.specs.declared.entry.Entry.TheVariants.{Issued as issued, Opened as opened, Ordered as ordered}
@@ -32,7 +32,7 @@ use Rattle.desk_decisions.specs.Outcomes.{IsPassedFault, IsSignedFault, IsAskFau
 use Rattle.desk_decisions.specs.Room.{IsIssueFault}
 use Rattle.desk_rules.specs.declared.fault.CoreFault.{CoreFault}
 use Rattle.desk_rules.specs.declared.fault.CoreFault.TheVariants as core
-use Rattle.desk_decisions.proofs.Deciding.{counters, fits_issued, fits_nonces, fitting, less, not_less, now_is, spent_same}
+use Rattle.desk_decisions.proofs.Deciding.{counters, fits_issued, fits_nonces, fitting, now_is, spent_same}
 use Rattle.desk_decisions.proofs.DecidingAsks.{judged, judged_left, passed_is}
 use Rattle.desk_decisions.proofs.NumbersAfter.{numbers_left, numbers_spent}
 use Rattle.desk_decisions.proofs.Parts.{faults_whole}
@@ -43,9 +43,6 @@ use Rattle.desk_parts.specs.AnswersAs.{AnswersAs}
 use Rattle.desk_parts.specs.IsPart.{IsPartFor}
 use Rattle.desk_decisions.proofs.Spaced.{signed_spaced}
 
-not_le : (a b : ℕ) → b < a → nat_le a b ≡ false
-not_le a b h = grind (arith, nat_tests)
-
 -- too many nonces
 nonces_over : (G : History) → last_number < length (nonces G) → numbers_fit G ≡ false
 nonces_over G h =
@@ -53,14 +50,14 @@ nonces_over G h =
     && (nat_le (length (accounts G)) last_number
     && (nat_le (length (orders G)) last_number
     && (nat_le (length (authorizations G)) last_number && nat_le (count_challenges (authorizations G)) last_number))))
-    (not_le (length (nonces G)) last_number h)
+    (lt-leb (length (nonces G)) last_number h)
 
 -- fault 26, and fault 25
 is_full : (F : History) (call : Call) (es : List Entry) → call.at ≤ last_moment → (decide F call).entries ≡ es
     → numbers_fit (record_all (moment_of call.at F) es F) ≡ false →
     fault F call ≡ Some 26
 is_full F call es at is over =
-    λ i. cond (not_less last_moment call.at at i) (Some 24)
+    λ i. cond (le-ltb last_moment call.at at i) (Some 24)
     (cond (not ((ap (λ l. numbers_fit (record_all (moment_of call.at F) l F)) is ∙ over) i)) (Some 26)
     (cond (nat_lt (length call.random) (16 * count_pieces (decide F call).entries)) (Some 25) None))
 
@@ -68,16 +65,16 @@ is_short : (F : History) (call : Call) (es : List Entry) → call.at ≤ last_mo
     → IsTrue (numbers_fit (record_all (moment_of call.at F) es F)) →
     length call.random < 16 * count_pieces es → fault F call ≡ Some 25
 is_short F call es at is fits short =
-    λ i. cond (not_less last_moment call.at at i) (Some 24)
+    λ i. cond (le-ltb last_moment call.at at i) (Some 24)
     (cond (not ((ap (λ l. numbers_fit (record_all (moment_of call.at F) l F)) is ∙ fits) i)) (Some 26)
-    (cond ((ap (λ l. nat_lt (length call.random) (16 * count_pieces l)) is ∙ less (length call.random) (16 * count_pieces es) short) i) (Some 25) None))
+    (cond ((ap (λ l. nat_lt (length call.random) (16 * count_pieces l)) is ∙ lt-ltb (length call.random) (16 * count_pieces es) short) i) (Some 25) None))
 
 -- a moment above the last
 pub is_late : (F : History) (call : Call) → last_moment < call.at → fault F call ≡ Some 24
 is_late F call late =
     ap (λ b. cond b (Some 24) (cond (not (numbers_fit (after F call))) (Some 26)
     (cond (nat_lt (length call.random) (16 * count_pieces (decide F call).entries)) (Some 25) None)))
-    (less last_moment call.at late)
+    (lt-ltb last_moment call.at late)
 
 -- a nonce that is issued and nothing else
 issue_faults : (F : History) (call : Call) (e : CoreFault) → Legal F → call.at ≤ last_moment → (decide F call).entries ≡ issued (take 16 call.random) ∷ [] →

@@ -2,14 +2,14 @@
 use Rattle.std.proofs.Common.{◌≡◌, ℕ, ◌+◌, ◌<◌, ◌≤◌, ◌⊎◌, inl, inr, Bool, true, false, List, [], ◌∷◌, ◌++◌, length, refl, sym, ap}
 use Rattle.std.proofs.Common.{subst, ◌∙◌, arith, length-append, append-nil}
 use Rattle.std.specs.Prelude.{nat_le, ◌&&◌, IsTrue}
-use Rattle.std.proofs.lemmas.Bool.Decides.{nat_tests}
+use Rattle.std.proofs.lemmas.Bool.{lt-leb}
 use Rattle.desk_model.specs.Account.{accounts}
 use Rattle.desk_model.specs.Authorization.{authorizations, challenges_from, count_challenges, kinds_of, made_for}
 use Rattle.desk_model.specs.Decide.{entries_of}
 use Rattle.desk_model.specs.Entry.{History, entry_of}
 use Rattle.desk_model.specs.declared.moves.Move.{Move}
 use Rattle.desk_model.specs.declared.moves.Move.TheVariants as move
-use Rattle.desk_model.specs.History.{clock, record_all, terms}
+use Rattle.desk_model.specs.History.{record_all, terms}
 use Rattle.desk_model.specs.Legal.{numbers_fit}
 use Rattle.desk_model.specs.Limits.{last_number}
 use Rattle.desk_model.specs.Nonce.{nonces}
@@ -25,9 +25,9 @@ use Rattle.desk_model.specs.declared.objects.Kind.{Kind}
 use Rattle.desk_model.specs.declared.verdict.Verdict.{Verdict}
 use Rattle.desk_model.specs.declared.verdict.Verdict.TheVariants.{Refused as refused, Answers as answers, Opens as opens, Orders as ordering, Moves as moves}
 use Rattle.desk_laws.specs.LegalLaws.{CountersFit}
-use Rattle.desk_laws.proofs.Keeps.{numbers_fit_counters}
 use Rattle.desk_laws.proofs.Numbers.{count-append}
 use Rattle.desk_rules.specs.Needs.{HasTokens, IsSpaced, NumbersLeft, NumbersSpent}
+use Rattle.desk_decisions.proofs.Deciding.{fitting}
 
 -- ---- what an order makes
 
@@ -87,10 +87,6 @@ challenges_after G m k ws h =
     (counted k m (m + (terms G).authz_life) ws (length (authorizations G) + 1) (count_challenges (authorizations G) + 1) h)
 
 -- ---- numbers that fit
-
--- where the counters of a picture fit, so do the numbers
-fit_all : (F : History) → CountersFit (picture F).meta.counters → IsTrue (numbers_fit F)
-fit_all F h = numbers_fit_counters F (clock F) h
 
 -- how many accounts there are after one more
 accounts_after : (G : History) (m : ℕ) (key : List ℕ) (contacts : List (List ℕ)) →
@@ -153,19 +149,15 @@ fits_moved G m (move.Failed n problem) h = fits_same (record { date = m; entry =
 -- where there are numbers for what a verdict records, the numbers fit after it
 pub numbers_left : (G : History) (m : ℕ) (v : Verdict) → CountersFit (picture G).meta.counters → IsSpaced v → NumbersLeft (picture G).meta.counters v →
     IsTrue (numbers_fit (record_all m (entries_of v) G))
-numbers_left G m (refused why ss) h spaced left = fit_all G h
-numbers_left G m (answers what) h spaced left = fit_all G h
+numbers_left G m (refused why ss) h spaced left = fitting G h
+numbers_left G m (answers what) h spaced left = fitting G h
 numbers_left G m (opens key contacts) h spaced left =
-    fit_all (record { date = m; entry = opened key contacts } ∷ G) (fits_account G m key contacts h left)
+    fitting (record { date = m; entry = opened key contacts } ∷ G) (fits_account G m key contacts h left)
 numbers_left G m (ordering k ws) h spaced left =
-    fit_all (record { date = m; entry = ordered k ws } ∷ G) (fits_ordered G m k ws h spaced left.0 left.1 left.2)
-numbers_left G m (moves move) h spaced left = fit_all (record { date = m; entry = entry_of move } ∷ G) (fits_moved G m move h)
+    fitting (record { date = m; entry = ordered k ws } ∷ G) (fits_ordered G m k ws h spaced left.0 left.1 left.2)
+numbers_left G m (moves move) h spaced left = fitting (record { date = m; entry = entry_of move } ∷ G) (fits_moved G m move h)
 
 -- ---- numbers that don't fit
-
--- what is greater is not within
-over : (a b : ℕ) → b < a → nat_le a b ≡ false
-over a b h = grind (arith, nat_tests)
 
 -- the second part of a test is false
 second_false : (a b c : Bool) → b ≡ false → (a && (b && c)) ≡ false
@@ -195,28 +187,28 @@ accounts_over : (G : History) → last_number < length (accounts G) → numbers_
 accounts_over G h =
     second_false (nat_le (length (nonces G)) last_number) (nat_le (length (accounts G)) last_number)
     (nat_le (length (orders G)) last_number && (nat_le (length (authorizations G)) last_number && nat_le (count_challenges (authorizations G)) last_number))
-    (over (length (accounts G)) last_number h)
+    (lt-leb (length (accounts G)) last_number h)
 
 -- too many orders
 orders_over : (G : History) → last_number < length (orders G) → numbers_fit G ≡ false
 orders_over G h =
     third_false (nat_le (length (nonces G)) last_number) (nat_le (length (accounts G)) last_number) (nat_le (length (orders G)) last_number)
     (nat_le (length (authorizations G)) last_number && nat_le (count_challenges (authorizations G)) last_number)
-    (over (length (orders G)) last_number h)
+    (lt-leb (length (orders G)) last_number h)
 
 -- too many authorizations
 authorizations_over : (G : History) → last_number < length (authorizations G) → numbers_fit G ≡ false
 authorizations_over G h =
     fourth_false (nat_le (length (nonces G)) last_number) (nat_le (length (accounts G)) last_number) (nat_le (length (orders G)) last_number)
     (nat_le (length (authorizations G)) last_number) (nat_le (count_challenges (authorizations G)) last_number)
-    (over (length (authorizations G)) last_number h)
+    (lt-leb (length (authorizations G)) last_number h)
 
 -- too many challenges
 challenges_over : (G : History) → last_number < count_challenges (authorizations G) → numbers_fit G ≡ false
 challenges_over G h =
     last_false (nat_le (length (nonces G)) last_number) (nat_le (length (accounts G)) last_number) (nat_le (length (orders G)) last_number)
     (nat_le (length (authorizations G)) last_number) (nat_le (count_challenges (authorizations G)) last_number)
-    (over (count_challenges (authorizations G)) last_number h)
+    (lt-leb (count_challenges (authorizations G)) last_number h)
 
 -- where a number is wanting for what a verdict records, the numbers don't fit after it
 pub numbers_spent : (G : History) (m : ℕ) (v : Verdict) → IsSpaced v → NumbersSpent (picture G).meta.counters v →

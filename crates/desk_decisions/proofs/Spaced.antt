@@ -15,7 +15,7 @@ use Rattle.desk_model.specs.Questions.{account_with_key}
 use Rattle.desk_model.specs.Run.{count_pieces}
 use Rattle.desk_model.specs.Tables.{Tables}
 use Rattle.desk_model.specs.Kept.{EachOf}
-use Rattle.desk_model.specs.Verdict.{check, given, unless_fault, choose}
+use Rattle.desk_model.specs.Verdict.{check, given}
 use Rattle.desk_model.specs.Rules.{open_account, account_verdict, kept, names_in, wanted, order_of}
 use Rattle.desk_model.specs.Rules.{new_order_verdict, subproblems, csr_in, finalize_verdict, authorization_verdict, stands_open}
 use Rattle.desk_model.specs.Rules.{challenge_verdict, target_verdict, key_verdict, signed_verdict}
@@ -50,8 +50,9 @@ use Rattle.desk_model.specs.declared.rows.OrderRow.{OrderRow}
 use Rattle.desk_model.specs.declared.verdict.Verdict.{Verdict}
 use Rattle.desk_model.specs.declared.verdict.Verdict.TheVariants.{Refused as refused, Answers as answers, Opens as opens, Orders as orders, Moves as moves}
 use Rattle.desk_lives.proofs.Steps as step
+use Rattle.desk_lives.proofs.Steps.{either_keeps, no_fault_keeps}
 use Rattle.desk_rules.specs.Needs.{HasTokens, IsSpaced, NumbersLeft, BytesLeft}
-use Rattle.desk_rules.proofs.NamesWanted.{length-pieces}
+use Rattle.desk_laws.proofs.Drawn.{length-pieces}
 
 -- ---- steps of verdicts
 
@@ -63,27 +64,19 @@ check_keeps P b n v r h = step.check_keeps P b n v r (λ _. h)
 given_keeps : {X : Type 0} (P : Verdict → Type 0) (o : Option X) (n : Refusal) (f : X → Verdict) → P (refused n []) → ((x : X) → P (f x)) → P (given o n f)
 given_keeps P o n f r h = step.given_keeps P o n f r (λ x _. h x)
 
--- of what comes after a fault that is not there
-fault_keeps : (P : Verdict → Type 0) (o : Option Refusal) (v : Verdict) → ((n : Refusal) → P (refused n [])) → P v → P (unless_fault o v)
-fault_keeps P o v r h = step.fault_keeps P o v r (λ _. h)
-
--- of one of two
-choose_keeps : (P : Verdict → Type 0) (b : Bool) (v w : Verdict) → P v → P w → P (choose b v w)
-choose_keeps P b v w h = step.choose_keeps P b v w (λ _. h)
-
 -- ---- signed requests
 
 -- an account that is opened
 open_spaced : (key : List ℕ) (p : NewAccount) → IsSpaced (open_account key p)
 open_spaced key p = check_keeps IsSpaced (not p.only_existing) refusal.AccountDoesNotExist _ tt
-    (fault_keeps IsSpaced (contacts_fault p.contacts) _ (λ _. tt) tt)
+    (no_fault_keeps IsSpaced (contacts_fault p.contacts) _ (λ _. tt) tt)
 
 -- a change of an account
 account_spaced : (n : ℕ) (p : AccountChange) → IsSpaced (account_verdict n p)
 account_spaced n change.Read = tt
 account_spaced n change.Deactivate = tt
 account_spaced n (change.Update None) = tt
-account_spaced n (change.Update (Some contacts)) = fault_keeps IsSpaced (contacts_fault contacts) _ (λ _. tt) tt
+account_spaced n (change.Update (Some contacts)) = no_fault_keeps IsSpaced (contacts_fault contacts) _ (λ _. tt) tt
 
 -- names that are wanted have their tokens, however many bytes there are
 pub wanted_spaced : (ns : List Name) (r : List ℕ) → EachOf HasTokens (wanted ns r)
@@ -107,12 +100,12 @@ finalize_spaced n o text = check_keeps IsSpaced (is_ready o.status) refusal.Orde
 -- an authorization that is ended
 authorization_spaced : (n : ℕ) (a : AuthorizationRow) (p : AuthorizationChange) → IsSpaced (authorization_verdict n a p)
 authorization_spaced n a authz_change.Read = tt
-authorization_spaced n a authz_change.Deactivate = choose_keeps IsSpaced (is_live a.status) _ _ tt tt
+authorization_spaced n a authz_change.Deactivate = either_keeps IsSpaced (is_live a.status) _ _ tt tt
 
 -- a challenge that is answered
 challenge_spaced : (n : ℕ) (a : AuthorizationRow) (p : ChallengeChange) → IsSpaced (challenge_verdict n a p)
 challenge_spaced n a chall_change.Read = tt
-challenge_spaced n a chall_change.Answer = choose_keeps IsSpaced (stands_open (λ c. is_pending_challenge c.status) a n) _ _ tt tt
+challenge_spaced n a chall_change.Answer = either_keeps IsSpaced (stands_open (λ c. is_pending_challenge c.status) a n) _ _ tt tt
 
 -- a request of an account
 target_spaced : (T : Tables) (r : List ℕ) (n : ℕ) (p : List ℕ) (t : Target) → IsSpaced (target_verdict T r n p t)
@@ -153,7 +146,7 @@ IsQuiet _ = Unit {0}
 -- a report on a challenge
 outcome_quiet : (n : ℕ) (a : AuthorizationRow) (c : ChallengeRow) (outcome : Outcome) → IsQuiet (outcome_verdict n a.status c outcome)
 outcome_quiet n a c outcome =
-    choose_keeps IsQuiet _ _ _ tt (check_keeps IsQuiet (is_pending a.status && is_processing_challenge c.status) refusal.Conflict _ tt tt)
+    either_keeps IsQuiet _ _ _ tt (check_keeps IsQuiet (is_pending a.status && is_processing_challenge c.status) refusal.Conflict _ tt tt)
 
 -- a report
 report_quiet : (T : Tables) (n : ℕ) (finding : Finding) → IsQuiet (report_verdict T n finding)
@@ -166,21 +159,21 @@ certify_quiet : (n : ℕ) (bytes : List ℕ) (o : OrderRow) → IsQuiet (certify
 certify_quiet n bytes o =
     check_keeps IsQuiet (nat_le 1 (length bytes)) refusal.Malformed _ tt
     (check_keeps IsQuiet (nat_le (length bytes) longest_certificate) refusal.TooLarge _ tt
-    (choose_keeps IsQuiet _ _ _ tt (check_keeps IsQuiet (is_processing o.status) refusal.Conflict _ tt tt)))
+    (either_keeps IsQuiet _ _ _ tt (check_keeps IsQuiet (is_processing o.status) refusal.Conflict _ tt tt)))
 
 -- a failure
 fail_quiet : (n : ℕ) (problem : OrderProblem) (o : OrderRow) → IsQuiet (fail_verdict n problem o)
 fail_quiet n problem o =
     check_keeps IsQuiet (is_problem problem) refusal.Malformed _ tt
-    (choose_keeps IsQuiet _ _ _ tt (check_keeps IsQuiet (is_processing o.status) refusal.Conflict _ tt tt))
+    (either_keeps IsQuiet _ _ _ tt (check_keeps IsQuiet (is_processing o.status) refusal.Conflict _ tt tt))
 
 -- the operator takes back an authorization
 revoke_authorization_quiet : (n : ℕ) (a : AuthorizationRow) → IsQuiet (revoke_authorization n a)
-revoke_authorization_quiet n a = choose_keeps IsQuiet _ _ _ tt (check_keeps IsQuiet (is_live a.status) refusal.Conflict _ tt tt)
+revoke_authorization_quiet n a = either_keeps IsQuiet _ _ _ tt (check_keeps IsQuiet (is_live a.status) refusal.Conflict _ tt tt)
 
 -- the operator ends an account
 revoke_account_quiet : (n : ℕ) (a : AccountRow) → IsQuiet (revoke_account n a)
-revoke_account_quiet n a = choose_keeps IsQuiet _ _ _ tt (check_keeps IsQuiet (is_valid_account a.status) refusal.Conflict _ tt tt)
+revoke_account_quiet n a = either_keeps IsQuiet _ _ _ tt (check_keeps IsQuiet (is_valid_account a.status) refusal.Conflict _ tt tt)
 
 -- what carries no nonce
 pub office_quiet : (T : Tables) (a : OfficeAsk) → IsQuiet (office_verdict T a)

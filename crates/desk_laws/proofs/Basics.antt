@@ -18,11 +18,6 @@ pub none_earlier : {X : Type 0} (o : Option X) → earlier None o ≡ o
 none_earlier None = refl
 none_earlier (Some x) = refl
 
--- `false` changes no test
-pub or_none : (a : Bool) → (a || false) ≡ a
-or_none true = refl
-or_none false = refl
-
 -- a test of some mapped item
 pub list_any-map : {X Y : Type 0} (p : Y → Bool) (f : X → Y) (xs : List X) → list_any p (map f xs) ≡ list_any (λ x. p (f x)) xs
 list_any-map p f [] = refl

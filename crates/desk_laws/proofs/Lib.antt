@@ -6,6 +6,7 @@ pub mod Chain
 pub mod Dates
 pub mod Differing
 pub mod Distinctness
+pub mod Drawn
 pub mod Faults
 pub mod Finds
 pub mod Forms
@@ -14,7 +15,6 @@ pub mod InTurn
 pub mod Keeps
 pub mod KeptInOrder
 pub mod Local
-pub mod Maps
 pub mod MovedRows
 pub mod NewChildren
 pub mod NewsInOrder

@@ -1,9 +1,10 @@
 -- A part that holds what is touched records the same changes as the whole.
-use Rattle.std.proofs.Common.{◌≡◌, ℕ, ◌+◌, List, [], ◌∷◌, ◌++◌, map, filter, Option, Some, None, refl, sym, ap, ◌∙◌, true, false, Bool, cond, not}
+use Rattle.std.proofs.Common.{◌≡◌, ℕ, ◌+◌, List, [], ◌∷◌, ◌++◌, map, filter, Some, refl, sym, ap, ◌∙◌, true, false, Bool, cond, not}
 use Rattle.std.specs.Prelude.{nat_lt, ◌==◌, ◌&&◌, ◌||◌, is_some, find}
 use Rattle.std.specs.List.{list_any, list_all}
 use Rattle.std.specs.Option.{option_or}
 use Rattle.std.proofs.lemmas.Bool.{eqb-true, and_parts}
+use Rattle.std.proofs.lemmas.List.Folds.{find-append}
 use Rattle.desk_model.specs.Lookup.{holds}
 use Rattle.desk_model.specs.Account.{opened_by}
 use Rattle.desk_model.specs.Authorization.{is_over, is_valid}
@@ -63,7 +64,7 @@ moved_part kept f g (x ∷ xs) same h =
 -- ---- look-ups
 
 -- a number that is kept is found in the part as in the whole
-find_kept : {X : Type 0} (number : X → ℕ) (kept : ℕ → Bool) (n : ℕ) (xs : List X) → kept n ≡ true →
+pub find_kept : {X : Type 0} (number : X → ℕ) (kept : ℕ → Bool) (n : ℕ) (xs : List X) → kept n ≡ true →
     find (λ x. number x == n) (filter (λ x. kept (number x)) xs) ≡ find (λ x. number x == n) xs
 find_kept number kept n [] h = refl
 find_kept number kept n (x ∷ xs) h = by (kept (number x)) refl (number x == n) refl (find_kept number kept n xs h)
@@ -76,16 +77,6 @@ find_kept number kept n (x ∷ xs) h = by (kept (number x)) refl (number x == n)
     by true e false r ih = ap (λ z. cond z (Some x) (find (λ y. number y == n) (filter (λ y. kept (number y)) xs))) r ∙ ih
     by false e true r ih = let same : number x ≡ n = eqb-true (number x) n r in let yes : kept (number x) ≡ true = rw same h in cc
     by false e false r ih = ih
-
--- the first that passes, of two lists
-find_in_both : {X : Type 0} (p : X → Bool) (xs ys : List X) → find p (xs ++ ys) ≡ option_or (find p xs) (find p ys)
-find_in_both p [] ys = refl
-find_in_both p (x ∷ xs) ys = by (p x) (find_in_both p xs ys)
-  where
-    by : (b : Bool) → find p (xs ++ ys) ≡ option_or (find p xs) (find p ys) →
-        cond b (Some x) (find p (xs ++ ys)) ≡ option_or (cond b (Some x) (find p xs)) (find p ys)
-    by true ih = refl
-    by false ih = ih
 
 -- the authorizations of these numbers are the same in both lists
 abbrev SameFor : List AuthorizationRow → List AuthorizationRow → List ℕ → Type 0
@@ -144,9 +135,9 @@ kept_after k T e m ns h =
     let new : List AuthorizationRow = map (λ a. restated_authorization m (fresh_authorization a)) (new_authorizations T e m) in
     let rows : List AuthorizationRow = map (moved_authorization e m) T.authorizations in
     ap (authorization_numbered n) (after_part k T e m)
-    ∙ find_in_both (λ a. a.number == n) (filter (λ a. k.authorizations a.number) rows) new
+    ∙ find-append (λ a. a.number == n) (filter (λ a. k.authorizations a.number) rows) new
     ∙ ap (λ o. option_or o (find (λ a. a.number == n) new)) (find_kept (λ (a : AuthorizationRow). a.number) k.authorizations n rows yes)
-    ∙ sym (find_in_both (λ a. a.number == n) rows new)) h
+    ∙ sym (find-append (λ a. a.number == n) rows new)) h
 
 -- ---- the sweep
 

@@ -3,6 +3,7 @@ use Rattle.std.proofs.Common.{◌≡◌, ◌≤◌, ◌<◌, ℕ, List, [], ◌�
 use Rattle.std.specs.Prelude.{nat_lt, ◌==◌, ◌&&◌, ◌||◌, is_some}
 use Rattle.std.specs.List.{list_any}
 use Rattle.std.proofs.lemmas.Bool.{leb-true, le-leb, ltb-true, lt-ltb, eqb-true, and_parts, or_parts}
+use Rattle.std.proofs.Math.Bool.{or-false}
 use Rattle.desk_model.specs.Entry.{History}
 use Rattle.desk_model.specs.History.{clock, first, earlier}
 use Rattle.desk_model.specs.Lookup.{holds}
@@ -29,7 +30,7 @@ use Rattle.desk_model.specs.declared.objects.EndKind.{EndKind}
 use Rattle.desk_model.specs.declared.objects.Report.{Report}
 use Rattle.desk_model.specs.declared.rows.AuthorizationRow.{AuthorizationRow}
 use Rattle.desk_model.specs.declared.rows.ChallengeRow.{ChallengeRow}
-use Rattle.desk_laws.proofs.Basics.{earlier-some, none_earlier, or_none, list_any-map, list_any-same, any_or, each, each_all, map-moved}
+use Rattle.desk_laws.proofs.Basics.{earlier-some, none_earlier, list_any-map, list_any-same, any_or, each, each_all, map-moved}
 
 -- ---- challenges: by computing
 
@@ -178,7 +179,7 @@ good_on n o m F none c = by (n == c.number) refl
     by : (b : Bool) → (n == c.number) ≡ b → (let r : Option Report = cond b (Some (record { date = m; outcome = o })) None in
         is_good_report (earlier (report c.number F) r) ≡ (is_good_report (report c.number F) || is_good_report r))
     by true e = let same : n ≡ c.number = eqb-true n c.number e in let here : report c.number F ≡ None = rw (← same) none in rw here refl
-    by false e = sym (or_none _)
+    by false e = sym (or-false _)
 
 -- an entry proves an authorization where it reports well on one of its challenges
 proving_any : (a : Authorization) (n : ℕ) (o : Outcome) (m : ℕ) →

@@ -20,7 +20,7 @@ use Rattle.desk_laws.proofs.Local.{swept_number, swept_order_number}
 -- ---- an entry after the sweep
 
 -- a sweep changes nothing that tells what an entry touches
-touches_swept : (e : Entry) (m : ℕ) (row : AuthorizationRow) → touches_authorization e (swept_authorization m row) ≡ touches_authorization e row
+pub touches_swept : (e : Entry) (m : ℕ) (row : AuthorizationRow) → touches_authorization e (swept_authorization m row) ≡ touches_authorization e row
 touches_swept e m row = by (is_overdue m row)
   where
     -- only number, account and challenges are looked at

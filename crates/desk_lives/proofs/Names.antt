@@ -17,6 +17,7 @@ use Rattle.desk_model.specs.Rules.{and_name, and_subproblem, fault_of, is_dns, k
 use Rattle.desk_model.specs.Run.{count_tokens}
 use Rattle.desk_model.specs.Kept.{EachOf}
 use Rattle.desk_laws.proofs.Keeps.{each-filter}
+use Rattle.desk_laws.proofs.Drawn.{length-pieces, length-wanted}
 
 -- ---- names
 
@@ -159,20 +160,10 @@ different-kept (n ∷ ns) =
 
 -- ---- tokens
 
--- as many are wanted as there are names
-length-wanted : (ns : List Name) (r : List ℕ) → length (wanted ns r) ≡ length ns
-length-wanted [] r = refl
-length-wanted (n ∷ ns) r = ap suc (length-wanted ns _)
-
 -- they are these names
 names-wanted : (ns : List Name) (r : List ℕ) → map wanted_name (wanted ns r) ≡ ns
 names-wanted [] r = refl
 names-wanted (n ∷ ns) r = ap (λ rest. n ∷ rest) (names-wanted ns _)
-
--- so many pieces
-length-pieces : (k : ℕ) (r : List ℕ) → length (pieces k r) ≡ k
-length-pieces zero r = refl
-length-pieces (suc k) r = ap suc (length-pieces k _)
 
 -- each piece is full, where there are bytes enough
 pieces_fit : (k : ℕ) (r : List ℕ) → 16 * k ≤ length r → list_all (λ token. length token == 16) (pieces k r) ≡ true

@@ -29,3 +29,11 @@ pub choose_keeps : (P : Verdict → Type 0) (b : Bool) (v w : Verdict) → (b �
 unfolding choose
 choose_keeps P true v w h g = h refl
 choose_keeps P false v w h g = g
+
+-- a fault that is not there, whatever that tells
+pub no_fault_keeps : (P : Verdict → Type 0) (o : Option Refusal) (v : Verdict) → ((n : Refusal) → P (refused n [])) → P v → P (unless_fault o v)
+no_fault_keeps P o v r h = fault_keeps P o v r (λ _. h)
+
+-- one of two, by either
+pub either_keeps : (P : Verdict → Type 0) (b : Bool) (v w : Verdict) → P v → P w → P (choose b v w)
+either_keeps P b v w h = choose_keeps P b v w (λ _. h)

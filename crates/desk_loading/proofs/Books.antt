@@ -1,8 +1,8 @@
 -- The rows of a book that a call touches are a book.
 use Rattle.std.proofs.Common.{◌≡◌, ◌≢◌, ℕ, ◌+◌, max, List, [], ◌∷◌, ◌++◌, filter, Some, refl, ap, ◌∙◌, true, false, Bool, cond}
-use Rattle.std.specs.Prelude.{◌==◌, ◌&&◌, ◌||◌, find, is_some, IsSome}
+use Rattle.std.specs.Prelude.{◌==◌, ◌&&◌, find, is_some, IsSome}
 use Rattle.std.specs.List.{flat_map}
-use Rattle.std.proofs.lemmas.Bool.{and_from}
+use Rattle.std.proofs.lemmas.Bool.{and_from, or_left, or_right}
 use Rattle.stored_rows.specs.IsBook.{HaveReferences, IsBook}
 use Rattle.desk_model.specs.Questions.{account_on}
 use Rattle.desk_model.specs.Tables.{Tables}
@@ -17,9 +17,10 @@ use Rattle.desk_laws.specs.Distinct.{Distinct}
 use Rattle.desk_laws.proofs.Basics.{each, each_both, each-append, list_any-map}
 use Rattle.desk_laws.proofs.Recorded.{below_filter}
 use Rattle.desk_laws.proofs.RowLists.{ascends_filter}
+use Rattle.desk_laws.proofs.Finds.{found_passes}
 use Rattle.desk_model.specs.Touched.{is_first_authorization, is_named_account, is_touched_account, is_touched_authorization}
 use Rattle.desk_model.specs.Touched.{is_touched_nonce, is_touched_order, lists, only_meta, touched, touched_at, touched_rows}
-use Rattle.desk_parts.proofs.Lists.{each_member, filtered_each, found_passes, or_right, turned}
+use Rattle.desk_parts.proofs.Lists.{each_member, filtered_each, turned}
 
 -- ---- lists
 
@@ -109,7 +110,7 @@ rows_refer T m a h =
           (each_both _ _ T.authorizations h.authorizations (each_member T.authorizations)));
       orders = filtered_each _ (is_touched_order T m a) T.orders
           (each _ _ T.orders (λ o p yes. holder_found T m a o.account p.0 (λ x same.
-          or_right (is_named_account a x) _ (or_left_of _ _ (p.1 (λ y. is_touched_order T m a y && (y.account == x.number)) (and_from _ _ yes same)))))
+          or_right (is_named_account a x) _ (or_left _ _ (p.1 (λ y. is_touched_order T m a y && (y.account == x.number)) (and_from _ _ yes same)))))
           (each_both _ _ T.orders h.orders (each_member T.orders)));
       listed = filtered_each _ (is_touched_order T m a) T.orders
           (each _ _ T.orders
@@ -121,9 +122,6 @@ rows_refer T m a h =
           (each_both _ _ o.listed p.0 (each_member o.listed)))
           (each_both _ _ T.orders h.listed (each_member T.orders)));
     }
-  where
-    or_left_of : (b c : Bool) → b ≡ true → (b || c) ≡ true
-    or_left_of b c e = rw e refl
 
 -- ---- books
 

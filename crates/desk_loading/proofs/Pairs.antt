@@ -4,6 +4,7 @@ use Rattle.std.specs.Prelude.{◌==◌}
 use Rattle.std.specs.List.{flat_map}
 use Rattle.std.proofs.lemmas.List.{map-append}
 use Rattle.std.proofs.lemmas.List.Elements.{filter-append}
+use Rattle.std.proofs.lemmas.Simd.{map-map}
 use Rattle.desk_model.specs.Tables.{Tables}
 use Rattle.desk_model.specs.declared.rows.AuthorizationRow.{AuthorizationRow}
 use Rattle.desk_model.specs.declared.rows.OrderRow.{OrderRow}
@@ -34,11 +35,6 @@ picked-map value test make (x ∷ xs) = by (test (make x)) (picked-map value tes
 flat_map-same : {X Y : Type 0} (f g : X → List Y) → ((x : X) → f x ≡ g x) → (xs : List X) → flat_map f xs ≡ flat_map g xs
 flat_map-same f g same [] = refl
 flat_map-same f g same (x ∷ xs) = λ i. same x i ++ flat_map-same f g same xs i
-
--- what is made of what is made
-map-map : {X Y Z : Type 0} (g : Y → Z) (f : X → Y) (xs : List X) → map g (map f xs) ≡ map (λ x. g (f x)) xs
-map-map g f [] = refl
-map-map g f (x ∷ xs) = ap (λ l. g (f x) ∷ l) (map-map g f xs)
 
 -- the orders that list an authorization, one for each place
 pub orders_listing_rows : (T : Tables) (n : ℕ) → orders_listing T n ≡ flat_map (λ o. map (λ l. o.number) (filter (λ l. l.authorization == n) o.listed)) T.orders

@@ -1,8 +1,9 @@
 -- A part that holds what a call touches answers as the touched rows do, and so as the whole.
-use Rattle.std.proofs.Common.{◌≡◌, ◌≤◌, ℕ, ◌+◌, max, List, [], ◌∷◌, ◌++◌, map, filter, refl, sym, ap, subst, ◌∙◌, true, false, Bool, cond}
+use Rattle.std.proofs.Common.{◌≡◌, ◌≤◌, ℕ, ◌+◌, max, List, [], ◌∷◌, map, filter, refl, sym, ap, subst, ◌∙◌, true, false, Bool, cond}
 use Rattle.std.specs.Prelude.{◌==◌, ◌&&◌, ◌||◌}
 use Rattle.std.specs.List.{list_any}
-use Rattle.std.proofs.lemmas.Bool.{and_from, and_parts}
+use Rattle.std.proofs.lemmas.Bool.{and_from, and_parts, or_left, or_right}
+use Rattle.std.proofs.lemmas.Simd.{map-map}
 use Rattle.desk_model.specs.Decide.{entries_of}
 use Rattle.desk_model.specs.Derived.{restated_order}
 use Rattle.desk_model.specs.Effect.{effect, effects, falls, fresh_order, moved_order, new_authorizations, noted_order, swept, swept_order, touches_order}
@@ -27,9 +28,9 @@ use Rattle.desk_model.specs.declared.status.OrderStatus.TheVariants as order
 use Rattle.desk_model.specs.declared.verdict.Verdict.{Verdict}
 use Rattle.desk_model.specs.declared.verdict.Verdict.TheVariants.{Refused as refused, Answers as answers, Opens as opens, Orders as orders, Moves as moves}
 use Rattle.desk_laws.specs.Ordered.{IsOrdered}
-use Rattle.desk_laws.proofs.Basics.{each, each_after, each_all, each_both, each-append, each-map}
+use Rattle.desk_laws.proofs.Basics.{each, each_after, each_all, each_both, each-append, each-map, each_of_map, each_parts}
 use Rattle.desk_laws.proofs.Chain.{effect_part}
-use Rattle.desk_laws.proofs.Local.{swept_part}
+use Rattle.desk_laws.proofs.Local.{filter_part, swept_part}
 use Rattle.desk_laws.proofs.SweptParts.{swept_closed}
 use Rattle.desk_model.specs.Change.{recorded_changes}
 use Rattle.desk_parts.specs.AnswersAs.{AnswersAs, CarriesOutAs, IssuesAs, PassesAs, SettlesAs}
@@ -43,7 +44,7 @@ use Rattle.desk_parts.proofs.Cut.{kept_by, no_part, no_rows, numbered, same_auth
 use Rattle.desk_parts.proofs.Enough.{answers_at, restricted_ordered, work_as}
 use Rattle.desk_parts.proofs.Grown.{grown, grown_closed, grown_part}
 use Rattle.desk_parts.proofs.Listed.{KeepsListed}
-use Rattle.desk_parts.proofs.Lists.{each_filtered, filtered_each, or_cases, or_left, or_right}
+use Rattle.desk_parts.proofs.Lists.{each_filtered, filtered_each, or_cases}
 use Rattle.desk_laws.proofs.Plain.{fresh_kept}
 
 -- ---- what a call touches in a part it touches in the whole
@@ -130,36 +131,25 @@ keeps_wider k T m a h =
 
 -- ---- a part of a part
 
-filter_narrow : {X : Type 0} (p q : X → Bool) (xs : List X) → EachOf (λ x. p x ≡ true → q x ≡ true) xs → filter p (filter q xs) ≡ filter p xs
-filter_narrow p q [] h = refl
-filter_narrow p q (x ∷ xs) h = by (q x) refl (p x) refl (filter_narrow p q xs h.1)
-  where
-    by : (c : Bool) → q x ≡ c → (b : Bool) → p x ≡ b → filter p (filter q xs) ≡ filter p xs →
-        filter p (cond c (x ∷ filter q xs) (filter q xs)) ≡ cond b (x ∷ filter p xs) (filter p xs)
-    by true e true f ih = ap (λ z. cond z (x ∷ filter p (filter q xs)) (filter p (filter q xs))) f ∙ ap (λ l. x ∷ l) ih
-    by true e false f ih = ap (λ z. cond z (x ∷ filter p (filter q xs)) (filter p (filter q xs))) f ∙ ih
-    by false e true f ih = let yes : q x ≡ true = h.0 f in cc
-    by false e false f ih = ih
-
 -- the touched rows of the whole are those numbers in the part
 same_touched : (k : Kept) (T : Tables) (m : ℕ) (a : Ask) → IsOrdered T → Keeps k (touched_rows T m a)
     → restricted (kept_by T m a) (restricted k T) ≡ restricted (kept_by T m a) T
 same_touched k T m a h holds =
     λ i. record {
       meta = T.meta;
-      nonces = filter_narrow _ (λ (x : Nonce). k.nonces x.serial) T.nonces
+      nonces = filter_part _ (λ (x : Nonce). k.nonces x.serial) T.nonces
           (each _ _ T.nonces (λ x e yes. e.1 (sym e.0 ∙ yes))
           (each_both _ _ T.nonces (numbered (λ (x : Nonce). x.serial) (is_touched_nonce T m a) 1 T.nonces h.nonces.0)
           (each_filtered _ (is_touched_nonce T m a) T.nonces holds.nonces))) i;
-      accounts = filter_narrow _ (λ (x : AccountRow). k.accounts x.number) T.accounts
+      accounts = filter_part _ (λ (x : AccountRow). k.accounts x.number) T.accounts
           (each _ _ T.accounts (λ x e yes. e.1 (sym e.0 ∙ yes))
           (each_both _ _ T.accounts (numbered (λ (x : AccountRow). x.number) (is_touched_account T m a) 1 T.accounts h.accounts.0)
           (each_filtered _ (is_touched_account T m a) T.accounts holds.accounts))) i;
-      authorizations = filter_narrow _ (λ (r : AuthorizationRow). k.authorizations r.number) T.authorizations
+      authorizations = filter_part _ (λ (r : AuthorizationRow). k.authorizations r.number) T.authorizations
           (each _ _ T.authorizations (λ r e yes. e.1 (sym e.0 ∙ yes))
           (each_both _ _ T.authorizations (same_authorizations T m a h)
           (each_filtered _ (is_touched_authorization T m a) T.authorizations holds.authorizations))) i;
-      orders = filter_narrow _ (λ (o : OrderRow). k.orders o.number) T.orders
+      orders = filter_part _ (λ (o : OrderRow). k.orders o.number) T.orders
           (each _ _ T.orders (λ o e yes. e.1 (sym e.0 ∙ yes))
           (each_both _ _ T.orders (numbered (λ (o : OrderRow). o.number) (is_touched_order T m a) 1 T.orders h.orders.0)
           (each_filtered _ (is_touched_order T m a) T.orders holds.orders))) i;
@@ -220,31 +210,19 @@ moved_end e m before after o = by (touches_order e before o)
 abbrev EndBy : ℕ → OrderRow → Type 0
 EndBy n o = o.expires ≤ n
 
-each_unmap : {X Y : Type 0} (P : Y → Type 0) (f : X → Y) (xs : List X) → EachOf P (map f xs) → EachOf (λ x. P (f x)) xs
-each_unmap P f [] h = tt
-each_unmap P f (x ∷ xs) h = (h.0, each_unmap P f xs h.1)
-
-each_front : {X : Type 0} (P : X → Type 0) (xs ys : List X) → EachOf P (xs ++ ys) → EachOf P xs
-each_front P [] ys h = tt
-each_front P (x ∷ xs) ys h = (h.0, each_front P xs ys h.1)
-
 -- orders that a map which keeps ends leaves
 ends_kept : (n : ℕ) (f g : OrderRow → OrderRow) (kept : OrderRow → Bool) (xs : List OrderRow) → ((o : OrderRow) → (f o).expires ≡ o.expires)
     → ((o : OrderRow) → (g o).expires ≡ o.expires) →
     EachOf (EndBy n) (map f xs) → EachOf (EndBy n) (map g (filter kept xs))
 ends_kept n f g kept xs same other h =
     each-map (EndBy n) g (filter kept xs)
-    (filtered_each _ kept xs (each _ _ xs (λ o e yes. subst (λ j. j ≤ n) (same o ∙ sym (other o)) e) (each_unmap (EndBy n) f xs h)))
+    (filtered_each _ kept xs (each _ _ xs (λ o e yes. subst (λ j. j ≤ n) (same o ∙ sym (other o)) e) (each_of_map (EndBy n) f xs h)))
 
 -- orders that are made, whatever status they get
 made_ends : (n m : ℕ) (rows others : List AuthorizationRow) (xs : List _) → EachOf (EndBy n) (map (λ o. restated_order m rows (fresh_order o)) xs) →
     EachOf (EndBy n) (map (λ o. restated_order m others (fresh_order o)) xs)
 made_ends n m rows others [] h = tt
 made_ends n m rows others (o ∷ os) h = (h.0, made_ends n m rows others os h.1)
-
-map_twice : {X Y Z : Type 0} (f : Y → Z) (g : X → Y) (xs : List X) → map f (map g xs) ≡ map (λ x. f (g x)) xs
-map_twice f g [] = refl
-map_twice f g (x ∷ xs) = ap (λ l. f (g x) ∷ l) (map_twice f g xs)
 
 entry_ends : (k : Kept) (T : Tables) (m : ℕ) (e : Entry) (n : ℕ) → EachOf (EndBy n) (effect m (swept m T) e).orders
     → EachOf (EndBy n) (effect m (swept m (restricted k T)) e).orders
@@ -255,14 +233,14 @@ entry_ends k T m e n h =
     let g : OrderRow → OrderRow = λ o. moved_order e m P.authorizations (effect m P e).authorizations (swept_order m (restricted k T).authorizations o) in
     each-append (EndBy n) (map (moved_order e m P.authorizations (effect m P e).authorizations) P.orders) _
     (subst (EachOf (EndBy n))
-    (sym (map_twice (moved_order e m P.authorizations (effect m P e).authorizations) (swept_order m (restricted k T).authorizations)
+    (sym (map-map (moved_order e m P.authorizations (effect m P e).authorizations) (swept_order m (restricted k T).authorizations)
     (restricted k T).orders))
     (ends_kept n f g (λ o. k.orders o.number) T.orders
     (λ o. moved_end e m S.authorizations (effect m S e).authorizations (swept_order m T.authorizations o) ∙ swept_end m T.authorizations o)
     (λ o. moved_end e m P.authorizations (effect m P e).authorizations (swept_order m (restricted k T).authorizations o)
     ∙ swept_end m (restricted k T).authorizations o)
-    (subst (EachOf (EndBy n)) (map_twice (moved_order e m S.authorizations (effect m S e).authorizations) (swept_order m T.authorizations) T.orders)
-    (each_front (EndBy n) (map (moved_order e m S.authorizations (effect m S e).authorizations) S.orders) _ h))))
+    (subst (EachOf (EndBy n)) (map-map (moved_order e m S.authorizations (effect m S e).authorizations) (swept_order m T.authorizations) T.orders)
+    (each_parts (EndBy n) (map (moved_order e m S.authorizations (effect m S e).authorizations) S.orders) _ h).0)))
     (made_ends n m (effect m S e).authorizations (effect m P e).authorizations
     (ordered_by e m S.meta.policy (new_authorizations S e m) (S.meta.counters.orders + 1))
     (each_after (EndBy n) (map (moved_order e m S.authorizations (effect m S e).authorizations) S.orders) _ h))

@@ -1,8 +1,9 @@
 -- The rows that a call touches are a part of the tables, cut by numbers.
-use Rattle.std.proofs.Common.{◌≡◌, ◌≤◌, ◌<◌, ℕ, ◌+◌, max, List, [], ◌∷◌, filter, refl, sym, ap, subst, ◌∙◌, true, false, Bool, arith}
+use Rattle.std.proofs.Common.{◌≡◌, ◌≤◌, ◌<◌, ℕ, ◌+◌, max, List, [], ◌∷◌, refl, sym, ap, subst, ◌∙◌, true, false, Bool, arith}
 use Rattle.std.specs.Prelude.{◌==◌, ◌&&◌, ◌||◌}
 use Rattle.std.specs.List.{list_any}
-use Rattle.std.proofs.lemmas.Bool.{and_from}
+use Rattle.std.proofs.lemmas.Bool.{and_from, or_right}
+use Rattle.std.proofs.Math.Bool.{or-false}
 use Rattle.desk_model.specs.Derived.{numbers_of}
 use Rattle.desk_model.specs.Tables.{Tables}
 use Rattle.desk_model.specs.Kept.{EachOf, Kept, restricted}
@@ -15,13 +16,13 @@ use Rattle.desk_model.specs.declared.rows.AccountRow.{AccountRow}
 use Rattle.desk_model.specs.declared.rows.AuthorizationRow.{AuthorizationRow}
 use Rattle.desk_model.specs.declared.rows.OrderRow.{OrderRow}
 use Rattle.desk_laws.specs.Ordered.{Ascends, IsOrdered}
-use Rattle.desk_laws.proofs.Basics.{each, each_both, less_differs, more_differs, or_none}
+use Rattle.desk_laws.proofs.Basics.{each, each_both, less_differs, more_differs}
 use Rattle.desk_parts.specs.IsPart.{IsPartFor, Keeps}
 use Rattle.desk_parts.proofs.Listed.{KeepsListed}
 use Rattle.desk_model.specs.Touched.{is_first_authorization, is_touched_account, is_touched_authorization, is_touched_nonce}
 use Rattle.desk_model.specs.Touched.{is_touched_order, lists, only_meta, touched, touched_at, touched_rows}
 use Rattle.desk_parts.proofs.Enough.{whole_part}
-use Rattle.desk_parts.proofs.Lists.{each_member, filter_same, filtered_each, or_right, same_number}
+use Rattle.desk_parts.proofs.Lists.{each_member, filter_nothing, filter_same, filtered_each, same_number}
 
 -- ---- a test on rows, and on their numbers
 
@@ -43,7 +44,7 @@ numbered_from number test n [] h = tt
 numbered_from number test n (x ∷ xs) h = (
   (
     ap (λ b. (b && test x) || at_number number test xs (number x)) (same_number (number x))
-        ∙ ap (λ b. test x || b) (none_above number test (number x) (number x + 1) xs (omega arith) h.1) ∙ or_none (test x),
+        ∙ ap (λ b. test x || b) (none_above number test (number x) (number x + 1) xs (omega arith) h.1) ∙ or-false (test x),
     h.0,
   ),
   each _ _ xs (λ y p. (
@@ -115,18 +116,14 @@ touched_kept T m a h =
 abbrev pub no_rows : Kept
 no_rows = record { nonces = λ n. false; accounts = λ n. false; authorizations = λ n. false; orders = λ n. false }
 
-filter_none : {X : Type 0} (xs : List X) → [] ≡ filter (λ x. false) xs
-filter_none [] = refl
-filter_none (x ∷ xs) = filter_none xs
-
 pub no_part : (T : Tables) → only_meta T ≡ restricted no_rows T
 no_part T =
     λ i. record {
       meta = T.meta;
-      nonces = filter_none T.nonces i;
-      accounts = filter_none T.accounts i;
-      authorizations = filter_none T.authorizations i;
-      orders = filter_none T.orders i;
+      nonces = filter_nothing T.nonces i;
+      accounts = filter_nothing T.accounts i;
+      authorizations = filter_nothing T.authorizations i;
+      orders = filter_nothing T.orders i;
     }
 
 pub touched_part : (T : Tables) (call : Call) → IsOrdered T → IsPartFor call T (touched T call)

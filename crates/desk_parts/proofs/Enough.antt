@@ -24,7 +24,7 @@ use Rattle.desk_laws.specs.Ordered.{IsOrdered, IsTable}
 use Rattle.desk_laws.specs.Parts.{CoversAll}
 use Rattle.desk_laws.proofs.Basics.{each, each_all}
 use Rattle.desk_laws.proofs.Chain.{effects_part, recorded_local}
-use Rattle.desk_laws.proofs.Local.{swept_part}
+use Rattle.desk_laws.proofs.Local.{filter_all, swept_part}
 use Rattle.desk_laws.proofs.Recorded.{below_filter}
 use Rattle.desk_laws.proofs.RowLists.{ascends_filter}
 use Rattle.desk_laws.proofs.SweptParts.{swept_closed}
@@ -33,7 +33,7 @@ use Rattle.desk_parts.specs.IsPart.{IsPartFor, Keeps}
 use Rattle.desk_parts.proofs.Listed.{KeepsListed}
 use Rattle.desk_model.specs.Touched.{touched, touched_at, touched_rows}
 use Rattle.desk_parts.proofs.Grown.{KeepsTouched, grown, grown_closed, grown_part, keeps_falling, keeps_named, keeps_touched}
-use Rattle.desk_parts.proofs.Lists.{filter_keeps, filtered_each}
+use Rattle.desk_parts.proofs.Lists.{filtered_each}
 use Rattle.desk_laws.proofs.Plain.{covers_issued, fresh_kept, issued_closed, issued_covers, nonces_covered, spent_closed, spent_covers}
 use Rattle.desk_parts.proofs.Ready.{IsAnswered, IsReady, swept_names}
 use Rattle.desk_parts.proofs.Verdicts.{nonce_same, office_same, signed_same}
@@ -155,10 +155,10 @@ all_rows = record { nonces = λ n. true; accounts = λ n. true; authorizations =
 restricted_all : (k : Kept) (T : Tables) → Keeps k T → restricted k T ≡ T
 restricted_all k T h =
     λ i. record T {
-      nonces = filter_keeps (λ (n : Nonce). k.nonces n.serial) T.nonces h.nonces i;
-      accounts = filter_keeps (λ (a : AccountRow). k.accounts a.number) T.accounts h.accounts i;
-      authorizations = filter_keeps (λ (a : AuthorizationRow). k.authorizations a.number) T.authorizations h.authorizations i;
-      orders = filter_keeps (λ (o : OrderRow). k.orders o.number) T.orders h.orders i;
+      nonces = filter_all (λ (n : Nonce). k.nonces n.serial) T.nonces h.nonces i;
+      accounts = filter_all (λ (a : AccountRow). k.accounts a.number) T.accounts h.accounts i;
+      authorizations = filter_all (λ (a : AuthorizationRow). k.authorizations a.number) T.authorizations h.authorizations i;
+      orders = filter_all (λ (o : OrderRow). k.orders o.number) T.orders h.orders i;
     }
 
 keeps_all : (T : Tables) → Keeps all_rows T
@@ -178,7 +178,7 @@ whole_settles T m a =
       verdict = record {
         standing = λ r. true;
         authorizations =
-            sym (filter_keeps (λ r. true) (effects m (swept m T) (entries_of v)).authorizations
+            sym (filter_all (λ r. true) (effects m (swept m T) (entries_of v)).authorizations
             (each_all _ (effects m (swept m T) (entries_of v)).authorizations (λ r. refl)));
         ends = λ n all. all;
         shows = λ index. refl;

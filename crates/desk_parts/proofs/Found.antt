@@ -4,14 +4,16 @@ use Rattle.std.specs.Prelude.{◌==◌, ◌&&◌, ◌||◌, find, nat_lt}
 use Rattle.std.specs.List.{list_any, flat_map}
 use Rattle.std.proofs.lemmas.List.Folds.{list_any-append}
 use Rattle.std.proofs.lemmas.Bool.{eqb-true, eq-eqb}
+use Rattle.std.proofs.Math.Bool.{or-false}
 use Rattle.desk_model.specs.Change.{put}
 use Rattle.desk_model.specs.Kept.{EachOf}
 use Rattle.desk_laws.specs.Ordered.{Ascends}
 use Rattle.desk_laws.specs.Placing.{puts}
-use Rattle.desk_laws.proofs.Basics.{any_or, each, each-append, less_differs, list_any-same, more_differs, or_none}
+use Rattle.desk_laws.proofs.Basics.{any_or, each, each-append, less_differs, list_any-same, more_differs}
 use Rattle.desk_laws.proofs.RowLists.{Above, ascends_above, ascends_found, put_first, put_past}
+use Rattle.desk_laws.proofs.Finds.{each_found}
 use Rattle.desk_parts.proofs.Cut.{at_number, numbered}
-use Rattle.desk_parts.proofs.Lists.{filter_same, filtered_each, found_each}
+use Rattle.desk_parts.proofs.Lists.{filter_nothing, filter_same, filtered_each}
 
 -- what is found holds of these rows just those that pass a test
 pub record IsFound {X : Type 0} (number : X → ℕ) (test : X → Bool) (xs found : List X) : Type 0 where
@@ -87,7 +89,7 @@ above_filter number p n xs h = filtered_each _ p xs (each _ _ xs (λ x f yes. f)
 
 -- what is found further on stands above
 found_above : {X : Type 0} (number : X → ℕ) (y : X) (n : ℕ) (xs : List X) → Above number n xs → find (λ x. number x == number y) xs ≡ Some y → n < number y
-found_above number y n xs h e = found_each (λ x. n < number x) (λ x. number x == number y) xs y h e
+found_above number y n xs h e = each_found (λ x. n < number x) (λ x. number x == number y) xs y h e
 
 -- a row of these, put among some of them
 put_filter : {X : Type 0} (number : X → ℕ) (y : X) (p : X → Bool) (n : ℕ) (xs : List X) → Ascends number n xs → find (λ x. number x == number y) xs ≡ Some y →
@@ -158,10 +160,6 @@ puts_filter number n xs h (y ∷ ys) p f =
     filter_all_same (z ∷ zs) =
         λ i. cond (turn (number y == number z) (list_any (λ w. number w == number z) ys) (p z) i) (z ∷ filter_all_same zs i) (filter_all_same zs i)
 
-filter_nothing : {X : Type 0} (xs : List X) → [] ≡ filter (λ x. false) xs
-filter_nothing [] = refl
-filter_nothing (x ∷ xs) = filter_nothing xs
-
 -- what is found makes the table of the rows that pass
 pub found_table : {X : Type 0} (number : X → ℕ) (test : X → Bool) (n : ℕ) (xs found : List X) → Ascends number n xs → IsFound number test xs found →
     puts number found [] ≡ filter test xs
@@ -169,7 +167,7 @@ found_table number test n xs found h is =
     ap (puts number found) (filter_nothing xs)
     ∙ puts_filter number n xs h found (λ x. false) is.from
     ∙ filter_same _ test xs
-    (each _ _ xs (λ x e. or_none _ ∙ is.tests (λ y. number y == number x) ∙ swap xs x ∙ e) (numbered number test n xs h))
+    (each _ _ xs (λ x e. or-false _ ∙ is.tests (λ y. number y == number x) ∙ swap xs x ∙ e) (numbered number test n xs h))
   where
     turn : (a b : Bool) → (a && b) ≡ (b && a)
     turn true true = refl

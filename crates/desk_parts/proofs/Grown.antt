@@ -2,7 +2,7 @@
 use Rattle.std.proofs.Common.{◌≡◌, ℕ, ◌+◌, ◌<◌, List, [], ◌∷◌, filter, Option, Some, None, refl, sym, ap, ◌∙◌, true, false, Bool, not, arith, subst}
 use Rattle.std.specs.Prelude.{◌==◌, ◌&&◌, ◌||◌}
 use Rattle.std.specs.List.{list_any}
-use Rattle.std.proofs.lemmas.Bool.{eqb-true, eq-eqb, and_parts, and_from}
+use Rattle.std.proofs.lemmas.Bool.{eqb-true, eq-eqb, and_parts, and_from, or_left, or_right}
 use Rattle.desk_model.specs.Lookup.{holds}
 use Rattle.desk_model.specs.Derived.{numbers_of, authorization_numbered}
 use Rattle.desk_model.specs.Effect.{lists_one, falls, is_live_order, is_overdue, touches_account, touches_authorization, names_order as entry_names_order}
@@ -16,13 +16,14 @@ use Rattle.desk_model.specs.declared.rows.AuthorizationRow.{AuthorizationRow}
 use Rattle.desk_model.specs.declared.rows.OrderRow.{OrderRow}
 use Rattle.desk_laws.specs.Ordered.{Below, IsOrdered}
 use Rattle.desk_laws.proofs.Basics.{each, each_both, less_differs}
+use Rattle.desk_laws.proofs.Finds.{each_found, found_passes}
 use Rattle.desk_model.specs.Asked.{carries, has_key, names_account, names_order, names_authorization, names_owner, asks_orders}
 use Rattle.desk_model.specs.Touched.{is_touched_nonce, is_touched_account, is_touched_authorization, is_touched_order}
 use Rattle.desk_model.specs.Touched.{is_named_account, is_named_order, is_named_authorization, is_own_order, is_own_authorization}
 use Rattle.desk_model.specs.Touched.{is_first_authorization, lists, touched_rows}
 use Rattle.desk_parts.specs.IsPart.{Keeps}
 use Rattle.desk_parts.proofs.Listed.{KeepsListed}
-use Rattle.desk_parts.proofs.Lists.{or_left, or_right, or_cases, same_number, each_member, any_gives, each_filtered, filter_same, found_passes, found_each}
+use Rattle.desk_parts.proofs.Lists.{or_cases, same_number, each_member, any_gives, each_filtered, filter_same}
 
 -- a row has the number
 abbrev pub stands : {X : Type 0} → (X → ℕ) → List X → ℕ → Bool
@@ -179,7 +180,7 @@ listed_one test rows o h =
     at n member None e k = cc
     at n member (Some r) e k =
         let same : r.number ≡ n = eqb-true r.number n (found_passes (λ y. y.number == n) rows r e) in
-        found_each (λ y. (p : AuthorizationRow → Bool) → p y ≡ true → list_any p rows ≡ true) (λ y. y.number == n) rows r (each_member rows) e
+        each_found (λ y. (p : AuthorizationRow → Bool) → p y ≡ true → list_any p rows ≡ true) (λ y. y.number == n) rows r (each_member rows) e
         (λ y. test y && lists o y.number) (and_from _ _ k (member (λ j. j == r.number) (eq-eqb n r.number (sym same))))
 
 -- an authorization of the first rules is touched, and so are the orders that list it

@@ -1,19 +1,12 @@
--- Tests on lists, and rows found by number.
-use Rattle.std.proofs.Common.{◌≡◌, ℕ, List, [], ◌∷◌, filter, Some, refl, sym, ap, ◌∙◌, true, false, Bool, cond}
-use Rattle.std.specs.Prelude.{◌==◌, ◌||◌, find}
+-- Tests on lists.
+use Rattle.std.proofs.Common.{◌≡◌, ℕ, List, [], ◌∷◌, filter, refl, sym, true, false, Bool, cond}
+use Rattle.std.specs.Prelude.{◌==◌, ◌||◌}
 use Rattle.std.specs.List.{list_any}
-use Rattle.std.proofs.lemmas.Bool.{eqb-true, eq-eqb}
+use Rattle.std.proofs.lemmas.Bool.{eqb-true, eq-eqb, or_left, or_right}
 use Rattle.desk_model.specs.Kept.{EachOf}
 use Rattle.desk_laws.proofs.Basics.{each}
 
 -- ---- tests
-
-pub or_left : (a b : Bool) → a ≡ true → (a || b) ≡ true
-or_left a b h = rw h refl
-
-pub or_right : (a b : Bool) → b ≡ true → (a || b) ≡ true
-or_right true b h = refl
-or_right false b h = h
 
 -- by either test
 pub or_cases : {A : Type 0} (a b : Bool) → (a || b) ≡ true → (a ≡ true → A) → (b ≡ true → A) → A
@@ -61,41 +54,7 @@ pub filter_same : {X : Type 0} (p q : X → Bool) (xs : List X) → EachOf (λ x
 filter_same p q [] h = refl
 filter_same p q (x ∷ xs) h = λ i. cond (h.0 i) (x ∷ filter_same p q xs h.1 i) (filter_same p q xs h.1 i)
 
--- a test that each item passes leaves all
-pub filter_keeps : {X : Type 0} (p : X → Bool) (xs : List X) → EachOf (λ x. p x ≡ true) xs → filter p xs ≡ xs
-filter_keeps p [] h = refl
-filter_keeps p (x ∷ xs) h = ap (λ b. cond b (x ∷ filter p xs) (filter p xs)) h.0 ∙ ap (λ l. x ∷ l) (filter_keeps p xs h.1)
-
--- ---- what is found
-
-pub found_passes : {X : Type 0} (test : X → Bool) (xs : List X) (x : X) → find test xs ≡ Some x → test x ≡ true
-found_passes test [] x h = cc
-found_passes test (y ∷ ys) x h = by (test y) refl (found_passes test ys x) h
-  where
-    by : (b : Bool) → test y ≡ b → (find test ys ≡ Some x → test x ≡ true) → cond b (Some y) (find test ys) ≡ Some x → test x ≡ true
-    by true e f k = let same : y ≡ x = cc in ap test (sym same) ∙ e
-    by false e f k = f k
-
--- what holds of each item holds of the one that is found
-pub found_each : {X : Type 0} (P : X → Type 0) (test : X → Bool) (xs : List X) (x : X) → EachOf P xs → find test xs ≡ Some x → P x
-found_each P test [] x h e = cc
-found_each P test (y ∷ ys) x h e = by (test y) e (found_each P test ys x h.1)
-  where
-    by : (b : Bool) → cond b (Some y) (find test ys) ≡ Some x → (find test ys ≡ Some x → P x) → P x
-    by true k f = let same : y ≡ x = cc in rw (← same) h.0
-    by false k f = f k
-
--- a number that is kept is found in the part as in the whole
-pub find_kept : {X : Type 0} (number : X → ℕ) (kept : ℕ → Bool) (n : ℕ) (xs : List X) → kept n ≡ true →
-    find (λ x. number x == n) (filter (λ x. kept (number x)) xs) ≡ find (λ x. number x == n) xs
-find_kept number kept n [] h = refl
-find_kept number kept n (x ∷ xs) h = by (kept (number x)) refl (number x == n) refl (find_kept number kept n xs h)
-  where
-    by : (b : Bool) → kept (number x) ≡ b → (c : Bool) → (number x == n) ≡ c →
-        find (λ y. number y == n) (filter (λ y. kept (number y)) xs) ≡ find (λ y. number y == n) xs →
-        find (λ y. number y == n) (cond b (x ∷ filter (λ y. kept (number y)) xs) (filter (λ y. kept (number y)) xs))
-        ≡ cond c (Some x) (find (λ y. number y == n) xs)
-    by true e true r ih = ap (λ z. cond z (Some x) (find (λ y. number y == n) (filter (λ y. kept (number y)) xs))) r
-    by true e false r ih = ap (λ z. cond z (Some x) (find (λ y. number y == n) (filter (λ y. kept (number y)) xs))) r ∙ ih
-    by false e true r ih = let same : number x ≡ n = eqb-true (number x) n r in let yes : kept (number x) ≡ true = rw same h in cc
-    by false e false r ih = ih
+-- a test that no item passes leaves nothing
+pub filter_nothing : {X : Type 0} (xs : List X) → [] ≡ filter (λ x. false) xs
+filter_nothing [] = refl
+filter_nothing (x ∷ xs) = filter_nothing xs

@@ -1,11 +1,11 @@
 -- What the look-ups find is what the call touches, rule by rule.
-use Rattle.std.proofs.Common.{◌≡◌, ℕ, ◌+◌, ◌-◌, max, List, [], ◌∷◌, map, filter, Option, Some, None, refl, sym, ap, ◌∙◌, true}
+use Rattle.std.proofs.Common.{◌≡◌, ℕ, ◌+◌, ◌-◌, max, List, [], ◌∷◌, map, filter, Option, Some, None, refl, ap, ◌∙◌, true}
 use Rattle.std.proofs.Common.{false, Bool, not, arith, Result, Ok, Err}
 use Rattle.std.specs.Prelude.{◌==◌, ◌&&◌, ◌||◌, nat_lt, nat_le, bytes_eq, option_and_then}
 use Rattle.std.specs.List.{list_any, flat_map}
-use Rattle.std.proofs.lemmas.Bool.{eqb-true, eq-eqb}
 use Rattle.std.proofs.lemmas.Bool.Decides.{nat_tests}
 use Rattle.std.proofs.lemmas.List.Folds.{list_any-append}
+use Rattle.std.proofs.Math.Bool.{or-false}
 use Rattle.desk_model.specs.Derived.{authz_code, numbers_of, order_code}
 use Rattle.desk_model.specs.Authorization.{is_live}
 use Rattle.desk_model.specs.Effect.{has_row, is_live_order, is_overdue}
@@ -29,7 +29,7 @@ use Rattle.desk_model.specs.declared.status.AuthzStatus.TheVariants as authz
 use Rattle.desk_model.specs.declared.status.OrderStatus.{OrderStatus}
 use Rattle.desk_model.specs.declared.status.OrderStatus.TheVariants as order
 use Rattle.desk_laws.specs.Ordered.{IsOrdered}
-use Rattle.desk_laws.proofs.Basics.{each, each_all, list_any-map, list_any-same, or_none}
+use Rattle.desk_laws.proofs.Basics.{each, each_all, eq_turn, list_any-map, list_any-same}
 use Rattle.desk_parts.specs.Loaded.{accounts_once, authorizations_once, orders_once, account_numbers, authorization_numbers}
 use Rattle.desk_parts.specs.Loaded.{challenge_numbers, first_authorizations, found_accounts, found_authorizations, found_nonces}
 use Rattle.desk_parts.specs.Loaded.{found_orders, keys, listed_authorizations, listing_orders, loaded, loaded_at, loaded_rows}
@@ -68,15 +68,6 @@ any_beside p b (x ∷ xs) = ap (λ z. (p x && b) || z) (any_beside p b xs) ∙ b
     by false true c = refl
     by false false c = refl
 
-pub eq_turn : (a b : ℕ) → (a == b) ≡ (b == a)
-eq_turn a b = by (a == b) refl (b == a) refl
-  where
-    by : (x : Bool) → (a == b) ≡ x → (y : Bool) → (b == a) ≡ y → x ≡ y
-    by true e true f = refl
-    by true e false f = let yes : (b == a) ≡ true = eq-eqb b a (sym (eqb-true a b e)) in cc
-    by false e true f = let yes : (a == b) ≡ true = eq-eqb a b (sym (eqb-true b a f)) in cc
-    by false e false f = refl
-
 -- ---- what an ask names
 
 carried : (a : Ask) (n : ℕ) → list_any (λ k. n == k) (serials a) ≡ carries a n
@@ -84,7 +75,7 @@ carried (ask.Signed s) n = by (option_and_then nonce_in s.nonce)
   where
     by : (t : Option NonceText) → list_any (λ k. n == k) (of_text t) ≡ holds (λ (x : NonceText). n == x.serial) t
     by None = refl
-    by (Some t) = or_none (n == t.serial)
+    by (Some t) = or-false (n == t.serial)
 carried (ask.NewNonce head) n = refl
 carried (ask.Office a) n = refl
 
@@ -99,7 +90,7 @@ keyed (ask.Signed s) text = by s.key
   where
     by : (key : Result (List ℕ) BadKey) → list_any (λ k. bytes_eq text k) (key_list key) ≡ has_this key text
     by (Err e) = refl
-    by (Ok key) = or_none (bytes_eq text key)
+    by (Ok key) = or-false (bytes_eq text key)
 keyed (ask.NewNonce head) text = refl
 keyed (ask.Office a) text = refl
 
@@ -107,41 +98,41 @@ account_listed : (a : Ask) (n : ℕ) → list_any (λ k. n == k) (account_number
 account_listed (ask.Signed s) n = by s.target
   where
     by : (t : Target) → list_any (λ k. n == k) (target_accounts t) ≡ target_account t n
-    by (to.Account k) = or_none (n == k)
-    by (to.Orders k) = or_none (n == k)
+    by (to.Account k) = or-false (n == k)
+    by (to.Orders k) = or-false (n == k)
     by _ = refl
-account_listed (ask.Office (office.RevokeAccount k)) n = or_none (n == k)
-account_listed (ask.Office (office.KeyOf k)) n = or_none (n == k)
+account_listed (ask.Office (office.RevokeAccount k)) n = or-false (n == k)
+account_listed (ask.Office (office.KeyOf k)) n = or-false (n == k)
 account_listed _ n = refl
 
 order_listed : (a : Ask) (n : ℕ) → list_any (λ k. n == k) (order_numbers a) ≡ names_order a n
 order_listed (ask.Signed s) n = by s.target
   where
     by : (t : Target) → list_any (λ k. n == k) (target_order_numbers t) ≡ target_order t n
-    by (to.Order k) = or_none (n == k)
-    by (to.Finalize k) = or_none (n == k)
-    by (to.Cert k) = or_none (n == k)
+    by (to.Order k) = or-false (n == k)
+    by (to.Finalize k) = or-false (n == k)
+    by (to.Cert k) = or-false (n == k)
     by _ = refl
-order_listed (ask.Office (office.Certify k bytes)) n = or_none (n == k)
-order_listed (ask.Office (office.FailOrder k problem)) n = or_none (n == k)
+order_listed (ask.Office (office.Certify k bytes)) n = or-false (n == k)
+order_listed (ask.Office (office.FailOrder k problem)) n = or-false (n == k)
 order_listed _ n = refl
 
 authorization_listed : (a : Ask) (n : ℕ) → list_any (λ k. n == k) (authorization_numbers a) ≡ names_authorization a n
 authorization_listed (ask.Signed s) n = by s.target
   where
     by : (t : Target) → list_any (λ k. n == k) (target_authorization_numbers t) ≡ target_authorization t n
-    by (to.Authz k) = or_none (n == k)
+    by (to.Authz k) = or-false (n == k)
     by _ = refl
-authorization_listed (ask.Office (office.RevokeAuthz k)) n = or_none (n == k)
+authorization_listed (ask.Office (office.RevokeAuthz k)) n = or-false (n == k)
 authorization_listed _ n = refl
 
 challenge_listed : (a : Ask) (r : AuthorizationRow) → list_any (λ c. has_row c r) (challenge_numbers a) ≡ names_owner a r
 challenge_listed (ask.Signed s) r = by s.target
   where
     by : (t : Target) → list_any (λ c. has_row c r) (target_challenge_numbers t) ≡ target_owner t r
-    by (to.Chall k) = or_none (has_row k r)
+    by (to.Chall k) = or-false (has_row k r)
     by _ = refl
-challenge_listed (ask.Office (office.Report k finding)) r = or_none (has_row k r)
+challenge_listed (ask.Office (office.Report k finding)) r = or-false (has_row k r)
 challenge_listed _ r = refl
 
 -- ---- rows that belong to others
@@ -272,8 +263,8 @@ orders_over T m h =
         (((order_code s == order_code order.Pending) && b)
         || (((order_code s == order_code order.Ready) && b) || ((order_code s == order_code order.Processing) && b)))
         ≡ (is_live_order s && b)
-    by order.Pending b = or_none b
-    by order.Ready b = or_none b
+    by order.Pending b = or-false b
+    by order.Ready b = or-false b
     by order.Processing b = refl
     by order.Valid b = refl
     by order.Invalid b = refl
@@ -289,7 +280,7 @@ authorizations_over T m h =
   where
     by : (s : AuthzStatus) (b : Bool) → (((authz_code s == authz_code authz.Pending) && b)
         || ((authz_code s == authz_code authz.Valid) && b)) ≡ (is_live s && b)
-    by authz.Pending b = or_none b
+    by authz.Pending b = or-false b
     by authz.Valid b = refl
     by authz.Invalid b = refl
     by authz.Deactivated b = refl

@@ -25,11 +25,11 @@ use Rattle.desk_model.specs.declared.moves.Move.TheVariants as move
 use Rattle.desk_laws.specs.Parts.{FreshKept}
 use Rattle.desk_laws.proofs.Basics.{each, each-append, each-map}
 use Rattle.desk_laws.proofs.Chain.{order_number, up_kept}
-use Rattle.desk_laws.proofs.Local.{filter_part, moved_number}
+use Rattle.desk_laws.proofs.Local.{filter_part, find_kept, moved_number}
 use Rattle.desk_laws.proofs.Recorded.{made_up}
 use Rattle.desk_laws.proofs.MovedRows.{has_row-moved}
+use Rattle.desk_laws.proofs.Finds.{each_found, found_passes}
 use Rattle.desk_parts.proofs.Listed.{KeepsListed}
-use Rattle.desk_parts.proofs.Lists.{find_kept, found_each, found_passes}
 use Rattle.desk_parts.proofs.Verdicts.{account_same, authorization_same, order_same, owner_same}
 
 -- ---- what a part keeps after an entry
@@ -125,7 +125,7 @@ order_by k E n f h listed = ap (shown (λ o. f o (order_document (restricted k E
     by None e = refl
     by (Some o) e =
         let number : o.number ≡ n = eqb-true o.number n (found_passes (λ y. y.number == n) E.orders o e) in
-        ap (f o) (document_same k E o (found_each _ (λ y. y.number == n) E.orders o listed e (ap k.orders number ∙ h)))
+        ap (f o) (document_same k E o (each_found _ (λ y. y.number == n) E.orders o listed e (ap k.orders number ∙ h)))
 
 pub order_shown : (k : Kept) (E : Tables) (n : ℕ) → k.orders n ≡ true → KeepsListed k E → reply_of (restricted k E) (show.Order n) ≡ reply_of E (show.Order n)
 order_shown k E n h listed = order_by k E n (λ o d. ok 200 d) h listed

@@ -34,10 +34,11 @@ use Rattle.desk_model.specs.declared.rows.AuthorizationRow.{AuthorizationRow}
 use Rattle.desk_model.specs.declared.rows.ChallengeRow.{ChallengeRow}
 use Rattle.desk_model.specs.declared.rows.OrderRow.{OrderRow}
 use Rattle.desk_model.specs.declared.verdict.Shows.TheVariants as show
-use Rattle.desk_laws.proofs.Local.{find_part}
+use Rattle.desk_laws.proofs.Local.{find_kept, find_part}
+use Rattle.desk_laws.proofs.Finds.{each_found, found_passes}
 use Rattle.desk_model.specs.Asked.{carries, target_order, target_authorization, target_owner}
 use Rattle.desk_parts.proofs.Grown.{KeepsNamed}
-use Rattle.desk_parts.proofs.Lists.{find_kept, found_each, found_passes, same_number}
+use Rattle.desk_parts.proofs.Lists.{same_number}
 
 -- ---- look-ups
 
@@ -147,7 +148,7 @@ report_same k S n finding h =
         given x refusal.NotFound (λ a. given (challenge_of n a) refusal.NotFound (finding_verdict (restricted k S) n finding a))
         ≡ given x refusal.NotFound (λ a. given (challenge_of n a) refusal.NotFound (finding_verdict S n finding a))
     by None e = refl
-    by (Some a) e = in_row a (found_each _ (has_row n) S.authorizations a h.holder e (found_passes (has_row n) S.authorizations a e)) (challenge_of n a)
+    by (Some a) e = in_row a (each_found _ (has_row n) S.authorizations a h.holder e (found_passes (has_row n) S.authorizations a e)) (challenge_of n a)
 
 pub office_same : (k : Kept) (S : Tables) (a : OfficeAsk) → KeepsNamed k S (ask.Office a) → office_verdict (restricted k S) a ≡ office_verdict S a
 office_same k S office.Directory h = refl

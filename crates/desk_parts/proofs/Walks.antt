@@ -2,10 +2,9 @@
 use Rattle.std.proofs.Common.{◌≡◌, ℕ, ◌+◌, List, [], ◌∷◌, length, Option, Some, None, refl, ap, subst, ◌∙◌, true, false, Bool, not, arith, Result, Ok, Err}
 use Rattle.std.specs.Prelude.{◌==◌, ◌&&◌, nat_le, bytes_eq}
 use Rattle.std.specs.List.{list_any}
-use Rattle.std.proofs.lemmas.Bool.{and_from, eqb-true}
+use Rattle.std.proofs.lemmas.Bool.{and_from, eqb-true, or_left, or_right}
 use Rattle.desk_model.specs.Authorization.{is_live, is_pending}
 use Rattle.desk_model.specs.declared.refusal.Refusal.TheVariants as refusal
-use Rattle.desk_model.specs.declared.refusal.Refusal.{Refusal}
 use Rattle.desk_model.specs.Account.{is_valid as is_valid_account}
 use Rattle.desk_model.specs.Contact.{contacts_fault}
 use Rattle.desk_model.specs.Document.{expected}
@@ -27,7 +26,6 @@ use Rattle.desk_model.specs.Rules.{report_verdict, revoke_account, revoke_author
 use Rattle.desk_model.specs.Rules.{signed_verdict, stands_open, subproblems, target_verdict, wanted, kept, names_in}
 use Rattle.desk_model.specs.Tables.{Tables}
 use Rattle.desk_model.specs.Kept.{EachOf, IsClosed, Kept}
-use Rattle.desk_model.specs.Verdict.{choose, unless_fault}
 use Rattle.desk_model.specs.declared.call.Ask.{Ask}
 use Rattle.desk_model.specs.declared.call.Ask.TheVariants as ask
 use Rattle.desk_model.specs.declared.call.OfficeAsk.{OfficeAsk}
@@ -55,32 +53,21 @@ use Rattle.desk_model.specs.declared.reply.Subproblem.{Subproblem}
 use Rattle.desk_model.specs.declared.rows.AccountRow.{AccountRow}
 use Rattle.desk_model.specs.declared.rows.AuthorizationRow.{AuthorizationRow}
 use Rattle.desk_model.specs.declared.rows.OrderRow.{OrderRow}
-use Rattle.desk_model.specs.declared.verdict.Verdict.{Verdict}
-use Rattle.desk_model.specs.declared.verdict.Verdict.TheVariants.{Refused as refused}
 use Rattle.desk_laws.proofs.Basics.{each}
 use Rattle.desk_laws.proofs.SweptParts.{swept_closed}
 use Rattle.desk_model.specs.Asked.{asks_authorizations, asks_orders, names_account, names_authorization, names_order, names_owner}
 use Rattle.desk_model.specs.Touched.{is_first_authorization, is_named_account, is_named_authorization, is_own_authorization}
-use Rattle.desk_lives.proofs.Steps.{check_keeps, choose_keeps, fault_keeps, given_keeps}
+use Rattle.desk_lives.proofs.Steps.{check_keeps, either_keeps, given_keeps, no_fault_keeps}
 use Rattle.desk_parts.proofs.Listed.{KeepsListed}
 use Rattle.desk_parts.proofs.Grown.{IsNamedBy}
-use Rattle.desk_parts.proofs.Lists.{each_member, found_each, found_passes, or_left, or_right, same_number, turned}
+use Rattle.desk_parts.proofs.Lists.{each_member, same_number, turned}
 use Rattle.desk_laws.proofs.Plain.{fresh_kept}
+use Rattle.desk_laws.proofs.Finds.{each_found, found_passes}
 use Rattle.desk_parts.proofs.Ready.{IsAnswered, IsReady, covered, swept_names}
 use Rattle.desk_parts.proofs.Verdicts.{is_key, verdict_by}
 use Rattle.desk_parts.proofs.Replies.{account_shown, authorization_shown, certificate_shown, challenge_shown}
 use Rattle.desk_parts.proofs.Replies.{client_challenge_shown, finalized_shown, key_shown, known_shown, listed_after, made_shown}
 use Rattle.desk_parts.proofs.Replies.{opened_shown, order_shown, orders_shown, owner_after}
-
--- ---- steps of verdicts
-
--- what holds of both holds of one of the two
-either_keeps : (P : Verdict → Type 0) (b : Bool) (v w : Verdict) → P v → P w → P (choose b v w)
-either_keeps P b v w h = choose_keeps P b v w (λ _. h)
-
--- what holds of a refusal and of what comes where there is no fault
-no_fault_keeps : (P : Verdict → Type 0) (o : Option Refusal) (v : Verdict) → ((n : Refusal) → P (refused n [])) → P v → P (unless_fault o v)
-no_fault_keeps P o v r h = fault_keeps P o v r (λ _. h)
 
 -- ---- what entries touch
 
@@ -224,7 +211,7 @@ revoke_account_answered k T m n ready x found =
       covered k T m (ask.Office (office.RevokeAccount n)) (account_ended n revoked) ready
           (ended_named T m (ask.Office (office.RevokeAccount n)) n revoked (same_number n)
           (λ r h. owned_by T (ask.Office (office.RevokeAccount n)) x refl here
-          (found_each (λ y. (p : AccountRow → Bool) → p y ≡ true → list_any p T.accounts ≡ true)
+          (each_found (λ y. (p : AccountRow → Bool) → p y ≡ true → list_any p T.accounts ≡ true)
           (λ y. y.number == n) T.accounts x (each_member T.accounts) found)
           r (ap (λ j. j == r.account) number ∙ h))),
       account_shown k (effect m S (account_ended n revoked)) n kept,
@@ -383,11 +370,11 @@ keyed_answered k T m s r key t ready named kept (Some x) found =
     let is : bytes_eq x.key key ≡ true = found_passes (λ a. bytes_eq a.key key) T.accounts x found in
     check_keeps (IsAnswered k m (swept m T)) (is_valid_account x.status) refusal.Unauthorized _ tt (λ valid.
     target_answered k T m s r x s.payload t ready
-    (found_each _ (λ a. bytes_eq a.key key) T.accounts x kept found is)
+    (each_found _ (λ a. bytes_eq a.key key) T.accounts x kept found is)
     (named x is)
-    (found_each (λ y. (p : AccountRow → Bool) → p y ≡ true → list_any p T.accounts ≡ true)
+    (each_found (λ y. (p : AccountRow → Bool) → p y ≡ true → list_any p T.accounts ≡ true)
     (λ a. bytes_eq a.key key) T.accounts x (each_member T.accounts) found)
-    (found_each _ (λ a. bytes_eq a.key key) T.accounts x (swept_names k T m (sent s t) ready.named).orders found (named x is)))
+    (each_found _ (λ a. bytes_eq a.key key) T.accounts x (swept_names k T m (sent s t) ready.named).orders found (named x is)))
 
 pub signed_answered : (k : Kept) (T : Tables) (m : ℕ) (r : List ℕ) (s : Signed) → IsReady k T m (ask.Signed s) →
     IsAnswered k m (swept m T) (signed_verdict (swept m T) r s)

@@ -1,21 +1,9 @@
 -- The rows above a number, one after the other.
 use Rattle.std.proofs.Common.{◌≡◌, ◌<◌, ◌≤◌, ℕ, ◌+◌, List, [], ◌∷◌, ◌++◌, Bool, true, false, cond, refl, sym, ap, subst, ◌∙◌, arith, ltb}
 use Rattle.std.specs.List.{flat_map}
-use Rattle.std.proofs.lemmas.Bool.{ltb-true, lt-ltb}
+use Rattle.std.proofs.lemmas.Bool.{ltb-true, lt-ltb, le-ltb, ltb-false}
 use Rattle.desk_laws.specs.Ordered.{Ascends}
 use Rattle.desk_parts.specs.Above.{above, first_of}
-
--- a number that is not greater is not above
-not_above : (k n : ℕ) → n ≤ k → ltb k n ≡ false
-not_above k n h = by (ltb k n) refl
-  where
-    by : (b : Bool) → ltb k n ≡ b → b ≡ false
-    by true e = let lt : k < n = ltb-true k n e in absurd (omega arith)
-    by false e = refl
-
--- a number that is not above is not greater
-not_greater : (k n : ℕ) → ltb k n ≡ false → n ≤ k
-not_greater k n h = grind (arith, lt-ltb k n)
 
 -- rows that ascend from above a number are all above it
 pub all_above : {X : Type 0} (number : X → ℕ) (n m : ℕ) (xs : List X) → n < m → Ascends number m xs → above number n xs ≡ xs
@@ -48,7 +36,7 @@ above_step number n m x (y ∷ ys) h e = by (ltb n (number y)) refl (above_step 
     by true more later is =
         let same : y ≡ x = cc is in
         let lower : n < number y = ltb-true n (number y) more in
-        let here : ltb (number y) (number y) ≡ false = not_above (number y) (number y) (omega arith) in
+        let here : ltb (number y) (number y) ≡ false = le-ltb (number y) (number y) (omega arith) in
         let rest : above number n ys ≡ above number (number y) ys =
         all_above number n (number y + 1) ys (omega arith) h.1 ∙ sym (all_above number (number y) (number y + 1) ys (omega arith) h.1) in
         let skips : above number (number y) (y ∷ ys) ≡ above number (number y) ys =
@@ -56,8 +44,8 @@ above_step number n m x (y ∷ ys) h e = by (ltb n (number y)) refl (above_step 
         subst (λ z. y ∷ above number n ys ≡ z ∷ above number (number z) (y ∷ ys)) same (ap (λ l. y ∷ l) (rest ∙ sym skips))
     by false less later is =
         let upper : n < number x = first_is_above number n x ys is in
-        let lower : number y ≤ n = not_greater n (number y) less in
-        let here : ltb (number x) (number y) ≡ false = not_above (number x) (number y) (omega arith) in
+        let lower : number y ≤ n = ltb-false n (number y) less in
+        let here : ltb (number x) (number y) ≡ false = le-ltb (number x) (number y) (omega arith) in
         let skips : above number (number x) (y ∷ ys) ≡ above number (number x) ys =
         λ i. cond (here i) (y ∷ above number (number x) ys) (above number (number x) ys) in
         later is ∙ ap (λ l. x ∷ l) (sym skips)

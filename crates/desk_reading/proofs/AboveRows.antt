@@ -2,7 +2,7 @@
 use Rattle.std.proofs.Common.{◌≡◌, ℕ, pos, List, [], ◌∷◌, ◌++◌, map, filter, refl, sym, ap, subst, ◌∙◌, codes}
 use Rattle.std.specs.Prelude.{nat_lt}
 use Rattle.std.specs.List.{flat_map}
-use Rattle.std.proofs.lemmas.List.{map-append}
+use Rattle.std.proofs.lemmas.List.{map-append, map-id}
 use Rattle.sqlite.specs.declared.types.Value.TheVariants.{Int}
 use Rattle.sqlite_value.specs.declared.keys.Collation.TheVariants.{Binary}
 use Rattle.sqlite_value.specs.Order.{Row}
@@ -33,7 +33,7 @@ use Rattle.desk_reading.specs.StoredBook.{IsStoredBook}
 use Rattle.desk_reading.specs.Texts.{select_account_above, select_authorization_above, select_challenge_above, select_order_above}
 use Rattle.desk_reading.proofs.Answered.{IsReadingUpTo, by, first_row}
 use Rattle.desk_reading.proofs.FoundRows.{found_first}
-use Rattle.desk_reading.proofs.Lists.{filter-map, first-map, map-id}
+use Rattle.desk_reading.proofs.Lists.{filter-map, first-map}
 use Rattle.desk_reading.proofs.Tests.{above_bounded, above_test}
 use Rattle.desk_reading.proofs.Told.{account_project, account_spelled, authorization_project, authorization_spelled}
 use Rattle.desk_reading.proofs.Told.{challenge_project, challenge_spelled, order_project, order_spelled}

@@ -5,6 +5,7 @@ use Rattle.std.specs.List.{AllByRecursion, list_all}
 use Rattle.std.specs.List.Sorted.{IsPermutation, IsSorted, IsStrictlySortedBy}
 use Rattle.std.specs.Ordering.{ordering_then}
 use Rattle.std.proofs.lemmas.List.Sorted.{IsPermutation-map, IsPermutation-sym, IsPermutation-trans}
+use Rattle.std.proofs.lemmas.Simd.{map-map}
 use Rattle.sqlite.specs.declared.types.Value.TheVariants.{Null, Int}
 use Rattle.sqlite_value.specs.declared.keys.Collation.TheVariants.{Binary}
 use Rattle.sqlite_value.specs.declared.keys.Key.{Key}
@@ -24,7 +25,6 @@ use Rattle.desk_laws.specs.Ordered.{Ascends}
 use Rattle.desk_schema.specs.Schema.{desk_schema}
 use Rattle.desk_tables.proofs.Keyed.{ranked, three}
 use Rattle.desk_reading.specs.Selecting.{IsQuery}
-use Rattle.desk_reading.proofs.Lists.{map-map}
 
 -- ---- queries of one table
 

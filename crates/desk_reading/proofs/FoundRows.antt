@@ -1,18 +1,20 @@
 -- The rows that a look-up finds are those of the model.
 use Rattle.std.proofs.Common.{◌≡◌, ℕ, Bool, List, [], ◌∷◌, map, filter, cond, refl, sym, ap, subst, ◌∙◌}
+use Rattle.std.proofs.lemmas.Simd.{map-map}
 use Rattle.sqlite_value.specs.Order.{Row}
 use Rattle.sqlite_sql.specs.Term.{Term}
 use Rattle.sqlite.specs.State.{State, Shown}
 use Rattle.desk_columns.proofs.RowsApart.{table-apart}
 use Rattle.desk_columns.specs.Laws.{AreToldApart}
-use Rattle.desk_laws.proofs.Basics.{each-map}
+use Rattle.desk_columns.proofs.RowsApart.{table-apart}
+use Rattle.desk_laws.proofs.Basics.{each-map, each_of_map}
 use Rattle.desk_laws.proofs.Keeps.{each-filter}
 use Rattle.desk_model.specs.Kept.{EachOf}
 use Rattle.desk_tables.specs.Layouts.{HasRows, Layout}
 use Rattle.desk_parts.specs.Above.{first_of}
 use Rattle.desk_reading.proofs.Answered.{IsReading, IsReadingUpTo, by, first_row, passes}
 use Rattle.desk_reading.proofs.KeyedReadings.{reads_first, reads_keyed}
-use Rattle.desk_reading.proofs.Lists.{each-first, map-map}
+use Rattle.desk_reading.proofs.Lists.{each-first}
 use Rattle.desk_reading.proofs.Told.{IsSpelled}
 
 -- ---- rows and their columns
@@ -21,11 +23,6 @@ use Rattle.desk_reading.proofs.Told.{IsSpelled}
 pub rows_back : {C R : Type 0} (write : R → C) (P : R → Type 0) → AreToldApart write P
     → (columns : List C) (rows found : List R) → EachOf P rows → columns ≡ map write rows → EachOf P found × (columns ≡ map write found) → found ≡ rows
 rows_back write P apart columns rows found stored are read = table-apart write P apart found rows read.0 stored (sym read.1 ∙ are)
-
--- what holds of each item of a map
-pub each_unmap : {X Y : Type 0} (P : Y → Type 0) (f : X → Y) (xs : List X) → EachOf P (map f xs) → EachOf (λ x. P (f x)) xs
-each_unmap P f [] h = tt
-each_unmap P f (x ∷ xs) h = (h.0, each_unmap P f xs h.1)
 
 -- tests that agree on each item
 pub filter-each : {X : Type 0} (P : X → Type 0) (p q : X → Bool) → ((x : X) → P x → p x ≡ q x) → (xs : List X) → EachOf P xs → filter p xs ≡ filter q xs
@@ -45,7 +42,7 @@ pub found_keyed : {X R C : Type 0} (L : Layout X) (bare : X → R) (write : R �
     → map spelled rows ≡ map write found → found ≡ map bare (filter test xs)
 found_keyed L bare write IsStored spelled project is apart text tests params sql test reading tests_are agree old new values xs rows found has stored given
     h kept spells =
-    let limits = each_unmap IsStored bare xs stored in
+    let limits = each_of_map IsStored bare xs stored in
     let shown = subst (λ v. Shown text v old new rows) given h in
     let columns = reads_keyed L (λ x. write (bare x)) spelled project is text tests params sql reading tests_are old new xs rows has shown in
     let same : filter sql xs ≡ filter test xs = filter-each (λ x. IsStored (bare x)) sql test agree xs limits in
@@ -66,7 +63,7 @@ pub found_first : {X R C : Type 0} (L : Layout X) (bare : X → R) (write : R �
 found_first {X} L bare write IsStored spelled project is apart text tests params sql test reading tests_are agree old new values xs rows found has stored
     given h kept spells =
     let P = λ (x : X). IsStored (bare x) in
-    let limits = each_unmap IsStored bare xs stored in
+    let limits = each_of_map IsStored bare xs stored in
     let shown = subst (λ v. Shown text v old new rows) given h in
     let columns = reads_first L (λ x. write (bare x)) spelled project is text tests params sql reading tests_are old new xs rows has shown in
     table-apart write IsStored apart found (map bare (first_of (filter sql xs))) kept

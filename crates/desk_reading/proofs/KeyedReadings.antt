@@ -1,5 +1,7 @@
 -- What a reading gives of a table that has a number as its key.
 use Rattle.std.proofs.Common.{◌≡◌, ℕ, Bool, List, [], ◌∷◌, map, filter, ap, ◌∙◌}
+use Rattle.std.proofs.lemmas.Simd.{map-map}
+use Rattle.std.proofs.lemmas.List.{map-id}
 use Rattle.sqlite_value.specs.Order.{Row}
 use Rattle.sqlite_sql.specs.Query.{as_count, limited}
 use Rattle.sqlite_sql.specs.Term.{Term, eval}
@@ -8,7 +10,7 @@ use Rattle.desk_laws.proofs.RowLists.{ascends_filter}
 use Rattle.desk_parts.specs.Above.{first_of}
 use Rattle.desk_tables.specs.Layouts.{HasRows, Layout}
 use Rattle.desk_reading.proofs.Answered.{IsReading, IsReadingUpTo, all_rows, answers_up_to, beside, by, first_row, passes, picked, shown_in_order, strictly}
-use Rattle.desk_reading.proofs.Lists.{as_it_is, first-map, map-id, map-map, map-same}
+use Rattle.desk_reading.proofs.Lists.{as_it_is, first-map, map-same}
 use Rattle.desk_reading.proofs.Told.{IsSpelled}
 
 -- what is read of rows is what they spell

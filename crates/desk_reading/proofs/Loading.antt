@@ -1,13 +1,14 @@
 -- The rows of all tables.
 use Rattle.std.proofs.Common.{◌≡◌, ◌∷◌, [], map, sym, ◌∙◌}
 use Rattle.std.specs.List.Sorted.{IsPermutation}
+use Rattle.std.proofs.lemmas.Simd.{map-map}
 use Rattle.desk_columns.specs.Columns.{account_columns, authorization_columns, challenge_columns, listed_columns, meta_columns}
 use Rattle.desk_columns.specs.Columns.{nonce_columns, order_columns, rows_columns}
 use Rattle.desk_columns.specs.Flat.{challenge_rows, flat, listed_rows, without_challenges, without_listed}
 use Rattle.desk_columns.specs.declared.columns.StoredRows.{StoredRows}
 use Rattle.desk_model.specs.Tables.{Tables}
 use Rattle.stored_laws.specs.Told.{AreReorderedColumns}
-use Rattle.desk_reading.proofs.Lists.{as_it_is, map-map}
+use Rattle.desk_reading.proofs.Lists.{as_it_is}
 
 -- the columns of orders do not tell what these list, nor those of authorizations their challenges
 pub reordered : (stored : StoredRows) (T : Tables)

@@ -1,6 +1,7 @@
 -- What each look-up by number, by a column or by a status finds.
 use Rattle.std.proofs.Common.{◌≡◌, ◌&&◌, ℕ, pos, List, [], ◌∷◌, map, filter, Bool, refl, sym, subst, ◌∙◌, arith}
 use Rattle.std.specs.Prelude.{◌==◌, nat_lt, bytes_eq}
+use Rattle.std.proofs.lemmas.List.{map-id}
 use Rattle.sqlite.specs.declared.types.Value.TheVariants.{Int, Text}
 use Rattle.sqlite_value.specs.Order.{Row}
 use Rattle.sqlite_sql.specs.Term.{Term}
@@ -36,7 +37,6 @@ use Rattle.desk_reading.specs.Texts.{select_nonces_before, select_nonces_numbere
 use Rattle.desk_reading.specs.Texts.{select_orders_of, select_orders_past}
 use Rattle.desk_reading.proofs.Answered.{IsReading, by, passes}
 use Rattle.desk_reading.proofs.FoundRows.{found_keyed}
-use Rattle.desk_reading.proofs.Lists.{map-id}
 use Rattle.desk_reading.proofs.LookUpReadings.{accounts_numbered_reading, accounts_with_key_reading}
 use Rattle.desk_reading.proofs.LookUpReadings.{authorizations_numbered_reading, authorizations_of_reading}
 use Rattle.desk_reading.proofs.LookUpReadings.{authorizations_past_reading, challenges_numbered_reading, challenges_of_reading}

@@ -1,6 +1,7 @@
 -- The readings of whole tables fail for memory or the disk alone.
 use Rattle.std.proofs.Common.{ℕ, List, [], ◌∷◌, map, true, refl, ap, subst, ◌∙◌}
 use Rattle.std.proofs.lemmas.List.Sorted.{All-permutation}
+use Rattle.std.proofs.lemmas.Simd.{map-map}
 use Rattle.sqlite_value.specs.Order.{Row}
 use Rattle.sqlite_sql.specs.Term.{Term, col}
 use Rattle.sqlite.specs.State.{State, FailsToQuery}
@@ -25,7 +26,7 @@ use Rattle.desk_reading.proofs.Answered.{IsReading, by}
 use Rattle.desk_reading.proofs.Failing.{IsSure, query_fails, reading_fails}
 use Rattle.desk_reading.proofs.Fits.{account_fits, all_fit, authorization_fits, challenge_fits, listed_fits, meta_fits, nonce_fits, order_fits}
 use Rattle.desk_reading.proofs.KeyedReadings.{shown_keyed}
-use Rattle.desk_reading.proofs.Lists.{filter-all, map-map}
+use Rattle.desk_reading.proofs.Lists.{filter-all}
 use Rattle.desk_reading.proofs.Readings.{accounts_reading, authorizations_reading, challenges_reading, format_reading}
 use Rattle.desk_reading.proofs.Readings.{listed_reading, meta_reading, nonces_reading, orders_reading}
 use Rattle.desk_reading.proofs.SureTexts.{accounts_sure, authorizations_sure, challenges_sure, format_sure, listed_sure, meta_sure, nonces_sure, orders_sure}

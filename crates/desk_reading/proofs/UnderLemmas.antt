@@ -3,11 +3,11 @@ use Rattle.std.proofs.Common.{◌≡◌, ℕ, ◌+◌, ◌<◌, Bool, true, fals
 use Rattle.std.specs.Prelude.{◌==◌}
 use Rattle.std.specs.List.{flat_map}
 use Rattle.std.proofs.lemmas.Bool.{eq-eqb}
-use Rattle.std.proofs.lemmas.Bool.Decides.{nat_tests}
 use Rattle.std.proofs.lemmas.List.{map-append}
+use Rattle.std.proofs.lemmas.Simd.{map-map}
 use Rattle.desk_columns.specs.Flat.{challenge_rows, listed_rows, owned_by}
 use Rattle.desk_columns.specs.declared.flat_rows.Owned.{Owned}
-use Rattle.desk_laws.proofs.Basics.{each, each_both}
+use Rattle.desk_laws.proofs.Basics.{each, each_both, less_differs, more_differs}
 use Rattle.desk_laws.proofs.RowLists.{ascends_above}
 use Rattle.desk_laws.specs.Ordered.{Ascends}
 use Rattle.desk_model.specs.Kept.{EachOf}
@@ -20,17 +20,9 @@ use Rattle.desk_model.specs.declared.rows.OrderRow.{OrderRow}
 use Rattle.desk_parts.specs.LookUps.{challenges, orders_listing, owners_of, places}
 use Rattle.stored_rows.specs.Nesting.{child_rows}
 use Rattle.desk_reading.specs.Under.{HasItsChallenges, HasItsListed, rows_under}
-use Rattle.desk_reading.proofs.Lists.{filter-map, map-map}
+use Rattle.desk_reading.proofs.Lists.{filter-map}
 
 -- ---- owners
-
--- a lower number is not this one
-apart : (a b : ℕ) → a < b → (b == a) ≡ false
-apart a b h = grind (arith, nat_tests)
-
--- nor is a higher one
-apart_above : (a b : ℕ) → a < b → (a == b) ≡ false
-apart_above a b h = grind (arith, nat_tests)
 
 -- rows of two lists
 under_both : {R : Type 0} (n : ℕ) (xs ys : List (Owned R)) → rows_under n (xs ++ ys) ≡ rows_under n xs ++ rows_under n ys
@@ -66,7 +58,8 @@ module _ {P R : Type 0} (number : P → ℕ) (children : P → List R) where
   under_lower k n [] low up = refl
   under_lower k n (p ∷ ps) low up =
       under_both k (owned_by (number p) (children p)) (child_rows number children ps)
-      ∙ ap (λ rs. rs ++ rows_under k (child_rows number children ps)) (under_other k (number p) (apart k (number p) (omega (arith, low, up.0))) (children p))
+      ∙ ap (λ rs. rs ++ rows_under k (child_rows number children ps))
+      (under_other k (number p) (more_differs (number p) k (omega (arith, low, up.0))) (children p))
       ∙ under_lower k (number p + 1) ps (omega (arith, low, up.0)) up.1
 
   -- no row is the first owner's but its own
@@ -87,7 +80,7 @@ module _ {P R : Type 0} (number : P → ℕ) (children : P → List R) where
         let above : number p < number q = k.0 in
         under_both (number q) (owned_by (number p) (children p)) (child_rows number children ps)
         ∙ ap (λ rs. rs ++ rows_under (number q) (child_rows number children ps))
-        (under_other (number q) (number p) (apart_above (number p) (number q) above) (children p))
+        (under_other (number q) (number p) (less_differs (number p) (number q) above) (children p))
         ∙ k.1)
         (each_both _ _ ps (ascends_above number (number p) (number p + 1) ps (omega arith) up.1) (each_under (number p + 1) ps up.1)),
   )

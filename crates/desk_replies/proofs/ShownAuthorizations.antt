@@ -1,6 +1,7 @@
 -- What the documents of authorizations and challenges show.
 use Rattle.std.proofs.Common.{◌≡◌, ℕ, List, [], ◌∷◌, ◌++◌, map, filter, Bool, true, false, cond, Option, Some, None, refl, sym, ap, ◌∙◌}
 use Rattle.std.specs.Prelude.{is_some, codes}
+use Rattle.std.proofs.lemmas.Simd.{map-map}
 use Rattle.serde_json.specs.Data.{Data, string, boolean}
 use Rattle.desk_model.specs.Json.{members, list, when}
 use Rattle.desk_model.specs.Terms.{Terms}
@@ -15,7 +16,7 @@ use Rattle.desk_model.specs.Document.{error_of, report_error, validated, validat
 use Rattle.desk_model.specs.Document.{challenge_document, identifier, or_all, shown_challenges}
 use Rattle.moments.specs.Capped.{capped}
 use Rattle.desk_replies.specs.Shown.{capped_report, capped_challenge, capped_authorization, with_members, HasDatedReport, HasMoments}
-use Rattle.desk_replies.proofs.ShownOrders.{capped-same, map-map}
+use Rattle.desk_replies.proofs.ShownOrders.{capped-same}
 
 -- ---- moments that have a text are shown as they are
 

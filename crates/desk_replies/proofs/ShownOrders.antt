@@ -1,6 +1,7 @@
 -- What the documents of orders show.
 use Rattle.std.proofs.Common.{◌≡◌, ℕ, ◌≤◌, List, [], ◌∷◌, ◌++◌, map, Option, Some, None, refl, sym, ap, ◌∙◌, arith}
 use Rattle.std.specs.Prelude.{is_some, codes}
+use Rattle.std.proofs.lemmas.Simd.{map-map}
 use Rattle.serde_json.specs.Data.{Data, Members, string}
 use Rattle.desk_model.specs.Limits.{last_end}
 use Rattle.desk_model.specs.Json.{members, list, when}
@@ -20,11 +21,6 @@ use Rattle.desk_replies.specs.Shown.{capped_order, with_members}
 -- a moment that has a text is shown as it is
 pub capped-same : (m : ℕ) → m ≤ last_end → capped m ≡ m
 capped-same m le = omega arith
-
--- a function of what a function gives
-pub map-map : {X Y Z : Type 0} (f : Y → Z) (g : X → Y) (xs : List X) → map f (map g xs) ≡ map (λ x. f (g x)) xs
-map-map f g [] = refl
-map-map f g (x ∷ xs) = ap (λ l. f (g x) ∷ l) (map-map f g xs)
 
 -- members with one more put among them
 pub and_put : (member : List ℕ × Data) (before now known : Members) → now ≡ with_members (member ∷ []) before → before ≡ known

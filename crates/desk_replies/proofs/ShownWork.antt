@@ -3,6 +3,7 @@ use Rattle.std.proofs.Common.{◌≡◌, ℕ, List, [], ◌∷◌, ◌++◌, map
 use Rattle.std.specs.List.{flat_map}
 use Rattle.std.specs.Option.{option_map}
 use Rattle.std.specs.Prelude.{codes}
+use Rattle.std.proofs.lemmas.Simd.{map-map}
 use Rattle.serde_json.specs.Data.{string, number, unsigned}
 use Rattle.desk_model.specs.Json.{document, list}
 use Rattle.desk_model.specs.Tokens.{base64url}
@@ -16,7 +17,6 @@ use Rattle.desk_model.specs.declared.rows.AuthorizationRow.{AuthorizationRow}
 use Rattle.desk_model.specs.declared.rows.OrderRow.{OrderRow}
 use Rattle.desk_model.specs.Document.{and_row, rows_of, listed_rows, order_url, is_listed, bytes_of, work_of, order_work_document}
 use Rattle.desk_replies.specs.Shown.{work_at}
-use Rattle.desk_replies.proofs.ShownOrders.{map-map}
 use Rattle.swept_rows.proofs.SweptRows.{swept_authorization-status, swept_order-status, swept_authorization_on}
 
 -- ---- names

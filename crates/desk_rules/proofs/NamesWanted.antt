@@ -1,22 +1,13 @@
 -- How many authorizations and tokens a new order asks for.
-use Rattle.std.proofs.Common.{◌≡◌, ℕ, suc, zero, ◌*◌, ◌≤◌, List, [], ◌∷◌, length, drop, Bool, true, false, cond, refl, ap, arith}
+use Rattle.std.proofs.Common.{◌≡◌, ℕ, ◌*◌, ◌≤◌, List, [], ◌∷◌, length, drop, Bool, true, false, cond, refl, arith}
 use Rattle.std.specs.Prelude.{sum_by}
 use Rattle.std.proofs.lemmas.List.Sums.{sum_by-cons}
 use Rattle.desk_model.specs.Authorization.{kinds_of}
 use Rattle.desk_model.specs.declared.objects.Kind.TheVariants.{Http01 as http_01, Dns01 as dns_01}
 use Rattle.desk_model.specs.Name.{Name}
-use Rattle.desk_model.specs.Rules.{pieces, wanted}
+use Rattle.desk_model.specs.Rules.{wanted}
 use Rattle.desk_model.specs.Run.{count_tokens}
-
--- as many are wanted as there are names
-pub length-wanted : (ns : List Name) (random : List ℕ) → length (wanted ns random) ≡ length ns
-length-wanted [] random = refl
-length-wanted (n ∷ ns) random = ap suc (length-wanted ns _)
-
--- so many pieces
-pub length-pieces : (k : ℕ) (random : List ℕ) → length (pieces k random) ≡ k
-length-pieces zero random = refl
-length-pieces (suc k) random = ap suc (length-pieces k _)
+use Rattle.desk_laws.proofs.Drawn.{length-pieces}
 
 -- a name has two challenges at most
 kinds-le : (n : Name) → length (kinds_of n) ≤ 2

@@ -12,7 +12,8 @@ use Rattle.desk_model.specs.declared.entry.Wanted.{Wanted}
 use Rattle.desk_rules.specs.Needs.{NumbersLeft, BytesLeft, IsNeedFault}
 use Rattle.desk_rules.specs.declared.fault.CoreFault.{CoreFault}
 use Rattle.desk_rules.specs.declared.fault.CoreFault.TheVariants as fault
-use Rattle.desk_rules.proofs.NamesWanted.{length-wanted, count_kinds, count_tokens-wanted}
+use Rattle.desk_rules.proofs.NamesWanted.{count_kinds, count_tokens-wanted}
+use Rattle.desk_laws.proofs.Drawn.{length-wanted}
 
 -- an order for these names
 abbrev pub order_for : ℕ → List Name → List ℕ → Verdict

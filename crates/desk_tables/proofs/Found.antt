@@ -33,7 +33,8 @@ by_key tree at project = record {
   offset = lit (Int (pos 0));
 }
 
-told : (b : Bool) → is_true (from_truth (Some b)) ≡ b
+-- a truth that is known is told
+pub told : (b : Bool) → is_true (from_truth (Some b)) ≡ b
 told true = refl
 told false = refl
 

@@ -1,6 +1,7 @@
 -- Items of a list that are read one by one.
 use Rattle.std.proofs.Common.{◌≡◌, ℕ, zero, suc, ◌+◌, ◌<◌, List, [], ◌∷◌, ◌++◌, length, take, get_or, Option, Some, None, refl, sym, ap, ◌∙◌, arith, add-one}
 use Rattle.std.proofs.Math.Seq.{take-suc}
+use Rattle.std.proofs.lemmas.Option.{same_Some}
 use Rattle.serde_json.specs.Data.{Data}
 use Rattle.serde_json.specs.View.{view, items_view}
 use Rattle.serde_json.specs.declared.value.Value.{Value}
@@ -18,14 +19,11 @@ each_in-none form (w ∷ ws) zero v lt is none = ap (λ o. and_each o (each_in f
 each_in-none form (w ∷ ws) (suc i) v lt is none =
     ap (λ o. and_each (form (view w)) o) (each_in-none form ws i v (omega arith) is none) ∙ none_stays (form (view w))
 
-some_same : {X : Type 0} (a b : X) → Some a ≡ Some b → a ≡ b
-some_same a b e = cc e
-
 last_form : {X : Type 0} (form : Data → Option X) (vs : List Value) (v : Value) (xs : List X) (x : X)
     → each_in form (items_view vs) ≡ Some xs → form (view v) ≡ Some x →
     each_in form (items_view (vs ++ v ∷ [])) ≡ Some (xs ++ x ∷ [])
 last_form {X} form [] v xs x read there =
-    ap (λ o. and_each o (Some [])) there ∙ ap (λ (l : List X). Some (l ++ x ∷ [])) (some_same [] xs read)
+    ap (λ o. and_each o (Some [])) there ∙ ap (λ (l : List X). Some (l ++ x ∷ [])) (same_Some [] xs read)
 last_form {X} form (w ∷ ws) v xs x read there =
     by (form (view w)) (each_in form (items_view ws)) refl (λ ys q. last_form form ws v ys x q there) read
   where
@@ -36,7 +34,7 @@ last_form {X} form (w ∷ ws) v xs x read there =
     by None p q ih e = cc e
     by (Some y) None q ih e = cc e
     by (Some y) (Some ys) q ih e =
-        ap (λ p. and_each (Some y) p) (ih ys q) ∙ ap (λ (l : List X). Some (l ++ x ∷ [])) (some_same (y ∷ ys) xs e)
+        ap (λ p. and_each (Some y) p) (ih ys q) ∙ ap (λ (l : List X). Some (l ++ x ∷ [])) (same_Some (y ∷ ys) xs e)
 
 -- one more item in the form
 pub each_in-last : {X : Type 0} (form : Data → Option X) (vs : List Value) (i : ℕ) (v : Value) (xs : List X) (x : X) → i < length vs → v ≡ get_or vs i v →

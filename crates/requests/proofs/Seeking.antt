@@ -1,7 +1,7 @@
 -- What a router finds: bytes one by one, and a number in the place of a parameter.
 use Rattle.std.proofs.Common.{◌≡◌, ◌≢◌, ℕ, zero, suc, ◌+◌, ◌-◌, ◌<◌, List, [], ◌∷◌, ◌++◌, length, drop, Some, None, Bool, true}
 use Rattle.std.proofs.Common.{false, cond, refl, sym, ap, ◌∙◌, arith, nat_eq, ◌==◌, ltb, ◌&&◌, append-nil}
-use Rattle.std.proofs.lemmas.Bool.{lt-ltb}
+use Rattle.std.proofs.lemmas.Bool.{lt-ltb, ne_eqb}
 use Rattle.std.proofs.lemmas.Bool.Decides.{nat_tests}
 use Rattle.std.proofs.lemmas.List.{length-append}
 use Rattle.std.proofs.Math.Seq.{drop-append_seam}
@@ -12,10 +12,6 @@ use Rattle.matchit.specs.Rows.{RowsOf}
 use Rattle.matchit.specs.Seek.{cuts, has_slash, or_else, own, param_step, seek, segment, step}
 
 -- ---- texts of digits
-
--- different numbers are told apart
-differ : (a b : ℕ) → a ≢ b → (a == b) ≡ false
-differ a b n = grind (arith, nat_tests)
 
 -- a digit is neither a slash nor a token for a parameter
 no_digit_is_slash : (d : ℕ) → digit_value d < 10 → d ≢ 47
@@ -28,7 +24,7 @@ no_digit_is_param d l q = omega (arith, rw q at l)
 -- a text of digits has no slash
 pub no_slash : (ds : List ℕ) → AllDigits 10 ds → has_slash ds ≡ false
 no_slash [] h = refl
-no_slash (d ∷ ds) h = rw (differ d 47 (no_digit_is_slash d h.0)) (no_slash ds h.1)
+no_slash (d ∷ ds) h = rw (ne_eqb d 47 (no_digit_is_slash d h.0)) (no_slash ds h.1)
 
 -- all digits but the first
 one_less : (d : ℕ) (ds : List ℕ) → length (d ∷ ds) - 1 ≡ length ds
@@ -39,12 +35,12 @@ one_less d ds = omega arith
 -- the segment at the beginning of a text, up to its first slash
 pub segment_before : (ds rest : List ℕ) → AllDigits 10 ds → segment (ds ++ 47 ∷ rest) ≡ ds ++ 47 ∷ []
 segment_before [] rest h = refl
-segment_before (d ∷ ds) rest h = rw (differ d 47 (no_digit_is_slash d h.0)) (ap (λ t. d ∷ t) (segment_before ds rest h.1))
+segment_before (d ∷ ds) rest h = rw (ne_eqb d 47 (no_digit_is_slash d h.0)) (ap (λ t. d ∷ t) (segment_before ds rest h.1))
 
 -- without a slash it is the whole text
 pub segment_whole : (ds : List ℕ) → AllDigits 10 ds → segment ds ≡ ds
 segment_whole [] h = refl
-segment_whole (d ∷ ds) h = rw (differ d 47 (no_digit_is_slash d h.0)) (ap (λ t. d ∷ t) (segment_whole ds h.1))
+segment_whole (d ∷ ds) h = rw (ne_eqb d 47 (no_digit_is_slash d h.0)) (ap (λ t. d ∷ t) (segment_whole ds h.1))
 
 -- digits end with no slash
 pub ends_with_digit : (d : ℕ) (ds : List ℕ) → AllDigits 10 (d ∷ ds) → pointwise nat_eq (47 ∷ []) (drop (length ds) (d ∷ ds)) ≡ false
@@ -120,7 +116,7 @@ module _ {K : Type 0} where
   pub number_alone : (d : ℕ) (ds : List ℕ) (k : K) → AllDigits 10 (d ∷ ds) → seek 0 ((256 ∷ [], k) ∷ []) (d ∷ ds) ≡ Some k
   unfolding seek
   number_alone d ds k h =
-      let no : (256 == d) ≡ false = differ 256 d (λ q. no_digit_is_param d h.0 (sym q)) in
+      let no : (256 == d) ≡ false = ne_eqb 256 d (λ q. no_digit_is_param d h.0 (sym q)) in
       let one : seek (length ds) (([], k) ∷ []) (ds ++ []) ≡ Some k = seek_behind (([], k) ∷ []) ds [] in
       let all : seek (length ds) (([], k) ∷ []) ds ≡ Some k = rw (append-nil ds) at one in
       at_number d ds ((256 ∷ [], k) ∷ []) (rw no refl) ∙ rw (takes_all (d ∷ ds) k (no_slash (d ∷ ds) h), one_less d ds, all) refl
@@ -144,7 +140,7 @@ module _ {K : Type 0} where
       → seek 0 ((256 ∷ 47 ∷ w, j) ∷ (256 ∷ [], k) ∷ []) (d ∷ ds) ≡ Some k
   unfolding seek
   number_at_end d ds w j k h =
-      let no : (256 == d) ≡ false = differ 256 d (λ q. no_digit_is_param d h.0 (sym q)) in
+      let no : (256 == d) ≡ false = ne_eqb 256 d (λ q. no_digit_is_param d h.0 (sym q)) in
       let one : seek (length ds) ((47 ∷ w, j) ∷ ([], k) ∷ []) (ds ++ []) ≡ Some k = seek_behind ((47 ∷ w, j) ∷ ([], k) ∷ []) ds [] in
       let all : seek (length ds) ((47 ∷ w, j) ∷ ([], k) ∷ []) ds ≡ Some k = rw (append-nil ds) at one in
       at_number d ds ((256 ∷ 47 ∷ w, j) ∷ (256 ∷ [], k) ∷ []) (rw no refl) ∙ rw (takes_all_of_two d ds w j k h, one_less d ds, all) refl
@@ -154,7 +150,7 @@ module _ {K : Type 0} where
       → seek 0 ((256 ∷ 47 ∷ w, j) ∷ (256 ∷ [], k) ∷ []) (d ∷ ds ++ 47 ∷ w) ≡ Some j
   unfolding seek
   number_before d ds w j k h there =
-      let no : (256 == d) ≡ false = differ 256 d (λ q. no_digit_is_param d h.0 (sym q)) in
+      let no : (256 == d) ≡ false = ne_eqb 256 d (λ q. no_digit_is_param d h.0 (sym q)) in
       let len : length (ds ++ 47 ∷ []) ≡ length ds + 1 = length-append ds (47 ∷ []) in
       let e : length (segment (d ∷ ds ++ 47 ∷ w)) - 1 - 1 ≡ length ds = rw (segment_before (d ∷ ds) w h) (omega (arith, len)) in
       at_number d (ds ++ 47 ∷ w) ((256 ∷ 47 ∷ w, j) ∷ (256 ∷ [], k) ∷ []) (rw no refl)

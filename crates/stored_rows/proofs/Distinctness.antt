@@ -109,8 +109,3 @@ numbers-equal m n h = grind (arith, nat_tests)
 -- nothing at the end
 pub ended : {X : Type 0} (xs ys zs : List X) → xs ++ ys ≡ zs → ys ≡ [] → xs ≡ zs
 ended xs ys zs all none = sym (append-nil xs) ∙ ap (λ l. xs ++ l) (sym none) ∙ all
-
--- a map that changes nothing
-pub map-same : {X : Type 0} (xs : List X) → map (λ x. x) xs ≡ xs
-map-same [] = refl
-map-same (x ∷ xs) = ap (λ l. x ∷ l) (map-same xs)

@@ -3,7 +3,7 @@ use Rattle.std.proofs.Common.{◌≡◌, ℕ, ◌<◌, ◌≤◌, Bool, true, fa
 use Rattle.std.specs.Prelude.{◌==◌, nat_le}
 use Rattle.std.specs.List.{flat_map}
 use Rattle.std.specs.List.Sorted.{IsNonDecreasingBy, IsStableByKey}
-use Rattle.std.proofs.lemmas.Bool.Decides.{nat_tests}
+use Rattle.std.proofs.lemmas.Bool.{leb-false, leb-true}
 use Rattle.desk_model.specs.declared.rows.ChallengeRow.{ChallengeRow}
 use Rattle.desk_model.specs.declared.rows.StatusFault.{StatusFault}
 use Rattle.desk_model.specs.Derived.{chall_code, derived_challenge, challenge_faults, insert_challenge, sorted_challenges}
@@ -21,12 +21,6 @@ of_number k cs = filter (λ c. are_even k c.number) cs
 -- the faults of one number
 abbrev faults_of_number : ℕ → List StatusFault → List StatusFault
 faults_of_number k fs = filter (λ f. are_even k (fault_number f)) fs
-
-not_below : (m n : ℕ) → nat_le m n ≡ false → n < m
-not_below m n h = grind (arith, nat_tests)
-
-not_above : (m n : ℕ) → nat_le m n ≡ true → m ≤ n
-not_above m n h = grind (arith, nat_tests)
 
 -- an insertion keeps the order of those of one number
 of_number-insert : (k : ℕ) (c : ChallengeRow) (ds : List ChallengeRow) → of_number k (insert_challenge c ds) ≡ of_number k (c ∷ ds)
@@ -46,7 +40,7 @@ of_number-insert k c (d ∷ ds) = by (nat_le c.number d.number) refl (of_number-
     by true h ih = refl
     by false h ih =
         ap (λ l. cond (are_even k d.number) (d ∷ l) l) ih
-        ∙ past (are_even k c.number) (are_even k d.number) refl refl (not_below c.number d.number h)
+        ∙ past (are_even k c.number) (are_even k d.number) refl refl (leb-false c.number d.number h)
 
 -- so does the sort
 of_number-sorted : (k : ℕ) (cs : List ChallengeRow) → of_number k (sorted_challenges cs) ≡ of_number k cs
@@ -93,8 +87,8 @@ rises-insert c (d ∷ ds) h = by (nat_le c.number d.number) refl (rises-insert c
   where
     by : (b : Bool) → nat_le c.number d.number ≡ b → Rises number_of (insert_challenge c ds) →
         Rises number_of (cond b (c ∷ d ∷ ds) (d ∷ insert_challenge c ds))
-    by true e ih = let le = not_above c.number d.number e in ((le, at_least-le number_of c.number d.number ds le h.0), h)
-    by false e ih = let lt = not_below c.number d.number e in (at_least-insert d.number c ds (omega (arith, lt)) h.0, ih)
+    by true e ih = let le = leb-true c.number d.number e in ((le, at_least-le number_of c.number d.number ds le h.0), h)
+    by false e ih = let lt = leb-false c.number d.number e in (at_least-insert d.number c ds (omega (arith, lt)) h.0, ih)
 
 -- sorted challenges rise
 rises-sorted : (cs : List ChallengeRow) → Rises number_of (sorted_challenges cs)

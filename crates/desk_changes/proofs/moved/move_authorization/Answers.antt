@@ -4,8 +4,9 @@ use Rattle.desk_model.specs.Change.{authorization_differs}
 use Rattle.desk_model.specs.Effect.{swept_authorization, touches_authorization}
 use Rattle.desk_model.specs.declared.rows.Change.TheVariants.{PutAuthorization}
 use Rattle.desk_changes.specs.Moved.{stated_authorization}
-use Rattle.desk_changes.proofs.RowMoves.{moved_one-is, moved_one-untouched, touched_one-is, touches_swept}
+use Rattle.desk_changes.proofs.RowMoves.{moved_one-is, moved_one-untouched, touched_one-is}
 use Rattle.desk_changes.proofs.moved.move_authorization.Goals as goal
+use Rattle.desk_laws.proofs.SweptParts.{touches_swept}
 
 pub returns-then-not-touches_authorization-clause-changes : goal.returns-then-not-touches_authorization-clause-changes
 returns-then-not-touches_authorization-clause-changes c =

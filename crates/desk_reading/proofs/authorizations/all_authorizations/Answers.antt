@@ -1,4 +1,5 @@
 use Rattle.std.proofs.Common.{arith, map, sym, ◌∙◌}
+use Rattle.std.proofs.lemmas.Simd.{map-map}
 use Rattle.sqlite.specs.Held.{state}
 use Rattle.sqlite.specs.State.{HasCleanDisk}
 use Rattle.desk_columns.proofs.RowsApart.{authorizations-apart}
@@ -7,7 +8,6 @@ use Rattle.desk_columns.specs.Flat.{without_challenges}
 use Rattle.desk_columns.specs.Limits.{IsStoredAuthorization}
 use Rattle.desk_tables.proofs.Holding.{holds_still}
 use Rattle.desk_reading.proofs.FoundRows.{rows_back}
-use Rattle.desk_reading.proofs.Lists.{map-map}
 use Rattle.desk_reading.proofs.Results.{unchanged_after}
 use Rattle.desk_reading.proofs.UnderLemmas.{authorizations_have}
 use Rattle.desk_reading.proofs.authorizations.all_authorizations.Goals as goal

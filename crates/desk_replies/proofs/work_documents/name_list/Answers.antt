@@ -1,11 +1,11 @@
 use Rattle.std.proofs.Common.{◌∙◌, ap, map}
+use Rattle.std.proofs.lemmas.Simd.{map-map}
 use Rattle.serde_json.specs.Data.{string}
 use Rattle.desk_model.specs.Json.{list}
 use Rattle.desk_model.specs.Name.{Name}
 use Rattle.desk_model.specs.Names.{shown_name}
 use Rattle.desk_model.specs.Document.{listed_rows}
 use Rattle.desk_model.specs.declared.rows.AuthorizationRow.{AuthorizationRow}
-use Rattle.desk_replies.proofs.ShownOrders.{map-map}
 use Rattle.desk_replies.proofs.work_documents.name_list.Goals as goal
 
 pub returns : goal.returns

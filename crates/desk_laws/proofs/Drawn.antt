@@ -1,0 +1,14 @@
+-- What a new order draws from random bytes.
+use Rattle.std.proofs.Common.{◌≡◌, ℕ, suc, zero, List, [], ◌∷◌, length, refl, ap}
+use Rattle.desk_model.specs.Name.{Name}
+use Rattle.desk_model.specs.Rules.{pieces, wanted}
+
+-- as many are wanted as there are names
+pub length-wanted : (ns : List Name) (random : List ℕ) → length (wanted ns random) ≡ length ns
+length-wanted [] random = refl
+length-wanted (n ∷ ns) random = ap suc (length-wanted ns _)
+
+-- so many pieces
+pub length-pieces : (k : ℕ) (random : List ℕ) → length (pieces k random) ≡ k
+length-pieces zero random = refl
+length-pieces (suc k) random = ap suc (length-pieces k _)
