@@ -8,7 +8,6 @@ use Rattle.desk_model.specs.declared.verdict.Verdict.TheVariants.{Orders as orde
 use Rattle.desk_model.specs.Rules.{subproblems, names_in, kept, wanted, target_verdict}
 use Rattle.desk_model.specs.Run.{count_pieces}
 use Rattle.desk_model.specs.declared.payload.Identifier.{Identifier}
-use Rattle.desk_model.specs.declared.verdict.Shows.TheVariants as show
 use Rattle.desk_model.specs.declared.call.Target.TheVariants as to
 use Rattle.desk_examples.specs.Entries.{issued, spent, ordered}
 use Rattle.desk_examples.specs.Calls.{zeros, account_desk, simple, wants}

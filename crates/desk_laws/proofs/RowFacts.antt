@@ -7,7 +7,7 @@ use Rattle.std.proofs.Math.Bool.{or-false}
 use Rattle.desk_model.specs.Entry.{History}
 use Rattle.desk_model.specs.History.{clock, first, earlier}
 use Rattle.desk_model.specs.Lookup.{holds}
-use Rattle.desk_model.specs.Authorization.{ends, in_time, authorization_end, authorization_status, authorization_status_by}
+use Rattle.desk_model.specs.Authorization.{ends, in_time, authorization_end, authorization_status, authorization_status_by, ends_by}
 use Rattle.desk_model.specs.Authorization.{when_proved, proving, reporting, when_answered, report, challenge_status}
 use Rattle.desk_model.specs.Authorization.{challenge_status_by, is_good, has_challenge, status_of, kind_of, is_live}
 use Rattle.desk_model.specs.Legal.{may_follow, is_processing_challenge, EachFollows}
@@ -78,12 +78,7 @@ has_row-row n F t a = list_any-map (λ c. n == c.number) (challenge_row F) a.cha
 
 -- an entry ends an authorization where it ends its row
 row_ends-row : (F : History) (t : ℕ) (a : Authorization) (e : Entry) (m : ℕ) → row_ends (authorization_row F t a) e m ≡ ends a e m
-row_ends-row F t a (reported n o) m =
-    ap (λ b. cond {A = Option AuthorizationEnd} (is_good o) None
-    (cond {A = Option AuthorizationEnd} b (Some (record { date = m; kind = kind.Invalid })) None)) (has_row-row n F t a)
-row_ends-row F t a (authorization_ended n x) m = refl
-row_ends-row F t a (account_ended n x) m = refl
-row_ends-row F t a _ m = refl
+row_ends-row F t a e m = λ i. ends_by a.number a.account (λ n. has_row-row n F t a i) e m
 
 -- an end has its entry's date
 end_if : (b : Bool) (m : ℕ) (s : EndKind) (x : AuthorizationEnd) →

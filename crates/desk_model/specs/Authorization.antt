@@ -108,13 +108,17 @@ status_of kind.Invalid = authz.Invalid
 status_of kind.Deactivated = authz.Deactivated
 status_of kind.Revoked = authz.Revoked
 
+-- how the entry ends an authorization of this number and account, if it does; the test says which challenges it has
+abbrev pub ends_by : ℕ → ℕ → (ℕ → Bool) → Entry → ℕ → Option AuthorizationEnd
+ends_by number account has (reported n outcome) date =
+    if is_good outcome then None else (if has n then Some (record { date = date; kind = kind.Invalid }) else None)
+ends_by number account has (authorization_ended n ending) date = if n == number then Some (record { date = date; kind = kind_of ending }) else None
+ends_by number account has (account_ended n ending) date = if n == account then Some (record { date = date; kind = kind_of ending }) else None
+ends_by number account has _ date = None
+
 -- how the entry ends the authorization, if it does
 abbrev pub ends : Authorization → Entry → ℕ → Option AuthorizationEnd
-ends a (reported challenge outcome) date =
-    if is_good outcome then None else (if has_challenge challenge a then Some (record { date = date; kind = kind.Invalid }) else None)
-ends a (authorization_ended number ending) date = if number == a.number then Some (record { date = date; kind = kind_of ending }) else None
-ends a (account_ended account ending) date = if account == a.account then Some (record { date = date; kind = kind_of ending }) else None
-ends a _ date = None
+ends a = ends_by a.number a.account (λ n. has_challenge n a)
 
 abbrev pub in_time : ℕ → Option AuthorizationEnd → Option AuthorizationEnd
 in_time expires None = None

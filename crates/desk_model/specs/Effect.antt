@@ -1,6 +1,6 @@
 -- What an entry, and what the passing of time, does to the rows.
 use Rattle.std.specs.Prelude.{ℕ, ◌+◌, List, [], ◌∷◌, ◌++◌, length, map, Bool, true, false, not, cond, ◌&&◌, ◌||◌, ◌==◌, nat_lt}
-use Rattle.std.specs.Prelude.{nat_le, Option, Some, None, unwrap_or, if◌then◌else◌}
+use Rattle.std.specs.Prelude.{nat_le, Option, Some, None, unwrap_or}
 use Rattle.std.specs.List.{filter, list_any}
 use Rattle.desk_model.specs.Terms.{Terms}
 use Rattle.desk_model.specs.Lookup.{holds}
@@ -9,12 +9,11 @@ use Rattle.desk_model.specs.Entry.{finalized, certified, failed, Outcome}
 use Rattle.desk_model.specs.History.{terms_after, earlier}
 use Rattle.desk_model.specs.Nonce.{Nonce, issued_by}
 use Rattle.desk_model.specs.Account.{Account, opened_by, AccountEnd, changing, ends as account_ends, status_of as account_status_of}
-use Rattle.desk_model.specs.Authorization.{Authorization, Challenge, AuthorizationEnd, Report, made_by, count_challenges, in_time}
-use Rattle.desk_model.specs.Authorization.{is_good, is_live, kind_of, challenge_status_by}
+use Rattle.desk_model.specs.Authorization.{Authorization, Challenge, AuthorizationEnd, Report, made_by, count_challenges, ends_by, in_time}
+use Rattle.desk_model.specs.Authorization.{is_live, challenge_status_by}
 use Rattle.desk_model.specs.Order.{Order, ordered_by, finalizing, certifying, failing}
 use Rattle.desk_model.specs.Tables.{AccountRow, ChallengeRow, AuthorizationRow, OrderRow, Tables, listed_from}
 use Rattle.desk_model.specs.Derived.{authorization_numbered, numbers_of, restated_authorization, restated_order}
-use Rattle.desk_model.specs.declared.objects.EndKind.TheVariants as kind
 use Rattle.desk_model.specs.declared.status.AccountStatus.TheVariants as account
 use Rattle.desk_model.specs.declared.status.OrderStatus.{OrderStatus}
 use Rattle.desk_model.specs.declared.status.OrderStatus.TheVariants as order
@@ -48,11 +47,7 @@ has_row number row = list_any (λ c. number == c.number) row.challenges
 
 -- how the entry ends the authorization, if it does
 abbrev pub row_ends : AuthorizationRow → Entry → ℕ → Option AuthorizationEnd
-row_ends row (reported challenge outcome) date =
-    if is_good outcome then None else (if has_row challenge row then Some (record { date = date; kind = kind.Invalid }) else None)
-row_ends row (authorization_ended number ending) date = if number == row.number then Some (record { date = date; kind = kind_of ending }) else None
-row_ends row (account_ended account ending) date = if account == row.account then Some (record { date = date; kind = kind_of ending }) else None
-row_ends row _ date = None
+row_ends row = ends_by row.number row.account (λ n. has_row n row)
 
 abbrev pub noted_authorization : Entry → ℕ → AuthorizationRow → AuthorizationRow
 noted_authorization e m row =
