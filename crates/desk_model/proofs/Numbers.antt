@@ -1,22 +1,14 @@
 -- The number at the front of a text ends at its first quotation mark.
-use Rattle.std.proofs.Common.{◌≡◌, ◌≢◌, ℕ, ◌<◌, Bool, true, false, suc, List, [], ◌∷◌, ◌++◌, length, get_or, refl, sym, ◌∙◌, ap, subst, arith}
-use Rattle.std.specs.Prelude.{IsTrue, ◌&&◌}
+use Rattle.std.proofs.Common.{◌≡◌, ◌≢◌, ℕ, ◌<◌, true, suc, List, [], ◌∷◌, ◌++◌, length, get_or, refl, sym, ◌∙◌, ap, subst, arith}
+use Rattle.std.specs.Prelude.{IsTrue}
 use Rattle.std.specs.List.{list_all}
+use Rattle.std.proofs.lemmas.Bool.{and_parts}
 use Rattle.desk_model.specs.Keys.{is_number_text, is_base64url_byte}
 use Rattle.desk_model.specs.KeyTexts.{IsNumberThen}
 
--- a true conjunction has true parts
-pub and-first : (a b : Bool) → (a && b) ≡ true → a ≡ true
-and-first true b e = refl
-and-first false b e = e
-
-pub and-second : (a b : Bool) → (a && b) ≡ true → b ≡ true
-and-second true b e = e
-and-second false b e = absurd (cc e)
-
 -- a number has characters of base64url alone
 pub number_bytes : (n : List ℕ) → IsTrue (is_number_text n) → list_all is_base64url_byte n ≡ true
-number_bytes n e = and-second _ (list_all is_base64url_byte n) e
+number_bytes n e = (and_parts _ (list_all is_base64url_byte n) e).1
 
 -- a quotation mark is no such character
 no_quote : (c : ℕ) → is_base64url_byte c ≡ true → c ≡ 34 → ⊥
@@ -27,15 +19,15 @@ same_front : (a b r s : List ℕ) → list_all is_base64url_byte a ≡ true → 
 same_front [] [] r s p q e = (refl, cc e)
 same_front [] (y ∷ ys) r s p q e =
     let h : y ≡ 34 = cc e in
-    absurd (no_quote y (and-first (is_base64url_byte y) (list_all is_base64url_byte ys) q) h)
+    absurd (no_quote y (and_parts (is_base64url_byte y) (list_all is_base64url_byte ys) q).0 h)
 same_front (x ∷ xs) [] r s p q e =
     let h : x ≡ 34 = cc e in
-    absurd (no_quote x (and-first (is_base64url_byte x) (list_all is_base64url_byte xs) p) h)
+    absurd (no_quote x (and_parts (is_base64url_byte x) (list_all is_base64url_byte xs) p).0 h)
 same_front (x ∷ xs) (y ∷ ys) r s p q e =
     let h : x ≡ y = cc e in
     let t : xs ++ 34 ∷ r ≡ ys ++ 34 ∷ s = cc e in
-    let rest = same_front xs ys r s (and-second (is_base64url_byte x) (list_all is_base64url_byte xs) p)
-    (and-second (is_base64url_byte y) (list_all is_base64url_byte ys) q) t in
+    let rest = same_front xs ys r s (and_parts (is_base64url_byte x) (list_all is_base64url_byte xs) p).1
+    (and_parts (is_base64url_byte y) (list_all is_base64url_byte ys) q).1 t in
     let u = rest.0 in
     (cc (h, u), rest.1)
 
@@ -52,12 +44,12 @@ front_without : (a b r s : List ℕ) → unmarked a → list_all is_base64url_by
 front_without [] [] r s p q e = refl
 front_without [] (y ∷ ys) r s p q e =
     let h : y ≡ 34 = cc e in
-    absurd (no_quote y (and-first (is_base64url_byte y) (list_all is_base64url_byte ys) q) h)
+    absurd (no_quote y (and_parts (is_base64url_byte y) (list_all is_base64url_byte ys) q).0 h)
 front_without (x ∷ xs) [] r s p q e = absurd (p 0 (omega arith) (cc e))
 front_without (x ∷ xs) (y ∷ ys) r s p q e =
     let h : x ≡ y = cc e in
     let t : xs ++ 34 ∷ r ≡ ys ++ 34 ∷ s = cc e in
-    let u = front_without xs ys r s (λ i l. p (suc i) (omega arith)) (and-second (is_base64url_byte y) (list_all is_base64url_byte ys) q) t in
+    let u = front_without xs ys r s (λ i l. p (suc i) (omega arith)) (and_parts (is_base64url_byte y) (list_all is_base64url_byte ys) q).1 t in
     cc (h, u)
 
 -- a text without a quotation mark has no number in front

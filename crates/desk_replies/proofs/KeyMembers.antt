@@ -2,12 +2,12 @@
 use Rattle.std.proofs.Common.{◌≡◌, ℕ, List, [], ◌∷◌, ◌++◌, Bool, true, false, cond, refl, sym, ap, subst, ◌∙◌, inl, inr}
 use Rattle.std.specs.Prelude.{◌==◌, codes}
 use Rattle.std.specs.List.{list_all, slice_split, onto_first}
-use Rattle.std.proofs.lemmas.Bool.{eqb-true}
+use Rattle.std.proofs.lemmas.Bool.{and_parts, eqb-true}
 use Rattle.serde_json.specs.Data.{no_members}
 use Rattle.desk_model.specs.Json.{members}
 use Rattle.desk_model.specs.Keys.{Key, ec, rsa, okp, IsCurve, IsKey, IsKeyText, canonical_text, is_base64url_byte}
 use Rattle.desk_model.specs.Document.{key_members}
-use Rattle.desk_model.proofs.Numbers.{and-first, and-second, number_bytes}
+use Rattle.desk_model.proofs.Numbers.{number_bytes}
 use Rattle.desk_replies.specs.Shown.{with_members}
 
 -- the parts of a text between its quotation marks
@@ -31,8 +31,8 @@ parts-of : (first rest : List ℕ) → list_all is_base64url_byte first ≡ true
 parts-of [] rest each = refl
 parts-of (c ∷ cs) rest each =
     ap (λ b. cond b ([] ∷ parts (cs ++ 34 ∷ rest)) (onto_first c (parts (cs ++ 34 ∷ rest))))
-    (unmarked c (and-first (is_base64url_byte c) (list_all is_base64url_byte cs) each))
-    ∙ ap (onto_first c) (parts-of cs rest (and-second (is_base64url_byte c) (list_all is_base64url_byte cs) each))
+    (unmarked c (and_parts (is_base64url_byte c) (list_all is_base64url_byte cs) each).0)
+    ∙ ap (onto_first c) (parts-of cs rest (and_parts (is_base64url_byte c) (list_all is_base64url_byte cs) each).1)
 
 curve_bytes : (crv : List ℕ) → IsCurve crv → list_all is_base64url_byte crv ≡ true
 curve_bytes crv (inl e) = ap (list_all is_base64url_byte) e
