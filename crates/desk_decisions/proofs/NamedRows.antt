@@ -153,7 +153,8 @@ key_there T r key p t None is = tt
 pub signed_there : (T : Tables) (r : List ℕ) (s : Signed) → NamesRows T (signed_verdict T r s)
 signed_there T r s = by s.key
   where
-    by : (k : Result (List ℕ) BadKey) → NamesRows T (elim k [ Err e ↦ refused refusal.BadPublicKey [] | Ok key ↦ key_verdict T r key s.payload s.target (account_with_key T key) ])
+    by : (k : Result (List ℕ) BadKey) →
+        NamesRows T (elim k [ Err e ↦ refused refusal.BadPublicKey [] | Ok key ↦ key_verdict T r key s.payload s.target (account_with_key T key) ])
     by (Err e) = tt
     by (Ok key) = key_there T r key s.payload s.target (account_with_key T key) refl
 

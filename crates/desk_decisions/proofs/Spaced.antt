@@ -131,7 +131,8 @@ key_spaced T r key p t None = tt
 pub signed_spaced : (T : Tables) (r : List ℕ) (s : Signed) → IsSpaced (signed_verdict T r s)
 signed_spaced T r s = by s.key
   where
-    by : (k : Result (List ℕ) BadKey) → IsSpaced (elim k [ Err e ↦ refused refusal.BadPublicKey [] | Ok key ↦ key_verdict T r key s.payload s.target (account_with_key T key) ])
+    by : (k : Result (List ℕ) BadKey) →
+        IsSpaced (elim k [ Err e ↦ refused refusal.BadPublicKey [] | Ok key ↦ key_verdict T r key s.payload s.target (account_with_key T key) ])
     by (Err e) = tt
     by (Ok key) = key_spaced T r key s.payload s.target (account_with_key T key)
 
