@@ -50,11 +50,6 @@ above_step number n m x (y ∷ ys) h e = by (ltb n (number y)) refl (above_step 
         λ i. cond (here i) (y ∷ above number (number x) ys) (above number (number x) ys) in
         later is ∙ ap (λ l. x ∷ l) (sym skips)
 
--- where there is no first, there is none
-pub none_first : {X : Type 0} (xs : List X) → first_of xs ≡ [] → xs ≡ []
-none_first [] e = refl
-none_first (x ∷ xs) e = absurd (cc e)
-
 -- what is found at the first of the rows above a number, and what is left above its number
 pub found_step : {X F : Type 0} (number : X → ℕ) (found_at : X → List F) (n m : ℕ) (x : X) (xs : List X) (found : List F) →
     Ascends number m xs → first_of (above number n xs) ≡ x ∷ [] → found ≡ found_at x →

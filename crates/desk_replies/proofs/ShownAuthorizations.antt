@@ -56,24 +56,6 @@ pub challenge_members-put : (r : Option Report) (s t k u : Data) →
 challenge_members-put None s t k u = refl
 challenge_members-put (Some r) s t k u = challenge_members-by r.outcome r.date s t k u
 
--- where no challenge was reported, all are shown
-pub shown-all : {A : Type 0} (f : ChallengeRow → A) (cs : List ChallengeRow) → [] ≡ map f (filter (λ c. is_some c.reported) cs)
-    → map f cs ≡ map f (shown_challenges cs)
-shown-all {A} f cs none = by (filter (λ c. is_some c.reported) cs) none
-  where
-    by : (xs : List ChallengeRow) → [] ≡ map f xs → map f cs ≡ map f (or_all xs cs)
-    by [] none = refl
-    by (x ∷ xs) none = cc none
-
--- where one was, the reported ones are
-pub shown-some : {A : Type 0} (f : ChallengeRow → A) (cs : List ChallengeRow) (v : A) (vs : List A)
-    → v ∷ vs ≡ map f (filter (λ c. is_some c.reported) cs) → v ∷ vs ≡ map f (shown_challenges cs)
-shown-some {A} f cs v vs some = by (filter (λ c. is_some c.reported) cs) some
-  where
-    by : (xs : List ChallengeRow) → v ∷ vs ≡ map f xs → v ∷ vs ≡ map f (or_all xs cs)
-    by [] some = cc some
-    by (x ∷ xs) some = some
-
 reported-capped : (cs : List ChallengeRow) → filter (λ c. is_some c.reported) (map capped_challenge cs)
     ≡ map capped_challenge (filter (λ c. is_some c.reported) cs)
 reported-capped [] = refl

@@ -1,5 +1,5 @@
 -- Calls inside a transaction, one after the other.
-use Rattle.std.proofs.Common.{◌≡◌, ◌⊎◌, inl, inr, ℕ, List, Ok, Err, OnErr, Result, refl, ◌∙◌, arith}
+use Rattle.std.proofs.Common.{◌≡◌, ◌⊎◌, inl, inr, ℕ, List, Ok, Err, OnErr, Result, ◌∙◌, arith}
 use Rattle.sqlite.specs.Order.{Row}
 use Rattle.sqlite.specs.Effect.{Database}
 use Rattle.sqlite.specs.declared.error.Error.{Error}
@@ -36,10 +36,6 @@ pub performs_advances : (text : List ℕ) (params : Row) (old new : State) (coun
 performs_advances text params old new count Does means ran clean inside =
     let it = ran clean inside in
     record { inside = it.1.mode; is_open = λ _. it.1.is_open; committed = it.1.committed_is; does = means it.0 }
-
--- nothing is done
-pub advances_none : (s : State) (Does : Database → Database → Type 0) → Does s.now s.now → Advances s s Does
-advances_none s Does nothing clean inside = record { inside = inside; is_open = λ h. h; committed = refl; does = nothing }
 
 -- what is done may be said in other words
 pub advances_as : (old new : State) (Does Says : Database → Database → Type 0) → (Does old.now new.now → Says old.now new.now) → Advances old new Does

@@ -1,14 +1,10 @@
 -- What is left of a connection after calls that change nothing.
-use Rattle.std.proofs.Common.{inl, inr, List, [], ℕ, IfOk, IfErr, Result, Ok, Err, refl, sym, ◌∙◌, arith}
+use Rattle.std.proofs.Common.{inl, inr, List, [], ℕ, IfOk, IfErr, Result, Ok, Err, sym, ◌∙◌, arith}
 use Rattle.sqlite.specs.Order.{Row}
 use Rattle.sqlite.specs.declared.error.Error.{Error}
 use Rattle.sqlite.specs.State.{State, IsNotRun, IsUnchanged}
 use Rattle.sqlite.proofs.StateLemmas.{survives_then}
 use Rattle.desk_schema.specs.Stays.{Asks, Stays}
-
--- nothing was called
-pub stays_same : (s : State) → Stays s s
-stays_same s = record { was_open = λ h. h; committed = λ _. refl; now = λ _ is. is }
 
 -- one after the other
 pub stays_then : (a b c : State) → Stays a b → Stays b c → Stays a c

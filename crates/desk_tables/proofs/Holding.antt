@@ -1,7 +1,7 @@
 -- What follows for a database that holds the tables of a desk.
-use Rattle.std.proofs.Common.{◌≡◌, ℕ, List, [], ◌∷◌, map, drop, refl, sym, ap, subst, ◌∙◌, arith}
+use Rattle.std.proofs.Common.{◌≡◌, List, [], ◌∷◌, refl, sym, subst, ◌∙◌, arith}
 use Rattle.std.specs.List.Sorted.{IsPermutation}
-use Rattle.std.proofs.lemmas.List.Sorted.{IsPermutation-map, IsPermutation-refl, IsPermutation-sym}
+use Rattle.std.proofs.lemmas.List.Sorted.{IsPermutation-refl}
 use Rattle.sqlite.specs.Effect.{Database, IsDatabase}
 use Rattle.sqlite.specs.Order.{Row}
 use Rattle.sqlite.specs.State.{State, IsUnchanged}
@@ -9,17 +9,13 @@ use Rattle.sqlite_trees.specs.Objects.{catalog_tree}
 use Rattle.sqlite_trees.specs.Tree.{Trees}
 use Rattle.sqlite_catalog.specs.Listing.{Lists}
 use Rattle.sqlite_catalog.proofs.ReadLemmas.{lists_once}
-use Rattle.desk_columns.specs.declared.flat_rows.Owned.{Owned}
 use Rattle.desk_model.specs.Tables.{Tables}
-use Rattle.desk_model.specs.declared.rows.Listed.{Listed}
 use Rattle.desk_model.specs.declared.rows.Meta.{Meta}
 use Rattle.desk_schema.specs.Defined.{Defines}
 use Rattle.desk_schema.specs.Schema.{no_schema}
 use Rattle.desk_columns.specs.Flat.{challenge_rows}
 use Rattle.desk_tables.specs.Effects.{Puts}
-use Rattle.desk_tables.specs.Hidden.{hidden, row_of}
-use Rattle.desk_tables.specs.Holds.{Holds, HoldsListed}
-use Rattle.desk_tables.specs.Images.{challenge_image, listed_cells}
+use Rattle.desk_tables.specs.Holds.{Holds}
 use Rattle.desk_tables.specs.Layouts.{HasRows, account_layout, authorization_layout, challenge_layout, listed_layout, meta_layout, nonce_layout, order_layout}
 use Rattle.desk_tables.proofs.NoIndexes.{no_index_account, no_index_authorization, no_index_challenge, no_index_listed, no_index_nonce, no_index_order}
 
@@ -53,28 +49,6 @@ module _ (db : Database) (T : Tables) (has : Holds db T) where
   -- the challenges
   pub challenges_held : HasRows challenge_layout db (challenge_rows T.authorizations)
   challenges_held = record { schema = has.schema; rows_are = has.challenges; rising = has.rising.challenges }
-
--- ---- in any order
-
--- rows without their hidden numbers
-cells_of : (ts : List (ℕ × Owned Listed)) → map (drop 1) (map (hidden listed_cells) ts) ≡ map listed_cells (map row_of ts)
-cells_of [] = refl
-cells_of (t ∷ ts) = ap (λ rows. listed_cells t.1 ∷ rows) (cells_of ts)
-
--- the rows of `ord_authz`, without their numbers, are what orders list
-pub listed_in_some_order : (tree : List Row) (listed : List (Owned Listed)) → HoldsListed tree listed
-    → IsPermutation (map listed_cells listed) (map (drop 1) tree)
-listed_in_some_order tree listed has =
-    subst (λ rows. IsPermutation (map listed_cells listed) rows) (sym (ap (map (drop 1)) has.has ∙ cells_of has.numbered))
-    (IsPermutation-sym (map listed_cells (map row_of has.numbered)) (map listed_cells listed)
-    (IsPermutation-map listed_cells (map row_of has.numbered) listed has.same))
-
--- the rows of `chall` are the challenges of all authorizations
-pub challenges_in_some_order : (db : Database) (T : Tables) → Holds db T
-    → IsPermutation (map challenge_image (challenge_rows T.authorizations)) (db.trees 8)
-challenges_in_some_order db T has =
-    subst (λ rows. IsPermutation (map challenge_image (challenge_rows T.authorizations)) rows) (sym has.challenges)
-    (IsPermutation-refl (map challenge_image (challenge_rows T.authorizations)))
 
 -- ---- the same database
 

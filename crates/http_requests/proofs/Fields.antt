@@ -1,5 +1,5 @@
 -- The values of a name, with one field more; tokens.
-use Rattle.std.proofs.Common.{◌≡◌, ◌<◌, ◌≤◌, ◌+◌, length, take, get_or, add-one, arith, ℕ, Bool, true, false, List, [], ◌∷◌, ◌++◌, map, refl, ap, ◌∙◌, sym}
+use Rattle.std.proofs.Common.{◌≡◌, ◌<◌, ◌+◌, length, take, get_or, add-one, arith, ℕ, Bool, true, false, List, [], ◌∷◌, ◌++◌, map, refl, ap, ◌∙◌, sym}
 use Rattle.std.specs.List.{filter}
 use Rattle.std.specs.Prelude.{if◌then◌else◌}
 use Rattle.std.proofs.lemmas.List.{map-append}
@@ -9,7 +9,7 @@ use Rattle.std.proofs.lemmas.Str.{IsUtf8-from_ascii}
 use Rattle.std.proofs.lemmas.Str.Ascii.{IsAscii-from_all}
 use Rattle.std.proofs.Math.Seq.{take-suc}
 use Rattle.std.specs.Prelude.{All, IsUtf8}
-use Rattle.httparse.specs.Spans.{header_bytes, span_bytes, IsHeaderWithin}
+use Rattle.httparse.specs.Spans.{header_bytes, span_bytes}
 use Rattle.httparse.specs.declared.spans.HeaderSpan.{HeaderSpan}
 use Rattle.httparse.specs.Grammar.{IsToken, is_token_byte}
 use Rattle.http_requests.specs.Framing.{values_of, same_name}
@@ -44,8 +44,3 @@ pub headers_more : (buffer : List ℕ) (headers : List HeaderSpan) (i : ℕ) (d 
 headers_more buffer headers i d name value h n v =
     (λ k. map (header_bytes buffer) (take i headers) ++ (n k, v k) ∷ [])
     ∙ sym (rw (add-one, take-suc headers i d h) (map-append (header_bytes buffer) (take i headers) (get_or headers i d ∷ [])))
-
--- spans within fewer bytes are within more
-pub within_more : (n m : ℕ) (headers : List HeaderSpan) → n ≤ m → All (IsHeaderWithin n) headers → All (IsHeaderWithin m) headers
-within_more n m headers le h = λ k d l.
-    let w = h k d l in ((w.0.0, omega (arith, w.0.1)), (w.1.0, omega (arith, w.1.1)))

@@ -21,10 +21,6 @@ year_in_era c p u n hc hp hu hn = omega arith
 leap_in_era : (c p : ℕ) → c < 4 → p < 24 → year_of_era (36524 * c + 1461 * p + 1460) ≡ 100 * c + 4 * p + 3
 leap_in_era c p hc hp = omega arith
 
--- the last day of an era
-last_in_era : year_of_era 146096 ≡ 399
-last_in_era = refl
-
 -- the day of an era is this day of this year
 pub record IsDayOf (year n day : ℕ) : Type 0 where
   pub year_is : year_of_era day ≡ year

@@ -16,9 +16,9 @@ use Rattle.desk_columns.proofs.RowsApart.{rows-apart}
 use Rattle.desk_columns.specs.Columns.{rows_columns}
 use Rattle.desk_columns.specs.Limits.{AreStored, IsStoredAuthorization, IsStoredOrder}
 use Rattle.desk_columns.specs.declared.columns.StoredRows.{StoredRows}
-use Rattle.desk_laws.specs.Ordered.{Ascends, Below, IsOrdered}
+use Rattle.desk_laws.specs.Ordered.{Ascends, Below}
 use Rattle.desk_columns.specs.Flat.{AreReordered, flat}
-use Rattle.stored_rows.specs.IsBook.{AreDistinct, AreFlat, AreInOrder, HaveReferences, IsBook, IsSound, KeepCounters, ListsFound}
+use Rattle.stored_rows.specs.IsBook.{AreDistinct, AreFlat, AreInOrder, HaveReferences, IsSound, KeepCounters, ListsFound}
 use Rattle.stored_rows.specs.Nesting.{IsNestOf}
 use Rattle.stored_rows.specs.Tests.{are_given, has_row_of, have_references, keep_counters}
 use Rattle.desk_columns.specs.declared.flat_rows.FlatRows.{FlatRows}
@@ -154,16 +154,6 @@ same-tables rows T U o r p s =
           same_nest (λ (a : OrderRow). a.number) (λ o. o.listed) (λ (o : OrderRow) ls. record o { listed = ls }) (λ (l : Listed). l.place)
           (record { number_kept = λ p ts. refl; children_are = λ p ts. refl; last_are = λ p ts us. refl; same = λ p. refl })
           rows.orders rows.listed T.orders U.orders (orders-nest rows T o r) (orders-nest rows U p s) i;
-    }
-
--- a book's tables stand by number, no number above its counter
-pub IsOrdered-from_book : (T : Tables) → IsBook T → IsOrdered T
-IsOrdered-from_book T b =
-    record {
-      nonces = (b.in_order.nonces, b.sound.counters.nonces);
-      accounts = (b.in_order.accounts, b.sound.counters.accounts);
-      authorizations = (b.in_order.authorizations, b.sound.counters.authorizations);
-      orders = (b.in_order.orders, b.sound.counters.orders);
     }
 
 -- tables that are made of rows, each table by itself, are in order and have these rows
