@@ -20,8 +20,8 @@ bin/desk: $(SOURCES)
 
 try:
 	@$(HAS_RT)
-	@echo 'Answering examples/first.jsonl by the program as it is, WITHOUT PROOF:'
-	@cd crates/desk && rt try -- batch < ../../examples/first.jsonl
+	@echo 'Answering examples/first.jsonl by a desk in memory over the crates as they are, WITHOUT PROOF.'
+	@python3 -B scripts/try.py
 
 first: bin/desk
 	@echo 'Answering examples/first.jsonl over a new desk in memory:'
@@ -60,6 +60,8 @@ test: edits
 	@python3 -B scripts/growths.py bin/desk --step 9
 	@echo 'Killing the program at random moments while it serves, 20 times (make kills: 200).'
 	@python3 -B scripts/kills.py bin/desk --times 20
+	@echo 'Answering the first batch without proof, as make try does.'
+	@python3 -B scripts/try.py
 
 # Each growth of memory of a request refused in turn, minutes; five minutes of hostile requests; 200 kills while it serves.
 growths hostile kills:
