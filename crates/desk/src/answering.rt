@@ -11,29 +11,21 @@ use std::io::{Read, Write};
 
 /// Answers the lines of a reader on a writer.
 #[derive(Drop)]
-pub(crate) struct AnswerLines<'a, R: Read + Drop, W: Write, E: Write> {
+pub(crate) struct AnswerLines<'r, 'o, 'e, R: Read, W: Write, E: Write> {
     pub(crate) alloc: Global,
-    pub(crate) reader: Option<R>,
-    pub(crate) out: &'a mut W,
-    pub(crate) errors: &'a mut E,
+    pub(crate) reader: &'r mut R,
+    pub(crate) out: &'o mut W,
+    pub(crate) errors: &'e mut E,
 }
 
-/// What is done with a desk over any store.
-pub(crate) trait OverDesk {
-    /// Does it, and gives the exit status.
-    fn answer<K: Storage + Drop>(&mut self, desk: &mut Desk<K>) -> u8;
-}
-
-impl<'a, R: Read + Drop, W: Write, E: Write> OverDesk for AnswerLines<'a, R, W, E> {
-    fn answer<K: Storage + Drop>(&mut self, desk: &mut Desk<K>) -> u8 {
-        match self.reader.take() {
-            Some(reader) => batch(self.alloc, reader, self.out, self.errors, desk),
-            None => 0,
-        }
+impl<'r, 'o, 'e, R: Read, W: Write, E: Write> AnswerLines<'r, 'o, 'e, R, W, E> {
+    /// Answers them by a desk, and gives the exit status.
+    pub(crate) fn answer<K: Storage + Drop>(&mut self, desk: &mut Desk<K>) -> u8 {
+        batch(self.alloc, &mut *self.reader, self.out, self.errors, desk)
     }
 }
 
-impl<'a, R: Read + Drop, W: Write, E: Write> Task for AnswerLines<'a, R, W, E> {
+impl<'r, 'o, 'e, R: Read, W: Write, E: Write> Task for AnswerLines<'r, 'o, 'e, R, W, E> {
     type Fault = Fault;
 
     fn run<K: Tables + Drop>(&mut self, store: K) -> Result<(K, Result<u8, Fault>), Fault> {

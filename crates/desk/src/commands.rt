@@ -1,5 +1,5 @@
 //! The commands, each over its reader and its writers.
-use crate::answering::{AnswerLines, OverDesk, ServeConnections};
+use crate::answering::{AnswerLines, ServeConnections};
 use crate::desks::adopt;
 use crate::fault::{Fault, tell};
 use crate::reporting::{CheckStatuses, ListOrders};
@@ -79,20 +79,20 @@ fn run_order<R: Read + Drop, W: Write, E: Write>(
 fn answer_lines<R: Read + Drop, W: Write, E: Write>(
     rt: &HostRuntime,
     file: Option<&str>,
-    reader: R,
+    mut reader: R,
     out: &mut W,
     errors: &mut E,
 ) -> Result<u8, Fault> {
     let alloc = rt.alloc();
-    let task = AnswerLines {
+    let mut task = AnswerLines {
         alloc,
-        reader: Some(reader),
+        reader: &mut reader,
         out,
         errors,
     };
     match file {
         Some(file) => run_over_file(rt, file, task),
-        None => answer_in_memory(alloc, task),
+        None => Ok(task.answer(&mut memory_desk(alloc)?)),
     }
 }
 
@@ -145,11 +145,4 @@ fn make_file<W: Write>(
 fn memory_desk(alloc: Global) -> Result<Desk<Memory>, Fault> {
     let policy = policy(alloc, TERMS)?;
     adopt(alloc, Memory::make(alloc, policy, Clock::at(0)))
-}
-
-// Does something with a new desk in memory, and gives the exit status.
-fn answer_in_memory<T: OverDesk + Drop>(alloc: Global, task: T) -> Result<u8, Fault> {
-    let mut task = task;
-    let mut desk = memory_desk(alloc)?;
-    Ok(task.answer(&mut desk))
 }
