@@ -10,7 +10,6 @@ use Rattle.sqlite_sql.specs.declared.ops.BinaryOp.TheVariants.{Compare}
 use Rattle.sqlite_sql.specs.declared.ops.CompareOp.TheVariants.{Gt}
 use Rattle.sqlite_sql.specs.Term.{Term, col, op2}
 use Rattle.sqlite_tied.specs.Compute.{everything}
-use Rattle.sqlite.specs.Listing.{understood}
 use Rattle.sqlite.specs.State.{State, Shown}
 use Rattle.desk_columns.specs.Columns.{account_columns, authorization_columns, challenge_columns, order_columns}
 use Rattle.desk_columns.specs.Flat.{challenge_rows, owned_by, without_challenges, without_listed}
@@ -46,48 +45,40 @@ is_higher = op2 (Compare Gt Binary) (col 1 0) (col 0 0) ∷ []
 
 -- an account
 pub account_above_reading : IsReadingUpTo first_row select_account_above 2 is_higher account_project (by 0 ∷ [])
-unfolding understood everything
+unfolding everything
 account_above_reading = record {
   names = codes "num" ∷ codes "jwk" ∷ codes "contacts" ∷ codes "opened" ∷ codes "ended" ∷ codes "end_kind" ∷ codes "status" ∷ [];
-  command = refl;
-  plain = (refl, refl);
-  unlisted = refl;
+  means = refl;
   selecting = refl;
 }
 
 -- an order
 pub order_above_reading : IsReadingUpTo first_row select_order_above 4 is_higher order_project (by 0 ∷ [])
-unfolding understood everything
+unfolding everything
 order_above_reading = record {
   names = codes "num" ∷ codes "account" ∷ codes "made" ∷ codes "expires" ∷ codes "finalized" ∷ codes "csr"
       ∷ codes "certified" ∷ codes "cert" ∷ codes "failed" ∷ codes "problem" ∷ codes "status" ∷ [];
-  command = refl;
-  plain = (refl, refl);
-  unlisted = refl;
+  means = refl;
   selecting = refl;
 }
 
 -- an authorization
 pub authorization_above_reading : IsReadingUpTo first_row select_authorization_above 5 is_higher authorization_project (by 0 ∷ [])
-unfolding understood everything
+unfolding everything
 authorization_above_reading = record {
   names = codes "num" ∷ codes "account" ∷ codes "name" ∷ codes "wildcard" ∷ codes "made" ∷ codes "expires"
       ∷ codes "ended" ∷ codes "end_kind" ∷ codes "status" ∷ [];
-  command = refl;
-  plain = (refl, refl);
-  unlisted = refl;
+  means = refl;
   selecting = refl;
 }
 
 -- a challenge
 pub challenge_above_reading : IsReadingUpTo first_row select_challenge_above 8 is_higher challenge_project (by 0 ∷ [])
-unfolding understood everything
+unfolding everything
 challenge_above_reading = record {
   names = codes "num" ∷ codes "authz" ∷ codes "kind" ∷ codes "token" ∷ codes "answered" ∷ codes "reported"
       ∷ codes "outcome" ∷ codes "status" ∷ [];
-  command = refl;
-  plain = (refl, refl);
-  unlisted = refl;
+  means = refl;
   selecting = refl;
 }
 

@@ -1,6 +1,6 @@
 -- What a query of one table answers: its rows that pass tests, in the order of a number.
 use Rattle.std.proofs.Common.{◌≡◌, ℕ, ◌<◌, ◌+◌, pos, negsuc, ◌++◌, if◌then◌else◌, Bool, true, false, cond, List, [], ◌∷◌, map}
-use Rattle.std.proofs.Common.{filter, flat_map, None, Ordering, Less, Equal, refl, sym, ap, subst, ◌∙◌, arith, inl, inr}
+use Rattle.std.proofs.Common.{filter, flat_map, Option, None, Some, Ordering, Less, Equal, Result, Ok, Err, refl, sym, ap, subst, ◌∙◌, arith, inl, inr}
 use Rattle.std.specs.List.{AllByRecursion, list_all}
 use Rattle.std.specs.List.Sorted.{IsPermutation, IsSorted, IsStrictlySortedBy}
 use Rattle.std.specs.Ordering.{ordering_then}
@@ -16,8 +16,13 @@ use Rattle.sqlite_sql.specs.Term.{Term, Env, lit, col, eval, holds}
 use Rattle.sqlite_sql.specs.Query.{Query, Output, inner, end, IsAnswer, as_count, limited, output, output_cmp}
 use Rattle.sqlite_sql.specs.Program.{overlay}
 use Rattle.sqlite_sql.proofs.QueryLemmas.{output_cmp_total}
+use Rattle.sqlite_schema.specs.declared.command.Command.{Command}
 use Rattle.sqlite_schema.specs.declared.command.Command.TheVariants.{Select}
-use Rattle.sqlite.specs.Listing.{understood, reads_listing}
+use Rattle.sqlite_schema.specs.declared.command.Returning.{Returning}
+use Rattle.sqlite_resolve.specs.Compile.{compiled}
+use Rattle.sqlite_resolve.specs.declared.compiled.Compiled.{Compiled}
+use Rattle.sqlite_resolve.specs.declared.error.CompileError.{CompileError}
+use Rattle.sqlite.specs.Listing.{understood, misses_table, reads_listing}
 use Rattle.sqlite.specs.State.{State, Shown}
 use Rattle.sqlite.proofs.Callers.{IsPlain, command_of, reads_as}
 use Rattle.stored_rows.proofs.SortedLists.{same_sorted}
@@ -57,12 +62,45 @@ picked_up_to limit tree tests project order = record {
 abbrev pub picked : ℕ → List Term → List Term → List (Term × Key) → Query
 picked = picked_up_to all_rows
 
+-- what a text was compiled to: its command, its RETURNING, and the formats in which it reads the time
+abbrev pub Made : Type 0
+Made = Command × Option Returning × List (List ℕ)
+
+abbrev pub made_of : Result Compiled CompileError → Option Made
+made_of (Ok c) = Some (c.command, c.returning, c.formats)
+made_of (Err e) = None
+
+-- where two such are the same, each there, so is what they hold
+some_same : (a b : Made) → Some a ≡ Some b → a ≡ b
+some_same a b same = cc same
+
+-- a text that was compiled to a command alone
+pub record IsCommand (text : List ℕ) (command : Command) : Type 0 where
+  pub is : command_of (understood desk_schema text) ≡ command
+  pub plain : IsPlain (understood desk_schema text)
+  pub unlisted : reads_listing desk_schema text ≡ false
+
+-- what it was compiled to is what is understood, as it names no table that is missing
+pub compiled_alone : (text : List ℕ) (command : Command) → made_of (compiled desk_schema text) ≡ Some (command, None, []) → IsCommand text command
+unfolding understood
+compiled_alone text command means = go (compiled desk_schema text) refl means
+  where
+    go : (r : Result Compiled CompileError) → compiled desk_schema text ≡ r → made_of r ≡ Some (command, None, []) → IsCommand text command
+    go (Ok c) is made =
+        let unlisted : reads_listing desk_schema text ≡ false = ap misses_table is in
+        let known : understood desk_schema text ≡ Ok c = rw unlisted is in
+        let same = some_same (c.command, c.returning, c.formats) (command, None, []) made in
+        record {
+          is = ap command_of known ∙ ap (λ (m : Made). m.0) same;
+          plain = subst IsPlain (sym known) (ap (λ (m : Made). m.1) same, ap (λ (m : Made). m.2) same);
+          unlisted = unlisted;
+        }
+    go (Err e) is made = absurd (let x = made in cc)
+
 -- what a text means
 pub record IsReadingUpTo (limit : Term) (text : List ℕ) (tree : ℕ) (tests project : List Term) (order : List (Term × Key)) : Type 0 where
   pub names : List (List ℕ)
-  pub command : command_of (understood desk_schema text) ≡ Select (record { lets = []; body = picked_up_to limit tree tests project order }) names
-  pub plain : IsPlain (understood desk_schema text)
-  pub unlisted : reads_listing desk_schema text ≡ false
+  pub means : made_of (compiled desk_schema text) ≡ Some (Select (record { lets = []; body = picked_up_to limit tree tests project order }) names, None, [])
   pub selecting : IsQuery text
 
 -- a text that reads all rows
@@ -125,7 +163,8 @@ module _ {X Y : Type 0} (image : X → Row) (part : X → Y) (tree : ℕ) (tests
       × (rows ≡ limited (as_count (eval limit (params ∷ []))) all)
   answers_up_to limit text is low old new xs rows schema has h =
       let q = picked_up_to limit tree tests project order in
-      let read = reads_as text params old new desk_schema schema _ is.command is.plain is.unlisted rows h in
+      let command = compiled_alone text _ is.means in
+      let read = reads_as text params old new desk_schema schema _ command.is command.plain command.unlisted rows h in
       let a : IsAnswer q (overlay old.now.trees []) params rows = read.answer Null in
       let staged : a.staged ≡ map (λ r. params ∷ r ∷ []) (filter (passes tests params) (old.now.trees tree)) =
       a.grouped ∙ rw (low old.now.trees) (left tests params (old.now.trees tree)) in

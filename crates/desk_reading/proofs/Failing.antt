@@ -24,7 +24,7 @@ use Rattle.desk_schema.specs.Failing.{IsFailure}
 use Rattle.desk_schema.specs.Schema.{desk_schema}
 use Rattle.desk_schema.specs.Stays.{Asks}
 use Rattle.desk_reading.specs.Failures.{FailsToRead, MayRead}
-use Rattle.desk_reading.proofs.Answered.{IsReading, picked}
+use Rattle.desk_reading.proofs.Answered.{IsCommand, IsReading, compiled_alone, picked}
 
 -- ---- the engine
 
@@ -55,6 +55,10 @@ failed old new e store.Unstorable is_open is why = absurd why
 
 module _ (text : List ℕ) (tree : ℕ) (project : List Term) (order : List (Term × Key)) (is : IsReading text tree [] project order)
     (sure : IsSure text tree project order) (old new : State) (has : old.now.schema ≡ desk_schema) (e : Error) where
+  -- what the text means
+  meant : IsCommand text (Select (record { lets = []; body = picked tree [] project order }) is.names)
+  meant = compiled_alone text _ is.means
+
   -- what is understood over the schema of a desk
   known : (c : Compiled) → understood old.now.schema text ≡ Ok c → understood desk_schema text ≡ Ok c
   known c h = ap (λ s. understood s text) (sym has) ∙ h
@@ -63,7 +67,7 @@ module _ (text : List ℕ) (tree : ℕ) (project : List Term) (order : List (Ter
   no_error : (fault : CompileError) → understood old.now.schema text ≡ Err fault → ⊥
   no_error fault h =
       let there : understood desk_schema text ≡ Err fault = ap (λ s. understood s text) (sym has) ∙ h in
-      let nothing = sym is.command ∙ ap command_of there in
+      let nothing = sym meant.is ∙ ap command_of there in
       absurd (cc)
 
   -- and is one statement
@@ -75,7 +79,7 @@ module _ (text : List ℕ) (tree : ℕ) (project : List Term) (order : List (Ter
   never_none (inr (c, h, inr (inl given))) =
       let names : c.names ≡ [] = sym (ap names_of (known c h)) ∙ sure.nameless in
       given.0 (ap length (sym names))
-  never_none (inr (c, h, inr (inr clock))) = clock.0 (subst IsPlain (known c h) is.plain).1
+  never_none (inr (c, h, inr (inr clock))) = clock.0 (subst IsPlain (known c h) meant.plain).1
 
   -- the query is not refused
   refused : (limit : Option ℕ) → limit ≡ None → (command : Command) (params : Row) (db : Database)
@@ -102,11 +106,11 @@ module _ (text : List ℕ) (tree : ℕ) (project : List Term) (order : List (Ter
   query_fails may (inl (inr fails)) = failed old new e fails.0 may.is_open fails.1 fails.2
   query_fails may (inr (c, it, h)) =
       let k = known c it.is in
-      let plain = subst IsPlain k is.plain in
+      let plain = subst IsPlain k meant.plain in
       let shown : FailsToShow old new text c (timed [] c.formats it.now) e None = subst (FailsToShow old new text c (timed [] c.formats it.now) e) plain.0 h in
-      let db : shown.0 ≡ old.now = subst (λ b. IsSourceOf b old.now shown.0) (ap (λ s. reads_listing s text) has ∙ is.unlisted) shown.1 in
+      let db : shown.0 ≡ old.now = subst (λ b. IsSourceOf b old.now shown.0) (ap (λ s. reads_listing s text) has ∙ meant.unlisted) shown.1 in
       let bare : timed [] c.formats it.now ≡ [] = ap (λ f. timed [] f it.now) plain.1 in
-      absurd (refused old.step_limit may.unlimited c.command (timed [] c.formats it.now) shown.0 (sym (ap command_of k) ∙ is.command) bare db shown.2)
+      absurd (refused old.step_limit may.unlimited c.command (timed [] c.formats it.now) shown.0 (sym (ap command_of k) ∙ meant.is) bare db shown.2)
 
   -- and so does a reading, where the rows that it shows fit
   pub reading_fails : (Fits : Row → Type 0) → MayRead old → ((rows : List Row) → Shown text [] old new rows → All Fits rows)

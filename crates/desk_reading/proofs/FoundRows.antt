@@ -4,7 +4,6 @@ use Rattle.std.proofs.lemmas.Simd.{map-map}
 use Rattle.sqlite_value.specs.Order.{Row}
 use Rattle.sqlite_sql.specs.Term.{Term}
 use Rattle.sqlite.specs.State.{State, Shown}
-use Rattle.desk_columns.proofs.RowsApart.{table-apart}
 use Rattle.desk_columns.specs.Laws.{AreToldApart}
 use Rattle.desk_columns.proofs.RowsApart.{table-apart}
 use Rattle.desk_laws.proofs.Basics.{each-map, each_of_map}

@@ -5,7 +5,6 @@ use Rattle.sqlite_sql.specs.declared.ops.BinaryOp.TheVariants.{Compare}
 use Rattle.sqlite_sql.specs.declared.ops.CompareOp.TheVariants.{Eq, Lt}
 use Rattle.sqlite_sql.specs.Term.{Term, col, op2}
 use Rattle.sqlite_tied.specs.Compute.{everything}
-use Rattle.sqlite.specs.Listing.{understood}
 use Rattle.desk_reading.specs.Texts.{select_accounts_numbered, select_accounts_with_key, select_authorizations_numbered}
 use Rattle.desk_reading.specs.Texts.{select_authorizations_of, select_authorizations_past, select_challenges_numbered}
 use Rattle.desk_reading.specs.Texts.{select_challenges_of, select_listed_by, select_listing, select_nonces_before}
@@ -31,162 +30,134 @@ past status end = op2 (Compare Eq Binary) (col 1 status) (col 0 0) ∷ op2 (Comp
 
 -- nonces of a serial
 pub nonces_numbered_reading : IsReading select_nonces_numbered 1 (is_equal 0) nonce_project (by 0 ∷ [])
-unfolding understood everything
+unfolding everything
 nonces_numbered_reading = record {
   names = codes "serial" ∷ codes "random" ∷ codes "issued" ∷ [];
-  command = refl;
-  plain = (refl, refl);
-  unlisted = refl;
+  means = refl;
   selecting = refl;
 }
 
 -- nonces issued before a moment
 pub nonces_before_reading : IsReading select_nonces_before 1 (is_lower 3) nonce_project (by 0 ∷ [])
-unfolding understood everything
+unfolding everything
 nonces_before_reading = record {
   names = codes "serial" ∷ codes "random" ∷ codes "issued" ∷ [];
-  command = refl;
-  plain = (refl, refl);
-  unlisted = refl;
+  means = refl;
   selecting = refl;
 }
 
 -- accounts of a number
 pub accounts_numbered_reading : IsReading select_accounts_numbered 2 (is_equal 0) account_project (by 0 ∷ [])
-unfolding understood everything
+unfolding everything
 accounts_numbered_reading = record {
   names = codes "num" ∷ codes "jwk" ∷ codes "contacts" ∷ codes "opened" ∷ codes "ended" ∷ codes "end_kind" ∷ codes "status" ∷ [];
-  command = refl;
-  plain = (refl, refl);
-  unlisted = refl;
+  means = refl;
   selecting = refl;
 }
 
 -- accounts of a key text
 pub accounts_with_key_reading : IsReading select_accounts_with_key 2 (is_equal 2) account_project (by 0 ∷ [])
-unfolding understood everything
+unfolding everything
 accounts_with_key_reading = record {
   names = codes "num" ∷ codes "jwk" ∷ codes "contacts" ∷ codes "opened" ∷ codes "ended" ∷ codes "end_kind" ∷ codes "status" ∷ [];
-  command = refl;
-  plain = (refl, refl);
-  unlisted = refl;
+  means = refl;
   selecting = refl;
 }
 
 -- orders of a number
 pub orders_numbered_reading : IsReading select_orders_numbered 4 (is_equal 0) order_project (by 0 ∷ [])
-unfolding understood everything
+unfolding everything
 orders_numbered_reading = record {
   names = codes "num" ∷ codes "account" ∷ codes "made" ∷ codes "expires" ∷ codes "finalized" ∷ codes "csr"
       ∷ codes "certified" ∷ codes "cert" ∷ codes "failed" ∷ codes "problem" ∷ codes "status" ∷ [];
-  command = refl;
-  plain = (refl, refl);
-  unlisted = refl;
+  means = refl;
   selecting = refl;
 }
 
 -- orders of an account
 pub orders_of_reading : IsReading select_orders_of 4 (is_equal 2) order_project (by 0 ∷ [])
-unfolding understood everything
+unfolding everything
 orders_of_reading = record {
   names = codes "num" ∷ codes "account" ∷ codes "made" ∷ codes "expires" ∷ codes "finalized" ∷ codes "csr"
       ∷ codes "certified" ∷ codes "cert" ∷ codes "failed" ∷ codes "problem" ∷ codes "status" ∷ [];
-  command = refl;
-  plain = (refl, refl);
-  unlisted = refl;
+  means = refl;
   selecting = refl;
 }
 
 -- orders of a status that expire before a moment
 pub orders_past_reading : IsReading select_orders_past 4 (past 11 4) order_project (by 0 ∷ [])
-unfolding understood everything
+unfolding everything
 orders_past_reading = record {
   names = codes "num" ∷ codes "account" ∷ codes "made" ∷ codes "expires" ∷ codes "finalized" ∷ codes "csr"
       ∷ codes "certified" ∷ codes "cert" ∷ codes "failed" ∷ codes "problem" ∷ codes "status" ∷ [];
-  command = refl;
-  plain = (refl, refl);
-  unlisted = refl;
+  means = refl;
   selecting = refl;
 }
 
 -- authorizations of a number
 pub authorizations_numbered_reading : IsReading select_authorizations_numbered 5 (is_equal 0) authorization_project (by 0 ∷ [])
-unfolding understood everything
+unfolding everything
 authorizations_numbered_reading = record {
   names = codes "num" ∷ codes "account" ∷ codes "name" ∷ codes "wildcard" ∷ codes "made" ∷ codes "expires"
       ∷ codes "ended" ∷ codes "end_kind" ∷ codes "status" ∷ [];
-  command = refl;
-  plain = (refl, refl);
-  unlisted = refl;
+  means = refl;
   selecting = refl;
 }
 
 -- authorizations of an account
 pub authorizations_of_reading : IsReading select_authorizations_of 5 (is_equal 2) authorization_project (by 0 ∷ [])
-unfolding understood everything
+unfolding everything
 authorizations_of_reading = record {
   names = codes "num" ∷ codes "account" ∷ codes "name" ∷ codes "wildcard" ∷ codes "made" ∷ codes "expires"
       ∷ codes "ended" ∷ codes "end_kind" ∷ codes "status" ∷ [];
-  command = refl;
-  plain = (refl, refl);
-  unlisted = refl;
+  means = refl;
   selecting = refl;
 }
 
 -- authorizations of a status that expire before a moment
 pub authorizations_past_reading : IsReading select_authorizations_past 5 (past 9 6) authorization_project (by 0 ∷ [])
-unfolding understood everything
+unfolding everything
 authorizations_past_reading = record {
   names = codes "num" ∷ codes "account" ∷ codes "name" ∷ codes "wildcard" ∷ codes "made" ∷ codes "expires"
       ∷ codes "ended" ∷ codes "end_kind" ∷ codes "status" ∷ [];
-  command = refl;
-  plain = (refl, refl);
-  unlisted = refl;
+  means = refl;
   selecting = refl;
 }
 
 -- what an order lists
 pub listed_by_reading : IsReading select_listed_by 6 (is_equal 1) listed_project (by 1 ∷ by 2 ∷ [])
-unfolding understood everything
+unfolding everything
 listed_by_reading = record {
   names = codes "ord" ∷ codes "place" ∷ codes "authz" ∷ [];
-  command = refl;
-  plain = (refl, refl);
-  unlisted = refl;
+  means = refl;
   selecting = refl;
 }
 
 -- what lists an authorization
 pub listing_reading : IsReading select_listing 6 (is_equal 3) listed_project (by 1 ∷ by 2 ∷ [])
-unfolding understood everything
+unfolding everything
 listing_reading = record {
   names = codes "ord" ∷ codes "place" ∷ codes "authz" ∷ [];
-  command = refl;
-  plain = (refl, refl);
-  unlisted = refl;
+  means = refl;
   selecting = refl;
 }
 
 -- challenges of a number
 pub challenges_numbered_reading : IsReading select_challenges_numbered 8 (is_equal 0) challenge_project (by 0 ∷ [])
-unfolding understood everything
+unfolding everything
 challenges_numbered_reading = record {
   names = codes "num" ∷ codes "authz" ∷ codes "kind" ∷ codes "token" ∷ codes "answered" ∷ codes "reported"
       ∷ codes "outcome" ∷ codes "status" ∷ [];
-  command = refl;
-  plain = (refl, refl);
-  unlisted = refl;
+  means = refl;
   selecting = refl;
 }
 
 -- challenges of an authorization
 pub challenges_of_reading : IsReading select_challenges_of 8 (is_equal 2) challenge_project (by 0 ∷ [])
-unfolding understood everything
+unfolding everything
 challenges_of_reading = record {
   names = codes "num" ∷ codes "authz" ∷ codes "kind" ∷ codes "token" ∷ codes "answered" ∷ codes "reported"
       ∷ codes "outcome" ∷ codes "status" ∷ [];
-  command = refl;
-  plain = (refl, refl);
-  unlisted = refl;
+  means = refl;
   selecting = refl;
 }

@@ -2,6 +2,7 @@ pub mod Bounded
 pub mod Failures
 pub mod Fitting
 pub mod Format
+pub mod Heads
 pub mod Held
 pub mod Selecting
 pub mod Shown

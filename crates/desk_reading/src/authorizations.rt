@@ -1,6 +1,7 @@
 //! Authorizations that are looked up, each with its challenges.
 ghost use Rattle.std.specs.Prelude.{◌≡◌, List, map, IfOk, IsTrue, OnOk};
 ghost use Rattle.sqlite.specs.State.{HasCleanDisk, IsUnchanged};
+ghost use Rattle.sqlite.specs.Values.{bound};
 ghost use Rattle.sqlite.specs.Held.{state};
 ghost use Rattle.desk_columns.specs.Flat.{challenge_rows, without_challenges};
 ghost use Rattle.desk_model.specs.Kept.{EachOf};
@@ -8,7 +9,9 @@ ghost use Rattle.desk_model.specs.declared.rows.AuthorizationRow.{AuthorizationR
 ghost use Rattle.desk_parts.specs.Above.{authorizations_above, challenges_above, first_of};
 ghost use Rattle.desk_parts.specs.LookUps.{authorizations_numbered, authorizations_of, authorizations_past, owners_of};
 ghost use Rattle.desk_schema.specs.Stays.{Asks};
+ghost use Rattle.desk_reading.specs.Heads.{ShowsAuthorizations};
 ghost use Rattle.desk_reading.specs.Held.{ForHeld};
+ghost use Rattle.desk_reading.specs.Selecting.{IsQuery};
 ghost use Rattle.desk_reading.specs.StoredBook.{IsStoredBook};
 ghost use Rattle.desk_reading.specs.Under.{HasItsChallenges, rows_under};
 
@@ -19,6 +22,7 @@ use crate::rows::{find_rows, rows_of};
 use crate::tables::authorization_table;
 use desk_columns::{AuthzColumns, ChallColumns};
 use desk_model::{AuthorizationRow, AuthzStatus, ChallengeRow, Sequence};
+use sqlite::types::ValueRef;
 use sqlite::{Alter, Connection};
 use std::alloc::Global;
 
@@ -57,14 +61,30 @@ fn nest_challenges<S: Alter>(
     ensures asks { Asks (state S.Store conn.old) (state S.Store conn.new) }
 {
     let mut rows = Vec::new(alloc);
-    for head in heads {
+    for mut head in heads {
         let challenges = challenges_under(alloc, conn, head.number)?;
-        rows.push(AuthorizationRow {
-            challenges: Sequence::new(challenges),
-            ..head
-        })?;
+        head.challenges = Sequence::new(challenges);
+        rows.push(head)?;
     }
     Ok(rows)
+}
+
+// The authorizations that a query shows, each with its challenges. It fails as `find_rows` does.
+fn find_authorizations<S: Alter>(
+    alloc: Global,
+    conn: &mut Connection<S>,
+    text: &str,
+    params: &[ValueRef<'_>],
+) -> Result<Vec<AuthorizationRow>, ReadFault>
+    requires { IsQuery text.now }
+    ensures found { ForHeld (state S.Store conn.old) (state S.Store conn.new) (λ T. IsStoredBook T → (rows : List Row)
+        → EachOf (HasItsChallenges T.authorizations) rows → ShowsAuthorizations S.Store text.now (bound params.now) conn.old rows
+        → IfOk result (λ found. found.items ≡ rows)) }
+    ensures unchanged { HasCleanDisk (state S.Store conn.new) → OnOk result (IsUnchanged (state S.Store conn.old) (state S.Store conn.new)) }
+    ensures asks { Asks (state S.Store conn.old) (state S.Store conn.new) }
+{
+    let heads = find_rows::<S, AuthzColumns>(alloc, conn, text, params)?;
+    nest_challenges(alloc, conn, heads)
 }
 
 /// All authorizations, by number.
@@ -101,13 +121,12 @@ pub fn authorizations_numbered<S: Alter>(
     ensures asks { Asks (state S.Store conn.old) (state S.Store conn.new) }
 {
     let params = number_param(number);
-    let heads = find_rows::<S, AuthzColumns>(
+    find_authorizations(
         alloc,
         conn,
         "SELECT num, account, name, wildcard, made, expires, ended, end_kind, status FROM authz WHERE num = ?1 ORDER BY num",
         &params,
-    )?;
-    nest_challenges(alloc, conn, heads)
+    )
 }
 
 /// The authorizations of an account.
@@ -126,13 +145,12 @@ pub fn authorizations_of<S: Alter>(
     ensures asks { Asks (state S.Store conn.old) (state S.Store conn.new) }
 {
     let params = number_param(account);
-    let heads = find_rows::<S, AuthzColumns>(
+    find_authorizations(
         alloc,
         conn,
         "SELECT num, account, name, wildcard, made, expires, ended, end_kind, status FROM authz WHERE account = ?1 ORDER BY num",
         &params,
-    )?;
-    nest_challenges(alloc, conn, heads)
+    )
 }
 
 /// The authorizations of a stored status whose end is before a moment.
@@ -152,13 +170,12 @@ pub fn authorizations_past<S: Alter>(
     ensures asks { Asks (state S.Store conn.old) (state S.Store conn.new) }
 {
     let params = text_and_number(status.as_str(), moment);
-    let heads = find_rows::<S, AuthzColumns>(
+    find_authorizations(
         alloc,
         conn,
         "SELECT num, account, name, wildcard, made, expires, ended, end_kind, status FROM authz WHERE status = ?1 AND expires < ?2 ORDER BY num",
         &params,
-    )?;
-    nest_challenges(alloc, conn, heads)
+    )
 }
 
 /// The number of the authorization of a challenge.
@@ -201,13 +218,12 @@ pub fn authorization_above<S: Alter>(
     ensures asks { Asks (state S.Store conn.old) (state S.Store conn.new) }
 {
     let params = number_param(number);
-    let heads = find_rows::<S, AuthzColumns>(
+    find_authorizations(
         alloc,
         conn,
         "SELECT num, account, name, wildcard, made, expires, ended, end_kind, status FROM authz WHERE num > ?1 ORDER BY num LIMIT 1",
         &params,
-    )?;
-    nest_challenges(alloc, conn, heads)
+    )
 }
 
 /// The challenge of the least number above this one, of whatever authorization, if there is one.

@@ -1,15 +1,14 @@
 //! The format of the tables.
-ghost use Rattle.std.specs.Prelude.{◌≡◌, ◌↔◌, [], IfOk, OnOk, IsTrue, false, ◌≢◌, ℤ, MatchOption, IfErr};
+ghost use Rattle.std.specs.Prelude.{◌≡◌, ◌↔◌, IfOk, OnOk, IsTrue, false, ◌≢◌, ℤ, MatchOption, IfErr};
 ghost use Rattle.sqlite.specs.Order.{column};
 ghost use Rattle.sqlite.specs.declared.types.Value.TheVariants.{Int};
-ghost use Rattle.sqlite.specs.State.{FailsToQuery, HasCleanDisk, IsUnchanged, Shown};
+ghost use Rattle.sqlite.specs.State.{HasCleanDisk, IsUnchanged};
 ghost use Rattle.sqlite.specs.Held.{state};
 ghost use Rattle.desk_schema.specs.Failing.{IsFailure};
 ghost use Rattle.desk_schema.specs.Stays.{Asks};
 ghost use Rattle.desk_reading.specs.Failures.{MayRead};
 ghost use Rattle.desk_reading.specs.Format.{IsNewer, ShowsFormats};
 ghost use Rattle.desk_reading.specs.Held.{ForHeld};
-ghost use Rattle.desk_reading.specs.Texts.{select_format};
 
 use crate::query::all_rows;
 use desk_columns::FORMAT;
@@ -39,17 +38,6 @@ fn is_newer_row(rows: &[Row]) -> bool
     }
 }
 
-// The rows of the format.
-fn formats<S: Alter>(conn: &mut Connection<S>) -> Result<Vec<Row>, Error>
-    ensures shown { HasCleanDisk (state S.Store conn.new)
-        → IfOk result (λ rows. Shown select_format [] (state S.Store conn.old) (state S.Store conn.new) rows.items) }
-    ensures err { HasCleanDisk (state S.Store conn.new) → IfErr result (FailsToQuery select_format [] (state S.Store conn.old) (state S.Store conn.new)) }
-    ensures unchanged { HasCleanDisk (state S.Store conn.new) → OnOk result (IsUnchanged (state S.Store conn.old) (state S.Store conn.new)) }
-    ensures asks { Asks (state S.Store conn.old) (state S.Store conn.new) }
-{
-    all_rows(conn, "SELECT format FROM meta", &[])
-}
-
 /// Whether the tables are of a later format: `meta` has one row, whose format is a whole number above 1.
 ///
 /// # Errors
@@ -65,6 +53,6 @@ pub fn is_newer<S: Alter>(conn: &mut Connection<S>) -> Result<bool, Error>
     ensures unchanged { HasCleanDisk (state S.Store conn.new) → OnOk result (IsUnchanged (state S.Store conn.old) (state S.Store conn.new)) }
     ensures asks { Asks (state S.Store conn.old) (state S.Store conn.new) }
 {
-    let rows = formats(conn)?;
+    let rows = all_rows(conn, "SELECT format FROM meta", &[])?;
     Ok(is_newer_row(&rows))
 }

@@ -1,6 +1,7 @@
 //! Orders that are looked up, each with what it lists.
 ghost use Rattle.std.specs.Prelude.{◌≡◌, List, map, IfOk, IsTrue, OnOk};
 ghost use Rattle.sqlite.specs.State.{HasCleanDisk, IsUnchanged};
+ghost use Rattle.sqlite.specs.Values.{bound};
 ghost use Rattle.sqlite.specs.Held.{state};
 ghost use Rattle.desk_columns.specs.Flat.{listed_rows, without_listed};
 ghost use Rattle.desk_model.specs.Kept.{EachOf};
@@ -8,7 +9,9 @@ ghost use Rattle.desk_model.specs.declared.rows.OrderRow.{OrderRow as Row};
 ghost use Rattle.desk_parts.specs.Above.{first_of, orders_above};
 ghost use Rattle.desk_parts.specs.LookUps.{orders_listing, orders_numbered, orders_of, orders_past};
 ghost use Rattle.desk_schema.specs.Stays.{Asks};
+ghost use Rattle.desk_reading.specs.Heads.{ShowsOrders};
 ghost use Rattle.desk_reading.specs.Held.{ForHeld};
+ghost use Rattle.desk_reading.specs.Selecting.{IsQuery};
 ghost use Rattle.desk_reading.specs.StoredBook.{IsStoredBook};
 ghost use Rattle.desk_reading.specs.Under.{HasItsListed, rows_under};
 
@@ -19,6 +22,7 @@ use crate::rows::{find_rows, rows_of};
 use crate::tables::order_table;
 use desk_columns::{OrderAuthzColumns, OrderColumns};
 use desk_model::{Listed, OrderRow, OrderStatus, Sequence};
+use sqlite::types::ValueRef;
 use sqlite::{Alter, Connection};
 use std::alloc::Global;
 
@@ -57,14 +61,30 @@ fn nest_listed<S: Alter>(
     ensures asks { Asks (state S.Store conn.old) (state S.Store conn.new) }
 {
     let mut rows = Vec::new(alloc);
-    for head in heads {
+    for mut head in heads {
         let listed = listed_under(alloc, conn, head.number)?;
-        rows.push(OrderRow {
-            listed: Sequence::new(listed),
-            ..head
-        })?;
+        head.listed = Sequence::new(listed);
+        rows.push(head)?;
     }
     Ok(rows)
+}
+
+// The orders that a query shows, each with what it lists. It fails as `find_rows` does.
+fn find_orders<S: Alter>(
+    alloc: Global,
+    conn: &mut Connection<S>,
+    text: &str,
+    params: &[ValueRef<'_>],
+) -> Result<Vec<OrderRow>, ReadFault>
+    requires { IsQuery text.now }
+    ensures found { ForHeld (state S.Store conn.old) (state S.Store conn.new) (λ T. IsStoredBook T → (rows : List Row)
+        → EachOf (HasItsListed T.orders) rows → ShowsOrders S.Store text.now (bound params.now) conn.old rows
+        → IfOk result (λ found. found.items ≡ rows)) }
+    ensures unchanged { HasCleanDisk (state S.Store conn.new) → OnOk result (IsUnchanged (state S.Store conn.old) (state S.Store conn.new)) }
+    ensures asks { Asks (state S.Store conn.old) (state S.Store conn.new) }
+{
+    let heads = find_rows::<S, OrderColumns>(alloc, conn, text, params)?;
+    nest_listed(alloc, conn, heads)
 }
 
 /// All orders, by number.
@@ -101,13 +121,12 @@ pub fn orders_numbered<S: Alter>(
     ensures asks { Asks (state S.Store conn.old) (state S.Store conn.new) }
 {
     let params = number_param(number);
-    let heads = find_rows::<S, OrderColumns>(
+    find_orders(
         alloc,
         conn,
         "SELECT num, account, made, expires, finalized, csr, certified, cert, failed, problem, status FROM ord WHERE num = ?1 ORDER BY num",
         &params,
-    )?;
-    nest_listed(alloc, conn, heads)
+    )
 }
 
 /// The orders of an account.
@@ -125,13 +144,12 @@ pub fn orders_of<S: Alter>(
     ensures asks { Asks (state S.Store conn.old) (state S.Store conn.new) }
 {
     let params = number_param(account);
-    let heads = find_rows::<S, OrderColumns>(
+    find_orders(
         alloc,
         conn,
         "SELECT num, account, made, expires, finalized, csr, certified, cert, failed, problem, status FROM ord WHERE account = ?1 ORDER BY num",
         &params,
-    )?;
-    nest_listed(alloc, conn, heads)
+    )
 }
 
 /// The orders of a stored status whose end is before a moment.
@@ -151,13 +169,12 @@ pub fn orders_past<S: Alter>(
     ensures asks { Asks (state S.Store conn.old) (state S.Store conn.new) }
 {
     let params = text_and_number(status.as_str(), moment);
-    let heads = find_rows::<S, OrderColumns>(
+    find_orders(
         alloc,
         conn,
         "SELECT num, account, made, expires, finalized, csr, certified, cert, failed, problem, status FROM ord WHERE status = ?1 AND expires < ?2 ORDER BY num",
         &params,
-    )?;
-    nest_listed(alloc, conn, heads)
+    )
 }
 
 /// The numbers of the orders that list an authorization.
@@ -201,11 +218,10 @@ pub fn order_above<S: Alter>(
     ensures asks { Asks (state S.Store conn.old) (state S.Store conn.new) }
 {
     let params = number_param(number);
-    let heads = find_rows::<S, OrderColumns>(
+    find_orders(
         alloc,
         conn,
         "SELECT num, account, made, expires, finalized, csr, certified, cert, failed, problem, status FROM ord WHERE num > ?1 ORDER BY num LIMIT 1",
         &params,
-    )?;
-    nest_listed(alloc, conn, heads)
+    )
 }

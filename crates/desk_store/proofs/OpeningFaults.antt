@@ -5,12 +5,13 @@ use Rattle.sqlite.specs.State.{State, IsUnchanged}
 use Rattle.sqlite.specs.Schema.{Schema}
 use Rattle.sqlite_schema.specs.Names.{same_name}
 use Rattle.desk_model.specs.Tables.{Tables}
-use Rattle.desk_schema.specs.Names.{has_all_indexes}
+use Rattle.desk_schema.specs.Names.{has_all_indexes, uses_names}
 use Rattle.desk_schema.specs.Schema.{desk_schema}
 use Rattle.desk_store.specs.Desks.{HasDesk}
 use Rattle.desk_store.proofs.Standing.{desk_unchanged}
 use Rattle.sqlite.specs.declared.error.Error.{Error}
 use Rattle.desk_schema.specs.Failing.{IsFailure}
+use Rattle.desk_storage.specs.declared.fault.StorageFault.{StorageFault}
 use Rattle.desk_storage.specs.declared.fault.StorageFault.TheVariants as fault
 use Rattle.desk_store.specs.Causes.{IsOfOpening, cause_of}
 use Rattle.desk_store.specs.Making.{IsOfStorage}
@@ -57,3 +58,14 @@ pub book_is_known : {R : Type 0} (Other : Type 0) (result : Result R OpenFault)
 book_is_known Other (Ok book) is newer = absurd cc
 book_is_known Other (Err why) (inl memory) newer = absurd (let e = memory in cc)
 book_is_known Other (Err why) (inr none) newer = absurd (let e = none.0 in cc)
+
+-- the store failed by this
+pub same_storage : (a b : StorageFault) → Storage a ≡ Storage b → a ≡ b
+same_storage a b same = cc
+
+-- a name that is used is not free
+pub not_free : (schema shown : Schema) (used : Bool) → used ≡ uses_names shown → shown ≡ schema → used ≡ true → uses_names schema ≡ false → ⊥
+unfolding same_name
+not_free schema shown used is same taken free =
+    let never : true ≡ false = sym taken ∙ is ∙ ap uses_names same ∙ free in
+    absurd (cc never)

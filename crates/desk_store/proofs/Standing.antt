@@ -1,5 +1,5 @@
 -- What a connection still holds after calls that change nothing.
-use Rattle.std.proofs.Common.{◌≡◌, Result, Ok, Err, inl, inr, sym, subst, ◌∙◌, arith}
+use Rattle.std.proofs.Common.{◌≡◌, Result, Ok, Err, inl, inr, refl, sym, subst, ◌∙◌, arith}
 use Rattle.std.specs.Prelude.{IfOk, IsTrue, false}
 use Rattle.sqlite.specs.Held.{Held, state}
 use Rattle.sqlite.specs.State.{State, HasCleanDisk, IsUnchanged, Survives}
@@ -9,7 +9,7 @@ use Rattle.desk_model.specs.Tables.{Tables}
 use Rattle.desk_reading.specs.Held.{ForHeld}
 use Rattle.desk_reading.specs.StoredBook.{IsStoredBook}
 use Rattle.desk_saving.specs.Committing.{GoesBack}
-use Rattle.desk_schema.specs.Stays.{Asks}
+use Rattle.desk_schema.specs.Stays.{Asks, Stays}
 use Rattle.desk_storage.specs.Sight.{Reads, Stands}
 use Rattle.desk_storage.specs.declared.fault.StorageFault.{StorageFault}
 use Rattle.desk_storage.specs.declared.fault.StorageFault.TheVariants as fault
@@ -18,6 +18,21 @@ use Rattle.desk_store.specs.Desks.{HasDesk, IsDesk, sight_by}
 use Rattle.desk_store.proofs.Books.{stored_book}
 
 -- ---- states
+
+-- a call that was not made
+pub asks_nothing : (s : State) → Asks s s
+asks_nothing s = record {
+  survives = record {
+    clean = omega arith;
+    shield = λ h. h;
+    counts = omega arith;
+    limit = refl;
+    closes = λ clean h. inl h;
+    crash = λ clean trees may. inl may;
+  };
+  stays = λ clean. record { was_open = λ h. h; committed = λ h. refl; now = λ h is. is };
+  idle = λ h. h;
+}
 
 -- a state that shows what another one showed, which had a desk, has it
 pub desk_again : (old new : State) (T : Tables) → IsTrue new.is_open → new.in_transaction ≡ false → new.step_limit ≡ old.step_limit
@@ -48,11 +63,24 @@ pub desk_back : (old mid : State) (T : Tables) → IsTrue mid.is_open → mid.in
 desk_back old mid T is_open idle limit back has =
     desk_again old mid T is_open idle limit (back.now is_open ∙ sym has.settled) (back.committed is_open) has
 
--- ---- what owns a connection
+-- it was given up, and a later call changed nothing
+pub back_then : (old mid new : State) → GoesBack old mid → Stays mid new → GoesBack old new
+back_then old mid new back s = record {
+  now = λ h. let was = s.was_open h in s.now h (back.now was ∙ sym (back.committed was)) ∙ back.committed was;
+  committed = λ h. s.committed h ∙ back.committed (s.was_open h);
+}
+
+-- ---- results
 
 -- a call that failed
-abbrev pub failed : (R : Type 0) → StorageFault → Result R StorageFault
+abbrev pub failed : {E : Type 0} → (R : Type 0) → E → Result R E
 failed R why = Err why
+
+-- it failed by this
+pub same_fault : {R E : Type 0} (a b : E) → failed R a ≡ failed R b → a ≡ b
+same_fault a b same = cc
+
+-- ---- what owns a connection
 
 module _ {S X : Type 0} (g : Ghosts S) (conn : X → Held S) where
   -- a stop leaves no more than it did
@@ -85,17 +113,21 @@ module _ {S X : Type 0} (g : Ghosts S) (conn : X → Held S) where
     without_memory = tt;
   }
 
+  -- a call that failed; the connection of a store that goes on is open
+  pub reads_failed : {R : Type 0} (old new : X) (why : StorageFault) → Asks (state g (conn old)) (state g (conn new))
+      → (HasCleanDisk (state g (conn new)) → why ≡ fault.Memory → IsTrue (state g (conn new)).is_open) → Reads (sight_by g conn) old new (failed R why)
+  reads_failed old new why asks is_open = record {
+    honest = honest_by old new asks.survives;
+    left = left_by old new asks.survives;
+    tables = tt;
+    without_memory = λ memory clean T has. desk_stays (state g (conn old)) (state g (conn new)) T (is_open clean memory) asks clean has;
+  }
+
   -- a call that failed; the connection of a store that goes on still answered
   pub reads_err : {R : Type 0} (old new : X) (mid : State) (why : StorageFault) → Asks (state g (conn old)) mid → Asks mid (state g (conn new))
       → (HasCleanDisk (state g (conn new)) → why ≡ fault.Memory → IsUnchanged mid (state g (conn new))) → Reads (sight_by g conn) old new (failed R why)
   reads_err old new mid why asked tested same =
-      let asks = asks_then (state g (conn old)) mid (state g (conn new)) asked tested in
-      record {
-        honest = honest_by old new asks.survives;
-        left = left_by old new asks.survives;
-        tables = tt;
-        without_memory = λ memory clean T has. desk_stays (state g (conn old)) (state g (conn new)) T (same clean memory).0.is_open asks clean has;
-      }
+      reads_failed old new why (asks_then (state g (conn old)) mid (state g (conn new)) asked tested) (λ clean memory. (same clean memory).0.is_open)
 
 -- what a reading found is found by what hands it on
 pub hands_on : {R E : Type 0} (P : Tables → R → Type 0) (old mid new : State) (read : Result R E) (result : Result R StorageFault)

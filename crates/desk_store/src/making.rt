@@ -36,7 +36,10 @@ pub(crate) fn make_desk<S: Alter>(
     ensures left { Survives (state S.Store conn.old) (state S.Store conn.new) (IsNewDesk policy at (state S.Store conn.old)) }
 {
     let book = Book::new(alloc, policy, at);
-    match make_tables(alloc, conn, book.meta()) {
+    let made = make_tables(alloc, conn, book.meta());
+    // Before the ways part, so that it is dropped in one place.
+    drop(book);
+    match made {
         Ok(()) => Ok(()),
         Err(fault) => Err(saving_fault(conn, fault)),
     }

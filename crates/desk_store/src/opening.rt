@@ -102,7 +102,10 @@ fn check_rows<S: Alter>(alloc: Global, conn: &mut Connection<S>) -> Result<(), O
         return Err(OpenFault::NotADesk);
     }
     match read_book(alloc, conn) {
-        Ok(_) => Ok(()),
+        Ok(book) => {
+            drop(book);
+            Ok(())
+        }
         Err(fault) => Err(fault),
     }
 }

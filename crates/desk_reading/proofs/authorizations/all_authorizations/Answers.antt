@@ -6,6 +6,7 @@ use Rattle.desk_columns.proofs.RowsApart.{authorizations-apart}
 use Rattle.desk_columns.specs.Columns.{authorization_columns}
 use Rattle.desk_columns.specs.Flat.{without_challenges}
 use Rattle.desk_columns.specs.Limits.{IsStoredAuthorization}
+use Rattle.desk_schema.proofs.StaysLemmas.{asks_then}
 use Rattle.desk_tables.proofs.Holding.{holds_still}
 use Rattle.desk_reading.proofs.FoundRows.{rows_back}
 use Rattle.desk_reading.proofs.Results.{unchanged_after}
@@ -29,3 +30,8 @@ pub returns-clause-unchanged : goal.returns-clause-unchanged
 returns-clause-unchanged g c clean =
     let clean_one : HasCleanDisk (state g.S.Store c.authorization_table.new.conn) = omega (arith, clean, c.nest_challenges.ensures.asks.survives.clean) in
     unchanged_after c.nest_challenges.result _ _ _ (c.in_ok-columns.ensures.unchanged clean_one) (c.nest_challenges.ensures.unchanged clean)
+
+pub returns-clause-asks : goal.returns-clause-asks
+returns-clause-asks g c =
+    asks_then (state g.S.Store c.args.conn.now) (state g.S.Store c.authorization_table.new.conn) (state g.S.Store c.nest_challenges.new.conn)
+    c.in_ok-columns.ensures.asks c.nest_challenges.ensures.asks

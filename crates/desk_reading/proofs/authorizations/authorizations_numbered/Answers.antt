@@ -1,30 +1,18 @@
-use Rattle.std.proofs.Common.{arith}
 use Rattle.sqlite.specs.Held.{state}
-use Rattle.sqlite.specs.State.{HasCleanDisk}
 use Rattle.desk_laws.proofs.Keeps.{each-filter}
-use Rattle.desk_tables.proofs.Holding.{holds_still}
-use Rattle.desk_reading.proofs.LookUpRows.{authorizations_numbered_found}
-use Rattle.desk_reading.proofs.Results.{unchanged_after}
+use Rattle.desk_parts.specs.LookUps.{authorizations_numbered}
 use Rattle.desk_reading.proofs.LookUpReadings.{authorizations_numbered_reading}
+use Rattle.desk_reading.proofs.LookUpRows.{authorizations_numbered_found}
 use Rattle.desk_reading.proofs.UnderLemmas.{authorizations_have}
 use Rattle.desk_reading.proofs.authorizations.authorizations_numbered.Goals as goal
 
-pub find_rows-requires : goal.find_rows-requires
-find_rows-requires g c = authorizations_numbered_reading.selecting
+pub find_authorizations-requires : goal.find_authorizations-requires
+find_authorizations-requires g c = authorizations_numbered_reading.selecting
 
 pub returns-clause-found : goal.returns-clause-found
 returns-clause-found g c clean T has book =
-    let before = state g.S.Store c.args.conn.now in
-    let one = state g.S.Store c.find_rows.new.conn in
-    let clean_one : HasCleanDisk one = omega (arith, clean, c.nest_challenges.ensures.asks.survives.clean) in
-    let it = c.in_ok-heads.ensures.read clean_one in
-    let same = c.in_ok-heads.ensures.unchanged clean_one in
-    let heads = authorizations_numbered_found before one T it.0 _ has book c.in_ok-heads.heads.items it.2 it.3 c.args.number c.number_param-params.ensures
-    it.1 in
-    c.nest_challenges.ensures.found clean T (holds_still before one T same has) book same.0.is_open _
-    (each-filter _ _ T.authorizations (authorizations_have 0 T.authorizations has.rising.authorizations)) heads
-
-pub returns-clause-unchanged : goal.returns-clause-unchanged
-returns-clause-unchanged g c clean =
-    let clean_one : HasCleanDisk (state g.S.Store c.find_rows.new.conn) = omega (arith, clean, c.nest_challenges.ensures.asks.survives.clean) in
-    unchanged_after c.nest_challenges.result _ _ _ (c.in_ok-heads.ensures.unchanged clean_one) (c.nest_challenges.ensures.unchanged clean)
+    c.find_authorizations.ensures.found clean T has book (authorizations_numbered T c.args.number)
+    (each-filter _ _ T.authorizations (authorizations_have 0 T.authorizations has.rising.authorizations))
+    (λ new shown heads h kept spells.
+    authorizations_numbered_found (state g.S.Store c.args.conn.now) (state g.S.Store new) T shown _ has book heads kept spells c.args.number
+    c.number_param-params.ensures h)

@@ -1,10 +1,14 @@
 use Rattle.std.proofs.Common.{IsTrue, sym, ◌∙◌}
 use Rattle.sqlite.specs.Held.{state}
 use Rattle.desk_reading.proofs.FormatLemmas.{never_newer}
+use Rattle.desk_reading.proofs.Readings.{format_reading}
 use Rattle.desk_schema.specs.Failing.{IsFailure}
 use Rattle.desk_reading.proofs.Results.{failed_as, not_true}
 use Rattle.desk_reading.proofs.TableFailures.{format_fails}
 use Rattle.desk_reading.proofs.format.is_newer.Goals as goal
+
+pub all_rows-requires : goal.all_rows-requires
+all_rows-requires g c = format_reading.selecting
 
 pub returns-clause-newer : goal.returns-clause-newer
 returns-clause-newer g c clean told = (_, c.in_ok-rows.ensures.shown clean, rw (c.deref.ensures.value) at (c.is_newer_row.ensures.0 told))
@@ -12,7 +16,7 @@ returns-clause-newer g c clean told = (_, c.in_ok-rows.ensures.shown clean, rw (
 pub returns-clause-desk : goal.returns-clause-desk
 returns-clause-desk g c clean T has =
     not_true c.is_newer_row.result (λ told.
-    never_newer (state g.S.Store c.args.conn.now) (state g.S.Store c.formats.new.conn) T _ has (c.in_ok-rows.ensures.shown clean)
+    never_newer (state g.S.Store c.args.conn.now) (state g.S.Store c.all_rows.new.conn) T _ has (c.in_ok-rows.ensures.shown clean)
     (rw (c.deref.ensures.value) at (c.is_newer_row.ensures.0 told)))
 
 pub returns-clause-known : goal.returns-clause-known
@@ -27,5 +31,5 @@ returns-clause-known g c clean not_told = (
 pub returns-in_err-rows-clause-fails : goal.returns-in_err-rows-clause-fails
 returns-in_err-rows-clause-fails g c clean T has may =
     failed_as c.from_residual.result c.in_err-rows.field-0.0 IsFailure
-    (format_fails (state g.S.Store c.args.conn.now) (state g.S.Store c.formats.new.conn) T c.in_err-rows.field-0.0 has may (c.in_err-rows.ensures.err clean))
+    (format_fails (state g.S.Store c.args.conn.now) (state g.S.Store c.all_rows.new.conn) T c.in_err-rows.field-0.0 has may (c.in_err-rows.ensures.err clean))
     c.from_residual.ensures.1

@@ -6,6 +6,7 @@ use Rattle.desk_columns.proofs.RowsApart.{orders-apart}
 use Rattle.desk_columns.specs.Columns.{order_columns}
 use Rattle.desk_columns.specs.Flat.{without_listed}
 use Rattle.desk_columns.specs.Limits.{IsStoredOrder}
+use Rattle.desk_schema.proofs.StaysLemmas.{asks_then}
 use Rattle.desk_tables.proofs.Holding.{holds_still}
 use Rattle.desk_reading.proofs.FoundRows.{rows_back}
 use Rattle.desk_reading.proofs.Results.{unchanged_after}
@@ -27,3 +28,8 @@ pub returns-clause-unchanged : goal.returns-clause-unchanged
 returns-clause-unchanged g c clean =
     let clean_one : HasCleanDisk (state g.S.Store c.order_table.new.conn) = omega (arith, clean, c.nest_listed.ensures.asks.survives.clean) in
     unchanged_after c.nest_listed.result _ _ _ (c.in_ok-columns.ensures.unchanged clean_one) (c.nest_listed.ensures.unchanged clean)
+
+pub returns-clause-asks : goal.returns-clause-asks
+returns-clause-asks g c =
+    asks_then (state g.S.Store c.args.conn.now) (state g.S.Store c.order_table.new.conn) (state g.S.Store c.nest_listed.new.conn)
+    c.in_ok-columns.ensures.asks c.nest_listed.ensures.asks

@@ -1,16 +1,42 @@
-use Rattle.std.proofs.Common.{subst}
+use Rattle.std.proofs.Common.{subst, arith}
 use Rattle.sqlite.specs.Held.{state}
-use Rattle.sqlite.proofs.StateLemmas.{survives_then}
+use Rattle.sqlite.specs.State.{HasCleanDisk}
+use Rattle.sqlite.proofs.StateLemmas.{survives_then, survives_weaker}
 use Rattle.desk_model.specs.declared.rows.Meta.{Meta}
-use Rattle.desk_saving.specs.Committing.{IsLeft}
+use Rattle.desk_saving.specs.Committing.{HasCommitted, IsLeft}
 use Rattle.desk_saving.specs.Making.{MakesDesk}
-use Rattle.desk_store.proofs.NewDesks.{desk_left}
+use Rattle.desk_store.proofs.NewDesks.{desk_left, desk_made}
+use Rattle.desk_store.proofs.Standing.{back_then, same_fault}
 use Rattle.desk_store.proofs.making.make_desk.Goals as goal
 
-pub returns-clause-left : goal.returns-clause-left
-returns-clause-left g c =
+pub returns-in-Ok-clause-made : goal.returns-in-Ok-clause-made
+returns-in-Ok-clause-made g c clean =
     let old = state g.S.Store c.args.conn.now in
-    survives_then old (state g.S.Store c.make_tables.new.conn) (state g.S.Store c.saving_fault.new.conn) _ _ _
+    let new = state g.S.Store c.make_tables-made.new.conn in
+    desk_made c.args.policy c.args.at c.new-book.result c.new-book.ensures.picture c.new-book.ensures.legal old new c.make_tables-made.ensures.idle
+    c.make_tables-made.ensures.left.limit (subst (λ (meta : Meta). HasCommitted old new (MakesDesk meta)) c.meta.ensures (c.in-Ok.ensures.ok clean))
+
+pub returns-in-Ok-clause-left : goal.returns-in-Ok-clause-left
+returns-in-Ok-clause-left g c =
+    let old = state g.S.Store c.args.conn.now in
+    survives_weaker old (state g.S.Store c.make_tables-made.new.conn) _ _
+    (λ _ trees left. desk_left c.args.policy c.args.at c.new-book.result c.new-book.ensures.picture c.new-book.ensures.legal old trees
+    (subst (λ (meta : Meta). IsLeft (MakesDesk meta old.now) trees) c.meta.ensures left)) c.make_tables-made.ensures.left
+
+pub returns-in-Err-clause-back : goal.returns-in-Err-clause-back
+returns-in-Err-clause-back g c clean =
+    let mid = state g.S.Store c.make_tables-made.new.conn in
+    let clean_mid : HasCleanDisk mid = let le = c.saving_fault.ensures.asks.survives.clean in omega (arith, clean, le) in
+    back_then (state g.S.Store c.args.conn.now) mid (state g.S.Store c.saving_fault.new.conn) (c.in-Err.ensures.err clean_mid)
+    (c.saving_fault.ensures.asks.stays clean)
+
+pub returns-in-Err-clause-answering : goal.returns-in-Err-clause-answering
+returns-in-Err-clause-answering g c clean memory = (c.saving_fault.ensures.unchanged clean (same_fault _ _ memory)).0.is_open
+
+pub returns-in-Err-clause-left : goal.returns-in-Err-clause-left
+returns-in-Err-clause-left g c =
+    let old = state g.S.Store c.args.conn.now in
+    survives_then old (state g.S.Store c.make_tables-made.new.conn) (state g.S.Store c.saving_fault.new.conn) _ _ _
     (λ _ trees left. desk_left c.args.policy c.args.at c.new-book.result c.new-book.ensures.picture c.new-book.ensures.legal old trees
     (subst (λ (meta : Meta). IsLeft (MakesDesk meta old.now) trees) c.meta.ensures left))
-    (λ _ _ none. absurd none) c.in-Err.ensures.left c.saving_fault.ensures.asks.survives
+    (λ _ _ none. absurd none) c.make_tables-made.ensures.left c.saving_fault.ensures.asks.survives

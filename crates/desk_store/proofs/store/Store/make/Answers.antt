@@ -1,0 +1,25 @@
+use Rattle.std.proofs.Common.{ap}
+use Rattle.sqlite.specs.Held.{state}
+use Rattle.desk_store.proofs.OpeningFaults.{not_free, same_storage}
+use Rattle.desk_store.proofs.Standing.{failed}
+use Rattle.desk_store.proofs.store.Store.make.Goals as goal
+
+pub returns-then-uses_names-clause-left : goal.returns-then-uses_names-clause-left
+returns-then-uses_names-clause-left g c free =
+    absurd (not_free (state g.S.Store c.args.conn).now.schema c.schema.result.now c.uses_names.result c.uses_names.ensures c.schema.ensures.value
+    c.if-uses_names.true free)
+
+pub returns-in-Ok-clause-made : goal.returns-in-Ok-clause-made
+returns-in-Ok-clause-made g c = c.in-Ok.ensures.made
+
+pub returns-in-Ok-clause-left : goal.returns-in-Ok-clause-left
+returns-in-Ok-clause-left g c free = c.make_desk.ensures.left
+
+pub returns-in-Err-clause-back : goal.returns-in-Err-clause-back
+returns-in-Err-clause-back g c free = c.in-Err.ensures.back
+
+pub returns-in-Err-clause-answering : goal.returns-in-Err-clause-answering
+returns-in-Err-clause-answering g c clean memory = c.in-Err.ensures.answering clean (ap (λ why. failed (Unit {0}) why) (same_storage _ _ memory))
+
+pub returns-in-Err-clause-left : goal.returns-in-Err-clause-left
+returns-in-Err-clause-left g c free = c.make_desk.ensures.left
