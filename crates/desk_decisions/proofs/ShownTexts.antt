@@ -1,5 +1,5 @@
 -- The moments of rows that are found have texts.
-use Rattle.std.proofs.Common.{◌≡◌, ℕ, ◌≤◌, List, Option, Some, None, IfSome, Result, Ok, Err, IfOk, ◌∙◌, ap, refl, subst, sym}
+use Rattle.std.proofs.Common.{◌≡◌, ℕ, ◌≤◌, List, Option, Some, None, IfSome, Result, Ok, Err, IfOk, OnOk, ◌∙◌, ap, refl, subst, sym}
 use Rattle.std.specs.Prelude.{◌==◌, find, is_some, Bool}
 use Rattle.std.specs.Option.{option_map}
 use Rattle.desk_laws.proofs.Finds.{each_found}
@@ -37,6 +37,14 @@ owner_moments T n texts = found_has HasMoments (has_row n) T.authorizations text
 pub ok_so : {X E : Type 0} {P Q : X → Type 0} (r : Result X E) → ((x : X) → P x → Q x) → IfOk r P → IfOk r Q
 ok_so (Ok x) f h = f x h
 ok_so (Err e) f h = tt
+
+-- what holds of a result holds of the value that it is
+pub ok_if : {X E : Type 0} (P : X → Type 0) (r : Result X E) (x : X) → r ≡ Ok x → IfOk r P → P x
+ok_if P r x is h = subst (λ r. IfOk r P) is h
+
+-- and so does what holds where there is one
+pub ok_on : {X E P : Type 0} (r : Result X E) (x : X) → r ≡ Ok x → OnOk r P → P
+ok_on {X} {E} {P} r x is h = subst (λ r. OnOk r P) is h
 
 -- what is shown of one that is found is shown of what was looked for
 pub shown_found : {X : Type 0} (f : X → Reply) (P : X → Type 0) (found on : Option X) (r : Reply) → found ≡ on → IfSome on P

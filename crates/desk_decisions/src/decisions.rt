@@ -1,5 +1,5 @@
 //! The decision on a call: what changes in the book, and what is answered.
-ghost use Rattle.std.specs.Prelude.{◌≡◌, ◌↔◌, ◌<◌, ◌≤◌, ◌+◌, ◌++◌, ◌∷◌, [], ℕ, List, true, false, length, take, drop, IfOk, IfErr, MatchResult, OnOk};
+ghost use Rattle.std.specs.Prelude.{◌≡◌, ◌↔◌, ◌<◌, ◌≤◌, ◌+◌, ◌++◌, ◌∷◌, [], ℕ, List, true, false, length, take, drop, IfOk, IfErr, MatchResult, Ok, OnOk};
 ghost use Rattle.desk_model.specs.Decide.{entries_of, nonce_entries, verdict_reply};
 ghost use Rattle.desk_model.specs.Effect.{effects, swept};
 ghost use Rattle.desk_model.specs.Limits.{last_moment, last_number};
@@ -91,6 +91,21 @@ fn issued(
     Ok(Outcome { changes, reply })
 }
 
+// What a recording gives in the end, with the reply; where there is no reply, its error.
+fn outcome_of(
+    book: &Book,
+    recording: Recording,
+    reply: Result<Reply, AllocError>,
+) -> Result<Outcome, AllocError>
+    ensures changes { IfOk result (λ o. (m : ℕ) (e : EntryOf) (es : List EntryOf)
+        → IsRecorded m book.now (e ∷ es) recording.changes.items recording.counters → o.changes.items ≡ recorded_changes m book.now (e ∷ es)) }
+    ensures reply { IfOk result (λ o. reply ≡ Ok o.reply) }
+{
+    let reply = reply?;
+    let changes = recording.finish(&book.meta().policy)?;
+    Ok(Outcome { changes, reply })
+}
+
 // Begins what a signed request records: its nonce is spent, and one is issued.
 fn begin_signed(
     alloc: Global,
@@ -156,9 +171,9 @@ fn passed(
 {
     let bytes = first_random(random)?;
     let mut recording = begin_signed(alloc, book, moment, serial, bytes)?;
-    let reply = act_with_nonce(alloc, book, &mut recording, verdict, bytes)?;
-    let changes = recording.finish(&book.meta().policy)?;
-    Ok(Outcome { changes, reply })
+    let reply = act_with_nonce(alloc, book, &mut recording, verdict, bytes);
+    let outcome = outcome_of(book, recording, reply)?;
+    Ok(outcome)
 }
 
 // The verdict on a signed request at a moment.
@@ -239,9 +254,9 @@ fn recorded(
         → o.reply ≡ verdict_reply false (effects moment (swept moment book.now) (entries_of verdict)) verdict) }
 {
     let mut recording = Recording::begin(alloc, book, moment)?;
-    let reply = act(alloc, book, &mut recording, verdict)?;
-    let changes = recording.finish(&book.meta().policy)?;
-    Ok(Outcome { changes, reply })
+    let reply = act(alloc, book, &mut recording, verdict);
+    let outcome = outcome_of(book, recording, reply)?;
+    Ok(outcome)
 }
 
 // A reply to a request that records nothing.

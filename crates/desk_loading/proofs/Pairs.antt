@@ -1,7 +1,9 @@
 -- Look-ups of numbers, row by row.
-use Rattle.std.proofs.Common.{◌≡◌, ℕ, List, [], ◌∷◌, ◌++◌, map, filter, refl, ap, ◌∙◌, true, false, Bool, cond}
+use Rattle.std.proofs.Common.{◌≡◌, ℕ, List, [], ◌∷◌, ◌++◌, map, filter, refl, sym, ap, ◌∙◌, true, false, Bool, cond, append-nil, append_assoc}
+use Rattle.std.proofs.Common.{◌≢◌, ◌+◌, ◌<◌, add-one, drop, drop-cons, get_or, length}
 use Rattle.std.specs.Prelude.{◌==◌}
 use Rattle.std.specs.List.{flat_map}
+use Rattle.std.proofs.lemmas.Bool.{eq-eqb, ne_eqb}
 use Rattle.std.proofs.lemmas.List.{map-append}
 use Rattle.std.proofs.lemmas.List.Elements.{filter-append}
 use Rattle.std.proofs.lemmas.Simd.{map-map}
@@ -50,3 +52,51 @@ owners_of_rows T n =
     picked-flat_map (λ (p : ℕ × ℕ). p.1) (λ (p : ℕ × ℕ). p.0 == n) (λ r. map (λ c. (c.number, r.number)) r.challenges) T.authorizations
     ∙ flat_map-same _ _ (λ (r : AuthorizationRow).
     picked-map (λ (p : ℕ × ℕ). p.1) (λ (p : ℕ × ℕ). p.0 == n) (λ c. (c.number, r.number)) r.challenges) T.authorizations
+
+-- what is found for the next one goes to the end of the numbers before
+pub found_next : {X Y : Type 0} (f : X → List Y) (x : X) (before rest : List X) (found later all : List Y) → before ≡ x ∷ rest → later ≡ found ++ f x →
+    found ++ flat_map f before ≡ all →
+    later ++ flat_map f rest ≡ all
+found_next f x before rest found later all next is h =
+    ap (λ l. l ++ flat_map f rest) is ∙ append_assoc found (f x) (flat_map f rest) ∙ ap (λ l. found ++ flat_map f l) (sym next) ∙ h
+
+-- behind the last one all are found
+pub found_all : {X Y : Type 0} (f : X → List Y) (rest : List X) (found all : List Y) → rest ≡ [] → found ++ flat_map f rest ≡ all → found ≡ all
+found_all f rest found all none h = sym (append-nil found) ∙ ap (λ l. found ++ flat_map f l) (sym none) ∙ h
+
+-- ---- numbers of the items of a slice that are picked
+
+-- what is left is one more and the rest
+one_more : {X : Type 0} (xs : List X) (i : ℕ) (d : X) → i < length xs → drop i xs ≡ get_or xs i d ∷ drop (i + 1) xs
+one_more xs i d low = drop-cons xs i d low ∙ ap (λ j. get_or xs i d ∷ drop j xs) (sym (add-one i))
+
+-- an item that is picked adds its number
+pub picked_next : {X : Type 0} (n k : ℕ) (number : X → ℕ) (xs : List X) (i : ℕ) (d : X) (found later all : List ℕ) → i < length xs →
+    number (get_or xs i d) ≡ k →
+    later ≡ found ++ n ∷ [] →
+    found ++ map (λ y. n) (filter (λ y. number y == k) (drop i xs)) ≡ all →
+    later ++ map (λ y. n) (filter (λ y. number y == k) (drop (i + 1) xs)) ≡ all
+picked_next {X} n k number xs i d found later all low same is h =
+    let picked = λ (ys : List X). map (λ (y : X). n) (filter (λ (y : X). number y == k) ys) in
+    let rest = drop (i + 1) xs in
+    ap (λ l. l ++ picked rest) is
+    ∙ append_assoc found (n ∷ []) (picked rest)
+    ∙ ap (λ b. found ++ map (λ (y : X). n) (cond b (get_or xs i d ∷ filter (λ y. number y == k) rest) (filter (λ y. number y == k) rest)))
+    (sym (eq-eqb (number (get_or xs i d)) k same))
+    ∙ ap (λ l. found ++ picked l) (sym (one_more xs i d low))
+    ∙ h
+
+-- one that is not adds nothing
+pub passed_over : {X : Type 0} (n k : ℕ) (number : X → ℕ) (xs : List X) (i : ℕ) (d : X) (found later all : List ℕ) → i < length xs →
+    number (get_or xs i d) ≢ k →
+    later ≡ found →
+    found ++ map (λ y. n) (filter (λ y. number y == k) (drop i xs)) ≡ all →
+    later ++ map (λ y. n) (filter (λ y. number y == k) (drop (i + 1) xs)) ≡ all
+passed_over {X} n k number xs i d found later all low other is h =
+    let picked = λ (ys : List X). map (λ (y : X). n) (filter (λ (y : X). number y == k) ys) in
+    let rest = drop (i + 1) xs in
+    ap (λ l. l ++ picked rest) is
+    ∙ ap (λ b. found ++ map (λ (y : X). n) (cond b (get_or xs i d ∷ filter (λ y. number y == k) rest) (filter (λ y. number y == k) rest)))
+    (sym (ne_eqb (number (get_or xs i d)) k other))
+    ∙ ap (λ l. found ++ picked l) (sym (one_more xs i d low))
+    ∙ h

@@ -19,7 +19,6 @@ use std::alloc::Global;
 // ---- nonces
 
 // The nonces that are touched: the one that is carried, and those past their life.
-#[tactic(auto, using(desk_laws::proofs::RowLists::puts_append))]
 fn nonces_touched<S: LookUps>(
     alloc: Global,
     source: &mut S,
@@ -122,7 +121,6 @@ fn rows_at<S: LookUps>(
 ///
 /// `Memory` where a growth was refused: the source then has the tables that it had. `Device` or `Reopen` where the tables
 /// could not be read: they may be out of reach, and a stop leaves no more than it did.
-#[tactic(auto, using(desk_parts::proofs::Loading::loaded_touched))]
 pub fn touched_book<S: LookUps>(
     alloc: Global,
     source: &mut S,

@@ -7,3 +7,4 @@ pub mod MadeChanges
 pub mod BackFits
 pub mod PicturesFit
 pub mod Leaving
+pub mod Exits

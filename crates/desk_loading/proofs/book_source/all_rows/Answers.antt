@@ -1,4 +1,5 @@
 use Rattle.std.proofs.Common.{sym, ap, ◌∙◌, [], ◌∷◌, ◌++◌, append_assoc}
+use Rattle.std.proofs.lemmas.Result.{IfOk-from_err}
 use Rattle.desk_loading.proofs.book_source.all_rows.Goals as goal
 
 pub loop-row-preserved : goal.loop-row-preserved
@@ -7,3 +8,9 @@ loop-row-preserved g c =
     ∙ append_assoc c.loop-row.rows.items (c.in-Some.row.now ∷ []) c.next.new.self
     ∙ ap (λ l. c.loop-row.rows.items ++ l) (sym c.in-Some.ensures.steps)
     ∙ c.loop-row.invariant
+
+pub returns-in_err-clone : goal.returns-in_err-clone
+returns-in_err-clone g c = IfOk-from_err c.from_residual.result _ c.from_residual.ensures.0
+
+pub returns-in_err-push : goal.returns-in_err-push
+returns-in_err-push g c = IfOk-from_err c.from_residual-in_err-push.result _ c.from_residual-in_err-push.ensures.0

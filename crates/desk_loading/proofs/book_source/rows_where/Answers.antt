@@ -1,4 +1,5 @@
 use Rattle.std.proofs.Common.{◌≡◌, Bool, true, false, sym, refl, ap, ◌∙◌, List, [], ◌∷◌, ◌++◌, filter, cond, append_assoc}
+use Rattle.std.proofs.lemmas.Result.{IfOk-from_err}
 use Rattle.desk_loading.proofs.book_source.rows_where.Goals as goal
 
 -- a row that passes goes to the end of those before
@@ -31,3 +32,9 @@ pub loop-row-preserved : goal.loop-row-preserved
 loop-row-preserved g c test is =
     let said = is c.in-Some.row.now false (record { shown = c.in-Some.row; shows = refl; says = record { met = c.if-passes.ensures } }) in
     row_left test c.in-Some.row.now _ _ _ _ (sym said) c.in-Some.ensures.steps (c.loop-row.invariant test is)
+
+pub returns-in_err-clone : goal.returns-in_err-clone
+returns-in_err-clone g c = IfOk-from_err c.from_residual.result _ c.from_residual.ensures.0
+
+pub returns-in_err-push : goal.returns-in_err-push
+returns-in_err-push g c = IfOk-from_err c.from_residual-in_err-push.result _ c.from_residual-in_err-push.ensures.0

@@ -1,16 +1,18 @@
-use Rattle.std.proofs.Common.{rules, ◌∙◌, add-one, ap, arith, drop-cons, sym}
+use Rattle.std.proofs.Common.{◌∙◌, add-one, ap, arith, drop-cons, sym}
 use Rattle.std.specs.List.{flat_map}
 use Rattle.std.proofs.lemmas.List.{drop_all}
+use Rattle.std.proofs.lemmas.Result.{IfOk-from_err}
 use Rattle.desk_model.specs.Derived.{numbers_of}
 use Rattle.desk_model.specs.declared.rows.AuthorizationRow.{AuthorizationRow}
 use Rattle.desk_laws.specs.Placing.{puts}
 use Rattle.desk_parts.specs.LookUps.{authorizations_numbered}
 use Rattle.desk_loading.proofs.Gathered.{gathered}
+use Rattle.desk_loading.proofs.Readings.{fails_then, reads_standing, stands_then}
 use Rattle.desk_loading.proofs.gathering.put_places.Goals as goal
 
 pub loop-place-preserved : goal.loop-place-preserved
 loop-place-preserved g c = record {
-  stands = search rules;
+  stands = stands_then c.loop-place.invariant.stands c.in_ok-rows.ensures.reads;
   found = λ honest T held.
       let so_far = c.in_ok-rows.ensures.reads.honest honest in
       rw (add-one c.loop-place.place-index)
@@ -26,3 +28,18 @@ returns-clause-found g c honest T held =
     ap (λ l. puts (λ (a : AuthorizationRow). a.number) (flat_map (authorizations_numbered T) (numbers_of l)) c.loop-place.authorizations)
     (sym (drop_all c.loop-place.place-index c.args.places.now (omega arith)))
     ∙ c.loop-place.invariant.found honest T held
+
+pub returns-in_err-rows-clause-reads : goal.returns-in_err-rows-clause-reads
+returns-in_err-rows-clause-reads g c = fails_then _ c.loop-place.invariant.stands c.in_err-rows.ensures.reads c.from_residual.ensures.1
+
+pub returns-in_err-rows-clause-found : goal.returns-in_err-rows-clause-found
+returns-in_err-rows-clause-found g c honest T held = IfOk-from_err c.from_residual.result _ c.from_residual.ensures.0
+
+pub returns-in_err-put_all-clause-reads : goal.returns-in_err-put_all-clause-reads
+returns-in_err-put_all-clause-reads g c = reads_standing _ (stands_then c.loop-place.invariant.stands c.in_ok-rows.ensures.reads)
+
+pub returns-in_err-put_all-clause-found : goal.returns-in_err-put_all-clause-found
+returns-in_err-put_all-clause-found g c honest T held = IfOk-from_err c.from_residual-in_err-put_all.result _ c.from_residual-in_err-put_all.ensures.0
+
+pub returns-clause-reads : goal.returns-clause-reads
+returns-clause-reads g c = reads_standing _ c.loop-place.invariant.stands

@@ -1,9 +1,11 @@
 use Rattle.std.proofs.Common.{[], ◌++◌}
+use Rattle.std.proofs.lemmas.Result.{IfOk-from_err}
 use Rattle.desk_model.specs.declared.rows.AuthorizationRow.{AuthorizationRow}
 use Rattle.desk_model.specs.declared.rows.OrderRow.{OrderRow}
 use Rattle.desk_parts.specs.Loaded.{authorizations_once, first_authorizations, found_orders, listed_authorizations}
 use Rattle.desk_parts.specs.Loaded.{listing_orders, named_orders, orders_once, own_orders, past_orders}
 use Rattle.desk_loading.proofs.Gathered.{put_by, put_then}
+use Rattle.desk_loading.proofs.Readings.{fails_then, reads_failing, reads_standing, stands_read, stands_then}
 use Rattle.desk_loading.proofs.objects.authorizations_and_orders.Goals as goal
 
 pub returns-clause-authorizations : goal.returns-clause-authorizations
@@ -37,3 +39,54 @@ returns-clause-orders g c = λ honest T held named.
     (c.in_ok-orders.ensures.found ordered T has named)
     (put_by (λ (o : OrderRow). o.number) (listing_orders T) _ _ _ _ (c.in_ok-put_listing.ensures.found listing T still)
     (c.in_ok-authorizations.ensures.found authorized T held named))
+
+pub returns-in_err-authorizations-clause-reads : goal.returns-in_err-authorizations-clause-reads
+returns-in_err-authorizations-clause-reads g c = reads_failing _ c.in_err-authorizations.ensures.reads c.from_residual.ensures.1
+
+pub returns-in_err-authorizations-clause-authorizations : goal.returns-in_err-authorizations-clause-authorizations
+returns-in_err-authorizations-clause-authorizations g c honest T held named = IfOk-from_err c.from_residual.result _ c.from_residual.ensures.0
+
+pub returns-in_err-authorizations-clause-orders : goal.returns-in_err-authorizations-clause-orders
+returns-in_err-authorizations-clause-orders g c honest T held named = IfOk-from_err c.from_residual.result _ c.from_residual.ensures.0
+
+pub returns-in_err-orders-clause-reads : goal.returns-in_err-orders-clause-reads
+returns-in_err-orders-clause-reads g c =
+    fails_then _ (stands_read c.in_ok-authorizations.ensures.reads) c.in_err-orders.ensures.reads c.from_residual-in_err-orders.ensures.1
+
+pub returns-in_err-orders-clause-authorizations : goal.returns-in_err-orders-clause-authorizations
+returns-in_err-orders-clause-authorizations g c honest T held named =
+    IfOk-from_err c.from_residual-in_err-orders.result _ c.from_residual-in_err-orders.ensures.0
+
+pub returns-in_err-orders-clause-orders : goal.returns-in_err-orders-clause-orders
+returns-in_err-orders-clause-orders g c honest T held named = IfOk-from_err c.from_residual-in_err-orders.result _ c.from_residual-in_err-orders.ensures.0
+
+pub returns-in_err-put_listing-clause-reads : goal.returns-in_err-put_listing-clause-reads
+returns-in_err-put_listing-clause-reads g c =
+    fails_then _ (stands_then (stands_read c.in_ok-authorizations.ensures.reads) c.in_ok-orders.ensures.reads) c.in_err-put_listing.ensures.reads
+    c.from_residual-in_err-put_listing.ensures.1
+
+pub returns-in_err-put_listing-clause-authorizations : goal.returns-in_err-put_listing-clause-authorizations
+returns-in_err-put_listing-clause-authorizations g c honest T held named =
+    IfOk-from_err c.from_residual-in_err-put_listing.result _ c.from_residual-in_err-put_listing.ensures.0
+
+pub returns-in_err-put_listing-clause-orders : goal.returns-in_err-put_listing-clause-orders
+returns-in_err-put_listing-clause-orders g c honest T held named =
+    IfOk-from_err c.from_residual-in_err-put_listing.result _ c.from_residual-in_err-put_listing.ensures.0
+
+pub returns-in_err-put_listed-clause-reads : goal.returns-in_err-put_listed-clause-reads
+returns-in_err-put_listed-clause-reads g c =
+    fails_then _ (stands_then (stands_then (stands_read c.in_ok-authorizations.ensures.reads) c.in_ok-orders.ensures.reads) c.in_ok-put_listing.ensures.reads)
+    c.in_err-put_listed.ensures.reads c.from_residual-in_err-put_listed.ensures.1
+
+pub returns-in_err-put_listed-clause-authorizations : goal.returns-in_err-put_listed-clause-authorizations
+returns-in_err-put_listed-clause-authorizations g c honest T held named =
+    IfOk-from_err c.from_residual-in_err-put_listed.result _ c.from_residual-in_err-put_listed.ensures.0
+
+pub returns-in_err-put_listed-clause-orders : goal.returns-in_err-put_listed-clause-orders
+returns-in_err-put_listed-clause-orders g c honest T held named =
+    IfOk-from_err c.from_residual-in_err-put_listed.result _ c.from_residual-in_err-put_listed.ensures.0
+
+pub returns-clause-reads : goal.returns-clause-reads
+returns-clause-reads g c =
+    reads_standing _ (stands_then (stands_then (stands_then (stands_read c.in_ok-authorizations.ensures.reads) c.in_ok-orders.ensures.reads)
+    c.in_ok-put_listing.ensures.reads) c.in_ok-put_listed.ensures.reads)

@@ -1,10 +1,12 @@
 use Rattle.std.proofs.Common.{[], ◌++◌, ap, ◌∙◌}
 use Rattle.std.specs.List.{flat_map}
+use Rattle.std.proofs.lemmas.Result.{IfOk-from_err}
 use Rattle.desk_model.specs.declared.rows.AuthorizationRow.{AuthorizationRow}
 use Rattle.desk_laws.specs.Placing.{puts}
 use Rattle.desk_parts.specs.Loaded.{authorization_numbers, challenge_numbers, named_authorizations, own_authorizations, past_authorizations}
 use Rattle.desk_parts.specs.LookUps.{authorizations_numbered, owners_of}
 use Rattle.desk_loading.proofs.Gathered.{put_by, put_then}
+use Rattle.desk_loading.proofs.Readings.{fails_then, reads_failing, reads_standing, stands_here, stands_read, stands_then}
 use Rattle.desk_loading.proofs.objects.authorizations_first.Goals as goal
 
 pub returns-clause-found : goal.returns-clause-found
@@ -25,3 +27,55 @@ returns-clause-found g c = λ honest T held named.
     (put_then number (own_authorizations T c.args.ask.now) (past_authorizations T c.args.moment) _ _ _
     (c.in_ok-put_asked_authorizations.ensures.found asked T still named)
     (c.in_ok-put_past_authorizations.ensures.found honest T (c.in_ok-put_asked_authorizations.ensures.reads.tables asked T still)))
+
+pub returns-in_err-numbers-clause-reads : goal.returns-in_err-numbers-clause-reads
+returns-in_err-numbers-clause-reads g c = reads_standing _ stands_here
+
+pub returns-in_err-numbers-clause-found : goal.returns-in_err-numbers-clause-found
+returns-in_err-numbers-clause-found g c honest T held named = IfOk-from_err c.from_residual.result _ c.from_residual.ensures.0
+
+pub returns-in_err-put_authorizations-clause-reads : goal.returns-in_err-put_authorizations-clause-reads
+returns-in_err-put_authorizations-clause-reads g c =
+    reads_failing _ c.in_err-put_authorizations.ensures.reads c.from_residual-in_err-put_authorizations.ensures.1
+
+pub returns-in_err-put_authorizations-clause-found : goal.returns-in_err-put_authorizations-clause-found
+returns-in_err-put_authorizations-clause-found g c honest T held named =
+    IfOk-from_err c.from_residual-in_err-put_authorizations.result _ c.from_residual-in_err-put_authorizations.ensures.0
+
+pub returns-in_err-challenges-clause-reads : goal.returns-in_err-challenges-clause-reads
+returns-in_err-challenges-clause-reads g c = reads_standing _ (stands_read c.in_ok-put_authorizations.ensures.reads)
+
+pub returns-in_err-challenges-clause-found : goal.returns-in_err-challenges-clause-found
+returns-in_err-challenges-clause-found g c honest T held named =
+    IfOk-from_err c.from_residual-in_err-challenges.result _ c.from_residual-in_err-challenges.ensures.0
+
+pub returns-in_err-put_owners-clause-reads : goal.returns-in_err-put_owners-clause-reads
+returns-in_err-put_owners-clause-reads g c =
+    fails_then _ (stands_read c.in_ok-put_authorizations.ensures.reads) c.in_err-put_owners.ensures.reads c.from_residual-in_err-put_owners.ensures.1
+
+pub returns-in_err-put_owners-clause-found : goal.returns-in_err-put_owners-clause-found
+returns-in_err-put_owners-clause-found g c honest T held named =
+    IfOk-from_err c.from_residual-in_err-put_owners.result _ c.from_residual-in_err-put_owners.ensures.0
+
+pub returns-in_err-put_asked_authorizations-clause-reads : goal.returns-in_err-put_asked_authorizations-clause-reads
+returns-in_err-put_asked_authorizations-clause-reads g c =
+    fails_then _ (stands_then (stands_read c.in_ok-put_authorizations.ensures.reads) c.in_ok-put_owners.ensures.reads)
+    c.in_err-put_asked_authorizations.ensures.reads c.from_residual-in_err-put_asked_authorizations.ensures.1
+
+pub returns-in_err-put_asked_authorizations-clause-found : goal.returns-in_err-put_asked_authorizations-clause-found
+returns-in_err-put_asked_authorizations-clause-found g c honest T held named =
+    IfOk-from_err c.from_residual-in_err-put_asked_authorizations.result _ c.from_residual-in_err-put_asked_authorizations.ensures.0
+
+pub returns-in_err-put_past_authorizations-clause-reads : goal.returns-in_err-put_past_authorizations-clause-reads
+returns-in_err-put_past_authorizations-clause-reads g c =
+    fails_then _ (stands_then (stands_then (stands_read c.in_ok-put_authorizations.ensures.reads) c.in_ok-put_owners.ensures.reads)
+    c.in_ok-put_asked_authorizations.ensures.reads) c.in_err-put_past_authorizations.ensures.reads c.from_residual-in_err-put_past_authorizations.ensures.1
+
+pub returns-in_err-put_past_authorizations-clause-found : goal.returns-in_err-put_past_authorizations-clause-found
+returns-in_err-put_past_authorizations-clause-found g c honest T held named =
+    IfOk-from_err c.from_residual-in_err-put_past_authorizations.result _ c.from_residual-in_err-put_past_authorizations.ensures.0
+
+pub returns-clause-reads : goal.returns-clause-reads
+returns-clause-reads g c =
+    reads_standing _ (stands_then (stands_then (stands_then (stands_read c.in_ok-put_authorizations.ensures.reads) c.in_ok-put_owners.ensures.reads)
+    c.in_ok-put_asked_authorizations.ensures.reads) c.in_ok-put_past_authorizations.ensures.reads)

@@ -1,5 +1,6 @@
 use Rattle.std.proofs.Common.{◌≡◌, ℕ, List, [], ◌++◌, ap, ◌∙◌}
 use Rattle.std.specs.List.{flat_map}
+use Rattle.std.proofs.lemmas.Result.{IfOk-from_err}
 use Rattle.desk_model.specs.declared.rows.AccountRow.{AccountRow}
 use Rattle.desk_model.specs.declared.rows.AuthorizationRow.{AuthorizationRow}
 use Rattle.desk_model.specs.declared.rows.OrderRow.{OrderRow}
@@ -7,6 +8,7 @@ use Rattle.desk_laws.specs.Placing.{puts}
 use Rattle.desk_parts.specs.Loaded.{authorizations_once, found_authorizations, found_orders, named_accounts, orders_once}
 use Rattle.desk_parts.specs.LookUps.{accounts_numbered}
 use Rattle.desk_loading.proofs.Gathered.{put_then}
+use Rattle.desk_loading.proofs.Readings.{fails_then, reads_failing, reads_standing, stands_read, stands_then}
 use Rattle.desk_loading.proofs.objects.objects_touched.Goals as goal
 
 -- what is put by two values is put by their equals
@@ -30,3 +32,67 @@ returns-clause-accounts g c = λ honest T held.
     (c.in_ok-put_holders.ensures.found honest T (c.in_ok-authorizations.ensures.reads.tables so_far T has))
     (c.in_ok-authorizations.ensures.orders so_far T has named)
     (c.in_ok-authorizations.ensures.authorizations so_far T has named))
+
+pub returns-clause-authorizations : goal.returns-clause-authorizations
+returns-clause-authorizations g c = λ honest T held.
+    let so_far = c.in_ok-put_holders.ensures.reads.honest honest in
+    let accounted = c.in_ok-authorizations.ensures.reads.honest so_far in
+    c.in_ok-authorizations.ensures.authorizations so_far T (c.in_ok-accounts.ensures.reads.tables accounted T held)
+    (c.in_ok-accounts.ensures.found accounted T held)
+
+pub returns-clause-orders : goal.returns-clause-orders
+returns-clause-orders g c = λ honest T held.
+    let so_far = c.in_ok-put_holders.ensures.reads.honest honest in
+    let accounted = c.in_ok-authorizations.ensures.reads.honest so_far in
+    c.in_ok-authorizations.ensures.orders so_far T (c.in_ok-accounts.ensures.reads.tables accounted T held)
+    (c.in_ok-accounts.ensures.found accounted T held)
+
+pub returns-in_err-accounts-clause-reads : goal.returns-in_err-accounts-clause-reads
+returns-in_err-accounts-clause-reads g c = reads_failing _ c.in_err-accounts.ensures.reads c.from_residual.ensures.1
+
+pub returns-in_err-accounts-clause-accounts : goal.returns-in_err-accounts-clause-accounts
+returns-in_err-accounts-clause-accounts g c honest T held = IfOk-from_err c.from_residual.result _ c.from_residual.ensures.0
+
+pub returns-in_err-accounts-clause-authorizations : goal.returns-in_err-accounts-clause-authorizations
+returns-in_err-accounts-clause-authorizations g c honest T held = IfOk-from_err c.from_residual.result _ c.from_residual.ensures.0
+
+pub returns-in_err-accounts-clause-orders : goal.returns-in_err-accounts-clause-orders
+returns-in_err-accounts-clause-orders g c honest T held = IfOk-from_err c.from_residual.result _ c.from_residual.ensures.0
+
+pub returns-in_err-authorizations-clause-reads : goal.returns-in_err-authorizations-clause-reads
+returns-in_err-authorizations-clause-reads g c =
+    fails_then _ (stands_read c.in_ok-accounts.ensures.reads) c.in_err-authorizations.ensures.reads c.from_residual-in_err-authorizations.ensures.1
+
+pub returns-in_err-authorizations-clause-accounts : goal.returns-in_err-authorizations-clause-accounts
+returns-in_err-authorizations-clause-accounts g c honest T held =
+    IfOk-from_err c.from_residual-in_err-authorizations.result _ c.from_residual-in_err-authorizations.ensures.0
+
+pub returns-in_err-authorizations-clause-authorizations : goal.returns-in_err-authorizations-clause-authorizations
+returns-in_err-authorizations-clause-authorizations g c honest T held =
+    IfOk-from_err c.from_residual-in_err-authorizations.result _ c.from_residual-in_err-authorizations.ensures.0
+
+pub returns-in_err-authorizations-clause-orders : goal.returns-in_err-authorizations-clause-orders
+returns-in_err-authorizations-clause-orders g c honest T held =
+    IfOk-from_err c.from_residual-in_err-authorizations.result _ c.from_residual-in_err-authorizations.ensures.0
+
+pub returns-in_err-put_holders-clause-reads : goal.returns-in_err-put_holders-clause-reads
+returns-in_err-put_holders-clause-reads g c =
+    fails_then _ (stands_then (stands_read c.in_ok-accounts.ensures.reads) c.in_ok-authorizations.ensures.reads) c.in_err-put_holders.ensures.reads
+    c.from_residual-in_err-put_holders.ensures.1
+
+pub returns-in_err-put_holders-clause-accounts : goal.returns-in_err-put_holders-clause-accounts
+returns-in_err-put_holders-clause-accounts g c honest T held =
+    IfOk-from_err c.from_residual-in_err-put_holders.result _ c.from_residual-in_err-put_holders.ensures.0
+
+pub returns-in_err-put_holders-clause-authorizations : goal.returns-in_err-put_holders-clause-authorizations
+returns-in_err-put_holders-clause-authorizations g c honest T held =
+    IfOk-from_err c.from_residual-in_err-put_holders.result _ c.from_residual-in_err-put_holders.ensures.0
+
+pub returns-in_err-put_holders-clause-orders : goal.returns-in_err-put_holders-clause-orders
+returns-in_err-put_holders-clause-orders g c honest T held =
+    IfOk-from_err c.from_residual-in_err-put_holders.result _ c.from_residual-in_err-put_holders.ensures.0
+
+pub returns-clause-reads : goal.returns-clause-reads
+returns-clause-reads g c =
+    reads_standing _ (stands_then (stands_then (stands_read c.in_ok-accounts.ensures.reads) c.in_ok-authorizations.ensures.reads)
+    c.in_ok-put_holders.ensures.reads)

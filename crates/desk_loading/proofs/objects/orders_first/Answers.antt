@@ -1,10 +1,12 @@
 use Rattle.std.proofs.Common.{[], ◌++◌, ap, ◌∙◌}
 use Rattle.std.specs.List.{flat_map}
+use Rattle.std.proofs.lemmas.Result.{IfOk-from_err}
 use Rattle.desk_model.specs.declared.rows.OrderRow.{OrderRow}
 use Rattle.desk_laws.specs.Placing.{puts}
 use Rattle.desk_parts.specs.Loaded.{named_orders, own_orders, past_orders}
 use Rattle.desk_parts.specs.LookUps.{orders_numbered}
 use Rattle.desk_loading.proofs.Gathered.{put_by, put_then}
+use Rattle.desk_loading.proofs.Readings.{fails_then, reads_failing, reads_standing, stands_here, stands_read, stands_then}
 use Rattle.desk_loading.proofs.objects.orders_first.Goals as goal
 
 pub returns-clause-found : goal.returns-clause-found
@@ -19,3 +21,38 @@ returns-clause-found g c = λ honest T held named.
     (put_then number (own_orders T c.args.ask.now) (past_orders T c.args.moment) _ _ _
     (c.in_ok-put_asked_orders.ensures.found asked T has named)
     (c.in_ok-put_past_orders.ensures.found honest T (c.in_ok-put_asked_orders.ensures.reads.tables asked T has)))
+
+pub returns-in_err-numbers-clause-reads : goal.returns-in_err-numbers-clause-reads
+returns-in_err-numbers-clause-reads g c = reads_standing _ stands_here
+
+pub returns-in_err-numbers-clause-found : goal.returns-in_err-numbers-clause-found
+returns-in_err-numbers-clause-found g c honest T held named = IfOk-from_err c.from_residual.result _ c.from_residual.ensures.0
+
+pub returns-in_err-put_orders-clause-reads : goal.returns-in_err-put_orders-clause-reads
+returns-in_err-put_orders-clause-reads g c = reads_failing _ c.in_err-put_orders.ensures.reads c.from_residual-in_err-put_orders.ensures.1
+
+pub returns-in_err-put_orders-clause-found : goal.returns-in_err-put_orders-clause-found
+returns-in_err-put_orders-clause-found g c honest T held named =
+    IfOk-from_err c.from_residual-in_err-put_orders.result _ c.from_residual-in_err-put_orders.ensures.0
+
+pub returns-in_err-put_asked_orders-clause-reads : goal.returns-in_err-put_asked_orders-clause-reads
+returns-in_err-put_asked_orders-clause-reads g c =
+    fails_then _ (stands_read c.in_ok-put_orders.ensures.reads) c.in_err-put_asked_orders.ensures.reads c.from_residual-in_err-put_asked_orders.ensures.1
+
+pub returns-in_err-put_asked_orders-clause-found : goal.returns-in_err-put_asked_orders-clause-found
+returns-in_err-put_asked_orders-clause-found g c honest T held named =
+    IfOk-from_err c.from_residual-in_err-put_asked_orders.result _ c.from_residual-in_err-put_asked_orders.ensures.0
+
+pub returns-in_err-put_past_orders-clause-reads : goal.returns-in_err-put_past_orders-clause-reads
+returns-in_err-put_past_orders-clause-reads g c =
+    fails_then _ (stands_then (stands_read c.in_ok-put_orders.ensures.reads) c.in_ok-put_asked_orders.ensures.reads) c.in_err-put_past_orders.ensures.reads
+    c.from_residual-in_err-put_past_orders.ensures.1
+
+pub returns-in_err-put_past_orders-clause-found : goal.returns-in_err-put_past_orders-clause-found
+returns-in_err-put_past_orders-clause-found g c honest T held named =
+    IfOk-from_err c.from_residual-in_err-put_past_orders.result _ c.from_residual-in_err-put_past_orders.ensures.0
+
+pub returns-clause-reads : goal.returns-clause-reads
+returns-clause-reads g c =
+    reads_standing _ (stands_then (stands_then (stands_read c.in_ok-put_orders.ensures.reads) c.in_ok-put_asked_orders.ensures.reads)
+    c.in_ok-put_past_orders.ensures.reads)

@@ -1,6 +1,8 @@
 use Rattle.std.proofs.Common.{sym, subst, ◌∙◌}
+use Rattle.std.proofs.lemmas.Result.{IfOk-from_err}
 use Rattle.desk_laws.specs.Ordered.{Ascends}
 use Rattle.desk_model.specs.declared.objects.Nonce.{Nonce}
+use Rattle.desk_loading.proofs.Readings.{fails_then, reads_failing, reads_standing, stands_read, stands_then}
 use Rattle.desk_loading.proofs.touched.all_rows.Goals as goal
 
 pub returns-clause-found : goal.returns-clause-found
@@ -14,3 +16,26 @@ returns-clause-found g c = λ honest T held same ordered.
     let orders = c.in_ok-objects.ensures.orders honest T has ordered in
     c.book_of.ensures
     ∙ (λ i. record { meta = same i; nonces = nonces i; accounts = accounts i; authorizations = authorizations i; orders = orders i })
+
+pub returns-in_err-rows-clause-reads : goal.returns-in_err-rows-clause-reads
+returns-in_err-rows-clause-reads g c = reads_failing _ c.in_err-rows.ensures.reads c.from_residual.ensures.1
+
+pub returns-in_err-rows-clause-found : goal.returns-in_err-rows-clause-found
+returns-in_err-rows-clause-found g c honest T held same ordered = IfOk-from_err c.from_residual.result _ c.from_residual.ensures.0
+
+pub returns-in_err-nonces-clause-reads : goal.returns-in_err-nonces-clause-reads
+returns-in_err-nonces-clause-reads g c = reads_standing _ (stands_read c.in_ok-rows.ensures.reads)
+
+pub returns-in_err-nonces-clause-found : goal.returns-in_err-nonces-clause-found
+returns-in_err-nonces-clause-found g c honest T held same ordered = IfOk-from_err c.from_residual-in_err-nonces.result _ c.from_residual-in_err-nonces.ensures.0
+
+pub returns-in_err-objects-clause-reads : goal.returns-in_err-objects-clause-reads
+returns-in_err-objects-clause-reads g c =
+    fails_then _ (stands_read c.in_ok-rows.ensures.reads) c.in_err-objects.ensures.reads c.from_residual-in_err-objects.ensures.1
+
+pub returns-in_err-objects-clause-found : goal.returns-in_err-objects-clause-found
+returns-in_err-objects-clause-found g c honest T held same ordered =
+    IfOk-from_err c.from_residual-in_err-objects.result _ c.from_residual-in_err-objects.ensures.0
+
+pub returns-clause-reads : goal.returns-clause-reads
+returns-clause-reads g c = reads_standing _ (stands_then (stands_read c.in_ok-rows.ensures.reads) c.in_ok-objects.ensures.reads)

@@ -1,4 +1,10 @@
+use Rattle.std.proofs.Common.{sym, subst}
+use Rattle.std.specs.Prelude.{OnOk}
+use Rattle.sqlite.specs.Held.{state}
 use Rattle.desk_model.specs.declared.rows.Change.TheVariants.{PutMeta, PutNonce, RemoveNonce, PutAccount}
+use Rattle.desk_schema.specs.Advances.{Advances}
+use Rattle.desk_saving.specs.Makes.{Makes}
+use Rattle.desk_saving.specs.Numbers.{FitsColumns}
 use Rattle.desk_saving.proofs.MadeChanges.{makes_account, makes_meta, makes_nonce, makes_removal}
 use Rattle.desk_saving.proofs.RowsInTurn.{makes_on_ok}
 use Rattle.desk_saving.proofs.changes.put_change.Goals as goal
@@ -22,3 +28,33 @@ pub returns-in-PutAccount-clause-ok : goal.returns-in-PutAccount-clause-ok
 returns-in-PutAccount-clause-ok g c =
     let arm = c.in-PutAccount in
     makes_on_ok _ _ _ (PutAccount arm.row) c.args.change.now arm.is (makes_account arm.row) c.put_account.result c.put_account.ensures.ok
+
+pub returns-in-PutAuthorization-clause-ok : goal.returns-in-PutAuthorization-clause-ok
+returns-in-PutAuthorization-clause-ok g c =
+    let old = state g.S.Store c.args.tx.now.conn.now in
+    let new = state g.S.Store c.put_with_challenges.new.tx.conn.now in
+    subst (λ change. OnOk c.put_with_challenges.result (Advances old new (Makes change))) (sym c.in-PutAuthorization.is) c.put_with_challenges.ensures.ok
+
+pub returns-in-PutOrder-clause-ok : goal.returns-in-PutOrder-clause-ok
+returns-in-PutOrder-clause-ok g c =
+    let old = state g.S.Store c.args.tx.now.conn.now in
+    let new = state g.S.Store c.put_with_listed.new.tx.conn.now in
+    subst (λ change. OnOk c.put_with_listed.result (Advances old new (Makes change))) (sym c.in-PutOrder.is) c.put_with_listed.ensures.ok
+
+pub returns-in-PutMeta-clause-fits : goal.returns-in-PutMeta-clause-fits
+returns-in-PutMeta-clause-fits g c fits = c.put_meta.ensures.fits (subst FitsColumns c.in-PutMeta.is fits)
+
+pub returns-in-PutNonce-clause-fits : goal.returns-in-PutNonce-clause-fits
+returns-in-PutNonce-clause-fits g c fits = c.put_nonce.ensures.fits (subst FitsColumns c.in-PutNonce.is fits)
+
+pub returns-in-RemoveNonce-clause-fits : goal.returns-in-RemoveNonce-clause-fits
+returns-in-RemoveNonce-clause-fits g c fits = c.remove_nonce.ensures.fits (subst FitsColumns c.in-RemoveNonce.is fits)
+
+pub returns-in-PutAccount-clause-fits : goal.returns-in-PutAccount-clause-fits
+returns-in-PutAccount-clause-fits g c fits = c.put_account.ensures.fits (subst FitsColumns c.in-PutAccount.is fits)
+
+pub returns-in-PutAuthorization-clause-fits : goal.returns-in-PutAuthorization-clause-fits
+returns-in-PutAuthorization-clause-fits g c fits = c.put_with_challenges.ensures.fits (subst FitsColumns c.in-PutAuthorization.is fits)
+
+pub returns-in-PutOrder-clause-fits : goal.returns-in-PutOrder-clause-fits
+returns-in-PutOrder-clause-fits g c fits = c.put_with_listed.ensures.fits (subst FitsColumns c.in-PutOrder.is fits)

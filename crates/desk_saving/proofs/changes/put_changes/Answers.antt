@@ -1,4 +1,5 @@
 use Rattle.std.proofs.Common.{◌∙◌, arith}
+use Rattle.std.proofs.lemmas.Result.{IfOk-from_err}
 use Rattle.sqlite.specs.Held.{state}
 use Rattle.sqlite.proofs.StateLemmas.{survives_then}
 use Rattle.desk_saving.proofs.RowsInTurn.{advances_made}
@@ -17,3 +18,6 @@ loop-change-preserved g c =
           after.ok;
       survives = survives_then first old new _ _ (λ _. ⊥) (λ _ db none. none) (λ _ db none. none) c.loop-change.invariant.survives after.survives;
     }
+
+pub returns-in_err-put_change-clause-ok : goal.returns-in_err-put_change-clause-ok
+returns-in_err-put_change-clause-ok g c = IfOk-from_err c.from_residual.result _ c.from_residual.ensures.0

@@ -1,0 +1,59 @@
+-- Look-ups one after the other.
+use Rattle.std.proofs.Common.{◌≡◌, Result, Ok, Err, IfOk, IsErrAnd, sym, ◌∙◌}
+use Rattle.desk_storage.specs.Sight.{Reads, Sight, Stands}
+use Rattle.desk_storage.specs.declared.fault.StorageFault.{StorageFault}
+
+-- a value is what its equal is
+pub value_is : {A E : Type 0} (r : Result A E) (x y : A) → IfOk r (λ a. a ≡ x) → x ≡ y → IfOk r (λ a. a ≡ y)
+value_is (Ok a) x y is same = is ∙ same
+value_is (Err e) x y is same = tt
+
+module _ {S C : Type 0} {v : Sight S C} where
+  -- what was not read stands
+  pub stands_here : {s : S} → Stands v s s
+  stands_here = record { honest = λ honest. honest; left = λ honest c may. may; tables = λ honest T held. held }
+
+  -- what was read stands
+  pub stands_read : {A : Type 0} {old new : S} {a : A} → Reads v old new (Ok a) → Stands v old new
+  stands_read read = record { honest = read.honest; left = read.left; tables = read.tables }
+
+  -- and stands behind a further look-up
+  pub stands_then : {A : Type 0} {old mid new : S} {a : A} → Stands v old mid → Reads v mid new (Ok a) → Stands v old new
+  stands_then stands read = record {
+    honest = λ honest. stands.honest (read.honest honest);
+    left = λ honest c may. stands.left (read.honest honest) c (read.left honest c may);
+    tables = λ honest T held. read.tables honest T (stands.tables (read.honest honest) T held);
+  }
+
+  -- what stands was read, whatever came of it
+  pub reads_standing : {A : Type 0} {old new : S} (r : Result A StorageFault) → Stands v old new → Reads v old new r
+  reads_standing (Ok a) stands = record { honest = stands.honest; left = stands.left; tables = stands.tables; without_memory = tt }
+  reads_standing (Err why) stands = record { honest = stands.honest; left = stands.left; tables = tt; without_memory = λ memory. stands.tables }
+
+  -- a look-up behind others
+  pub reads_then : {A : Type 0} {old mid new : S} (r : Result A StorageFault) → Stands v old mid → Reads v mid new r → Reads v old new r
+  reads_then (Ok a) stands read = reads_standing (Ok a) (stands_then stands read)
+  reads_then (Err e) stands read = record {
+    honest = λ honest. stands.honest (read.honest honest);
+    left = λ honest c may. stands.left (read.honest honest) c (read.left honest c may);
+    tables = tt;
+    without_memory = λ memory honest T held. read.without_memory memory honest T (stands.tables (read.honest honest) T held);
+  }
+
+  -- the fault of a look-up is passed on
+  pub reads_failing : {A B : Type 0} {old new : S} {why : StorageFault} (r : Result A StorageFault) →
+      Reads v {R = B} old new (Err why) → IsErrAnd r (λ e. e ≡ why) →
+      Reads v old new r
+  reads_failing (Ok a) read failed = absurd failed
+  reads_failing (Err e) read failed = record {
+    honest = read.honest;
+    left = read.left;
+    tables = tt;
+    without_memory = λ memory. read.without_memory (sym failed ∙ memory);
+  }
+
+  -- and behind others
+  pub fails_then : {A B : Type 0} {old mid new : S} {why : StorageFault} (r : Result A StorageFault) →
+      Stands v old mid → Reads v {R = B} mid new (Err why) → IsErrAnd r (λ e. e ≡ why) →
+      Reads v old new r
+  fails_then r stands read failed = reads_then r stands (reads_failing r read failed)
