@@ -46,10 +46,9 @@ fn attempt<K: Storage + Drop>(alloc: Global, store: &mut K, call: &Call) -> Resu
     ensures exit { Answers K.Storage.sight call.now store.old store.new result }
 {
     keep_form(call);
-    let decided = {
-        let book = store.load_part(alloc, call)?;
-        decide(alloc, &book, call)
-    };
+    let book = store.load_part(alloc, call)?;
+    let decided = decide(alloc, &book, call);
+    drop(book);
     let outcome = decided?;
     let changes = outcome.changes.as_slice();
     if changes.is_empty() {

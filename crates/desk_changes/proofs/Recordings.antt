@@ -1,5 +1,6 @@
 -- What is recorded, entry by entry.
-use Rattle.std.proofs.Common.{◌≡◌, ℕ, ◌+◌, List, [], ◌∷◌, ◌++◌, None, refl, sym, ap, ◌∙◌, append-nil, append_assoc, Result, Ok, Err, OnOk}
+use Rattle.std.proofs.Common.{◌≡◌, ℕ, ◌+◌, List, [], ◌∷◌, ◌++◌, None, refl, sym, subst, ap, ◌∙◌, append-nil, append_assoc, Result, Ok, Err, IfOk, OnOk}
+use Rattle.std.specs.Result.{result_and}
 use Rattle.desk_model.specs.Tables.{Tables}
 use Rattle.desk_model.specs.Effect.{effect, effects, swept}
 use Rattle.desk_model.specs.Change.{changes, all_changes, recorded_changes, sweep_changes}
@@ -123,3 +124,15 @@ recorded_as m B es done other counters others c r h = record { changes = c ∙ h
 pub both_ok : {T E : Type 0} {P Q S : Type 0} (r : Result T E) → OnOk r P → OnOk r Q → (P → Q → S) → OnOk r S
 both_ok (Ok x) p q k = k p q
 both_ok (Err e) p q k = tt
+
+-- a step, and then a value: what the step gives where it went well
+pub and_ok : {T U E : Type 0} {P : Type 0} (Q : Type 0) (r : Result T E) (x : U) (s : Result U E) → s ≡ result_and r (Ok x)
+    → OnOk r P → (P → Q) → OnOk s Q
+and_ok Q (Ok y) x s is p k = subst (λ t. OnOk t Q) (sym is) (k p)
+and_ok Q (Err e) x s is p k = subst (λ t. OnOk t Q) (sym is) tt
+
+-- and what is then so of the value
+pub and_gives : {T U E : Type 0} {P : Type 0} (F : U → Type 0) (r : Result T E) (x : U) (s : Result U E) → s ≡ result_and r (Ok x)
+    → OnOk r P → (P → F x) → IfOk s F
+and_gives F (Ok y) x s is p k = subst (λ t. IfOk t F) (sym is) (k p)
+and_gives F (Err e) x s is p k = subst (λ t. IfOk t F) (sym is) tt

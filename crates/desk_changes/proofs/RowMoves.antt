@@ -1,6 +1,6 @@
 -- Rows that an entry moves.
 use Rattle.std.proofs.Common.{◌≡◌, ◌≤◌, ◌<◌, ◌+◌, ℕ, Bool, true, false, cond, List, [], ◌∷◌, ◌++◌, map, filter, length, drop}
-use Rattle.std.proofs.Common.{get_or, Option, Some, None, refl, sym, ap, ◌∙◌, append_assoc, append-nil}
+use Rattle.std.proofs.Common.{get_or, Option, Some, None, Result, Ok, Err, IfOk, IsOkAnd, OnOk, refl, sym, ap, ◌∙◌, append_assoc, append-nil}
 use Rattle.std.proofs.lemmas.List.{at_drop_all, at_drop_more, map-append}
 use Rattle.std.specs.Prelude.{◌==◌, ◌&&◌, ◌||◌, find, unwrap_or}
 use Rattle.std.specs.Option.{option_map}
@@ -103,6 +103,18 @@ touches-step touched move x xs before after whole row pushed is kept =
     ∙ append_assoc before (row_of (touched_one touched move x)) (map move (filter touched xs))
     ∙ ap (λ l. before ++ l) (sym (touched-one touched move x xs))
     ∙ kept
+
+-- the same of what a step gives, which went well
+pub touches-given : {X E : Type 0} (touched : X → Bool) (move : X → X) (x : X) (xs before after whole : List X) (row : Result (Option X) E) →
+    IsOkAnd row (λ o. after ≡ before ++ row_of o) → IfOk row (λ o. o ≡ touched_one touched move x)
+    → before ++ map move (filter touched (x ∷ xs)) ≡ whole → after ++ map move (filter touched xs) ≡ whole
+touches-given touched move x xs before after whole (Ok row) pushed is kept = touches-step touched move x xs before after whole row pushed is kept
+touches-given touched move x xs before after whole (Err e) pushed is kept = absurd pushed
+
+-- what a step gives that went well
+pub went : {T E P : Type 0} (Q : T → Type 0) (r : Result T E) → IsOkAnd r Q → OnOk r P → P
+went Q (Ok x) is p = p
+went Q (Err e) is p = absurd is
 
 -- a test finds among the touched rows, moved, what it finds among all rows then, where it passes none but touched ones
 pub find-touched : {X : Type 0} (test touched : X → Bool) (move : X → X) → ((x : X) → test x ≡ true → touched x ≡ true) →

@@ -1,5 +1,5 @@
 //! Rows as a move leaves them, and the changes that this makes.
-ghost use Rattle.std.specs.Prelude.{◌≡◌, ◌==◌, ◌++◌, ◌∷◌, [], cond, map, find, option_copied, option_map, IfOk, OnOk};
+ghost use Rattle.std.specs.Prelude.{◌≡◌, ◌==◌, ◌++◌, ◌∷◌, [], cond, map, find, option_copied, option_map, IfOk, IsOkAnd, OnOk};
 ghost use Rattle.desk_model.specs.Derived.{authorization_numbered, numbers_of, stored_statuses};
 ghost use Rattle.desk_model.specs.Entry.{entry_of};
 ghost use Rattle.desk_model.specs.Effect.{has_row, swept_authorization, swept_order, noted_account, touches_account, touches_authorization, touches_order};
@@ -61,6 +61,14 @@ impl MovedRows {
     }
 }
 
+/// Adds a change to the changes.
+pub(crate) fn push_change(changes: &mut Vec<Change>, change: Change) -> Result<(), AllocError>
+    ensures { OnOk result (changes.new.items ≡ changes.old.items ++ change ∷ []) }
+{
+    changes.push(change)?;
+    Ok(())
+}
+
 // Adds the row to the rows, if there is one.
 fn push_row<R: Drop>(rows: &mut Vec<R>, row: Option<R>) -> Result<(), AllocError>
     ensures { OnOk result (rows.new.items ≡ rows.old.items ++ row_of row) }
@@ -69,6 +77,16 @@ fn push_row<R: Drop>(rows: &mut Vec<R>, row: Option<R>) -> Result<(), AllocError
         rows.push(row)?;
     }
     Ok(())
+}
+
+// Adds the row that a move leaves, if it touches one.
+fn push_moved<R: Drop>(
+    rows: &mut Vec<R>,
+    moved: Result<Option<R>, AllocError>,
+) -> Result<(), AllocError>
+    ensures { OnOk result (IsOkAnd moved (λ row. rows.new.items ≡ rows.old.items ++ row_of row)) }
+{
+    push_row(rows, moved?)
 }
 
 // ---- accounts
@@ -82,7 +100,7 @@ fn put_account(
     ensures { OnOk result (changes.new.items ≡ changes.old.items ++ map PutAccount (cond (account_differs before.now after.now) (after.now ∷ []) [])) }
 {
     if account_differs(before, after) {
-        changes.push(Change::PutAccount(after.clone()?))?;
+        push_change(changes, Change::PutAccount(after.clone()?))?;
     }
     Ok(())
 }
@@ -120,8 +138,8 @@ pub(crate) fn put_accounts(
 {
     let mut rows = Vec::new(alloc);
     for row in book.accounts().iter() {
-        let next = move_account(changes, moved, moment, row)?;
-        push_row(&mut rows, next)?;
+        let next = move_account(changes, moved, moment, row);
+        push_moved(&mut rows, next)?;
     }
     Ok(rows)
 }
@@ -163,7 +181,7 @@ fn put_authorization(
         ++ map PutAuthorization (cond (authorization_differs before.now after.now) (after.now ∷ []) [])) }
 {
     if authorization_differs(before, after) {
-        changes.push(Change::PutAuthorization(after.clone()?))?;
+        push_change(changes, Change::PutAuthorization(after.clone()?))?;
     }
     Ok(())
 }
@@ -182,8 +200,7 @@ fn restate_authorization(
     ensures row { IfOk result (λ r. r ≡ stated_authorization (entry_of moved.now) moment standing.now) }
 {
     let next = stated_authorization(alloc, moved, moment, standing)?;
-    put_authorization(changes, standing, &next)?;
-    Ok(next)
+    put_authorization(changes, standing, &next).and(Ok(next))
 }
 
 // The authorization as a move leaves it, if it touches it, with the change that this makes.
@@ -204,8 +221,9 @@ fn move_authorization(
         return Ok(None);
     }
     let standing = standing_authorization(moment, row)?;
-    let next = restate_authorization(changes, alloc, moved, moment, &standing)?;
-    Ok(Some(next))
+    let next = restate_authorization(changes, alloc, moved, moment, &standing);
+    drop(standing);
+    Ok(Some(next?))
 }
 
 /// Puts the authorizations that a move changes, and gives those that it touches.
@@ -223,8 +241,8 @@ pub(crate) fn put_authorizations(
 {
     let mut rows = Vec::new(alloc);
     for row in book.authorizations().iter() {
-        let next = move_authorization(changes, alloc, moved, moment, row)?;
-        push_row(&mut rows, next)?;
+        let next = move_authorization(changes, alloc, moved, moment, row);
+        push_moved(&mut rows, next)?;
     }
     Ok(rows)
 }
@@ -297,7 +315,6 @@ fn stated_order(
     requires { after.now ≡ authorizations_moved (entry_of moved.now) moment book.now.authorizations }
     ensures { IfOk result (λ r. r ≡ stated_order (entry_of moved.now) moment book.now.authorizations standing.now) }
 {
-    let mut stated = noted_order(moved, moment, standing)?;
     let statuses = statuses_after(
         alloc,
         book,
@@ -306,6 +323,7 @@ fn stated_order(
         moment,
         standing.listed.as_slice(),
     )?;
+    let mut stated = noted_order(moved, moment, standing)?;
     stated.status = derived_order(moment, &stated, &statuses);
     Ok(stated)
 }
@@ -319,7 +337,7 @@ fn put_order(
     ensures { OnOk result (changes.new.items ≡ changes.old.items ++ map PutOrder (cond (order_differs before.now after.now) (after.now ∷ []) [])) }
 {
     if order_differs(before, after) {
-        changes.push(Change::PutOrder(after.clone()?))?;
+        push_change(changes, Change::PutOrder(after.clone()?))?;
     }
     Ok(())
 }
@@ -341,8 +359,7 @@ fn restate_order(
     ensures row { IfOk result (λ r. r ≡ stated_order (entry_of moved.now) moment book.now.authorizations standing.now) }
 {
     let next = stated_order(alloc, book, moved, after, moment, standing)?;
-    put_order(changes, standing, &next)?;
-    Ok(next)
+    put_order(changes, standing, &next).and(Ok(next))
 }
 
 // The order as a move leaves it, if it touches it, with the change that this makes.
@@ -366,8 +383,9 @@ fn move_order(
         return Ok(None);
     }
     let standing = standing_order(book, moment, row)?;
-    let next = restate_order(changes, alloc, book, moved, after, moment, &standing)?;
-    Ok(Some(next))
+    let next = restate_order(changes, alloc, book, moved, after, moment, &standing);
+    drop(standing);
+    Ok(Some(next?))
 }
 
 /// Puts the orders that a move changes, by the authorizations that it touches, and gives those that it touches.
@@ -387,8 +405,8 @@ pub(crate) fn put_orders(
 {
     let mut rows = Vec::new(alloc);
     for row in book.orders().iter() {
-        let next = move_order(changes, alloc, book, moved, after, moment, row)?;
-        push_row(&mut rows, next)?;
+        let next = move_order(changes, alloc, book, moved, after, moment, row);
+        push_moved(&mut rows, next)?;
     }
     Ok(rows)
 }

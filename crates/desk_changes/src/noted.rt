@@ -196,9 +196,10 @@ pub(crate) fn noted_authorization(
 ) -> Result<AuthorizationRow, AllocError>
     ensures { IfOk result (λ r. r ≡ noted_authorization (entry_of moved.now) moment row.now) }
 {
+    let challenges = noted_challenges(alloc, moved, moment, row.challenges.as_slice())?;
     let mut noted = row.clone()?;
     noted.ended = end_after(moved, moment, row);
-    noted.challenges = noted_challenges(alloc, moved, moment, row.challenges.as_slice())?;
+    noted.challenges = challenges;
     Ok(noted)
 }
 
@@ -290,6 +291,5 @@ pub(crate) fn noted_order(moved: &Move, moment: u64, row: &OrderRow) -> Result<O
     ensures { IfOk result (λ r. r ≡ noted_order (entry_of moved.now) moment row.now) }
 {
     let mut noted = row.clone()?;
-    note_dates(&mut noted, moved, moment)?;
-    Ok(noted)
+    note_dates(&mut noted, moved, moment).and(Ok(noted))
 }

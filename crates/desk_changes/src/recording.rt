@@ -16,7 +16,7 @@ ghost use Rattle.desk_model.specs.declared.rows.Change.TheVariants.{PutMeta, Put
 ghost use Rattle.desk_model.specs.declared.status.AccountStatus.TheVariants as account;
 
 use crate::making::{Making, push_authorizations, push_places, statuses_of};
-use crate::moved::{MovedRows, put_accounts, put_authorizations, put_orders};
+use crate::moved::{MovedRows, push_change, put_accounts, put_authorizations, put_orders};
 use desk_book::{Book, derived_order};
 use desk_model::{
     AccountRow, AccountStatus, AuthorizationRow, Change, Clock, Counters, Jwk, Meta, Move, Nonce,
@@ -66,8 +66,7 @@ impl Recording {
             counters,
         } = self;
         let policy = policy.clone()?;
-        changes.push(Change::PutMeta(Meta { policy, counters }))?;
-        Ok(changes)
+        push_change(&mut changes, Change::PutMeta(Meta { policy, counters })).and(Ok(changes))
     }
 
     // Records a change.
@@ -75,8 +74,7 @@ impl Recording {
         ensures changes { OnOk result (self.new.changes.items ≡ self.old.changes.items ++ change ∷ []) }
         ensures counters { OnOk result (self.new.counters ≡ self.old.counters) }
     {
-        self.changes.push(change)?;
-        Ok(())
+        push_change(&mut self.changes, change)
     }
 
     /// Spends the nonce of a serial.
@@ -156,8 +154,7 @@ impl Recording {
             ended: None,
             status: AccountStatus::Valid,
         };
-        self.push(Change::PutAccount(row.clone()?))?;
-        Ok(row)
+        self.push(Change::PutAccount(row.clone()?)).and(Ok(row))
     }
 
     /// Records a move of rows of a book, as they stand at the moment, and gives the rows that it touches, as it leaves them.
@@ -258,8 +255,7 @@ impl Recording {
         let rows = self.make_rows(alloc, policy, account, wanted)?;
         let order = self.next_order(alloc, policy, account, &rows)?;
         self.counters.orders += 1;
-        self.push_made(rows, &order)?;
-        Ok(order)
+        self.push_made(rows, &order).and(Ok(order))
     }
 
     // The authorizations of the next order, which are counted.
@@ -293,8 +289,7 @@ impl Recording {
         ensures counters { OnOk result (self.new.counters ≡ self.old.counters) }
     {
         put_made(&mut self.changes, rows)?;
-        self.changes.push(Change::PutOrder(order.clone()?))?;
-        Ok(())
+        self.push(Change::PutOrder(order.clone()?))
     }
 
     // What the authorizations of the next order have in common.
@@ -345,7 +340,7 @@ fn put_made(changes: &mut Vec<Change>, rows: Vec<AuthorizationRow>) -> Result<()
     ensures { OnOk result (changes.new.items ≡ changes.old.items ++ map PutAuthorization rows.items) }
 {
     for row in rows {
-        changes.push(Change::PutAuthorization(row))?;
+        push_change(changes, Change::PutAuthorization(row))?;
     }
     Ok(())
 }

@@ -49,7 +49,9 @@ pub(crate) fn say<K: Storage + Drop>(
         Ok(reply) => reply,
         Err(cause) => return Err(cause),
     };
-    match reply_text(alloc, desk.base(), &reply, head_only) {
+    let text = reply_text(alloc, desk.base(), &reply, head_only);
+    drop(reply);
+    match text {
         Ok(text) => Ok(text),
         Err(_) => Err(Cause::Text),
     }
@@ -73,7 +75,9 @@ fn reply_to<K: Storage + Drop>(
             let Ok(call) = call_of(alloc, at, random, ask) else {
                 return Err(Cause::Reading);
             };
-            match answer(alloc, desk, &call) {
+            let answered = answer(alloc, desk, &call);
+            drop(call);
+            match answered {
                 Ok(reply) => Ok(reply),
                 Err(fault) => Err(Cause::Desk(fault)),
             }

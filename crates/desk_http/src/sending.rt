@@ -59,7 +59,9 @@ fn inability_text(
     ensures { IfOk result (λ text. text.items ≡ reply_bytes base.now (refused_request ServerInternal No index) head_only) }
 {
     let reply = refusal_reply(alloc, Refusal::ServerInternal, Allow::No, index);
-    reply_text(alloc, base, &reply, head_only)
+    let text = reply_text(alloc, base, &reply, head_only);
+    drop(reply);
+    text
 }
 
 /// Writes a text and flushes the writer.

@@ -2,11 +2,11 @@ use Rattle.std.proofs.Common.{◌≡◌, sym, subst, Ok}
 use Rattle.desk_http.specs.Serving.{IsAnswer, Responds, call_of}
 use Rattle.desk_http.proofs.saying.reply_to.Goals as goal
 
-pub returns-in-Ok-answer-clause-reply : goal.returns-in-Ok-answer-clause-reply
-returns-in-Ok-answer-clause-reply g c =
+pub returns-in-Ok-answered-clause-reply : goal.returns-in-Ok-answered-clause-reply
+returns-in-Ok-answered-clause-reply g c =
     let v = g.K.Storage.sight in
     let met = g.K.Storage.may_meet in
     let made : c.in-Ok.call ≡ call_of c.args.at c.args.random.now c.in-Asks.ask = c.in-Ok.ensures in
-    subst (λ q. Responds v met c.args.at c.args.random.now c.args.desk.now q (Ok c.in-Ok-answer.reply) c.answer.new.desk) (sym c.in-Asks.is)
-    (subst (λ call. IsAnswer v met call c.args.desk.now c.answer.new.desk (Ok c.in-Ok-answer.reply)) made
-    (subst (λ result. IsAnswer v met c.in-Ok.call c.args.desk.now c.answer.new.desk result) c.in-Ok-answer.is c.answer.ensures))
+    subst (λ q. Responds v met c.args.at c.args.random.now c.args.desk.now q (Ok c.in-Ok-answered.reply) c.answer-answered.new.desk) (sym c.in-Asks.is)
+    (subst (λ call. IsAnswer v met call c.args.desk.now c.answer-answered.new.desk (Ok c.in-Ok-answered.reply)) made
+    (subst (λ result. IsAnswer v met c.in-Ok.call c.args.desk.now c.answer-answered.new.desk result) c.in-Ok-answered.is c.answer-answered.ensures))

@@ -5,11 +5,12 @@ use Rattle.desk_model.specs.declared.rows.Counters.{Counters}
 use Rattle.desk_laws.specs.Ordered.{Ascends}
 use Rattle.desk_changes.specs.Made.{bare_order, next_order, ordered_counters}
 use Rattle.desk_changes.proofs.MadeRows.{made_ascends}
+use Rattle.desk_changes.proofs.Recordings.{and_gives, and_ok}
 use Rattle.desk_changes.proofs.recording.Recording.push_order.Goals as goal
-use Rattle.desk_changes.proofs.recording.Recording.push_order.Goals.{In_ok-push_made}
+use Rattle.desk_changes.proofs.recording.Recording.push_order.Goals.{After-and}
 
 -- the order beside the rows that are made
-order_is : (c : In_ok-push_made) → c.in_ok-order.order ≡ next_order c.args.policy.now c.args.self.now.counters c.args.account c.args.wanted.now
+order_is : (c : After-and) → c.in_ok-order.order ≡ next_order c.args.policy.now c.args.self.now.counters c.args.account c.args.wanted.now
 order_is c =
     c.in_ok-order.ensures (c.args.self.now.counters.authorizations + 1)
     (subst (Ascends (λ r. r.number) (c.args.self.now.counters.authorizations + 1)) (sym (c.deref.ensures.value ∙ c.in_ok-rows.ensures.rows))
@@ -21,17 +22,20 @@ order_is c =
     (bare_order c.args.policy.now c.args.self.now.counters c.args.account rows)) (c.deref.ensures.value ∙ c.in_ok-rows.ensures.rows)
 
 pub returns-clause-order : goal.returns-clause-order
-returns-clause-order c = order_is c
+returns-clause-order c =
+    and_gives _ c.push_made.result c.in_ok-order.order c.and.result c.and.ensures c.push_made.ensures.changes (λ made. order_is c)
 
 -- the counters after them
-counters_are : (c : In_ok-push_made) → record c.make_rows.new.self.counters { orders = c.make_rows.new.self.counters.orders + 1 }
+counters_are : (c : After-and) → record c.make_rows.new.self.counters { orders = c.make_rows.new.self.counters.orders + 1 }
     ≡ ordered_counters c.args.policy.now c.args.self.now.counters c.args.account c.args.wanted.now
 counters_are c = ap (λ (x : Counters). record x { orders = x.orders + 1 }) c.in_ok-rows.ensures.counters
 
 pub returns-clause-counters : goal.returns-clause-counters
-returns-clause-counters c = c.in_ok-push_made.ensures.counters ∙ counters_are c
+returns-clause-counters c =
+    and_ok _ c.push_made.result c.in_ok-order.order c.and.result c.and.ensures c.push_made.ensures.counters (λ same. same ∙ counters_are c)
 
 pub returns-clause-changes : goal.returns-clause-changes
 returns-clause-changes c =
-    c.in_ok-push_made.ensures.changes
-    ∙ (λ i. c.in_ok-rows.ensures.changes i ++ (map PutAuthorization (c.in_ok-rows.ensures.rows i) ++ PutOrder (order_is c i) ∷ []))
+    and_ok _ c.push_made.result c.in_ok-order.order c.and.result c.and.ensures c.push_made.ensures.changes
+    (λ made. made
+    ∙ (λ i. c.in_ok-rows.ensures.changes i ++ (map PutAuthorization (c.in_ok-rows.ensures.rows i) ++ PutOrder (order_is c i) ∷ [])))
