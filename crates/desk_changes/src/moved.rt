@@ -29,35 +29,33 @@ pub struct MovedRows {
 
 impl MovedRows {
     /// The account of a number.
-    pub fn account(self, number: u64) -> Option<AccountRow>
-        ensures { result ≡ find (λ a. a.number == number) self.accounts.items }
+    pub fn account(&self, number: u64) -> Option<&AccountRow>
+        ensures { option_copied result ≡ find (λ a. a.number == number) self.now.accounts.items }
     {
-        self.accounts.into_iter().find(|row| row.number == number)
+        self.accounts.iter().find(|row| row.number == number)
     }
 
     /// The authorization of a number.
-    pub fn authorization(self, number: u64) -> Option<AuthorizationRow>
-        ensures { result ≡ find (λ a. a.number == number) self.authorizations.items }
+    pub fn authorization(&self, number: u64) -> Option<&AuthorizationRow>
+        ensures { option_copied result ≡ find (λ a. a.number == number) self.now.authorizations.items }
     {
-        self.authorizations
-            .into_iter()
-            .find(|row| row.number == number)
+        self.authorizations.iter().find(|row| row.number == number)
     }
 
     /// The authorization that a challenge is of.
-    pub fn owner(self, challenge: u64) -> Option<AuthorizationRow>
-        ensures { result ≡ find (has_row challenge) self.authorizations.items }
+    pub fn owner(&self, challenge: u64) -> Option<&AuthorizationRow>
+        ensures { option_copied result ≡ find (has_row challenge) self.now.authorizations.items }
     {
         self.authorizations
-            .into_iter()
+            .iter()
             .find(|row| has_challenge(row, challenge))
     }
 
     /// The order of a number.
-    pub fn order(self, number: u64) -> Option<OrderRow>
-        ensures { result ≡ find (λ o. o.number == number) self.orders.items }
+    pub fn order(&self, number: u64) -> Option<&OrderRow>
+        ensures { option_copied result ≡ find (λ o. o.number == number) self.now.orders.items }
     {
-        self.orders.into_iter().find(|row| row.number == number)
+        self.orders.iter().find(|row| row.number == number)
     }
 }
 

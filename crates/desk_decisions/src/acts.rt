@@ -41,8 +41,7 @@ fn act_on_rows(
         HasTexts T → r ≡ moved_reply T moved.now)) }
 {
     let rows = recording.shift(alloc, book, moved)?;
-    let reply = show_moved(alloc, book, moved, rows)?;
-    Ok(reply)
+    show_moved(alloc, book, moved, &rows)
 }
 
 // Opens an account, and shows it.
@@ -61,8 +60,7 @@ fn act_on_account(
         → r ≡ made_account (effects m (swept m book.now) (opened key contacts ∷ []))) }
 {
     let row = recording.open(key, contacts)?;
-    let reply = located_account(alloc, &book.meta().policy, 201, &row)?;
-    Ok(reply)
+    located_account(alloc, &book.meta().policy, 201, &row)
 }
 
 // The names of a new order.
@@ -88,8 +86,7 @@ fn made_order_reply(
         → row.now.expires ≤ last_end → r ≡ located_order 201 T row.now) }
 {
     let names = names_of(alloc, wanted)?;
-    let reply = located_order(alloc, policy, 201, row, &names)?;
-    Ok(reply)
+    located_order(alloc, policy, 201, row, &names)
 }
 
 // Makes an order, and shows it.
@@ -112,8 +109,7 @@ fn act_on_order(
 {
     let policy = &book.meta().policy;
     let row = recording.order(alloc, policy, account, wanted)?;
-    let reply = made_order_reply(alloc, policy, &row, wanted)?;
-    Ok(reply)
+    made_order_reply(alloc, policy, &row, wanted)
 }
 
 /// What a verdict records, and its reply without a nonce; a refusal has the link to the directory.

@@ -68,8 +68,7 @@ fn show_order(alloc: Global, book: &Book, row: &OrderRow) -> Result<Reply, Alloc
     ensures { IfOk result (λ r. (T : Tables) → IsNamedAs T book.now → row.now.expires ≤ last_end → r ≡ order_reply 200 T row.now) }
 {
     let names = order_names(alloc, book, row)?;
-    let reply = order_reply(alloc, &book.meta().policy, row, &names)?;
-    Ok(reply)
+    order_reply(alloc, &book.meta().policy, row, &names)
 }
 
 // An order that was finalized has its Location (RFC 8555, 7.4).
@@ -77,8 +76,7 @@ fn show_finalized_order(alloc: Global, book: &Book, row: &OrderRow) -> Result<Re
     ensures { IfOk result (λ r. (T : Tables) → IsNamedAs T book.now → row.now.expires ≤ last_end → r ≡ located_order 200 T row.now) }
 {
     let names = order_names(alloc, book, row)?;
-    let reply = located_order(alloc, &book.meta().policy, 200, row, &names)?;
-    Ok(reply)
+    located_order(alloc, &book.meta().policy, 200, row, &names)
 }
 
 // The certificate of an order that has one.
@@ -123,8 +121,7 @@ fn show_order_at(alloc: Global, book: &Book, at: &At, number: u64) -> Result<Rep
         → r ≡ shown (order_reply 200 at.now) (order_on at.now number)) }
 {
     let row = order_at(at, number)?;
-    let reply = show_order(alloc, book, &row)?;
-    Ok(reply)
+    show_order(alloc, book, &row)
 }
 
 // What is shown of an authorization at a moment.
@@ -133,8 +130,7 @@ fn show_authorization_at(alloc: Global, at: &At, number: u64) -> Result<Reply, A
     ensures { IfOk result (λ r. HasTexts at.now → r ≡ shown (authorization_reply at.now) (authorization_on at.now number)) }
 {
     let row = authorization_at(at, number)?;
-    let reply = authorization_reply(alloc, at.policy(), &row)?;
-    Ok(reply)
+    authorization_reply(alloc, at.policy(), &row)
 }
 
 // What is shown of a challenge at a moment.
@@ -193,33 +189,33 @@ pub(crate) fn show_moved(
     alloc: Global,
     book: &Book,
     moved: &Move,
-    rows: MovedRows,
+    rows: &MovedRows,
 ) -> Result<Reply, AllocError>
-    requires among { IsAmong moved.now rows.accounts.items rows.authorizations.items rows.orders.items }
-    ensures { IfOk result (λ r. (m : ℕ) → AreMoved m book.now (entry_of moved.now) rows.accounts.items rows.authorizations.items rows.orders.items
+    requires among { IsAmong moved.now rows.now.accounts.items rows.now.authorizations.items rows.now.orders.items }
+    ensures { IfOk result (λ r. (m : ℕ) → AreMoved m book.now (entry_of moved.now) rows.now.accounts.items rows.now.authorizations.items rows.now.orders.items
         → (let T : Tables = effects m (swept m book.now) (entry_of moved.now ∷ []) in HasTexts T → r ≡ moved_reply T moved.now)) }
 {
     let policy = &book.meta().policy;
     match moved {
         Move::ContactsChanged(number, _) => {
-            account_reply(alloc, policy, &rows.account(*number).unwrap())
+            account_reply(alloc, policy, rows.account(*number).unwrap())
         }
         Move::AccountEnded(number, _) => {
-            account_reply(alloc, policy, &rows.account(*number).unwrap())
+            account_reply(alloc, policy, rows.account(*number).unwrap())
         }
         Move::Answered(number) => {
-            show_client_challenge(alloc, policy, *number, &rows.owner(*number).unwrap())
+            show_client_challenge(alloc, policy, *number, rows.owner(*number).unwrap())
         }
         Move::Reported(number, _) => {
-            show_challenge(alloc, policy, *number, &rows.owner(*number).unwrap())
+            show_challenge(alloc, policy, *number, rows.owner(*number).unwrap())
         }
         Move::AuthorizationEnded(number, _) => {
-            authorization_reply(alloc, policy, &rows.authorization(*number).unwrap())
+            authorization_reply(alloc, policy, rows.authorization(*number).unwrap())
         }
         Move::Finalized(number, _) => {
-            show_finalized_order(alloc, book, &rows.order(*number).unwrap())
+            show_finalized_order(alloc, book, rows.order(*number).unwrap())
         }
-        Move::Certified(number, _) => show_order(alloc, book, &rows.order(*number).unwrap()),
-        Move::Failed(number, _) => show_order(alloc, book, &rows.order(*number).unwrap()),
+        Move::Certified(number, _) => show_order(alloc, book, rows.order(*number).unwrap()),
+        Move::Failed(number, _) => show_order(alloc, book, rows.order(*number).unwrap()),
     }
 }

@@ -5,12 +5,14 @@ use Rattle.desk_model.specs.Tables.{Tables}
 use Rattle.desk_model.specs.declared.entry.Entry.TheVariants.{Opened as opened}
 use Rattle.desk_model.specs.declared.rows.Meta.{Meta}
 use Rattle.desk_decisions.proofs.ActingRows.{opened_found}
+use Rattle.desk_decisions.proofs.ShownTexts.{ok_so}
 use Rattle.desk_decisions.proofs.acts.act_on_account.Goals as goal
 
 pub returns-clause-reply : goal.returns-clause-reply
 returns-clause-reply c =
-    λ m at ordered.
+    ok_so c.located_account.result (λ r said m at ordered.
     let T : Tables = effect m (swept m c.args.book.now) (opened c.args.key c.args.contacts) in
-    c.in_ok-reply.ensures T (sym (ap (λ (x : Meta). x.policy) c.meta.ensures))
+    said T (sym (ap (λ (x : Meta). x.policy) c.meta.ensures))
     ∙ ap (shown (located_account 201 T)) (ap (λ r. Some r) c.in_ok-row.ensures.account
-    ∙ sym (opened_found m c.args.book.now c.args.recording.now.counters c.args.key c.args.contacts at ordered))
+    ∙ sym (opened_found m c.args.book.now c.args.recording.now.counters c.args.key c.args.contacts at ordered)))
+    c.located_account.ensures

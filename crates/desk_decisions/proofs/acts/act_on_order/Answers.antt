@@ -9,23 +9,28 @@ use Rattle.desk_model.specs.declared.entry.Entry.TheVariants.{Ordered as ordered
 use Rattle.desk_model.specs.declared.rows.Meta.{Meta}
 use Rattle.desk_model.specs.declared.rows.OrderRow.{OrderRow}
 use Rattle.desk_changes.specs.Made.{next_order}
+use Rattle.desk_decisions.proofs.Acting.{where_answered}
 use Rattle.desk_decisions.proofs.ActingRows.{ordered_found, ordered_names, ordered_text}
+use Rattle.desk_decisions.proofs.ShownTexts.{ok_so}
 use Rattle.desk_decisions.proofs.acts.act_on_order.Goals as goal
 
 pub returns-clause-recorded : goal.returns-clause-recorded
-returns-clause-recorded c = λ m es. c.in_ok-row.ensures.recorded m c.args.book.now es (ap (λ (x : Meta). x.policy) (sym c.meta.ensures))
+returns-clause-recorded c =
+    where_answered c.made_order_reply.result
+    (λ m es. c.in_ok-row.ensures.recorded m c.args.book.now es (ap (λ (x : Meta). x.policy) (sym c.meta.ensures)))
 
 pub returns-clause-reply : goal.returns-clause-reply
 returns-clause-reply c =
-    λ m at is texts.
+    ok_so c.made_order_reply.result (λ r said m at is texts.
     let policy : c.args.book.now.meta.policy ≡ c.meta.result.now.policy = ap (λ (x : Meta). x.policy) (sym c.meta.ensures) in
     let T : Tables = effect m (swept m c.args.book.now) (ordered c.args.account c.args.wanted.now) in
     let row : c.in_ok-row.row ≡ next_order c.args.book.now.meta.policy c.args.recording.now.counters c.args.account c.args.wanted.now =
     c.in_ok-row.ensures.order ∙ ap (λ (p : Terms). next_order p c.args.recording.now.counters c.args.account c.args.wanted.now) (sym policy) in
-    c.in_ok-reply.ensures T policy
+    said T policy
     (ap (λ r. map (λ a. a.name) (listed_rows T r)) row
     ∙ ordered_names m c.args.book.now c.args.recording.now.counters c.args.account c.args.wanted.now at is)
     (subst (λ (r : OrderRow). r.expires ≤ last_end) (sym row)
     (ordered_text m c.args.book.now c.args.recording.now.counters c.args.account c.args.wanted.now at is texts))
     ∙ ap (shown (located_order 201 T)) (ap (λ r. Some r) row
-    ∙ sym (ordered_found m c.args.book.now c.args.recording.now.counters c.args.account c.args.wanted.now at is))
+    ∙ sym (ordered_found m c.args.book.now c.args.recording.now.counters c.args.account c.args.wanted.now at is)))
+    c.made_order_reply.ensures

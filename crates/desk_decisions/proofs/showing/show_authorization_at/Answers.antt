@@ -3,12 +3,14 @@ use Rattle.std.specs.Prelude.{◌==◌}
 use Rattle.desk_laws.proofs.Finds.{each_found}
 use Rattle.desk_model.specs.Shown.{authorization_reply, shown}
 use Rattle.desk_replies.specs.Shown.{HasMoments}
+use Rattle.desk_decisions.proofs.ShownTexts.{ok_so}
 use Rattle.desk_decisions.proofs.showing.show_authorization_at.Goals as goal
 
 pub returns : goal.returns
 returns c =
-    λ texts.
     let T = c.args.at.now in
-    c.in_ok-reply.ensures T (sym c.policy.ensures)
+    ok_so c.authorization_reply.result (λ r said texts.
+    said T (sym c.policy.ensures)
     (each_found HasMoments (λ a. a.number == c.args.number) T.authorizations _ texts.authorizations c.in_ok-row.ensures)
-    ∙ ap (shown (authorization_reply T)) (sym c.in_ok-row.ensures)
+    ∙ ap (shown (authorization_reply T)) (sym c.in_ok-row.ensures))
+    c.authorization_reply.ensures

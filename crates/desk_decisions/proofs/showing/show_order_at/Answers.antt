@@ -4,12 +4,14 @@ use Rattle.desk_laws.proofs.Finds.{each_found}
 use Rattle.desk_model.specs.Limits.{last_end}
 use Rattle.desk_model.specs.Shown.{order_reply, shown}
 use Rattle.desk_decisions.proofs.MovedReplies.{named_at}
+use Rattle.desk_decisions.proofs.ShownTexts.{ok_so}
 use Rattle.desk_decisions.proofs.showing.show_order_at.Goals as goal
 
 pub returns : goal.returns
 returns c =
-    λ moment is texts.
     let T = c.args.at.now in
-    c.in_ok-reply.ensures T (named_at moment c.args.book.now T is)
+    ok_so c.show_order.result (λ r said moment is texts.
+    said T (named_at moment c.args.book.now T is)
     (each_found (λ o. o.expires ≤ last_end) (λ o. o.number == c.args.number) T.orders _ texts.orders c.in_ok-row.ensures)
-    ∙ ap (shown (order_reply 200 T)) (sym c.in_ok-row.ensures)
+    ∙ ap (shown (order_reply 200 T)) (sym c.in_ok-row.ensures))
+    c.show_order.ensures
