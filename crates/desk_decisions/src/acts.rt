@@ -136,12 +136,8 @@ pub(crate) fn act(
         Verdict::Answers(shows) => show(alloc, book, recording.counters.clock.moment(), shows),
         Verdict::Opens(key, contacts) => act_on_account(alloc, book, recording, key, contacts),
         Verdict::Orders(account, wanted) => {
-            let reply = act_on_order(alloc, book, recording, account, wanted.as_slice())?;
-            Ok(reply)
+            act_on_order(alloc, book, recording, account, wanted.as_slice())
         }
-        Verdict::Moves(moved) => {
-            let reply = act_on_rows(alloc, book, recording, &moved)?;
-            Ok(reply)
-        }
+        Verdict::Moves(moved) => act_on_rows(alloc, book, recording, &moved),
     }
 }

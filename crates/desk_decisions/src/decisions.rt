@@ -54,20 +54,24 @@ fn fresh_random(book: &Book, random: &[u8]) -> Result<[u8; 16], CoreFault>
     first_random(random)
 }
 
-// What a call records that issues a nonce and nothing else.
+// What a call records that issues a nonce and nothing else, with the random bytes of the nonce.
 fn issue(
     alloc: Global,
     book: &Book,
     moment: u64,
-    random: [u8; 16],
-) -> Result<Vec<Change>, AllocError>
-    requires moment { moment ≤ last_moment }
-    requires nonces { book.now.meta.counters.nonces < last_number }
-    ensures { IfOk result (λ v. v.items ≡ recorded_changes moment book.now (issued_entry random ∷ [])) }
+    random: &[u8],
+) -> Result<(Vec<Change>, [u8; 16]), CoreFault>
+    requires { moment ≤ last_moment }
+    ensures changes { IfOk result (λ r. r.0.items ≡ recorded_changes moment book.now (issued_entry (take 16 random.now) ∷ [])) }
+    ensures bytes { IfOk result (λ r. r.1 ≡ take 16 random.now) }
+    ensures room { IfOk result (λ _. (book.now.meta.counters.nonces < last_number) × (16 ≤ length random.now)) }
+    ensures fault { IfErr result (λ e. IsIssueFault book.now random.now e) }
 {
+    let bytes = fresh_random(book, random)?;
     let mut recording = Recording::begin(alloc, book, moment)?;
-    recording.issue(random)?;
-    recording.finish(&book.meta().policy)
+    recording.issue(bytes)?;
+    let changes = recording.finish(&book.meta().policy)?;
+    Ok((changes, bytes))
 }
 
 // Issues a nonce and nothing else, with this reply.
@@ -84,8 +88,7 @@ fn issued(
     ensures room { IfOk result (λ _. (book.now.meta.counters.nonces < last_number) × (16 ≤ length random.now)) }
     ensures fault { IfErr result (λ e. IsIssueFault book.now random.now e) }
 {
-    let bytes = fresh_random(book, random)?;
-    let changes = issue(alloc, book, moment, bytes)?;
+    let (changes, bytes) = issue(alloc, book, moment, random)?;
     let last = book.meta().counters.nonces;
     let reply = with_nonce(alloc, last + 1, bytes, reply)?;
     Ok(Outcome { changes, reply })
@@ -106,23 +109,26 @@ fn outcome_of(
     Ok(Outcome { changes, reply })
 }
 
-// Begins what a signed request records: its nonce is spent, and one is issued.
+// Begins what a signed request records: its nonce is spent, and one is issued, whose random bytes it gives.
 fn begin_signed(
     alloc: Global,
     book: &Book,
     moment: u64,
     serial: u64,
-    random: [u8; 16],
-) -> Result<Recording, AllocError>
+    random: &[u8],
+) -> Result<(Recording, [u8; 16]), CoreFault>
     requires moment { moment ≤ last_moment }
     requires nonces { book.now.meta.counters.nonces < last_number }
-    ensures recorded { IfOk result (λ r. IsRecorded moment book.now (spent_entry serial ∷ issued_entry random ∷ []) r.changes.items r.counters) }
-    ensures counters { IfOk result (λ r. r.counters ≡ record book.now.meta.counters { clock = moment; nonces = book.now.meta.counters.nonces + 1 }) }
+    ensures recorded { IfOk result (λ r. IsRecorded moment book.now (spent_entry serial ∷ issued_entry r.1 ∷ []) r.0.changes.items r.0.counters) }
+    ensures counters { IfOk result (λ r. r.0.counters ≡ record book.now.meta.counters { clock = moment; nonces = book.now.meta.counters.nonces + 1 }) }
+    ensures bytes { IfOk result (λ r. (r.1 ≡ take 16 random.now) × (16 ≤ length random.now)) }
+    ensures fault { IfErr result (λ e. IsShort random.now e) }
 {
+    let bytes = first_random(random)?;
     let mut recording = Recording::begin(alloc, book, moment)?;
     recording.spend(serial)?;
-    recording.issue(random)?;
-    Ok(recording)
+    recording.issue(bytes)?;
+    Ok((recording, bytes))
 }
 
 // Carries the verdict on a signed request out, and gives the reply with the fresh nonce.
@@ -169,8 +175,7 @@ fn passed(
     ensures bytes { IfOk result (λ _. 16 ≤ length random.now) }
     ensures fault { IfErr result (λ e. IsShort random.now e) }
 {
-    let bytes = first_random(random)?;
-    let mut recording = begin_signed(alloc, book, moment, serial, bytes)?;
+    let (mut recording, bytes) = begin_signed(alloc, book, moment, serial, random)?;
     let reply = act_with_nonce(alloc, book, &mut recording, verdict, bytes);
     let outcome = outcome_of(book, recording, reply)?;
     Ok(outcome)

@@ -50,30 +50,32 @@ returns-in-Opens-clause-reply c =
     subst (λ v. IfOk c.act_on_account.result (Replies c.args.book.now c.args.recording.now.counters v)) (sym c.in-Opens.is)
     (ok_so c.act_on_account.result (λ _ it m at ordered texts. it m at ordered) c.act_on_account.ensures.reply)
 
-pub returns-in_ok-reply-in-Orders-clause-recorded : goal.returns-in_ok-reply-in-Orders-clause-recorded
-returns-in_ok-reply-in-Orders-clause-recorded c =
+pub returns-in-Orders-clause-recorded : goal.returns-in-Orders-clause-recorded
+returns-in-Orders-clause-recorded c =
     let recorded = c.args.recording.now in
     let after = c.act_on_order.new.recording in
-    subst (Records c.args.book.now recorded.changes.items recorded.counters after.changes.items after.counters)
+    subst (λ v. OnOk c.act_on_order.result
+    (Records c.args.book.now recorded.changes.items recorded.counters after.changes.items after.counters v))
     (ap (orders c.in-Orders.account) c.as_slice.ensures ∙ sym c.in-Orders.is)
-    c.in_ok-reply-in-Orders.ensures.recorded
+    c.act_on_order.ensures.recorded
 
-pub returns-in_ok-reply-in-Orders-clause-reply : goal.returns-in_ok-reply-in-Orders-clause-reply
-returns-in_ok-reply-in-Orders-clause-reply c =
-    subst (λ v. Replies c.args.book.now c.args.recording.now.counters v c.in_ok-reply-in-Orders.reply)
+pub returns-in-Orders-clause-reply : goal.returns-in-Orders-clause-reply
+returns-in-Orders-clause-reply c =
+    subst (λ v. IfOk c.act_on_order.result (Replies c.args.book.now c.args.recording.now.counters v))
     (ap (orders c.in-Orders.account) c.as_slice.ensures ∙ sym c.in-Orders.is)
-    c.in_ok-reply-in-Orders.ensures.reply
+    c.act_on_order.ensures.reply
 
-pub returns-in_ok-reply-in-Moves-clause-recorded : goal.returns-in_ok-reply-in-Moves-clause-recorded
-returns-in_ok-reply-in-Moves-clause-recorded c =
+pub returns-in-Moves-clause-recorded : goal.returns-in-Moves-clause-recorded
+returns-in-Moves-clause-recorded c =
     let recorded = c.args.recording.now in
     let after = c.act_on_rows.new.recording in
-    subst (Records c.args.book.now recorded.changes.items recorded.counters after.changes.items after.counters) (sym c.in-Moves.is)
-    (λ m es ordered. c.in_ok-reply-in-Moves.ensures.recorded m es)
+    subst (λ v. OnOk c.act_on_rows.result
+    (Records c.args.book.now recorded.changes.items recorded.counters after.changes.items after.counters v)) (sym c.in-Moves.is)
+    (ok_so c.act_on_rows.result (λ _ it m es ordered. it m es) c.act_on_rows.ensures.recorded)
 
-pub returns-in_ok-reply-in-Moves-clause-reply : goal.returns-in_ok-reply-in-Moves-clause-reply
-returns-in_ok-reply-in-Moves-clause-reply c =
+pub returns-in-Moves-clause-reply : goal.returns-in-Moves-clause-reply
+returns-in-Moves-clause-reply c =
     let book = c.args.book.now in
     let counters = c.args.recording.now.counters in
-    subst (λ v. Replies book counters v c.in_ok-reply-in-Moves.reply) (sym c.in-Moves.is)
-    (replies_move book counters c.in-Moves.moved c.in_ok-reply-in-Moves.reply c.in_ok-reply-in-Moves.ensures.reply)
+    subst (λ v. IfOk c.act_on_rows.result (Replies book counters v)) (sym c.in-Moves.is)
+    (ok_so c.act_on_rows.result (λ r. replies_move book counters c.in-Moves.moved r) c.act_on_rows.ensures.reply)

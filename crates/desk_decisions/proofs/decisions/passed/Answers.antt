@@ -19,12 +19,12 @@ issued_at c = at_issued c.args.moment c.args.book.now c.in_ok-recording.recordin
 pub returns-clause-changes : goal.returns-clause-changes
 returns-clause-changes c =
     λ ordered.
-    c.in_ok-outcome.ensures.changes c.args.moment (spent c.args.serial) (issued c.in_ok-bytes.bytes ∷ entries_of c.args.verdict)
+    c.in_ok-outcome.ensures.changes c.args.moment (spent c.args.serial) (issued c.in_ok-recording.bytes ∷ entries_of c.args.verdict)
     (ok_on c.act_with_nonce-reply.result _ c.in_ok-outcome.ensures.reply c.act_with_nonce-reply.ensures.recorded c.args.moment
-    (spent c.args.serial ∷ issued c.in_ok-bytes.bytes ∷ []) ordered
-    (untouched_nonces c.args.moment c.args.book.now c.args.serial c.in_ok-bytes.bytes)
+    (spent c.args.serial ∷ issued c.in_ok-recording.bytes ∷ []) ordered
+    (untouched_nonces c.args.moment c.args.book.now c.args.serial c.in_ok-recording.bytes)
     c.in_ok-recording.ensures.recorded)
-    ∙ ap (λ r. recorded_changes c.args.moment c.args.book.now (spent c.args.serial ∷ issued r ∷ entries_of c.args.verdict)) c.in_ok-bytes.ensures.0
+    ∙ ap (λ r. recorded_changes c.args.moment c.args.book.now (spent c.args.serial ∷ issued r ∷ entries_of c.args.verdict)) c.in_ok-recording.ensures.bytes.0
 
 pub returns-clause-reply : goal.returns-clause-reply
 returns-clause-reply c =
@@ -32,4 +32,4 @@ returns-clause-reply c =
     ok_if _ c.act_with_nonce-reply.result _ c.in_ok-outcome.ensures.reply c.act_with_nonce-reply.ensures.reply c.args.moment (issued_at c) ordered texts
     ∙ ap (λ r. with_nonce (nonce_text (c.args.book.now.meta.counters.nonces + 1) r)
     (verdict_reply true (effects c.args.moment (swept c.args.moment c.args.book.now) (entries_of c.args.verdict)) c.args.verdict))
-    c.in_ok-bytes.ensures.0
+    c.in_ok-recording.ensures.bytes.0
