@@ -189,12 +189,13 @@ fn signed_verdict(
     random: &[u8],
     signed: &Signed,
 ) -> Result<Verdict, CoreFault>
-    ensures judged { let asked = verdict_of (swept moment book.now) (drop 16 random.now) signed.now in
-        MatchResult result (λ v. (v ≡ asked) × NumbersLeft book.now.meta.counters v × BytesLeft random.now v)
-        (λ e. IsNeedFault book.now.meta.counters random.now asked e) }
+    ensures judged { MatchResult result
+        (λ v. (v ≡ verdict_of (swept moment book.now) (drop 16 random.now) signed.now) × NumbersLeft book.now.meta.counters v × BytesLeft random.now v)
+        (λ e. IsNeedFault book.now.meta.counters random.now (verdict_of (swept moment book.now) (drop 16 random.now) signed.now) e) }
     ensures there { IfOk result (λ v. NamesRows (swept moment book.now) v) }
 {
-    judge_signed(alloc, &At::new(book, moment), random, signed)
+    let at = At::new(book, moment);
+    judge_signed(alloc, &at, random, signed)
 }
 
 // A signed request whose nonce was open, by the verdict on it.

@@ -9,7 +9,7 @@ use Rattle.desk_decisions.proofs.decisions.signed_verdict.Goals as goal
 pub returns-clause-judged : goal.returns-clause-judged
 returns-clause-judged c =
     subst (λ T. IsJudged T.meta.counters c.args.random.now c.judge_signed.result
-    (signed_verdict T (drop 16 c.args.random.now) c.args.signed.now)) c.new.ensures c.judge_signed.ensures
+    (signed_verdict T (drop 16 c.args.random.now) c.args.signed.now)) c.new-at.ensures c.judge_signed.ensures
 
 pub returns-clause-there : goal.returns-clause-there
 returns-clause-there c =
