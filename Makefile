@@ -31,11 +31,12 @@ edits:
 	@echo 'Looking whether each edit that the prover must refuse still applies.'
 	@python3 scripts/edits.py check
 
-# The gate leaves the program that it proved, built and ran in crates/desk/out.
+# The gate leaves the program that it proved, built and ran in crates/desk/out. It runs as many checks side by side as there
+# are processors, each by one job.
 test: edits
 	@$(HAS_RT)
 	@echo 'Running the merge gate: every proof from nothing, the edits that must fail, every test.'
-	@start=$$SECONDS; rt ci || exit 1; echo "The gate took $$((SECONDS - start)) seconds on $$(nproc) processors."
+	@start=$$SECONDS; RT_JOBS=$${RT_JOBS:-$$(nproc)} rt ci || exit 1; echo "The gate took $$((SECONDS - start)) seconds on $$(nproc) processors."
 	@mkdir -p bin
 	@cp crates/desk/out/desk bin/desk
 	@set -o pipefail; for calls in examples/*.jsonl; do \
