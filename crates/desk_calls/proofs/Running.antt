@@ -1,11 +1,12 @@
 -- Calls that are answered one after the other.
-use Rattle.std.proofs.Common.{◌≡◌, ℕ, ◌+◌, ◌<◌, List, [], ◌∷◌, ◌++◌, length, take, drop, get_or, subst, refl, sym, ◌∙◌, ap, add-one, None, Some, Option, Ok}
-use Rattle.std.proofs.Math.Seq.{take-suc}
+use Rattle.std.proofs.Common.{◌≡◌, ℕ, ◌+◌, ◌<◌, ◌≤◌, List, [], ◌∷◌, ◌++◌, length, take, drop, get_or, subst, refl, sym, ◌∙◌, ap, add-one, None, Some, Option, Ok, Err}
+use Rattle.std.proofs.Math.Seq.{drop-cons, take-suc}
+use Rattle.std.proofs.lemmas.List.{drop_all}
 use Rattle.desk_model.specs.Entry.{History}
 use Rattle.desk_model.specs.Legal.{Legal}
 use Rattle.desk_model.specs.Tables.{picture}
 use Rattle.desk_model.specs.Decide.{decide, after}
-use Rattle.desk_model.specs.Run.{fault, run, and_reply}
+use Rattle.desk_model.specs.Run.{IsFormedCall, fault, run, and_reply}
 use Rattle.desk_model.specs.declared.call.Call.{Call}
 use Rattle.desk_model.specs.declared.reply.Reply.{Reply}
 use Rattle.desk_storage.specs.Sight.{Sight, Keeps}
@@ -41,6 +42,36 @@ module _ {S C : Type 0} (v : Sight S C) where
   answers_more old now new (c ∷ calls) [] call reply all one = absurd all
   answers_more old now new (c ∷ calls) (r ∷ replies) call reply all one =
       (all.0, all.1, answers_more all.0 now new calls replies call reply all.2 one)
+
+  -- memory that is refused before a call is made leaves the store as it is
+  pub declines : (call : Call) (here : S) → IsFormedCall call → Answers v call here here (Err deskfault.Memory)
+  declines call here formed = record {
+    formed = formed;
+    honest = λ h. h;
+    unchanged = λ opened. record { honest = λ h. h; left = λ honest c may. may; tables = λ honest T held. held };
+    exit = λ h F legal keeps. record { cause = tt; keeps = keeps };
+  }
+
+  -- the first calls were answered, and the next one ends the run
+  pub ends_at : (old mid new : S) (calls : List Call) (replies : List Reply) (i : ℕ) (call : Call) (why : DeskFault) → length replies ≡ i →
+      i < length calls → call ≡ get_or calls i call → AnswersAll v old (take i calls) replies mid → Answers v call mid new (Err why) →
+      RunsAs v old calls replies (Some why) new
+  ends_at old mid new calls replies i call why counted lt is all ended = (
+    mid,
+    subst (λ n. AnswersAll v old (take n calls) replies mid) (sym counted) all,
+    subst (λ n. EndsBy v mid (drop n calls) (Some why) new) (sym counted)
+    (subst (λ l. EndsBy v mid l (Some why) new) (sym (drop-cons calls i call lt))
+    (subst (λ c. Answers v c mid new (Err why)) is ended)),
+  )
+
+  -- all calls were answered
+  pub ends_with_all : (old new : S) (calls : List Call) (replies : List Reply) (i : ℕ) → length replies ≡ i → length calls ≤ i →
+      AnswersAll v old (take i calls) replies new → RunsAs v old calls replies None new
+  ends_with_all old new calls replies i counted end all = (
+    new,
+    subst (λ n. AnswersAll v old (take n calls) replies new) (sym counted) all,
+    (ap (λ n. drop n calls) counted ∙ drop_all i calls end, refl),
+  )
 
   -- ---- honesty to the end
 

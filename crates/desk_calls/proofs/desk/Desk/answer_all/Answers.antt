@@ -1,5 +1,7 @@
-use Rattle.std.proofs.Common.{◌≡◌, length, ◌++◌, ◌∷◌, [], ◌+◌, ap, ◌∙◌, length-append}
-use Rattle.desk_calls.proofs.Running.{answers_more, take_one_more}
+use Rattle.std.proofs.Common.{◌≡◌, Some, subst, sym, length, ◌++◌, ◌∷◌, [], ◌+◌, ap, ◌∙◌, length-append}
+use Rattle.desk_calls.specs.Runs.{RunsAs}
+use Rattle.desk_calls.specs.declared.fault.DeskFault.TheVariants as deskfault
+use Rattle.desk_calls.proofs.Running.{answers_more, declines, ends_at, ends_with_all, take_one_more}
 use Rattle.desk_calls.proofs.desk.Desk.answer_all.Goals as goal
 
 pub loop-call-preserved : goal.loop-call-preserved
@@ -17,3 +19,24 @@ loop-call-preserved g c =
           rw (taken, pushed) (answers_more g.K.Storage.sight c.args.self.now.store c.loop-call.self.store c.answer.new.self.store _
           c.loop-call.replies.items c.call-item.result c.in-Ok.reply c.loop-call.invariant.answered (c.in-Ok.ensures.exit opened));
     }
+
+pub returns-then-is_err-clause-chain : goal.returns-then-is_err-clause-chain
+returns-then-is_err-clause-chain g c =
+    subst (λ replies. RunsAs g.K.Storage.sight c.args.self.now.store c.args.calls.now replies (Some deskfault.Memory) c.loop-call.self.store)
+    (sym c.reserve.ensures.items)
+    (ends_at g.K.Storage.sight c.args.self.now.store c.loop-call.self.store c.loop-call.self.store c.args.calls.now c.loop-call.replies.items
+    c.loop-call.call-index c.call-item.result deskfault.Memory c.loop-call.invariant.counted c.loop-call-test.true c.call-item.is
+    c.loop-call.invariant.answered (declines g.K.Storage.sight c.call-item.result c.loop-call.self.store c.keep_form.ensures))
+
+pub returns-in-Err-clause-chain : goal.returns-in-Err-clause-chain
+returns-in-Err-clause-chain g c =
+    subst (λ replies. RunsAs g.K.Storage.sight c.args.self.now.store c.args.calls.now replies (Some c.in-Err.fault) c.answer.new.self.store)
+    (sym c.reserve.ensures.items)
+    (ends_at g.K.Storage.sight c.args.self.now.store c.loop-call.self.store c.answer.new.self.store c.args.calls.now c.loop-call.replies.items
+    c.loop-call.call-index c.call-item.result c.in-Err.fault c.loop-call.invariant.counted c.loop-call-test.true c.call-item.is
+    c.loop-call.invariant.answered (c.in-Err.ensures.exit c.loop-call.invariant.opened))
+
+pub returns-clause-chain : goal.returns-clause-chain
+returns-clause-chain g c =
+    ends_with_all g.K.Storage.sight c.args.self.now.store c.loop-call.self.store c.args.calls.now c.loop-call.replies.items c.loop-call.call-index
+    c.loop-call.invariant.counted c.loop-call-test.false c.loop-call.invariant.answered
