@@ -5,7 +5,9 @@ ghost use Rattle.desk_reading.specs.Failures.{IsOutOfMemory};
 ghost use Rattle.desk_reading.specs.Fitting.{FitsAccount, FitsAuthorization, FitsChallenge, FitsListed, FitsMeta, FitsNonce, FitsOrder};
 ghost use Rattle.desk_reading.specs.Spelled.{account_in, authorization_in, challenge_in, listed_in, meta_in, nonce_in, order_in};
 
-use crate::values::{bytes, bytes_or_none, number, number_or_none, text, text_or_none};
+use crate::values::{
+    bytes, bytes_or_none, number_or_none, numbers, numbers_or_none, text, text_or_none,
+};
 use desk_columns::{
     AccountColumns, AuthzColumns, ChallColumns, Columns, MetaColumns, NonceColumns,
     OrderAuthzColumns, OrderColumns,
@@ -50,19 +52,33 @@ impl Selected for MetaColumns {
     ghost Fits = { FitsMeta };
 
     fn of(row: &Row) -> Result<MetaColumns, Error> {
+        let [
+            id,
+            format,
+            nonce_life,
+            order_life,
+            authz_life,
+            clock,
+            nonces,
+            accounts,
+            orders,
+            authzs,
+            challs,
+        ] = numbers(row, [0, 1, 3, 4, 5, 6, 7, 8, 9, 10, 11])?;
+        let base = text(row, 2)?;
         Ok(MetaColumns {
-            id: number(row, 0)?,
-            format: number(row, 1)?,
-            nonce_life: number(row, 3)?,
-            order_life: number(row, 4)?,
-            authz_life: number(row, 5)?,
-            clock: number(row, 6)?,
-            nonces: number(row, 7)?,
-            accounts: number(row, 8)?,
-            orders: number(row, 9)?,
-            authzs: number(row, 10)?,
-            challs: number(row, 11)?,
-            base: text(row, 2)?,
+            id,
+            format,
+            base,
+            nonce_life,
+            order_life,
+            authz_life,
+            clock,
+            nonces,
+            accounts,
+            orders,
+            authzs,
+            challs,
         })
     }
 }
@@ -73,10 +89,12 @@ impl Selected for NonceColumns {
     ghost Fits = { FitsNonce };
 
     fn of(row: &Row) -> Result<NonceColumns, Error> {
+        let [serial, issued] = numbers(row, [0, 2])?;
+        let random = bytes(row, 1)?;
         Ok(NonceColumns {
-            serial: number(row, 0)?,
-            issued: number(row, 2)?,
-            random: bytes(row, 1)?,
+            serial,
+            random,
+            issued,
         })
     }
 }
@@ -87,9 +105,10 @@ impl Selected for AccountColumns {
     ghost Fits = { FitsAccount };
 
     fn of(row: &Row) -> Result<AccountColumns, Error> {
+        let [num, opened] = numbers(row, [0, 3])?;
         Ok(AccountColumns {
-            num: number(row, 0)?,
-            opened: number(row, 3)?,
+            num,
+            opened,
             ended: number_or_none(row, 4)?,
             jwk: text(row, 1)?,
             contacts: text(row, 2)?,
@@ -105,14 +124,16 @@ impl Selected for OrderColumns {
     ghost Fits = { FitsOrder };
 
     fn of(row: &Row) -> Result<OrderColumns, Error> {
+        let [num, account, made, expires] = numbers(row, [0, 1, 2, 3])?;
+        let [finalized, certified, failed] = numbers_or_none(row, [4, 6, 8])?;
         Ok(OrderColumns {
-            num: number(row, 0)?,
-            account: number(row, 1)?,
-            made: number(row, 2)?,
-            expires: number(row, 3)?,
-            finalized: number_or_none(row, 4)?,
-            certified: number_or_none(row, 6)?,
-            failed: number_or_none(row, 8)?,
+            num,
+            account,
+            made,
+            expires,
+            finalized,
+            certified,
+            failed,
             csr: bytes_or_none(row, 5)?,
             cert: bytes_or_none(row, 7)?,
             problem: text_or_none(row, 9)?,
@@ -127,12 +148,13 @@ impl Selected for AuthzColumns {
     ghost Fits = { FitsAuthorization };
 
     fn of(row: &Row) -> Result<AuthzColumns, Error> {
+        let [num, account, wildcard, made, expires] = numbers(row, [0, 1, 3, 4, 5])?;
         Ok(AuthzColumns {
-            num: number(row, 0)?,
-            account: number(row, 1)?,
-            wildcard: number(row, 3)?,
-            made: number(row, 4)?,
-            expires: number(row, 5)?,
+            num,
+            account,
+            wildcard,
+            made,
+            expires,
             ended: number_or_none(row, 6)?,
             name: text(row, 2)?,
             end_kind: text_or_none(row, 7)?,
@@ -147,11 +169,8 @@ impl Selected for OrderAuthzColumns {
     ghost Fits = { FitsListed };
 
     fn of(row: &Row) -> Result<OrderAuthzColumns, Error> {
-        Ok(OrderAuthzColumns {
-            ord: number(row, 0)?,
-            place: number(row, 1)?,
-            authz: number(row, 2)?,
-        })
+        let [ord, place, authz] = numbers(row, [0, 1, 2])?;
+        Ok(OrderAuthzColumns { ord, place, authz })
     }
 }
 
@@ -161,11 +180,13 @@ impl Selected for ChallColumns {
     ghost Fits = { FitsChallenge };
 
     fn of(row: &Row) -> Result<ChallColumns, Error> {
+        let [num, authz] = numbers(row, [0, 1])?;
+        let [answered, reported] = numbers_or_none(row, [4, 5])?;
         Ok(ChallColumns {
-            num: number(row, 0)?,
-            authz: number(row, 1)?,
-            answered: number_or_none(row, 4)?,
-            reported: number_or_none(row, 5)?,
+            num,
+            authz,
+            answered,
+            reported,
             kind: text(row, 2)?,
             token: bytes(row, 3)?,
             outcome: text_or_none(row, 6)?,

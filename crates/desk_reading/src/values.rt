@@ -1,6 +1,7 @@
 //! The values of a row of an answer.
-ghost use Rattle.std.specs.Prelude.{◌≡◌, IfErr, IfOk, option_map, string_bytes};
+ghost use Rattle.std.specs.Prelude.{◌≡◌, IfErr, IfOk, map, option_map, string_bytes};
 ghost use Rattle.sqlite.specs.Order.{column};
+ghost use Rattle.desk_model.specs.Kept.{EachOf};
 ghost use Rattle.desk_reading.specs.Failures.{IsOutOfMemory};
 ghost use Rattle.desk_reading.specs.Fitting.{HasAt, HoldsBlob, HoldsBlobOrNull, HoldsInt, HoldsIntOrNull, HoldsText, HoldsTextOrNull};
 ghost use Rattle.desk_reading.specs.Spelled.{bytes_in, bytes_or_none, number_in, number_or_none};
@@ -14,6 +15,18 @@ pub(crate) fn number(row: &Row, at: usize) -> Result<i64, Error>
     ensures fails { HasAt HoldsInt row.now at → IfErr result IsOutOfMemory }
 {
     row.get(at)
+}
+
+/// The numbers in these columns.
+pub(crate) fn numbers<const N: usize>(row: &Row, places: [usize; N]) -> Result<[i64; N], Error>
+    ensures read { IfOk result (λ found. found ≡ map (λ at. number_in (column row.now at)) places.entry) }
+    ensures fails { EachOf (HasAt HoldsInt row.now) places.entry → IfErr result IsOutOfMemory }
+{
+    let mut found = [0; N];
+    for i in 0..N {
+        found[i] = number(row, places[i])?;
+    }
+    Ok(found)
 }
 
 // The text in a column, as a `String`.
@@ -56,6 +69,21 @@ pub(crate) fn number_or_none(row: &Row, at: usize) -> Result<Option<i64>, Error>
     ensures fails { HasAt HoldsIntOrNull row.now at → IfErr result IsOutOfMemory }
 {
     row.get(at)
+}
+
+/// The numbers in these columns, or `None` for NULL.
+pub(crate) fn numbers_or_none<const N: usize>(
+    row: &Row,
+    places: [usize; N],
+) -> Result<[Option<i64>; N], Error>
+    ensures read { IfOk result (λ found. found ≡ map (λ at. number_or_none (column row.now at)) places.entry) }
+    ensures fails { EachOf (HasAt HoldsIntOrNull row.now) places.entry → IfErr result IsOutOfMemory }
+{
+    let mut found = [None; N];
+    for i in 0..N {
+        found[i] = number_or_none(row, places[i])?;
+    }
+    Ok(found)
 }
 
 // The text in a column, as a `String`, or `None` for NULL.
