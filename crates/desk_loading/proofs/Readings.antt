@@ -1,5 +1,5 @@
 -- Look-ups one after the other.
-use Rattle.std.proofs.Common.{◌≡◌, Result, Ok, Err, IfOk, IsErrAnd, sym, ◌∙◌}
+use Rattle.std.proofs.Common.{◌≡◌, Result, Ok, Err, IfOk, IfErr, IsErrAnd, subst, sym, ◌∙◌}
 use Rattle.desk_storage.specs.Sight.{Reads, Sight, Stands}
 use Rattle.desk_storage.specs.declared.fault.StorageFault.{StorageFault}
 
@@ -57,3 +57,15 @@ module _ {S C : Type 0} {v : Sight S C} where
       Stands v old mid → Reads v {R = B} mid new (Err why) → IsErrAnd r (λ e. e ≡ why) →
       Reads v old new r
   fails_then r stands read failed = reads_then r stands (reads_failing r read failed)
+
+  -- what was found was read, and its fault is passed on
+  pub reads_found : {A B : Type 0} {old new : S} (found : Result A StorageFault) (r : Result B StorageFault) →
+      Reads v old new found → IfErr found (λ why. r ≡ Err why) →
+      Reads v old new r
+  reads_found (Ok a) r read put_now = reads_standing r (stands_read read)
+  reads_found {A} {B} {old} {new} (Err why) r read passed = subst (Reads v old new) (sym passed)
+      (record { honest = read.honest; left = read.left; tables = tt; without_memory = read.without_memory })
+
+  -- a result that is another
+  pub read_as : {A : Type 0} {old new : S} {r q : Result A StorageFault} → Reads v old new r → r ≡ q → Reads v old new q
+  read_as {A} {old} {new} read same = subst (Reads v old new) same read

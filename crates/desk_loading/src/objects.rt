@@ -10,9 +10,9 @@ ghost use Rattle.desk_parts.specs.LookUps.{accounts_numbered, accounts_with_key}
 ghost use Rattle.desk_storage.specs.Sight.{ForTables, Reads};
 
 use crate::gathering::{
-    put_accounts, put_accounts_of_authorizations, put_accounts_of_orders, put_all,
-    put_authorizations, put_listed, put_listing, put_orders, put_own_authorizations,
-    put_own_orders, put_owners, put_past_authorizations, put_past_orders, table_of,
+    put_accounts, put_accounts_of_authorizations, put_accounts_of_orders, put_authorizations,
+    put_found, put_listed, put_listing, put_orders, put_own_authorizations, put_own_orders,
+    put_owners, put_past_authorizations, put_past_orders, table_of,
 };
 use crate::look_ups::LookUps;
 use crate::named::{
@@ -47,8 +47,7 @@ fn put_keyed<S: LookUps>(
 {
     if let Ask::Signed(request) = ask {
         if let Ok(key) = &request.key {
-            let rows = source.accounts_with_key(alloc, key)?;
-            put_all(accounts, rows)?;
+            put_found(accounts, source.accounts_with_key(alloc, key))?;
         }
     }
     Ok(())
@@ -225,10 +224,8 @@ fn all_authorizations_and_orders<S: LookUps>(
     ensures authorizations { ForTables S.sight source.old source.new (λ T. IsOrdered T → IfOk result (λ r. r.0 ≡ T.authorizations)) }
     ensures orders { ForTables S.sight source.old source.new (λ T. IsOrdered T → IfOk result (λ r. r.1 ≡ T.orders)) }
 {
-    let rows = source.all_authorizations(alloc)?;
-    let authorizations = table_of(alloc, rows)?;
-    let rows = source.all_orders(alloc)?;
-    let orders = table_of(alloc, rows)?;
+    let authorizations = table_of(alloc, source.all_authorizations(alloc))?;
+    let orders = table_of(alloc, source.all_orders(alloc))?;
     Ok((authorizations, orders))
 }
 
@@ -243,8 +240,7 @@ pub(crate) fn all_objects<S: LookUps>(
         IsOrdered T → IfOk result (λ o. o.authorizations ≡ T.authorizations)) }
     ensures orders { ForTables S.sight source.old source.new (λ T. IsOrdered T → IfOk result (λ o. o.orders ≡ T.orders)) }
 {
-    let rows = source.all_accounts(alloc)?;
-    let accounts = table_of(alloc, rows)?;
+    let accounts = table_of(alloc, source.all_accounts(alloc))?;
     let (authorizations, orders) = all_authorizations_and_orders(alloc, source)?;
     Ok(Objects {
         accounts,

@@ -7,7 +7,7 @@ ghost use Rattle.desk_parts.specs.Loaded.{loaded_at, loaded_rows};
 ghost use Rattle.desk_storage.specs.Sight.{ForTables, Reads};
 ghost use Rattle.desk_storage.specs.Storing.{Loads};
 
-use crate::gathering::{put_all, put_nonces, table_of};
+use crate::gathering::{put_found, put_nonces, table_of};
 use crate::look_ups::LookUps;
 use crate::named::serials;
 use crate::objects::{Objects, all_objects, objects_touched};
@@ -30,11 +30,13 @@ fn nonces_touched<S: LookUps>(
     ensures found { ForTables S.sight source.old source.new (λ T. policy.now ≡ T.meta.policy
         → IfOk result (λ t. t ≡ (loaded_rows T moment ask.now).nonces)) }
 {
-    let mut nonces = Table::new(alloc);
     let numbers = serials(alloc, ask)?;
+    let mut nonces = Table::new(alloc);
     put_nonces(alloc, source, &mut nonces, numbers)?;
-    let past = source.nonces_before(alloc, policy.first_lasting(moment))?;
-    put_all(&mut nonces, past)?;
+    put_found(
+        &mut nonces,
+        source.nonces_before(alloc, policy.first_lasting(moment)),
+    )?;
     Ok(nonces)
 }
 
@@ -75,8 +77,7 @@ fn all_rows<S: LookUps>(alloc: Global, source: &mut S, meta: Meta) -> Result<Boo
     ensures reads { Reads S.sight source.old source.new result }
     ensures found { ForTables S.sight source.old source.new (λ T. meta ≡ T.meta → IsOrdered T → IfOk result (λ book. book ≡ T)) }
 {
-    let rows = source.all_nonces(alloc)?;
-    let nonces = table_of(alloc, rows)?;
+    let nonces = table_of(alloc, source.all_nonces(alloc))?;
     let objects = all_objects(alloc, source)?;
     Ok(book_of(meta, nonces, objects))
 }

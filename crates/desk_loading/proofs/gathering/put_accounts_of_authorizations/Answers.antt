@@ -1,34 +1,34 @@
+use Rattle.std.proofs.Common.{refl}
 use Rattle.std.proofs.lemmas.Result.{IfOk-from_err}
 use Rattle.desk_model.specs.declared.rows.AccountRow.{AccountRow}
 use Rattle.desk_model.specs.declared.rows.AuthorizationRow.{AuthorizationRow}
 use Rattle.desk_parts.specs.LookUps.{accounts_numbered}
-use Rattle.desk_loading.proofs.Gathered.{gathered}
-use Rattle.desk_loading.proofs.Readings.{fails_then, reads_standing, stands_then}
+use Rattle.desk_loading.proofs.Gathered.{gathered, put_when_found}
+use Rattle.desk_loading.proofs.Readings.{fails_then, read_as, reads_found, reads_standing, stands_then}
 use Rattle.desk_loading.proofs.gathering.put_accounts_of_authorizations.Goals as goal
 
 pub loop-authorization-preserved : goal.loop-authorization-preserved
-loop-authorization-preserved g c = record {
-  stands = stands_then c.loop-authorization.invariant.stands c.in_ok-rows.ensures.reads;
-  found = λ honest T held.
-      let so_far = c.in_ok-rows.ensures.reads.honest honest in
-      gathered (λ (x : AccountRow). x.number) (λ (a : AuthorizationRow). accounts_numbered T a.account) c.in-Some.authorization.now _ _ _ _
-      _ _ c.in-Some.ensures.steps
-      (c.in_ok-rows.ensures.found honest T (c.loop-authorization.invariant.stands.tables so_far T held))
-      c.in_ok-put_all.ensures
-      (c.loop-authorization.invariant.found so_far T held);
-}
+loop-authorization-preserved g c =
+    let was = c.in_ok-put_found.was in
+    let read = read_as (reads_found c.accounts_numbered.result c.put_found.result c.accounts_numbered.ensures.reads c.put_found.ensures.fails) was in
+    record {
+      stands = stands_then c.loop-authorization.invariant.stands read;
+      found = λ honest T held.
+          let so_far = read.honest honest in
+          gathered (λ (x : AccountRow). x.number) (λ (a : AuthorizationRow). accounts_numbered T a.account) c.in-Some.authorization.now _ _ _ _ _ _ c.in-Some.ensures.steps refl
+          (put_when_found (λ (x : AccountRow). x.number) (λ rows. rows.items) c.accounts_numbered.result _ _ _ _ _ c.put_found.ensures.put c.put_found.ensures.fails
+          (c.accounts_numbered.ensures.found honest T (c.loop-authorization.invariant.stands.tables so_far T held)) was)
+          (c.loop-authorization.invariant.found so_far T held);
+    }
 
-pub returns-in_err-rows-clause-reads : goal.returns-in_err-rows-clause-reads
-returns-in_err-rows-clause-reads g c = fails_then _ c.loop-authorization.invariant.stands c.in_err-rows.ensures.reads c.from_residual.ensures.1
+pub returns-in_err-put_found-clause-reads : goal.returns-in_err-put_found-clause-reads
+returns-in_err-put_found-clause-reads g c =
+    fails_then _ c.loop-authorization.invariant.stands
+    (read_as (reads_found c.accounts_numbered.result c.put_found.result c.accounts_numbered.ensures.reads c.put_found.ensures.fails) c.in_err-put_found.was)
+    c.from_residual.ensures.1
 
-pub returns-in_err-rows-clause-found : goal.returns-in_err-rows-clause-found
-returns-in_err-rows-clause-found g c honest T held = IfOk-from_err c.from_residual.result _ c.from_residual.ensures.0
-
-pub returns-in_err-put_all-clause-reads : goal.returns-in_err-put_all-clause-reads
-returns-in_err-put_all-clause-reads g c = reads_standing _ (stands_then c.loop-authorization.invariant.stands c.in_ok-rows.ensures.reads)
-
-pub returns-in_err-put_all-clause-found : goal.returns-in_err-put_all-clause-found
-returns-in_err-put_all-clause-found g c honest T held = IfOk-from_err c.from_residual-in_err-put_all.result _ c.from_residual-in_err-put_all.ensures.0
+pub returns-in_err-put_found-clause-found : goal.returns-in_err-put_found-clause-found
+returns-in_err-put_found-clause-found g c honest T held = IfOk-from_err c.from_residual.result _ c.from_residual.ensures.0
 
 pub returns-clause-reads : goal.returns-clause-reads
 returns-clause-reads g c = reads_standing _ c.loop-authorization.invariant.stands
