@@ -38,11 +38,7 @@ fn rows_where<R: Row + Drop, F: Fn(&R) -> bool>(
 fn all_rows<R: Row + Drop>(alloc: Global, table: &Table<R>) -> Result<Vec<R>, AllocError>
     ensures { IfOk result (λ rows. rows.items ≡ table.now) }
 {
-    let mut rows = Vec::new(alloc);
-    for row in table.iter() {
-        rows.push(row.clone()?)?;
-    }
-    Ok(rows)
+    rows_where(alloc, table, |_| { true })
 }
 
 // Whether an order of a stored status is past its end.
