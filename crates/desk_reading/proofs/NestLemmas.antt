@@ -1,11 +1,8 @@
 -- Rows that get their own under them, one after the other.
-use Rattle.std.proofs.Common.{◌≡◌, ℕ, List, [], ◌∷◌, ◌++◌, append-nil, append_assoc, length, arith, map, refl, sym, ap, subst, ◌∙◌}
+use Rattle.std.proofs.Common.{◌≡◌, ◌<◌, ◌+◌, ℕ, List, [], ◌∷◌, ◌++◌, length, arith, map, refl, sym, ap, subst, ◌∙◌}
+use Rattle.std.proofs.Common.{add-one, append-nil, drop, drop-cons, get_or, set, take}
+use Rattle.std.proofs.lemmas.List.{drop-set-lt, drop_all, take_all, take_more, take_more_set}
 use Rattle.desk_model.specs.Kept.{EachOf}
-
--- nothing is left where none is counted
-no_items : {X : Type 0} (xs : List X) → length xs ≡ 0 → xs ≡ []
-no_items [] none = refl
-no_items (x ∷ xs) none = absurd (omega (arith, none))
 
 -- a map that ends in an item is that of a list that ends in one
 pub record EndsIn {X Y : Type 0} (f : X → Y) (ys : List Y) (y : Y) (xs : List X) : Type 0 where
@@ -59,12 +56,43 @@ filled_more number children under bare fill kept same read rows new head ks fill
     ∙ ap (λ x. it.front ++ x ∷ []) (same it.last)
     ∙ sym it.whole
 
--- ---- what is read, and what is left
+-- ---- row by row
 
--- one item is read
-pub whole_more : {X : Type 0} (all done rest after : List X) (x : X) → all ≡ done ++ rest → rest ≡ x ∷ after → all ≡ (done ++ x ∷ []) ++ after
-whole_more all done rest after x whole next = whole ∙ ap (λ l. done ++ l) next ∙ sym (append_assoc done (x ∷ []) after)
+-- what is left is one more and the rest
+one_more : {X : Type 0} (xs : List X) (i : ℕ) (d : X) → i < length xs → drop i xs ≡ get_or xs i d ∷ drop (i + 1) xs
+one_more xs i d low = drop-cons xs i d low ∙ ap (λ j. get_or xs i d ∷ drop j xs) (sym (add-one i))
 
--- all items are read
-pub whole_done : {X : Type 0} (all done rest : List X) → all ≡ done ++ rest → length rest ≡ 0 → done ≡ all
-whole_done all done rest whole none = sym (whole ∙ ap (λ l. done ++ l) (no_items rest none) ∙ append-nil done)
+-- where what is left is the same, the next item is, and what is left behind it
+same_next : {X : Type 0} (xs ys : List X) (i : ℕ) (d : X) → i < length xs → length xs ≡ length ys → drop i xs ≡ drop i ys →
+    (get_or xs i d ≡ get_or ys i d) × (drop (i + 1) xs ≡ drop (i + 1) ys)
+same_next xs ys i d low size same =
+    let both : get_or xs i d ∷ drop (i + 1) xs ≡ get_or ys i d ∷ drop (i + 1) ys =
+    sym (one_more xs i d low) ∙ same ∙ one_more ys i d (omega (arith, low, size)) in
+    let here : get_or xs i d ≡ get_or ys i d = cc both in
+    let rest : drop (i + 1) xs ≡ drop (i + 1) ys = cc both in
+    (here, rest)
+
+-- what is left behind a row that was written
+pub left_next : {X : Type 0} (xs ys : List X) (i : ℕ) (d y : X) → i < length xs → length xs ≡ length ys → drop i xs ≡ drop i ys →
+    drop (i + 1) (set xs i y) ≡ drop (i + 1) ys
+left_next xs ys i d y low size same = drop-set-lt (i + 1) xs i y (omega arith) ∙ (same_next xs ys i d low size same).1
+
+-- the next row is filled
+pub filled_next : {X K : Type 0} (number : X → ℕ) (children : X → List K) (under : ℕ → List K) (bare : X → X) (fill : X → List K → X)
+    → ((x : X) → number (bare x) ≡ number x) → ((x : X) → fill (bare x) (children x) ≡ x)
+    → (xs ys : List X) (i : ℕ) (d : X) (ks filled : List K) → i < length xs → length xs ≡ length ys → drop i xs ≡ drop i ys
+    → AreFilled number children under bare (take i ys) (take i xs)
+    → ks ≡ under (number (get_or xs i d)) → filled ≡ ks
+    → AreFilled number children under bare (take (i + 1) ys) (take (i + 1) (set xs i (fill (get_or xs i d) filled)))
+filled_next number children under bare fill kept same xs ys i d ks filled low size left before found with rows own are =
+    let here = (same_next xs ys i d low size left).0 in
+    filled_more number children under bare fill kept same (take i ys) (take i xs) _ (get_or xs i d) ks filled before found with
+    (take_more_set xs i (fill (get_or xs i d) filled) low) rows own
+    (ap (λ x. take i ys ++ x ∷ []) here ∙ sym (take_more ys i d (omega (arith, low, size))) ∙ are)
+
+-- what is written over all items is all there is
+pub written_over : {X : Type 0} (n : ℕ) (xs ys : List X) → n ≡ length ys → length xs ≡ length ys → take n (xs ++ drop (length xs) ys) ≡ xs
+written_over n xs ys counted size =
+    ap (λ l. take n (xs ++ l)) (drop_all (length xs) ys (omega (arith, size)))
+    ∙ ap (take n) (append-nil xs)
+    ∙ take_all n xs (omega (arith, counted, size))

@@ -51,7 +51,7 @@ fn challenges_under<S: Alter>(
 fn nest_challenges<S: Alter>(
     alloc: Global,
     conn: &mut Connection<S>,
-    heads: Vec<AuthorizationRow>,
+    mut heads: Vec<AuthorizationRow>,
 ) -> Result<Vec<AuthorizationRow>, ReadFault>
     ensures found { ForHeld (state S.Store conn.old) (state S.Store conn.new) (λ T. IsStoredBook T → IsTrue (state S.Store conn.old).is_open
         → (rows : List Row) → EachOf (HasItsChallenges T.authorizations) rows → heads.items ≡ map without_challenges rows
@@ -60,13 +60,11 @@ fn nest_challenges<S: Alter>(
         → OnOk result (IsUnchanged (state S.Store conn.old) (state S.Store conn.new)) }
     ensures asks { Asks (state S.Store conn.old) (state S.Store conn.new) }
 {
-    let mut rows = Vec::new(alloc);
-    for mut head in heads {
+    for head in heads.iter_mut() {
         let challenges = challenges_under(alloc, conn, head.number)?;
         head.challenges = Sequence::new(challenges);
-        rows.push(head)?;
     }
-    Ok(rows)
+    Ok(heads)
 }
 
 // The authorizations that a query shows, each with its challenges. It fails as `find_rows` does.

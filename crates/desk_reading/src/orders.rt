@@ -51,7 +51,7 @@ fn listed_under<S: Alter>(
 fn nest_listed<S: Alter>(
     alloc: Global,
     conn: &mut Connection<S>,
-    heads: Vec<OrderRow>,
+    mut heads: Vec<OrderRow>,
 ) -> Result<Vec<OrderRow>, ReadFault>
     ensures found { ForHeld (state S.Store conn.old) (state S.Store conn.new) (λ T. IsStoredBook T → IsTrue (state S.Store conn.old).is_open
         → (rows : List Row) → EachOf (HasItsListed T.orders) rows → heads.items ≡ map without_listed rows
@@ -60,13 +60,11 @@ fn nest_listed<S: Alter>(
         → OnOk result (IsUnchanged (state S.Store conn.old) (state S.Store conn.new)) }
     ensures asks { Asks (state S.Store conn.old) (state S.Store conn.new) }
 {
-    let mut rows = Vec::new(alloc);
-    for mut head in heads {
+    for head in heads.iter_mut() {
         let listed = listed_under(alloc, conn, head.number)?;
         head.listed = Sequence::new(listed);
-        rows.push(head)?;
     }
-    Ok(rows)
+    Ok(heads)
 }
 
 // The orders that a query shows, each with what it lists. It fails as `find_rows` does.

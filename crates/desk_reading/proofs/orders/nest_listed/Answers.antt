@@ -1,5 +1,6 @@
-use Rattle.std.proofs.Common.{◌≡◌, ◌∙◌, length, arith, refl}
-use Rattle.std.specs.Vec.Iter.{into_iter_items}
+use Rattle.std.proofs.Common.{◌∙◌, ◌<◌, ◌≤◌, arith, length, length-set, refl, sym}
+use Rattle.std.proofs.lemmas.List.{take_all}
+use Rattle.std.proofs.lemmas.Result.{IfOk-from_err}
 use Rattle.sqlite.proofs.Callers.{unchanged_then}
 use Rattle.sqlite.specs.Held.{state}
 use Rattle.sqlite.specs.State.{HasCleanDisk}
@@ -8,7 +9,7 @@ use Rattle.desk_model.specs.declared.rows.OrderRow.{OrderRow}
 use Rattle.desk_schema.proofs.StaysLemmas.{asks_then}
 use Rattle.desk_tables.proofs.Holding.{holds_still}
 use Rattle.desk_reading.specs.Under.{rows_under}
-use Rattle.desk_reading.proofs.NestLemmas.{filled_more, whole_done, whole_more}
+use Rattle.desk_reading.proofs.NestLemmas.{filled_next, left_next, written_over}
 use Rattle.desk_reading.proofs.orders.nest_listed.Goals as goal
 
 pub loop-head-preserved : goal.loop-head-preserved
@@ -18,16 +19,17 @@ loop-head-preserved g c =
     let new = state g.S.Store c.listed_under.new.conn in
     let before = c.loop-head.invariant in
     let after = c.in_ok-listed.ensures in
+    let items = c.loop-head.head-items in
+    let low : c.loop-head.head-index < length items = omega (arith, c.loop-head-test.true) in
     record {
-      whole = whole_more c.args.heads.items c.loop-head.yielded (into_iter_items c.loop-head.head-iterator) (into_iter_items c.next.new.self)
-          c.in-Some.head before.whole c.in-Some.ensures.steps.0;
+      size = length-set items c.loop-head.head-index _ ∙ before.size;
+      left = left_next items c.args.heads.items c.loop-head.head-index c.head-item.result _ low before.size before.left;
       found = λ clean T has book open_.
           let clean_old : HasCleanDisk old = omega (arith, clean, after.asks.survives.clean) in
-          filled_more (λ (o : OrderRow). o.number) (λ (o : OrderRow). o.listed) (λ n. rows_under n (listed_rows T.orders)) without_listed
-          (λ (o : OrderRow) ls. record o { listed = ls }) (λ _. refl) (λ _. refl) c.loop-head.yielded c.loop-head.rows.items c.push.new.self.items
-          c.in-Some.head
-          c.in_ok-listed.listed.items c.new.result (before.found clean_old T has book open_)
-          (after.found clean T (holds_still first old T (before.unchanged clean_old open_) has) book) c.new.ensures c.in_ok-push.ensures.items;
+          filled_next (λ (o : OrderRow). o.number) (λ (o : OrderRow). o.listed) (λ n. rows_under n (listed_rows T.orders)) without_listed
+          (λ (o : OrderRow) ls. record o { listed = ls }) (λ _. refl) (λ _. refl) items c.args.heads.items c.loop-head.head-index c.head-item.result
+          c.in_ok-listed.listed.items c.new.result low before.size before.left (before.found clean_old T has book open_)
+          (after.found clean T (holds_still first old T (before.unchanged clean_old open_) has) book) c.new.ensures;
       unchanged = λ clean open_.
           let clean_old : HasCleanDisk old = omega (arith, clean, after.asks.survives.clean) in
           unchanged_then first old new (before.unchanged clean_old open_) (after.unchanged clean);
@@ -36,10 +38,14 @@ loop-head-preserved g c =
 
 pub returns-clause-found : goal.returns-clause-found
 returns-clause-found g c clean T has book open_ rows own are =
-    let rest = into_iter_items c.loop-head.head-iterator in
-    let none : length rest ≡ 0 = omega (arith, c.loop-head.head-iterator.rest.ok, c.in-None.ensures.steps.0) in
-    let all = whole_done c.args.heads.items c.loop-head.yielded rest c.loop-head.invariant.whole none in
-    c.loop-head.invariant.found clean T has book open_ rows own (all ∙ are)
+    let index = c.loop-head.head-index in
+    let heads = c.args.heads.items in
+    let items = c.loop-head.head-items in
+    let size = c.loop-head.invariant.size in
+    let all : length items ≤ index = omega (arith, c.loop-head-test.false) in
+    written_over c.args.heads.len items heads c.args.heads.ok.0 size
+    ∙ sym (take_all index items all)
+    ∙ c.loop-head.invariant.found clean T has book open_ rows own (take_all index heads (omega (arith, all, size)) ∙ are)
 
 pub returns-clause-unchanged : goal.returns-clause-unchanged
 returns-clause-unchanged g c clean open_ = c.loop-head.invariant.unchanged clean open_
@@ -47,12 +53,13 @@ returns-clause-unchanged g c clean open_ = c.loop-head.invariant.unchanged clean
 pub returns-clause-asks : goal.returns-clause-asks
 returns-clause-asks g c = c.loop-head.invariant.asks
 
+pub returns-in_err-listed-clause-found : goal.returns-in_err-listed-clause-found
+returns-in_err-listed-clause-found g c clean T has book open_ rows own are = IfOk-from_err c.from_residual.result _ c.from_residual.ensures.0
+
+pub returns-in_err-listed-clause-unchanged : goal.returns-in_err-listed-clause-unchanged
+returns-in_err-listed-clause-unchanged g c clean open_ = IfOk-from_err c.from_residual.result _ c.from_residual.ensures.0
+
 pub returns-in_err-listed-clause-asks : goal.returns-in_err-listed-clause-asks
 returns-in_err-listed-clause-asks g c =
     asks_then (state g.S.Store c.args.conn.now) (state g.S.Store c.loop-head.conn) (state g.S.Store c.listed_under.new.conn)
     c.loop-head.invariant.asks c.in_err-listed.ensures.asks
-
-pub returns-in_err-push-clause-asks : goal.returns-in_err-push-clause-asks
-returns-in_err-push-clause-asks g c =
-    asks_then (state g.S.Store c.args.conn.now) (state g.S.Store c.loop-head.conn) (state g.S.Store c.listed_under.new.conn)
-    c.loop-head.invariant.asks c.in_ok-listed.ensures.asks
