@@ -58,6 +58,10 @@ pub put_then : {X : Type 0} (number : X → ℕ) (xs ys rows mid later : List X)
     later ≡ puts number (xs ++ ys) rows
 put_then number xs ys rows mid later first second = second ∙ ap (puts number ys) first ∙ sym (puts_append number xs ys rows)
 
+-- what is put into an empty table
+pub put_into_none : {X : Type 0} (number : X → ℕ) (xs rows later : List X) → later ≡ puts number xs rows → rows ≡ [] → later ≡ puts number xs []
+put_into_none number xs rows later put_now none = put_now ∙ ap (puts number xs) none
+
 -- what is put by one value is put by its equal
 pub put_by : {X Y : Type 0} (number : X → ℕ) (rows_of : Y → List X) (y z : Y) (rows later : List X) → later ≡ puts number (rows_of y) rows → y ≡ z →
     later ≡ puts number (rows_of z) rows

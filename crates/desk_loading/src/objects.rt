@@ -82,8 +82,7 @@ fn put_holders<S: LookUps>(
         (flat_map (λ o. accounts_numbered T o.account) orders.now ++ flat_map (λ r. accounts_numbered T r.account) authorizations.now) accounts.old)) }
 {
     put_accounts_of_orders(alloc, source, accounts, orders)?;
-    put_accounts_of_authorizations(alloc, source, accounts, authorizations)?;
-    Ok(())
+    put_accounts_of_authorizations(alloc, source, accounts, authorizations)
 }
 
 // ---- authorizations and orders
@@ -124,46 +123,44 @@ fn put_asked_orders<S: LookUps>(
     Ok(())
 }
 
-// The authorizations from which orders are looked for.
-fn authorizations_first<S: LookUps>(
+// Puts the authorizations from which orders are looked for into a table.
+fn put_first_authorizations<S: LookUps>(
     alloc: Global,
     source: &mut S,
+    authorizations: &mut Table<AuthorizationRow>,
     moment: u64,
     ask: &Ask,
     accounts: &Table<AccountRow>,
-) -> Result<Table<AuthorizationRow>, StorageFault>
+) -> Result<(), StorageFault>
     ensures reads { Reads S.sight source.old source.new result }
     ensures found { ForTables S.sight source.old source.new (λ T. accounts.now ≡ accounts_once (named_accounts T ask.now)
-        → IfOk result (λ t. t ≡ authorizations_once (first_authorizations T moment ask.now))) }
+        → OnOk result (authorizations.new ≡ puts (λ r. r.number) (first_authorizations T moment ask.now) authorizations.old)) }
 {
-    let mut authorizations = Table::new(alloc);
     let numbers = authorization_numbers(alloc, ask)?;
-    put_authorizations(alloc, source, &mut authorizations, numbers)?;
+    put_authorizations(alloc, source, authorizations, numbers)?;
     let challenges = challenge_numbers(alloc, ask)?;
-    put_owners(alloc, source, &mut authorizations, challenges)?;
-    put_asked_authorizations(alloc, source, &mut authorizations, accounts, ask)?;
-    put_past_authorizations(alloc, source, &mut authorizations, moment)?;
-    Ok(authorizations)
+    put_owners(alloc, source, authorizations, challenges)?;
+    put_asked_authorizations(alloc, source, authorizations, accounts, ask)?;
+    put_past_authorizations(alloc, source, authorizations, moment)
 }
 
-// The orders that are named, or of a named account, or past their moment.
-fn orders_first<S: LookUps>(
+// Puts the orders that are named, or of a named account, or past their moment into a table.
+fn put_first_orders<S: LookUps>(
     alloc: Global,
     source: &mut S,
+    orders: &mut Table<OrderRow>,
     moment: u64,
     ask: &Ask,
     accounts: &Table<AccountRow>,
-) -> Result<Table<OrderRow>, StorageFault>
+) -> Result<(), StorageFault>
     ensures reads { Reads S.sight source.old source.new result }
     ensures found { ForTables S.sight source.old source.new (λ T. accounts.now ≡ accounts_once (named_accounts T ask.now)
-        → IfOk result (λ t. t ≡ orders_once (named_orders T ask.now ++ (own_orders T ask.now ++ past_orders T moment)))) }
+        → OnOk result (orders.new ≡ puts (λ o. o.number) (named_orders T ask.now ++ (own_orders T ask.now ++ past_orders T moment)) orders.old)) }
 {
-    let mut orders = Table::new(alloc);
     let numbers = order_numbers(alloc, ask)?;
-    put_orders(alloc, source, &mut orders, numbers)?;
-    put_asked_orders(alloc, source, &mut orders, accounts, ask)?;
-    put_past_orders(alloc, source, &mut orders, moment)?;
-    Ok(orders)
+    put_orders(alloc, source, orders, numbers)?;
+    put_asked_orders(alloc, source, orders, accounts, ask)?;
+    put_past_orders(alloc, source, orders, moment)
 }
 
 // The authorizations and orders that are touched, found from the accounts that are named.
@@ -180,8 +177,10 @@ fn authorizations_and_orders<S: LookUps>(
     ensures orders { ForTables S.sight source.old source.new (λ T. accounts.now ≡ accounts_once (named_accounts T ask.now)
         → IfOk result (λ r. r.1 ≡ orders_once (found_orders T moment ask.now))) }
 {
-    let mut authorizations = authorizations_first(alloc, source, moment, ask, accounts)?;
-    let mut orders = orders_first(alloc, source, moment, ask, accounts)?;
+    let mut authorizations = Table::new(alloc);
+    put_first_authorizations(alloc, source, &mut authorizations, moment, ask, accounts)?;
+    let mut orders = Table::new(alloc);
+    put_first_orders(alloc, source, &mut orders, moment, ask, accounts)?;
     put_listing(alloc, source, &mut orders, &authorizations)?;
     put_listed(alloc, source, &mut authorizations, &orders)?;
     Ok((authorizations, orders))

@@ -9,4 +9,5 @@ all_pass (x ∷ xs) = ap (λ l. x ∷ l) (all_pass xs)
 
 pub returns : goal.returns
 returns g c =
-    IfOk-weaker c.rows_where.result _ _ (λ rows found. found (λ _. true) (λ row yes says. search (rules, says)) ∙ all_pass c.args.table.now) c.rows_where.ensures
+    IfOk-weaker c.rows_where.result _ _ (λ rows found. found (λ _. true) (λ row yes says. search (rules, says)) ∙ all_pass c.args.table.now)
+    c.rows_where.ensures

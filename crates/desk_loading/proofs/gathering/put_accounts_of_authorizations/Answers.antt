@@ -10,13 +10,15 @@ use Rattle.desk_loading.proofs.gathering.put_accounts_of_authorizations.Goals as
 pub loop-authorization-preserved : goal.loop-authorization-preserved
 loop-authorization-preserved g c =
     let was = c.in_ok-put_found.was in
-    let read = read_as (reads_found c.accounts_numbered.result c.put_found.result c.accounts_numbered.ensures.reads c.put_found.ensures.fails) was in
+    let read = read_as (reads_found _ c.put_found.result c.accounts_numbered.ensures.reads c.put_found.ensures.fails) was in
     record {
       stands = stands_then c.loop-authorization.invariant.stands read;
       found = λ honest T held.
           let so_far = read.honest honest in
-          gathered (λ (x : AccountRow). x.number) (λ (a : AuthorizationRow). accounts_numbered T a.account) c.in-Some.authorization.now _ _ _ _ _ _ c.in-Some.ensures.steps refl
-          (put_when_found (λ (x : AccountRow). x.number) (λ rows. rows.items) c.accounts_numbered.result _ _ _ _ _ c.put_found.ensures.put c.put_found.ensures.fails
+          gathered (λ (x : AccountRow). x.number) (λ (a : AuthorizationRow). accounts_numbered T a.account) c.in-Some.authorization.now _ _ _ _ _ _
+          c.in-Some.ensures.steps refl
+          (put_when_found (λ (x : AccountRow). x.number) (λ rows. rows.items) c.accounts_numbered.result _ _ _ _ _ c.put_found.ensures.put
+          c.put_found.ensures.fails
           (c.accounts_numbered.ensures.found honest T (c.loop-authorization.invariant.stands.tables so_far T held)) was)
           (c.loop-authorization.invariant.found so_far T held);
     }
@@ -24,7 +26,7 @@ loop-authorization-preserved g c =
 pub returns-in_err-put_found-clause-reads : goal.returns-in_err-put_found-clause-reads
 returns-in_err-put_found-clause-reads g c =
     fails_then _ c.loop-authorization.invariant.stands
-    (read_as (reads_found c.accounts_numbered.result c.put_found.result c.accounts_numbered.ensures.reads c.put_found.ensures.fails) c.in_err-put_found.was)
+    (read_as (reads_found _ c.put_found.result c.accounts_numbered.ensures.reads c.put_found.ensures.fails) c.in_err-put_found.was)
     c.from_residual.ensures.1
 
 pub returns-in_err-put_found-clause-found : goal.returns-in_err-put_found-clause-found

@@ -10,13 +10,15 @@ use Rattle.desk_loading.proofs.gathering.put_own_authorizations.Goals as goal
 pub loop-account-preserved : goal.loop-account-preserved
 loop-account-preserved g c =
     let was = c.in_ok-put_found.was in
-    let read = read_as (reads_found c.authorizations_of.result c.put_found.result c.authorizations_of.ensures.reads c.put_found.ensures.fails) was in
+    let read = read_as (reads_found _ c.put_found.result c.authorizations_of.ensures.reads c.put_found.ensures.fails) was in
     record {
       stands = stands_then c.loop-account.invariant.stands read;
       found = λ honest T held.
           let so_far = read.honest honest in
-          gathered (λ (a : AuthorizationRow). a.number) (λ (x : AccountRow). authorizations_of T x.number) c.in-Some.account.now _ _ _ _ _ _ c.in-Some.ensures.steps refl
-          (put_when_found (λ (a : AuthorizationRow). a.number) (λ rows. rows.items) c.authorizations_of.result _ _ _ _ _ c.put_found.ensures.put c.put_found.ensures.fails
+          gathered (λ (a : AuthorizationRow). a.number) (λ (x : AccountRow). authorizations_of T x.number) c.in-Some.account.now _ _ _ _ _ _
+          c.in-Some.ensures.steps refl
+          (put_when_found (λ (a : AuthorizationRow). a.number) (λ rows. rows.items) c.authorizations_of.result _ _ _ _ _ c.put_found.ensures.put
+          c.put_found.ensures.fails
           (c.authorizations_of.ensures.found honest T (c.loop-account.invariant.stands.tables so_far T held)) was)
           (c.loop-account.invariant.found so_far T held);
     }
@@ -24,7 +26,7 @@ loop-account-preserved g c =
 pub returns-in_err-put_found-clause-reads : goal.returns-in_err-put_found-clause-reads
 returns-in_err-put_found-clause-reads g c =
     fails_then _ c.loop-account.invariant.stands
-    (read_as (reads_found c.authorizations_of.result c.put_found.result c.authorizations_of.ensures.reads c.put_found.ensures.fails) c.in_err-put_found.was)
+    (read_as (reads_found _ c.put_found.result c.authorizations_of.ensures.reads c.put_found.ensures.fails) c.in_err-put_found.was)
     c.from_residual.ensures.1
 
 pub returns-in_err-put_found-clause-found : goal.returns-in_err-put_found-clause-found

@@ -10,7 +10,7 @@ use Rattle.desk_loading.proofs.gathering.put_own_orders.Goals as goal
 pub loop-account-preserved : goal.loop-account-preserved
 loop-account-preserved g c =
     let was = c.in_ok-put_found.was in
-    let read = read_as (reads_found c.orders_of.result c.put_found.result c.orders_of.ensures.reads c.put_found.ensures.fails) was in
+    let read = read_as (reads_found _ c.put_found.result c.orders_of.ensures.reads c.put_found.ensures.fails) was in
     record {
       stands = stands_then c.loop-account.invariant.stands read;
       found = λ honest T held.
@@ -24,7 +24,7 @@ loop-account-preserved g c =
 pub returns-in_err-put_found-clause-reads : goal.returns-in_err-put_found-clause-reads
 returns-in_err-put_found-clause-reads g c =
     fails_then _ c.loop-account.invariant.stands
-    (read_as (reads_found c.orders_of.result c.put_found.result c.orders_of.ensures.reads c.put_found.ensures.fails) c.in_err-put_found.was)
+    (read_as (reads_found _ c.put_found.result c.orders_of.ensures.reads c.put_found.ensures.fails) c.in_err-put_found.was)
     c.from_residual.ensures.1
 
 pub returns-in_err-put_found-clause-found : goal.returns-in_err-put_found-clause-found

@@ -9,7 +9,7 @@ use Rattle.desk_loading.proofs.gathering.put_past_authorizations.Goals as goal
 pub returns-in_err-put_found-clause-reads : goal.returns-in_err-put_found-clause-reads
 returns-in_err-put_found-clause-reads g c =
     reads_failing _
-    (read_as (reads_found c.authorizations_past.result c.put_found.result c.authorizations_past.ensures.reads c.put_found.ensures.fails)
+    (read_as (reads_found _ c.put_found.result c.authorizations_past.ensures.reads c.put_found.ensures.fails)
     c.in_err-put_found.was)
     c.from_residual.ensures.1
 
@@ -19,16 +19,16 @@ returns-in_err-put_found-clause-found g c honest T held = IfOk-from_err c.from_r
 pub returns-clause-reads : goal.returns-clause-reads
 returns-clause-reads g c =
     let pending =
-    read_as (reads_found c.authorizations_past.result c.put_found.result c.authorizations_past.ensures.reads c.put_found.ensures.fails) c.in_ok-put_found.was in
+    read_as (reads_found _ c.put_found.result c.authorizations_past.ensures.reads c.put_found.ensures.fails) c.in_ok-put_found.was in
     reads_then c.put_found-2.result (stands_read pending)
-    (reads_found c.authorizations_past-2.result c.put_found-2.result c.authorizations_past-2.ensures.reads c.put_found-2.ensures.fails)
+    (reads_found _ c.put_found-2.result c.authorizations_past-2.ensures.reads c.put_found-2.ensures.fails)
 
 pub returns-clause-found : goal.returns-clause-found
 returns-clause-found g c honest T held =
     let number = λ (a : AuthorizationRow). a.number in
     let pending =
-    read_as (reads_found c.authorizations_past.result c.put_found.result c.authorizations_past.ensures.reads c.put_found.ensures.fails) c.in_ok-put_found.was in
-    let valid = reads_found c.authorizations_past-2.result c.put_found-2.result c.authorizations_past-2.ensures.reads c.put_found-2.ensures.fails in
+    read_as (reads_found _ c.put_found.result c.authorizations_past.ensures.reads c.put_found.ensures.fails) c.in_ok-put_found.was in
+    let valid = reads_found _ c.put_found-2.result c.authorizations_past-2.ensures.reads c.put_found-2.ensures.fails in
     let first = valid.honest honest in
     on_ok_weaker c.put_found-2.result (λ put_last.
     put_then number (authorizations_past T authz.Pending c.args.moment) (authorizations_past T authz.Valid c.args.moment) _ _ _

@@ -10,7 +10,7 @@ use Rattle.desk_loading.proofs.gathering.put_past_orders.Goals as goal
 pub returns-in_err-put_found-clause-reads : goal.returns-in_err-put_found-clause-reads
 returns-in_err-put_found-clause-reads g c =
     reads_failing _
-    (read_as (reads_found c.orders_past.result c.put_found.result c.orders_past.ensures.reads c.put_found.ensures.fails) c.in_err-put_found.was)
+    (read_as (reads_found _ c.put_found.result c.orders_past.ensures.reads c.put_found.ensures.fails) c.in_err-put_found.was)
     c.from_residual.ensures.1
 
 pub returns-in_err-put_found-clause-found : goal.returns-in_err-put_found-clause-found
@@ -18,9 +18,9 @@ returns-in_err-put_found-clause-found g c honest T held = IfOk-from_err c.from_r
 
 pub returns-in_err-put_found-2-clause-reads : goal.returns-in_err-put_found-2-clause-reads
 returns-in_err-put_found-2-clause-reads g c =
-    let pending = read_as (reads_found c.orders_past.result c.put_found.result c.orders_past.ensures.reads c.put_found.ensures.fails) c.in_ok-put_found.was in
+    let pending = read_as (reads_found _ c.put_found.result c.orders_past.ensures.reads c.put_found.ensures.fails) c.in_ok-put_found.was in
     fails_then _ (stands_read pending)
-    (read_as (reads_found c.orders_past-2.result c.put_found-2.result c.orders_past-2.ensures.reads c.put_found-2.ensures.fails) c.in_err-put_found-2.was)
+    (read_as (reads_found _ c.put_found-2.result c.orders_past-2.ensures.reads c.put_found-2.ensures.fails) c.in_err-put_found-2.was)
     c.from_residual-in_err-put_found-2.ensures.1
 
 pub returns-in_err-put_found-2-clause-found : goal.returns-in_err-put_found-2-clause-found
@@ -29,19 +29,19 @@ returns-in_err-put_found-2-clause-found g c honest T held =
 
 pub returns-clause-reads : goal.returns-clause-reads
 returns-clause-reads g c =
-    let pending = read_as (reads_found c.orders_past.result c.put_found.result c.orders_past.ensures.reads c.put_found.ensures.fails) c.in_ok-put_found.was in
+    let pending = read_as (reads_found _ c.put_found.result c.orders_past.ensures.reads c.put_found.ensures.fails) c.in_ok-put_found.was in
     let ready =
-    read_as (reads_found c.orders_past-2.result c.put_found-2.result c.orders_past-2.ensures.reads c.put_found-2.ensures.fails) c.in_ok-put_found-2.was in
+    read_as (reads_found _ c.put_found-2.result c.orders_past-2.ensures.reads c.put_found-2.ensures.fails) c.in_ok-put_found-2.was in
     reads_then c.put_found-3.result (stands_then (stands_read pending) ready)
-    (reads_found c.orders_past-3.result c.put_found-3.result c.orders_past-3.ensures.reads c.put_found-3.ensures.fails)
+    (reads_found _ c.put_found-3.result c.orders_past-3.ensures.reads c.put_found-3.ensures.fails)
 
 pub returns-clause-found : goal.returns-clause-found
 returns-clause-found g c honest T held =
     let number = λ (o : OrderRow). o.number in
-    let pending = read_as (reads_found c.orders_past.result c.put_found.result c.orders_past.ensures.reads c.put_found.ensures.fails) c.in_ok-put_found.was in
+    let pending = read_as (reads_found _ c.put_found.result c.orders_past.ensures.reads c.put_found.ensures.fails) c.in_ok-put_found.was in
     let ready =
-    read_as (reads_found c.orders_past-2.result c.put_found-2.result c.orders_past-2.ensures.reads c.put_found-2.ensures.fails) c.in_ok-put_found-2.was in
-    let processing = reads_found c.orders_past-3.result c.put_found-3.result c.orders_past-3.ensures.reads c.put_found-3.ensures.fails in
+    read_as (reads_found _ c.put_found-2.result c.orders_past-2.ensures.reads c.put_found-2.ensures.fails) c.in_ok-put_found-2.was in
+    let processing = reads_found _ c.put_found-3.result c.orders_past-3.ensures.reads c.put_found-3.ensures.fails in
     let second = processing.honest honest in
     let first = ready.honest second in
     let has = pending.tables first T held in

@@ -13,7 +13,7 @@ use Rattle.desk_loading.proofs.gathering.put_places.Goals as goal
 pub loop-place-preserved : goal.loop-place-preserved
 loop-place-preserved g c =
     let was = c.in_ok-put_found.was in
-    let read = read_as (reads_found c.authorizations_numbered.result c.put_found.result c.authorizations_numbered.ensures.reads c.put_found.ensures.fails) was in
+    let read = read_as (reads_found _ c.put_found.result c.authorizations_numbered.ensures.reads c.put_found.ensures.fails) was in
     record {
       stands = stands_then c.loop-place.invariant.stands read;
       found = λ honest T held.
@@ -36,7 +36,7 @@ returns-clause-found g c honest T held =
 pub returns-in_err-put_found-clause-reads : goal.returns-in_err-put_found-clause-reads
 returns-in_err-put_found-clause-reads g c =
     fails_then _ c.loop-place.invariant.stands
-    (read_as (reads_found c.authorizations_numbered.result c.put_found.result c.authorizations_numbered.ensures.reads c.put_found.ensures.fails)
+    (read_as (reads_found _ c.put_found.result c.authorizations_numbered.ensures.reads c.put_found.ensures.fails)
     c.in_err-put_found.was)
     c.from_residual.ensures.1
 

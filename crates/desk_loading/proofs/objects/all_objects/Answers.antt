@@ -13,16 +13,19 @@ returns-clause-accounts g c honest T held ordered =
 pub returns-clause-authorizations : goal.returns-clause-authorizations
 returns-clause-authorizations g c honest T held ordered =
     let read = c.in_ok-authorizations.ensures.reads.honest honest in
-    c.in_ok-authorizations.ensures.authorizations honest T ((read_as (reads_found c.all_accounts.result c.table_of.result c.all_accounts.ensures.reads c.table_of.ensures.fails) c.in_ok-accounts.was).tables read T held) ordered
+    c.in_ok-authorizations.ensures.authorizations honest T ((read_as (reads_found _ c.table_of.result c.all_accounts.ensures.reads c.table_of.ensures.fails)
+    c.in_ok-accounts.was).tables read T held) ordered
 
 pub returns-clause-orders : goal.returns-clause-orders
 returns-clause-orders g c honest T held ordered =
     let read = c.in_ok-authorizations.ensures.reads.honest honest in
-    c.in_ok-authorizations.ensures.orders honest T ((read_as (reads_found c.all_accounts.result c.table_of.result c.all_accounts.ensures.reads c.table_of.ensures.fails) c.in_ok-accounts.was).tables read T held) ordered
+    c.in_ok-authorizations.ensures.orders honest T ((read_as (reads_found _ c.table_of.result c.all_accounts.ensures.reads c.table_of.ensures.fails)
+    c.in_ok-accounts.was).tables read T held) ordered
 
 pub returns-in_err-accounts-clause-reads : goal.returns-in_err-accounts-clause-reads
 returns-in_err-accounts-clause-reads g c =
-    reads_failing _ (read_as (reads_found c.all_accounts.result c.table_of.result c.all_accounts.ensures.reads c.table_of.ensures.fails) c.in_err-accounts.was) c.from_residual.ensures.1
+    reads_failing _ (read_as (reads_found _ c.table_of.result c.all_accounts.ensures.reads c.table_of.ensures.fails) c.in_err-accounts.was)
+    c.from_residual.ensures.1
 
 pub returns-in_err-accounts-clause-accounts : goal.returns-in_err-accounts-clause-accounts
 returns-in_err-accounts-clause-accounts g c honest T held ordered = IfOk-from_err c.from_residual.result _ c.from_residual.ensures.0
@@ -35,7 +38,8 @@ returns-in_err-accounts-clause-orders g c honest T held ordered = IfOk-from_err 
 
 pub returns-in_err-authorizations-clause-reads : goal.returns-in_err-authorizations-clause-reads
 returns-in_err-authorizations-clause-reads g c =
-    fails_then _ (stands_read (read_as (reads_found c.all_accounts.result c.table_of.result c.all_accounts.ensures.reads c.table_of.ensures.fails) c.in_ok-accounts.was)) c.in_err-authorizations.ensures.reads c.from_residual-in_err-authorizations.ensures.1
+    fails_then _ (stands_read (read_as (reads_found _ c.table_of.result c.all_accounts.ensures.reads c.table_of.ensures.fails) c.in_ok-accounts.was))
+    c.in_err-authorizations.ensures.reads c.from_residual-in_err-authorizations.ensures.1
 
 pub returns-in_err-authorizations-clause-accounts : goal.returns-in_err-authorizations-clause-accounts
 returns-in_err-authorizations-clause-accounts g c honest T held ordered =
@@ -51,4 +55,5 @@ returns-in_err-authorizations-clause-orders g c honest T held ordered =
 
 pub returns-clause-reads : goal.returns-clause-reads
 returns-clause-reads g c =
-    reads_standing _ (stands_then (stands_read (read_as (reads_found c.all_accounts.result c.table_of.result c.all_accounts.ensures.reads c.table_of.ensures.fails) c.in_ok-accounts.was)) c.in_ok-authorizations.ensures.reads)
+    reads_standing _ (stands_then (stands_read (read_as (reads_found _ c.table_of.result c.all_accounts.ensures.reads c.table_of.ensures.fails)
+    c.in_ok-accounts.was)) c.in_ok-authorizations.ensures.reads)

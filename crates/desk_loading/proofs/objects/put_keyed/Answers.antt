@@ -5,7 +5,7 @@ use Rattle.desk_loading.proofs.objects.put_keyed.Goals as goal
 pub returns-in_err-put_found-clause-reads : goal.returns-in_err-put_found-clause-reads
 returns-in_err-put_found-clause-reads g c =
     reads_failing _
-    (read_as (reads_found c.accounts_with_key.result c.put_found.result c.accounts_with_key.ensures.reads c.put_found.ensures.fails) c.in_err-put_found.was)
+    (read_as (reads_found _ c.put_found.result c.accounts_with_key.ensures.reads c.put_found.ensures.fails) c.in_err-put_found.was)
     c.from_residual.ensures.1
 
 pub returns-in_err-put_found-clause-found : goal.returns-in_err-put_found-clause-found

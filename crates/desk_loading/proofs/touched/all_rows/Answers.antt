@@ -8,7 +8,7 @@ use Rattle.desk_loading.proofs.touched.all_rows.Goals as goal
 pub returns-clause-found : goal.returns-clause-found
 returns-clause-found g c honest T held same ordered =
     let read = c.in_ok-objects.ensures.reads.honest honest in
-    let has = (read_as (reads_found c.all_nonces.result c.table_of.result c.all_nonces.ensures.reads c.table_of.ensures.fails) c.in_ok-nonces.was).tables read T held in
+    let has = (read_as (reads_found _ c.table_of.result c.all_nonces.ensures.reads c.table_of.ensures.fails) c.in_ok-nonces.was).tables read T held in
     let nonces =
     table_when_found (λ (n : Nonce). n.serial) (λ rows. rows.items) c.all_nonces.result _ _ _ 1 c.table_of.ensures.put c.table_of.ensures.fails
     (c.all_nonces.ensures.found read T held) c.in_ok-nonces.was ordered.nonces.0 in
@@ -20,14 +20,16 @@ returns-clause-found g c honest T held same ordered =
 
 pub returns-in_err-nonces-clause-reads : goal.returns-in_err-nonces-clause-reads
 returns-in_err-nonces-clause-reads g c =
-    reads_failing _ (read_as (reads_found c.all_nonces.result c.table_of.result c.all_nonces.ensures.reads c.table_of.ensures.fails) c.in_err-nonces.was) c.from_residual.ensures.1
+    reads_failing _ (read_as (reads_found _ c.table_of.result c.all_nonces.ensures.reads c.table_of.ensures.fails) c.in_err-nonces.was)
+    c.from_residual.ensures.1
 
 pub returns-in_err-nonces-clause-found : goal.returns-in_err-nonces-clause-found
 returns-in_err-nonces-clause-found g c honest T held same ordered = IfOk-from_err c.from_residual.result _ c.from_residual.ensures.0
 
 pub returns-in_err-objects-clause-reads : goal.returns-in_err-objects-clause-reads
 returns-in_err-objects-clause-reads g c =
-    fails_then _ (stands_read (read_as (reads_found c.all_nonces.result c.table_of.result c.all_nonces.ensures.reads c.table_of.ensures.fails) c.in_ok-nonces.was)) c.in_err-objects.ensures.reads c.from_residual-in_err-objects.ensures.1
+    fails_then _ (stands_read (read_as (reads_found _ c.table_of.result c.all_nonces.ensures.reads c.table_of.ensures.fails) c.in_ok-nonces.was))
+    c.in_err-objects.ensures.reads c.from_residual-in_err-objects.ensures.1
 
 pub returns-in_err-objects-clause-found : goal.returns-in_err-objects-clause-found
 returns-in_err-objects-clause-found g c honest T held same ordered =
@@ -35,4 +37,5 @@ returns-in_err-objects-clause-found g c honest T held same ordered =
 
 pub returns-clause-reads : goal.returns-clause-reads
 returns-clause-reads g c =
-    reads_standing _ (stands_then (stands_read (read_as (reads_found c.all_nonces.result c.table_of.result c.all_nonces.ensures.reads c.table_of.ensures.fails) c.in_ok-nonces.was)) c.in_ok-objects.ensures.reads)
+    reads_standing _ (stands_then (stands_read (read_as (reads_found _ c.table_of.result c.all_nonces.ensures.reads c.table_of.ensures.fails)
+    c.in_ok-nonces.was)) c.in_ok-objects.ensures.reads)

@@ -39,13 +39,14 @@ returns-in_err-put_nonces-clause-found g c honest T held same =
 pub returns-in_err-put_found-clause-reads : goal.returns-in_err-put_found-clause-reads
 returns-in_err-put_found-clause-reads g c =
     fails_then _ (stands_read c.in_ok-put_nonces.ensures.reads)
-    (read_as (reads_found c.nonces_before.result c.put_found.result c.nonces_before.ensures.reads c.put_found.ensures.fails) c.in_err-put_found.was)
+    (read_as (reads_found _ c.put_found.result c.nonces_before.ensures.reads c.put_found.ensures.fails) c.in_err-put_found.was)
     c.from_residual-in_err-put_found.ensures.1
 
 pub returns-in_err-put_found-clause-found : goal.returns-in_err-put_found-clause-found
-returns-in_err-put_found-clause-found g c honest T held same = IfOk-from_err c.from_residual-in_err-put_found.result _ c.from_residual-in_err-put_found.ensures.0
+returns-in_err-put_found-clause-found g c honest T held same =
+    IfOk-from_err c.from_residual-in_err-put_found.result _ c.from_residual-in_err-put_found.ensures.0
 
 pub returns-clause-reads : goal.returns-clause-reads
 returns-clause-reads g c =
     reads_standing _ (stands_then (stands_read c.in_ok-put_nonces.ensures.reads)
-    (read_as (reads_found c.nonces_before.result c.put_found.result c.nonces_before.ensures.reads c.put_found.ensures.fails) c.in_ok-put_found.was))
+    (read_as (reads_found _ c.put_found.result c.nonces_before.ensures.reads c.put_found.ensures.fails) c.in_ok-put_found.was))
