@@ -44,7 +44,7 @@ fn challenges_under<S: Alter>(
         "SELECT num, authz, kind, token, answered, reported, outcome, status FROM chall WHERE authz = ?1 ORDER BY num",
         &params,
     )?;
-    Ok(without_owners(alloc, rows)?)
+    without_owners(alloc, rows)
 }
 
 // The authorizations, each with its challenges.
@@ -197,7 +197,7 @@ pub fn owners_of<S: Alter>(
         "SELECT num, authz, kind, token, answered, reported, outcome, status FROM chall WHERE num = ?1 ORDER BY num",
         &params,
     )?;
-    Ok(owners(alloc, rows)?)
+    owners(alloc, rows)
 }
 
 /// The authorization of the least number above this one, if there is one.
@@ -246,5 +246,5 @@ pub fn challenge_above<S: Alter>(
         "SELECT num, authz, kind, token, answered, reported, outcome, status FROM chall WHERE num > ?1 ORDER BY num LIMIT 1",
         &params,
     )?;
-    Ok(without_owners(alloc, rows)?)
+    without_owners(alloc, rows)
 }

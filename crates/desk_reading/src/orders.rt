@@ -44,7 +44,7 @@ fn listed_under<S: Alter>(
         "SELECT ord, place, authz FROM ord_authz WHERE ord = ?1 ORDER BY ord, place",
         &params,
     )?;
-    Ok(without_owners(alloc, rows)?)
+    without_owners(alloc, rows)
 }
 
 // The orders, each with what it lists.
@@ -197,7 +197,7 @@ pub fn orders_listing<S: Alter>(
         "SELECT ord, place, authz FROM ord_authz WHERE authz = ?1 ORDER BY ord, place",
         &params,
     )?;
-    Ok(owners(alloc, rows)?)
+    owners(alloc, rows)
 }
 
 /// The order of the least number above this one, if there is one.

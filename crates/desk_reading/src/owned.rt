@@ -1,14 +1,15 @@
 //! Rows that belong to others, and the numbers of those.
 ghost use Rattle.std.specs.Prelude.{◌≡◌, map, IfOk};
 
+use crate::fault::ReadFault;
 use desk_columns::Owned;
-use std::alloc::{AllocError, Global};
+use std::alloc::Global;
 
 /// The rows without the numbers of their owners.
 pub(crate) fn without_owners<T: Drop>(
     alloc: Global,
     rows: Vec<Owned<T>>,
-) -> Result<Vec<T>, AllocError>
+) -> Result<Vec<T>, ReadFault>
     ensures { IfOk result (λ all. all.items ≡ map (λ r. r.row) rows.items) }
 {
     let mut all = Vec::new(alloc);
@@ -19,7 +20,7 @@ pub(crate) fn without_owners<T: Drop>(
 }
 
 /// The numbers of the owners.
-pub(crate) fn owners<T: Drop>(alloc: Global, rows: Vec<Owned<T>>) -> Result<Vec<u64>, AllocError>
+pub(crate) fn owners<T: Drop>(alloc: Global, rows: Vec<Owned<T>>) -> Result<Vec<u64>, ReadFault>
     ensures { IfOk result (λ numbers. numbers.items ≡ map (λ r. r.owner) rows.items) }
 {
     let mut numbers = Vec::new(alloc);

@@ -1,4 +1,5 @@
 use Rattle.std.proofs.Common.{map, ap, ◌∙◌}
+use Rattle.std.proofs.lemmas.Result.{IfOk-weaker}
 use Rattle.sqlite.specs.Held.{state}
 use Rattle.desk_reading.proofs.ListedOrder.{listing_found}
 use Rattle.desk_reading.proofs.LookUpReadings.{listing_reading}
@@ -13,4 +14,4 @@ returns-clause-found g c clean T has book =
     let it = c.in_ok-rows.ensures.read clean in
     let found = listing_found (state g.S.Store c.args.conn.now) (state g.S.Store c.find_rows.new.conn) T it.0 _ has book c.in_ok-rows.rows.items it.2 it.3
     c.args.authorization c.number_param-params.ensures it.1 in
-    c.in_ok-owners.ensures ∙ ap (map (λ l. l.owner)) found ∙ listing_is T c.args.authorization
+    IfOk-weaker c.owners.result _ _ (λ _ are. are ∙ ap (map (λ l. l.owner)) found ∙ listing_is T c.args.authorization) c.owners.ensures
