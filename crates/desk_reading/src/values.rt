@@ -9,8 +9,8 @@ ghost use Rattle.desk_reading.specs.Spelled.{bytes_in, bytes_or_none, number_in,
 use desk_model::{Sequence, Text};
 use sqlite::{Error, Row};
 
-/// The number in a column.
-pub(crate) fn number(row: &Row, at: usize) -> Result<i64, Error>
+// The number in a column.
+fn number(row: &Row, at: usize) -> Result<i64, Error>
     ensures read { IfOk result (λ n. n ≡ number_in (column row.now at)) }
     ensures fails { HasAt HoldsInt row.now at → IfErr result IsOutOfMemory }
 {
