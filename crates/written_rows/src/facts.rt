@@ -1,5 +1,5 @@
 //! The facts that several columns record: all of them hold something, or all are NULL.
-ghost use Rattle.std.specs.Prelude.{◌≡◌, IfOk, IfErr, option_map, pos};
+ghost use Rattle.std.specs.Prelude.{◌≡◌, Some, IfOk, IfErr, option_map, pos};
 ghost use Rattle.desk_columns.specs.Columns.{account_end_columns, authorization_end_columns, dated_bytes_columns, dated_problem_columns, report_columns};
 ghost use Rattle.desk_columns.specs.Limits.{IfRecorded};
 ghost use Rattle.written_rows.specs.Fits.{Fits};
@@ -12,6 +12,20 @@ use crate::values::{bytes_column, text_column};
 use desk_model::{AccountEnd, AuthorizationEnd, DatedBytes, DatedProblem, Report, Sequence, Text};
 use std::alloc::Global;
 
+// The columns of a fact that a date and a word tell.
+fn dated_text_columns(
+    alloc: Global,
+    date: u64,
+    text: &str,
+) -> Result<(Option<i64>, Option<Text>), WriteFault>
+    ensures columns { IfOk result (λ c. c ≡ (Some (pos date), Some text.now)) }
+    ensures fits { Fits date → IfErr result (λ why. why ≡ Memory) }
+{
+    let dated = number_column(date)?;
+    let text = text_column(alloc, text)?;
+    Ok((Some(dated), Some(text)))
+}
+
 /// When and how an account ended.
 pub(crate) fn account_end_columns(
     alloc: Global,
@@ -21,11 +35,7 @@ pub(crate) fn account_end_columns(
     ensures fits { IfRecorded (λ e. Fits e.date) end → IfErr result (λ why. why ≡ Memory) }
 {
     match end {
-        Some(end) => {
-            let ended = number_column(end.date)?;
-            let end_kind = text_column(alloc, end.ending.as_str())?;
-            Ok((Some(ended), Some(end_kind)))
-        }
+        Some(end) => dated_text_columns(alloc, end.date, end.ending.as_str()),
         None => Ok((None, None)),
     }
 }
@@ -39,11 +49,7 @@ pub(crate) fn authorization_end_columns(
     ensures fits { IfRecorded (λ e. Fits e.date) end → IfErr result (λ why. why ≡ Memory) }
 {
     match end {
-        Some(end) => {
-            let ended = number_column(end.date)?;
-            let end_kind = text_column(alloc, end.kind.as_str())?;
-            Ok((Some(ended), Some(end_kind)))
-        }
+        Some(end) => dated_text_columns(alloc, end.date, end.kind.as_str()),
         None => Ok((None, None)),
     }
 }
@@ -57,11 +63,7 @@ pub(crate) fn report_columns(
     ensures fits { IfRecorded (λ r. Fits r.date) report → IfErr result (λ why. why ≡ Memory) }
 {
     match report {
-        Some(report) => {
-            let reported = number_column(report.date)?;
-            let outcome = text_column(alloc, report.outcome.as_str())?;
-            Ok((Some(reported), Some(outcome)))
-        }
+        Some(report) => dated_text_columns(alloc, report.date, report.outcome.as_str()),
         None => Ok((None, None)),
     }
 }

@@ -1,6 +1,7 @@
 //! Numbers and marks as INTEGER columns.
-ghost use Rattle.std.specs.Prelude.{◌≡◌, ◌≤◌, ◌^◌, pos, MatchResult};
+ghost use Rattle.std.specs.Prelude.{◌≡◌, ◌≤◌, ◌^◌, pos, IfOk, IsOk, MatchResult};
 ghost use Rattle.desk_columns.specs.Columns.{wildcard_column};
+ghost use Rattle.written_rows.specs.Fits.{Fits};
 ghost use Rattle.written_rows.specs.declared.fault.WriteFault.TheVariants.{TooLarge};
 
 use crate::fault::WriteFault;
@@ -18,6 +19,14 @@ pub fn number_column(number: u64) -> Result<i64, WriteFault>
     } else {
         Err(WriteFault::TooLarge)
     }
+}
+
+/// Two numbers as columns.
+pub(crate) fn two_columns(first: u64, second: u64) -> Result<(i64, i64), WriteFault>
+    ensures columns { IfOk result (λ c. c ≡ (pos first, pos second)) }
+    ensures fits { Fits first → Fits second → IsOk result }
+{
+    Ok((number_column(first)?, number_column(second)?))
 }
 
 /// The mark of a wildcard as a column.

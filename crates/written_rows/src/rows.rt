@@ -11,8 +11,8 @@ use crate::facts::{
     dated_problem_columns, report_columns,
 };
 use crate::fault::WriteFault;
-use crate::numbers::{number_column, wildcard_column};
-use crate::values::{bytes_column, text_column};
+use crate::numbers::{number_column, two_columns, wildcard_column};
+use crate::values::{bytes_column, text_column, two_texts};
 use desk_columns::{
     AccountColumns, AuthzColumns, ChallColumns, FORMAT, MetaColumns, NonceColumns,
     OrderAuthzColumns, OrderColumns,
@@ -29,18 +29,23 @@ pub fn meta_columns(alloc: Global, row: &Meta) -> Result<MetaColumns, WriteFault
     ensures columns { IfOk result (λ c. c ≡ meta_columns row.now) }
     ensures fits { FitsMeta row.now → IfErr result (λ why. why ≡ Memory) }
 {
+    let counters = &row.counters;
+    let (nonce_life, order_life) = two_columns(row.policy.nonce_life(), row.policy.order_life())?;
+    let (authz_life, clock) = two_columns(row.policy.authz_life(), counters.clock.moment())?;
+    let (nonces, accounts) = two_columns(counters.nonces, counters.accounts)?;
+    let (orders, authzs) = two_columns(counters.orders, counters.authorizations)?;
     Ok(MetaColumns {
         id: 1,
         format: FORMAT,
-        nonce_life: number_column(row.policy.nonce_life())?,
-        order_life: number_column(row.policy.order_life())?,
-        authz_life: number_column(row.policy.authz_life())?,
-        clock: number_column(row.counters.clock.moment())?,
-        nonces: number_column(row.counters.nonces)?,
-        accounts: number_column(row.counters.accounts)?,
-        orders: number_column(row.counters.orders)?,
-        authzs: number_column(row.counters.authorizations)?,
-        challs: number_column(row.counters.challenges)?,
+        nonce_life,
+        order_life,
+        authz_life,
+        clock,
+        nonces,
+        accounts,
+        orders,
+        authzs,
+        challs: number_column(counters.challenges)?,
         base: text_column(alloc, row.policy.base())?,
     })
 }
@@ -54,9 +59,10 @@ pub fn nonce_columns(alloc: Global, row: &Nonce) -> Result<NonceColumns, WriteFa
     ensures columns { IfOk result (λ c. c ≡ nonce_columns row.now) }
     ensures fits { FitsNonce row.now → IfErr result (λ why. why ≡ Memory) }
 {
+    let (serial, issued) = two_columns(row.serial, row.issued)?;
     Ok(NonceColumns {
-        serial: number_column(row.serial)?,
-        issued: number_column(row.issued)?,
+        serial,
+        issued,
         random: bytes_column(alloc, &row.random)?,
     })
 }
@@ -70,17 +76,18 @@ pub fn account_columns(alloc: Global, row: &AccountRow) -> Result<AccountColumns
     ensures columns { IfOk result (λ c. c ≡ account_columns row.now) }
     ensures fits { FitsAccount row.now → IfErr result (λ why. why ≡ Memory) }
 {
-    let num = number_column(row.number)?;
-    let opened = number_column(row.opened)?;
+    let (num, opened) = two_columns(row.number, row.opened)?;
+    let (jwk, status) = two_texts(alloc, row.key.canonical(), row.status.as_str())?;
+    let contacts = contacts_column(alloc, row.contacts.as_slice())?;
     let (ended, end_kind) = account_end_columns(alloc, row.ended)?;
     Ok(AccountColumns {
         num,
-        jwk: text_column(alloc, row.key.canonical())?,
-        contacts: contacts_column(alloc, row.contacts.as_slice())?,
+        jwk,
+        contacts,
         opened,
         ended,
         end_kind,
-        status: text_column(alloc, row.status.as_str())?,
+        status,
     })
 }
 
@@ -93,10 +100,9 @@ pub fn order_columns(alloc: Global, row: &OrderRow) -> Result<OrderColumns, Writ
     ensures columns { IfOk result (λ c. c ≡ order_columns row.now) }
     ensures fits { FitsOrder row.now → IfErr result (λ why. why ≡ Memory) }
 {
-    let num = number_column(row.number)?;
-    let account = number_column(row.account)?;
-    let made = number_column(row.made)?;
-    let expires = number_column(row.expires)?;
+    let (num, account) = two_columns(row.number, row.account)?;
+    let (made, expires) = two_columns(row.made, row.expires)?;
+    let status = text_column(alloc, row.status.as_str())?;
     let (finalized, csr) = dated_bytes_columns(alloc, &row.finalized)?;
     let (certified, cert) = dated_bytes_columns(alloc, &row.certified)?;
     let (failed, problem) = dated_problem_columns(alloc, &row.failed)?;
@@ -111,7 +117,7 @@ pub fn order_columns(alloc: Global, row: &OrderRow) -> Result<OrderColumns, Writ
         cert,
         failed,
         problem,
-        status: text_column(alloc, row.status.as_str())?,
+        status,
     })
 }
 
@@ -127,21 +133,20 @@ pub fn authorization_columns(
     ensures columns { IfOk result (λ c. c ≡ authorization_columns row.now) }
     ensures fits { FitsAuthorization row.now → IfErr result (λ why. why ≡ Memory) }
 {
-    let num = number_column(row.number)?;
-    let account = number_column(row.account)?;
-    let made = number_column(row.made)?;
-    let expires = number_column(row.expires)?;
+    let (num, account) = two_columns(row.number, row.account)?;
+    let (made, expires) = two_columns(row.made, row.expires)?;
+    let (name, status) = two_texts(alloc, row.name.base(), row.status.as_str())?;
     let (ended, end_kind) = authorization_end_columns(alloc, row.ended)?;
     Ok(AuthzColumns {
         num,
         account,
-        name: text_column(alloc, row.name.base())?,
+        name,
         wildcard: wildcard_column(row.name.is_wildcard()),
         made,
         expires,
         ended,
         end_kind,
-        status: text_column(alloc, row.status.as_str())?,
+        status,
     })
 }
 
@@ -154,9 +159,10 @@ pub fn listed_columns(order: u64, row: &Listed) -> Result<OrderAuthzColumns, Wri
     ensures columns { IfOk result (λ c. c ≡ listed_columns (record { owner = order; row = row.now })) }
     ensures fits { FitsListed (record { owner = order; row = row.now }) → IsOk result }
 {
+    let (ord, place) = two_columns(order, row.place)?;
     Ok(OrderAuthzColumns {
-        ord: number_column(order)?,
-        place: number_column(row.place)?,
+        ord,
+        place,
         authz: number_column(row.authorization)?,
     })
 }
@@ -174,18 +180,19 @@ pub fn challenge_columns(
     ensures columns { IfOk result (λ c. c ≡ challenge_columns (record { owner = authorization; row = row.now })) }
     ensures fits { FitsChallenge (record { owner = authorization; row = row.now }) → IfErr result (λ why. why ≡ Memory) }
 {
-    let num = number_column(row.number)?;
-    let authz = number_column(authorization)?;
     let answered = answered_column(row.answered)?;
+    let (num, authz) = two_columns(row.number, authorization)?;
+    let (kind, status) = two_texts(alloc, row.kind.as_str(), row.status.as_str())?;
+    let token = bytes_column(alloc, &row.token)?;
     let (reported, outcome) = report_columns(alloc, row.reported)?;
     Ok(ChallColumns {
         num,
         authz,
-        kind: text_column(alloc, row.kind.as_str())?,
-        token: bytes_column(alloc, &row.token)?,
+        kind,
+        token,
         answered,
         reported,
         outcome,
-        status: text_column(alloc, row.status.as_str())?,
+        status,
     })
 }

@@ -11,6 +11,17 @@ pub(crate) fn text_column(alloc: Global, text: &str) -> Result<Text, AllocError>
     Ok(Text::new(String::from_str(alloc, text)?))
 }
 
+/// Two texts as columns.
+pub(crate) fn two_texts(
+    alloc: Global,
+    first: &str,
+    second: &str,
+) -> Result<(Text, Text), AllocError>
+    ensures { IfOk result (λ c. c ≡ (first.now, second.now)) }
+{
+    Ok((text_column(alloc, first)?, text_column(alloc, second)?))
+}
+
 /// Bytes as a column.
 pub(crate) fn bytes_column(alloc: Global, bytes: &[u8]) -> Result<Sequence<u8>, AllocError>
     ensures { IfOk result (λ copy. copy ≡ bytes.now) }
