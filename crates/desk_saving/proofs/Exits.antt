@@ -1,8 +1,10 @@
--- Calls inside a transaction that fail, and what they leave behind a first one.
-use Rattle.std.proofs.Common.{arith, ◌∙◌}
+-- Calls inside a transaction, and what they leave behind a first one.
+use Rattle.std.proofs.Common.{◌≡◌, arith, ◌∙◌, Result, Ok, Err, OnOk}
+use Rattle.std.specs.Prelude.{is_ok}
 use Rattle.sqlite.proofs.StateLemmas.{survives_then}
 use Rattle.sqlite.specs.Effect.{Database}
 use Rattle.sqlite.specs.State.{State, Survives}
+use Rattle.desk_schema.proofs.AdvanceLemmas.{advances_then}
 use Rattle.desk_schema.specs.Advances.{Advances, KeepsLast}
 
 -- the last commit is as it was before a call that advanced the transaction
@@ -14,3 +16,16 @@ kept_behind a b c Does first on kept clean inside is_open =
 -- two calls that commit nothing
 pub survives_both : (a b c : State) → Survives a b (λ _. ⊥) → Survives b c (λ _. ⊥) → Survives a c (λ _. ⊥)
 survives_both a b c = survives_then a b c _ _ (λ _. ⊥) (λ _ db none. none) (λ _ db none. none)
+
+-- a call behind a first one advances the transaction by both, where it is answered
+pub advances_both : {X E : Type 0} (r : Result X E) (a b c : State) (Does Then Both : Database → Database → Type 0)
+    → (Does a.now b.now → Then b.now c.now → Both a.now c.now) → Survives b c (λ _. ⊥) → Advances a b Does → OnOk r (Advances b c Then)
+    → OnOk r (Advances a c Both)
+advances_both (Ok x) a b c Does Then Both joins on first last = advances_then a b c Does Then Both joins on first last
+advances_both (Err e) a b c Does Then Both joins on first last = tt
+
+-- where a call is answered as another was, what follows of what the other did
+pub done_as : {A B E F P Q : Type 0} (r : Result A E) (q : Result B F) → is_ok q ≡ is_ok r → (P → Q) → OnOk r P → OnOk q Q
+done_as (Ok x) (Ok y) same so did = so did
+done_as (Err e) (Ok y) same so did = cc
+done_as r (Err e) same so did = tt

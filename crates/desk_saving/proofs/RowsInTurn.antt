@@ -1,6 +1,7 @@
 -- Rows of one table, and changes, made one after the other inside a transaction.
 use Rattle.std.proofs.Common.{zero, suc, arith, ◌≡◌, Result, Ok, Err, OnOk, ℕ, ◌+◌, ◌<◌, ◌++◌, List, [], ◌∷◌, take, get_or}
 use Rattle.std.proofs.Common.{length, refl, sym, ap, subst, ◌∙◌, add-one}
+use Rattle.std.specs.Prelude.{ℤ, pos}
 use Rattle.std.proofs.Math.Seq.{take-suc}
 use Rattle.std.proofs.lemmas.List.{map-append}
 use Rattle.sqlite.specs.Effect.{Database}
@@ -20,10 +21,10 @@ use Rattle.desk_saving.specs.Fitting.{AreFit, IsFit}
 use Rattle.desk_laws.specs.Placing.{puts}
 use Rattle.desk_saving.specs.Makes.{ArePlaced, Makes, MakesAll, PlacesAll, PutsAll}
 use Rattle.desk_saving.proofs.Numbered.{puts_snoc}
-use Rattle.desk_tables.specs.Effects.{Places, PlacesColumns, Puts, is_same_place}
+use Rattle.desk_tables.specs.Effects.{Places, PlacesColumns, Puts, Removes, RemovesNumbered, is_same_place}
 use Rattle.desk_tables.specs.Hidden.{IsPlaced}
 use Rattle.desk_tables.specs.Holds.{Holds}
-use Rattle.desk_tables.specs.Layouts.{HasRows, Layout}
+use Rattle.desk_tables.specs.Layouts.{HasRows, Layout, nonce_layout}
 use Rattle.desk_laws.proofs.Recorded.{applied-append}
 
 -- ---- one row
@@ -33,6 +34,12 @@ pub places_typed : (columns : OrderAuthzColumns) (row : Owned Listed) (old new :
     → Advances old new (PlacesColumns columns)
     → Advances old new (Places row)
 places_typed columns row old new are = advances_as old new (PlacesColumns columns) (Places row) (λ does. does row (sym are))
+
+-- the nonce of a serial, by the number of its column
+pub removes_numbered : (column : ℤ) (serial : ℕ) (old new : State) → column ≡ pos serial → Advances old new (RemovesNumbered nonce_layout column)
+    → Advances old new (Removes nonce_layout serial)
+removes_numbered column serial old new are =
+    advances_as old new (RemovesNumbered nonce_layout column) (Removes nonce_layout serial) (λ does. does serial (sym are))
 
 -- ---- several rows
 

@@ -28,8 +28,7 @@ fn put_with_challenges<S: Alter>(
     ensures fits { FitsColumns (PutAuthorization row.now) → IfErr result IsNotTooLarge }
 {
     put_authorization(alloc, tx, row)?;
-    put_challenges(alloc, tx, row.number, row.challenges.as_slice())?;
-    Ok(())
+    put_challenges(alloc, tx, row.number, row.challenges.as_slice())
 }
 
 // Puts an order with what it lists.
@@ -45,8 +44,7 @@ fn put_with_listed<S: Alter>(
     ensures fits { FitsColumns (PutOrder row.now) → IfErr result IsNotTooLarge }
 {
     put_order(alloc, tx, row)?;
-    put_all_listed(tx, row.number, row.listed.as_slice())?;
-    Ok(())
+    put_all_listed(tx, row.number, row.listed.as_slice())
 }
 
 // Makes one change.

@@ -26,8 +26,5 @@ pub(crate) fn end<S: Alter>(
     ensures fits { IfErr done IsNotTooLarge → IfErr result IsNotTooLarge }
 {
     done?;
-    match tx.commit() {
-        Ok(()) => Ok(()),
-        Err(error) => Err(SaveFault::Commit(error)),
-    }
+    tx.commit().map_err(SaveFault::Commit)
 }

@@ -29,8 +29,7 @@ fn define_desk<S: Alter>(
     ensures fits { FitsMeta meta.now → IfErr result IsNotTooLarge }
 {
     define_all(tx)?;
-    put_meta(alloc, tx, meta)?;
-    Ok(())
+    put_meta(alloc, tx, meta)
 }
 
 /// Makes the tables and indexes of a desk in a database that has no object, and puts its row of `meta`, in one transaction: all

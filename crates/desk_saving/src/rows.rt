@@ -34,8 +34,9 @@ pub(crate) fn put_meta<S: Alter>(
     ensures fits { FitsMeta row.now → IfErr result IsNotTooLarge }
 {
     let columns = meta_columns(alloc, row)?;
-    upsert_meta(tx, &columns)?;
-    Ok(())
+    let put = upsert_meta(tx, &columns);
+    drop(columns);
+    Ok(put?)
 }
 
 /// Puts a nonce.
@@ -51,8 +52,9 @@ pub(crate) fn put_nonce<S: Alter>(
     ensures fits { FitsNonce row.now → IfErr result IsNotTooLarge }
 {
     let columns = nonce_columns(alloc, row)?;
-    upsert_nonce(tx, &columns)?;
-    Ok(())
+    let put = upsert_nonce(tx, &columns);
+    drop(columns);
+    Ok(put?)
 }
 
 /// Puts an account.
@@ -68,8 +70,9 @@ pub(crate) fn put_account<S: Alter>(
     ensures fits { FitsAccount row.now → IfErr result IsNotTooLarge }
 {
     let columns = account_columns(alloc, row)?;
-    upsert_account(tx, &columns)?;
-    Ok(())
+    let put = upsert_account(tx, &columns);
+    drop(columns);
+    Ok(put?)
 }
 
 /// Puts an order, without what it lists.
@@ -85,8 +88,9 @@ pub(crate) fn put_order<S: Alter>(
     ensures fits { FitsOrder row.now → IfErr result IsNotTooLarge }
 {
     let columns = order_columns(alloc, row)?;
-    upsert_order(tx, &columns)?;
-    Ok(())
+    let put = upsert_order(tx, &columns);
+    drop(columns);
+    Ok(put?)
 }
 
 /// Puts an authorization, without its challenges.
@@ -102,8 +106,9 @@ pub(crate) fn put_authorization<S: Alter>(
     ensures fits { FitsAuthorization row.now → IfErr result IsNotTooLarge }
 {
     let columns = authorization_columns(alloc, row)?;
-    upsert_authorization(tx, &columns)?;
-    Ok(())
+    let put = upsert_authorization(tx, &columns);
+    drop(columns);
+    Ok(put?)
 }
 
 /// Puts what an order lists at a place.
@@ -119,8 +124,7 @@ pub(crate) fn put_listed<S: Alter>(
     ensures fits { FitsListed (record { owner = order; row = row.now }) → IfErr result IsNotTooLarge }
 {
     let columns = listed_columns(order, row)?;
-    upsert_listed(tx, &columns)?;
-    Ok(())
+    upsert_listed(tx, &columns).map_err(SaveFault::Statement)
 }
 
 /// Puts a challenge of an authorization.
@@ -138,8 +142,9 @@ pub(crate) fn put_challenge<S: Alter>(
     ensures fits { FitsChallenge (record { owner = authorization; row = row.now }) → IfErr result IsNotTooLarge }
 {
     let columns = challenge_columns(alloc, authorization, row)?;
-    upsert_challenge(tx, &columns)?;
-    Ok(())
+    let put = upsert_challenge(tx, &columns);
+    drop(columns);
+    Ok(put?)
 }
 
 /// Removes the nonce of this serial, if there is one.
@@ -154,6 +159,5 @@ pub(crate) fn remove_nonce<S: Alter>(
     ensures fits { Fits serial → IfErr result IsNotTooLarge }
 {
     let column = number_column(serial)?;
-    delete_nonce(tx, &column)?;
-    Ok(())
+    delete_nonce(tx, &column).map_err(SaveFault::Statement)
 }

@@ -1,13 +1,12 @@
-use Rattle.std.proofs.Common.{subst}
+use Rattle.std.proofs.Common.{OnOk, subst}
 use Rattle.std.proofs.lemmas.Result.{IfOk-from_err}
 use Rattle.sqlite.specs.Held.{state}
 use Rattle.desk_columns.specs.Flat.{owned_by}
 use Rattle.desk_model.specs.declared.rows.Change.TheVariants.{PutAuthorization}
-use Rattle.desk_schema.proofs.AdvanceLemmas.{advances_then}
 use Rattle.desk_schema.specs.Advances.{Advances}
 use Rattle.desk_saving.specs.Makes.{Makes, PutsAll}
 use Rattle.desk_saving.proofs.MadeChanges.{makes_authorization}
-use Rattle.desk_saving.proofs.Exits.{kept_behind, survives_both}
+use Rattle.desk_saving.proofs.Exits.{advances_both, kept_behind, survives_both}
 use Rattle.desk_saving.proofs.changes.put_with_challenges.Goals as goal
 use Rattle.desk_tables.specs.Effects.{Puts}
 use Rattle.desk_tables.specs.Layouts.{authorization_layout, challenge_layout}
@@ -18,36 +17,20 @@ returns-clause-ok g c =
     let old = state g.S.Store c.args.tx.now.conn.now in
     let mid = state g.S.Store c.put_authorization.new.tx.conn.now in
     let new = state g.S.Store c.put_challenges.new.tx.conn.now in
-    let last = subst (λ rows. Advances mid new (PutsAll challenge_layout (owned_by row.number rows))) c.as_slice.ensures c.in_ok-put_challenges.ensures.ok in
-    advances_then old mid new (Puts authorization_layout row) (PutsAll challenge_layout (owned_by row.number row.challenges)) (Makes (PutAuthorization row))
-    (makes_authorization row old.now mid.now new.now) c.in_ok-put_challenges.ensures.survives c.in_ok-put_authorization.ensures.ok last
+    let r = c.put_challenges.result in
+    let last = subst (λ rows. OnOk r (Advances mid new (PutsAll challenge_layout (owned_by row.number rows)))) c.as_slice.ensures c.put_challenges.ensures.ok in
+    advances_both r old mid new (Puts authorization_layout row) (PutsAll challenge_layout (owned_by row.number row.challenges)) (Makes (PutAuthorization row))
+    (makes_authorization row old.now mid.now new.now) c.put_challenges.ensures.survives c.in_ok-put_authorization.ensures.ok last
 
 pub returns-in_err-put_authorization-clause-ok : goal.returns-in_err-put_authorization-clause-ok
 returns-in_err-put_authorization-clause-ok g c = IfOk-from_err c.from_residual.result _ c.from_residual.ensures.0
 
-pub returns-in_err-put_challenges-clause-ok : goal.returns-in_err-put_challenges-clause-ok
-returns-in_err-put_challenges-clause-ok g c = IfOk-from_err c.from_residual-in_err-put_challenges.result _ c.from_residual-in_err-put_challenges.ensures.0
-
-pub returns-in_err-put_challenges-clause-kept : goal.returns-in_err-put_challenges-clause-kept
-returns-in_err-put_challenges-clause-kept g c =
-    kept_behind (state g.S.Store c.args.tx.now.conn.now) (state g.S.Store c.put_authorization.new.tx.conn.now)
-    (state g.S.Store c.put_challenges.new.tx.conn.now) _
-    c.in_ok-put_authorization.ensures.ok c.in_err-put_challenges.ensures.survives c.in_err-put_challenges.ensures.kept
-
-pub returns-in_err-put_challenges-clause-survives : goal.returns-in_err-put_challenges-clause-survives
-returns-in_err-put_challenges-clause-survives g c =
-    survives_both (state g.S.Store c.args.tx.now.conn.now) (state g.S.Store c.put_authorization.new.tx.conn.now)
-    (state g.S.Store c.put_challenges.new.tx.conn.now)
-    c.in_ok-put_authorization.ensures.survives c.in_err-put_challenges.ensures.survives
-
 pub returns-clause-kept : goal.returns-clause-kept
 returns-clause-kept g c =
-    kept_behind (state g.S.Store c.args.tx.now.conn.now) (state g.S.Store c.put_authorization.new.tx.conn.now)
-    (state g.S.Store c.put_challenges.new.tx.conn.now) _
-    c.in_ok-put_authorization.ensures.ok c.in_ok-put_challenges.ensures.survives c.in_ok-put_challenges.ensures.kept
+    kept_behind (state g.S.Store c.args.tx.now.conn.now) (state g.S.Store c.put_authorization.new.tx.conn.now) (state g.S.Store c.put_challenges.new.tx.conn.now) _
+    c.in_ok-put_authorization.ensures.ok c.put_challenges.ensures.survives c.put_challenges.ensures.kept
 
 pub returns-clause-survives : goal.returns-clause-survives
 returns-clause-survives g c =
-    survives_both (state g.S.Store c.args.tx.now.conn.now) (state g.S.Store c.put_authorization.new.tx.conn.now)
-    (state g.S.Store c.put_challenges.new.tx.conn.now)
-    c.in_ok-put_authorization.ensures.survives c.in_ok-put_challenges.ensures.survives
+    survives_both (state g.S.Store c.args.tx.now.conn.now) (state g.S.Store c.put_authorization.new.tx.conn.now) (state g.S.Store c.put_challenges.new.tx.conn.now)
+    c.in_ok-put_authorization.ensures.survives c.put_challenges.ensures.survives

@@ -1,9 +1,8 @@
 use Rattle.std.proofs.lemmas.Result.{IfOk-from_err}
 use Rattle.sqlite.specs.Held.{state}
-use Rattle.desk_schema.proofs.AdvanceLemmas.{advances_then}
 use Rattle.desk_schema.specs.Defined.{Defines}
 use Rattle.desk_saving.specs.Making.{MakesDesk}
-use Rattle.desk_saving.proofs.Exits.{kept_behind, survives_both}
+use Rattle.desk_saving.proofs.Exits.{advances_both, kept_behind, survives_both}
 use Rattle.desk_saving.proofs.making.define_desk.Goals as goal
 use Rattle.desk_tables.specs.Effects.{Puts}
 use Rattle.desk_tables.specs.Layouts.{meta_layout}
@@ -15,31 +14,18 @@ returns-clause-ok g c =
     let old = state g.S.Store c.args.tx.now.conn.now in
     let mid = state g.S.Store c.define_all.new.tx.conn.now in
     let new = state g.S.Store c.put_meta.new.tx.conn.now in
-    advances_then old mid new (Defines 15) (Puts meta_layout meta) (MakesDesk meta) (holds_first old.now mid.now new.now meta)
-    c.in_ok-put_meta.ensures.survives c.in_ok-define_all.ensures.ok c.in_ok-put_meta.ensures.ok
+    advances_both c.put_meta.result old mid new (Defines 15) (Puts meta_layout meta) (MakesDesk meta) (holds_first old.now mid.now new.now meta)
+    c.put_meta.ensures.survives c.in_ok-define_all.ensures.ok c.put_meta.ensures.ok
 
 pub returns-in_err-define_all-clause-ok : goal.returns-in_err-define_all-clause-ok
 returns-in_err-define_all-clause-ok g c = IfOk-from_err c.from_residual.result _ c.from_residual.ensures.0
 
-pub returns-in_err-put_meta-clause-ok : goal.returns-in_err-put_meta-clause-ok
-returns-in_err-put_meta-clause-ok g c = IfOk-from_err c.from_residual-in_err-put_meta.result _ c.from_residual-in_err-put_meta.ensures.0
-
-pub returns-in_err-put_meta-clause-kept : goal.returns-in_err-put_meta-clause-kept
-returns-in_err-put_meta-clause-kept g c =
-    kept_behind (state g.S.Store c.args.tx.now.conn.now) (state g.S.Store c.define_all.new.tx.conn.now) (state g.S.Store c.put_meta.new.tx.conn.now) _
-    c.in_ok-define_all.ensures.ok c.in_err-put_meta.ensures.survives c.in_err-put_meta.ensures.kept
-
-pub returns-in_err-put_meta-clause-survives : goal.returns-in_err-put_meta-clause-survives
-returns-in_err-put_meta-clause-survives g c =
-    survives_both (state g.S.Store c.args.tx.now.conn.now) (state g.S.Store c.define_all.new.tx.conn.now) (state g.S.Store c.put_meta.new.tx.conn.now)
-    c.in_ok-define_all.ensures.survives c.in_err-put_meta.ensures.survives
-
 pub returns-clause-kept : goal.returns-clause-kept
 returns-clause-kept g c =
     kept_behind (state g.S.Store c.args.tx.now.conn.now) (state g.S.Store c.define_all.new.tx.conn.now) (state g.S.Store c.put_meta.new.tx.conn.now) _
-    c.in_ok-define_all.ensures.ok c.in_ok-put_meta.ensures.survives c.in_ok-put_meta.ensures.kept
+    c.in_ok-define_all.ensures.ok c.put_meta.ensures.survives c.put_meta.ensures.kept
 
 pub returns-clause-survives : goal.returns-clause-survives
 returns-clause-survives g c =
     survives_both (state g.S.Store c.args.tx.now.conn.now) (state g.S.Store c.define_all.new.tx.conn.now) (state g.S.Store c.put_meta.new.tx.conn.now)
-    c.in_ok-define_all.ensures.survives c.in_ok-put_meta.ensures.survives
+    c.in_ok-define_all.ensures.survives c.put_meta.ensures.survives

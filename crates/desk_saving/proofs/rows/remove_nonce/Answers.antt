@@ -1,8 +1,12 @@
-use Rattle.std.proofs.lemmas.Result.{IfOk-from_err}
+use Rattle.std.proofs.Common.{rules}
+use Rattle.sqlite.specs.Held.{state}
+use Rattle.desk_saving.proofs.Exits.{done_as}
+use Rattle.desk_saving.proofs.RowsInTurn.{removes_numbered}
 use Rattle.desk_saving.proofs.rows.remove_nonce.Goals as goal
 
-pub returns-in_err-column-clause-ok : goal.returns-in_err-column-clause-ok
-returns-in_err-column-clause-ok g c = IfOk-from_err c.from_residual.result _ c.from_residual.ensures.0
-
-pub returns-in_err-delete_nonce-clause-ok : goal.returns-in_err-delete_nonce-clause-ok
-returns-in_err-delete_nonce-clause-ok g c = IfOk-from_err c.from_residual-in_err-delete_nonce.result _ c.from_residual-in_err-delete_nonce.ensures.0
+pub returns-clause-ok : goal.returns-clause-ok
+returns-clause-ok g c =
+    let old = state g.S.Store c.args.tx.now.conn.now in
+    let new = state g.S.Store c.delete_nonce.new.tx.conn.now in
+    done_as c.delete_nonce.result c.map_err.result c.map_err.ensures.variant (removes_numbered _ c.args.serial old new (search rules))
+    c.delete_nonce.ensures.ok
