@@ -27,12 +27,12 @@ struct ChallengeHead {
 }
 
 // The challenge with these columns, under its authorization, or `None` where none in its limits has them.
-fn read_challenge(columns: ChallColumns) -> Option<Owned<ChallengeRow>>
-    ensures { IsRead challenge_columns IsStoredChallenge columns result }
+fn read_challenge(columns: &ChallColumns) -> Option<Owned<ChallengeRow>>
+    ensures { IsRead challenge_columns IsStoredChallenge columns.now result }
 {
-    let head = read_head(&columns)?;
+    let head = read_head(columns)?;
     let token = head.token;
-    let reported = read_report(columns.reported, columns.outcome)?;
+    let reported = read_report(columns.reported, &columns.outcome)?;
     Some(Owned {
         owner: head.owner,
         row: ChallengeRow {
@@ -70,6 +70,6 @@ impl Columns for ChallColumns {
     ghost IsStored = { IsStoredChallenge };
 
     fn read(self, _alloc: Global) -> Result<Option<Owned<ChallengeRow>>, AllocError> {
-        Ok(read_challenge(self))
+        Ok(read_challenge(&self))
     }
 }

@@ -49,8 +49,8 @@ pub(crate) fn read_authorization_end(
 }
 
 /// When a challenge was reported, and what the report showed.
-pub(crate) fn read_report(reported: Option<i64>, outcome: Option<Text>) -> Option<Option<Report>>
-    ensures { IsRead report_columns (IfRecorded IsReport) (reported, outcome) result }
+pub(crate) fn read_report(reported: Option<i64>, outcome: &Option<Text>) -> Option<Option<Report>>
+    ensures { IsRead report_columns (IfRecorded IsReport) (reported, outcome.now) result }
 {
     match (reported, outcome) {
         (None, None) => Some(None),

@@ -11,8 +11,8 @@ use desk_model::Nonce;
 use std::alloc::{AllocError, Global};
 
 // The nonce with these columns, or `None` where none in its limits has them.
-fn read_nonce(columns: NonceColumns) -> Option<Nonce>
-    ensures { IsRead nonce_columns IsStoredNonce columns result }
+fn read_nonce(columns: &NonceColumns) -> Option<Nonce>
+    ensures { IsRead nonce_columns IsStoredNonce columns.now result }
 {
     let serial = read_number(columns.serial)?;
     let random = read_sixteen(columns.random.as_slice())?;
@@ -32,6 +32,6 @@ impl Columns for NonceColumns {
     ghost IsStored = { IsStoredNonce };
 
     fn read(self, _alloc: Global) -> Result<Option<Nonce>, AllocError> {
-        Ok(read_nonce(self))
+        Ok(read_nonce(&self))
     }
 }
