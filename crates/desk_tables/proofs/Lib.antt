@@ -1,4 +1,5 @@
 pub mod AccountUpsert
+pub mod Answered
 pub mod AuthorizationUpsert
 pub mod Casts
 pub mod ChallengeUpsert

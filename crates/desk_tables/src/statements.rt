@@ -39,8 +39,8 @@ pub fn upsert_meta<S: Alter>(
         tx,
         "INSERT INTO meta (id, format, base, nonce_life, order_life, authz_life, clock, nonces, accounts, orders, authzs, challs) VALUES (?1, ?2, ?3, ?4, ?5, ?6, ?7, ?8, ?9, ?10, ?11, ?12) ON CONFLICT (id) DO UPDATE SET format = excluded.format, base = excluded.base, nonce_life = excluded.nonce_life, order_life = excluded.order_life, authz_life = excluded.authz_life, clock = excluded.clock, nonces = excluded.nonces, accounts = excluded.accounts, orders = excluded.orders, authzs = excluded.authzs, challs = excluded.challs",
         &values,
-    )?;
-    Ok(())
+    )
+    .and(Ok(()))
 }
 
 /// Puts the row of these columns into `nonce`, in the place of the one with its serial.
@@ -63,8 +63,8 @@ pub fn upsert_nonce<S: Alter>(
         tx,
         "INSERT INTO nonce (serial, random, issued) VALUES (?1, ?2, ?3) ON CONFLICT (serial) DO UPDATE SET random = excluded.random, issued = excluded.issued",
         &values,
-    )?;
-    Ok(())
+    )
+    .and(Ok(()))
 }
 
 /// Puts the row of these columns into `account`, in the place of the one with its number.
@@ -88,8 +88,8 @@ pub fn upsert_account<S: Alter>(
         tx,
         "INSERT INTO account (num, jwk, contacts, opened, ended, end_kind, status) VALUES (?1, ?2, ?3, ?4, ?5, ?6, ?7) ON CONFLICT (num) DO UPDATE SET jwk = excluded.jwk, contacts = excluded.contacts, opened = excluded.opened, ended = excluded.ended, end_kind = excluded.end_kind, status = excluded.status",
         &values,
-    )?;
-    Ok(())
+    )
+    .and(Ok(()))
 }
 
 /// Puts the row of these columns into `ord`, in the place of the one with its number.
@@ -112,8 +112,8 @@ pub fn upsert_order<S: Alter>(
         tx,
         "INSERT INTO ord (num, account, made, expires, finalized, csr, certified, cert, failed, problem, status) VALUES (?1, ?2, ?3, ?4, ?5, ?6, ?7, ?8, ?9, ?10, ?11) ON CONFLICT (num) DO UPDATE SET account = excluded.account, made = excluded.made, expires = excluded.expires, finalized = excluded.finalized, csr = excluded.csr, certified = excluded.certified, cert = excluded.cert, failed = excluded.failed, problem = excluded.problem, status = excluded.status",
         &values,
-    )?;
-    Ok(())
+    )
+    .and(Ok(()))
 }
 
 /// Puts the row of these columns into `authz`, in the place of the one with its number.
@@ -137,8 +137,8 @@ pub fn upsert_authorization<S: Alter>(
         tx,
         "INSERT INTO authz (num, account, name, wildcard, made, expires, ended, end_kind, status) VALUES (?1, ?2, ?3, ?4, ?5, ?6, ?7, ?8, ?9) ON CONFLICT (num) DO UPDATE SET account = excluded.account, name = excluded.name, wildcard = excluded.wildcard, made = excluded.made, expires = excluded.expires, ended = excluded.ended, end_kind = excluded.end_kind, status = excluded.status",
         &values,
-    )?;
-    Ok(())
+    )
+    .and(Ok(()))
 }
 
 /// Puts the row of these columns into `ord_authz`, in the place of the one with its order and place.
@@ -161,8 +161,8 @@ pub fn upsert_listed<S: Alter>(
         tx,
         "INSERT INTO ord_authz (ord, place, authz) VALUES (?1, ?2, ?3) ON CONFLICT (ord, place) DO UPDATE SET authz = excluded.authz",
         &values,
-    )?;
-    Ok(())
+    )
+    .and(Ok(()))
 }
 
 /// Puts the row of these columns into `chall`, in the place of the one with its number.
@@ -186,8 +186,8 @@ pub fn upsert_challenge<S: Alter>(
         tx,
         "INSERT INTO chall (num, authz, kind, token, answered, reported, outcome, status) VALUES (?1, ?2, ?3, ?4, ?5, ?6, ?7, ?8) ON CONFLICT (num) DO UPDATE SET authz = excluded.authz, kind = excluded.kind, token = excluded.token, answered = excluded.answered, reported = excluded.reported, outcome = excluded.outcome, status = excluded.status",
         &values,
-    )?;
-    Ok(())
+    )
+    .and(Ok(()))
 }
 
 /// Removes the row of this serial from `nonce`, if there is one.
@@ -203,6 +203,5 @@ pub fn delete_nonce<S: Alter>(tx: &mut Transaction<'_, S>, serial: &i64) -> Resu
     ensures survives { Survives (state S.Store tx.old.conn.now) (state S.Store tx.new.conn.now) (λ _. ⊥) }
 {
     let values = serial_values(serial);
-    perform(tx, "DELETE FROM nonce WHERE serial = ?1", &values)?;
-    Ok(())
+    perform(tx, "DELETE FROM nonce WHERE serial = ?1", &values).and(Ok(()))
 }
