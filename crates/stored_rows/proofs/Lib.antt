@@ -3,6 +3,7 @@ pub mod Distinctness
 pub mod NestedRows
 pub mod Nests
 pub mod OrderedRows
+pub mod Outcomes
 pub mod Pushed
 pub mod SortedFaults
 pub mod SortedLists

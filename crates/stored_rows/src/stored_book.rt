@@ -31,8 +31,7 @@ pub fn from_rows(alloc: Global, rows: StoredRows) -> Result<Book, RowsFault>
     ensures not_a_book { IfErr result (λ fault. fault ≡ NotABook → (T : Tables) → IsBookOfStored rows T → ⊥) }
 {
     let rows = rows_of_columns(alloc, rows)?;
-    let book = book_of_rows(alloc, rows)?;
-    Ok(book)
+    book_of_rows(alloc, rows)
 }
 
 // The rows that these columns spell.
@@ -55,8 +54,7 @@ fn book_of_rows(alloc: Global, rows: FlatRows) -> Result<Book, RowsFault>
         (λ fault. fault ≡ NotABook → (T : Tables) → IsBookOf rows T → ⊥) }
 {
     let book = book_in_order(alloc, rows)?;
-    check_soundness(alloc, &book)?;
-    Ok(book)
+    check_soundness(alloc, &book).and(Ok(book))
 }
 
 // Refuses a book that is not sound.

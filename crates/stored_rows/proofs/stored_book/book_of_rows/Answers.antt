@@ -1,6 +1,9 @@
-use Rattle.std.proofs.Common.{subst}
+use Rattle.std.proofs.Common.{◌≡◌, subst}
 use Rattle.std.proofs.lemmas.Result.{err_from_is_err_and}
-use Rattle.stored_rows.specs.IsBook.{IsSound}
+use Rattle.desk_model.specs.Tables.{Tables}
+use Rattle.stored_rows.specs.IsBook.{IsBookOf, IsSound}
+use Rattle.stored_rows.specs.declared.rows_fault.RowsFault.TheVariants.{NotABook}
+use Rattle.stored_rows.proofs.Outcomes.{outcome_and}
 use Rattle.stored_rows.proofs.SoundBooks.{same-tables}
 use Rattle.stored_rows.proofs.stored_book.book_of_rows.Goals as goal
 
@@ -9,12 +12,12 @@ returns-in_err-book c =
     let p = err_from_is_err_and c.from_residual.result c.from_residual.ensures.1 in
     rw (p.1, p.2) (λ e T book. c.in_err-book.ensures e T book.is_book.in_order book.has_rows)
 
-pub returns-in_err-check_soundness : goal.returns-in_err-check_soundness
-returns-in_err-check_soundness c =
-    let p = err_from_is_err_and c.from_residual-in_err-check_soundness.result c.from_residual-in_err-check_soundness.ensures.1 in
-    rw (p.1, p.2) (λ e T book.
-    let same = same-tables c.args.rows T c.in_ok-book.book book.is_book.in_order book.has_rows c.in_ok-book.ensures.0 c.in_ok-book.ensures.1 in
-    c.in_err-check_soundness.ensures e (subst IsSound same book.is_book.sound))
-
 pub returns : goal.returns
-returns c = record { is_book = record { in_order = c.in_ok-book.ensures.0; sound = c.in_ok-check_soundness.ensures }; has_rows = c.in_ok-book.ensures.1 }
+returns c =
+    let made = c.in_ok-book in
+    outcome_and _ (λ book. IsBookOf c.args.rows book) _ (λ fault. fault ≡ NotABook → (T : Tables) → IsBookOf c.args.rows T → ⊥) made.book
+    c.check_soundness.result c.and.result c.and.ensures
+    (λ done sound. record { is_book = record { in_order = made.ensures.0; sound = sound }; has_rows = made.ensures.1 })
+    (λ fault no e T book.
+    let same = same-tables c.args.rows T made.book book.is_book.in_order book.has_rows made.ensures.0 made.ensures.1 in
+    no e (subst IsSound same book.is_book.sound)) c.check_soundness.ensures
