@@ -1,9 +1,10 @@
 -- The parts of rows that stand in columns of their own, beside those that take two columns or a text.
-use Rattle.std.specs.Prelude.{◌≡◌, pos}
+use Rattle.std.specs.Prelude.{◌≡◌, ◌≢◌, Option, None, Some, pos}
 use Rattle.std.specs.Option.{option_map}
+use Rattle.desk_model.specs.declared.rows.AccountRow.{AccountRow}
 use Rattle.desk_model.specs.Document.{account_status_text, authorization_status_text, challenge_status_text, kind_text, order_status_text}
-use Rattle.desk_columns.specs.Columns.{wildcard_column}
-use Rattle.desk_columns.specs.Limits.{IfRecorded, IsExpiry, IsMoment, IsNumber, IsSixteen}
+use Rattle.desk_columns.specs.Columns.{account_columns, account_end_columns, wildcard_column}
+use Rattle.desk_columns.specs.Limits.{IfRecorded, IsAccountEnd, IsExpiry, IsMoment, IsNumber, IsSixteen, IsStoredAccount}
 use Rattle.desk_columns.specs.declared.account.AccountHead.{AccountHead}
 use Rattle.desk_columns.specs.declared.authorization.AuthorizationHead.{AuthorizationHead}
 use Rattle.desk_columns.specs.declared.challenge.ChallengeHead.{ChallengeHead}
@@ -17,7 +18,13 @@ use Rattle.desk_columns.specs.declared.order.OrderHead.{OrderHead}
 pub record IsAccountHead (columns : AccountColumns) (head : AccountHead) : Type 0 where
   pub number : (columns.num ≡ pos head.number) × IsNumber head.number
   pub opened : (columns.opened ≡ pos head.opened) × IsMoment head.opened
+  pub ended : ((columns.ended, columns.end_kind) ≡ account_end_columns head.ended) × IfRecorded IsAccountEnd head.ended
   pub status : columns.status ≡ account_status_text head.status
+
+-- the head that was read, or none, where no account has the columns
+abbrev pub IsAccountHeadRead : AccountColumns → Option AccountHead → Type 0
+IsAccountHeadRead columns None = (row : AccountRow) → IsStoredAccount row → columns ≢ account_columns row
+IsAccountHeadRead columns (Some head) = IsAccountHead columns head
 
 -- the columns of an order hold these
 pub record IsOrderHead (columns : OrderColumns) (head : OrderHead) : Type 0 where

@@ -1,25 +1,26 @@
 //! Rows of the table `account`.
-ghost use Rattle.std.specs.Prelude.{◌≡◌, ◌≢◌, IfOk, MatchOption};
-ghost use Rattle.desk_model.specs.declared.rows.AccountRow.{AccountRow as Row};
+ghost use Rattle.std.specs.Prelude.{◌≡◌, IfOk};
 ghost use Rattle.desk_columns.specs.Columns.{account_columns};
 ghost use Rattle.desk_columns.specs.Limits.{IsStoredAccount};
 ghost use Rattle.desk_columns.specs.Reading.{IsRead};
-ghost use Rattle.desk_columns.specs.RowHeads.{IsAccountHead};
+ghost use Rattle.desk_columns.specs.RowHeads.{IsAccountHeadRead};
 ghost use Rattle.desk_columns.specs.Spelling.{contacts_text};
+ghost use Rattle.desk_columns.specs.declared.columns.AccountColumns.{AccountColumns as ColumnsOf};
 
 use crate::columns::AccountColumns;
 use crate::contacts::read_contacts;
 use crate::facts::read_account_end;
 use crate::numbers::{read_moment, read_number};
 use crate::table::Columns;
-use desk_model::{AccountRow, AccountStatus, Jwk, Sequence, Text};
+use desk_model::{AccountEnd, AccountRow, AccountStatus, Jwk, Sequence, Text};
 use std::alloc::{AllocError, Global};
 
-// What stands in columns of its own.
+// What owns nothing.
 #[derive(Clone, Copy)]
 struct AccountHead {
     number: u64,
     opened: u64,
+    ended: Option<AccountEnd>,
     status: AccountStatus,
 }
 
@@ -27,39 +28,42 @@ struct AccountHead {
 fn read_account(alloc: Global, columns: AccountColumns) -> Result<Option<AccountRow>, AllocError>
     ensures { IfOk result (λ row. IsRead account_columns IsStoredAccount columns row) }
 {
+    let head = read_head(&columns);
     match read_contacts(alloc, columns.contacts.as_str())? {
-        Some(contacts) => Ok(account_with(contacts, columns)),
+        Some(contacts) => Ok(account_with(head, columns.jwk, contacts)),
         None => Ok(None),
     }
 }
 
-// The account with these columns, which has these contacts.
-fn account_with(contacts: Sequence<Text>, columns: AccountColumns) -> Option<AccountRow>
-    requires { columns.contacts ≡ contacts_text contacts }
-    ensures { IsRead account_columns IsStoredAccount columns result }
+// The account of this head, with the key of this text and these contacts.
+fn account_with(
+    head: Option<AccountHead>,
+    jwk: Text,
+    contacts: Sequence<Text>,
+) -> Option<AccountRow>
+    ensures { (columns : ColumnsOf) → IsAccountHeadRead columns head → columns.jwk ≡ jwk → columns.contacts ≡ contacts_text contacts
+        → IsRead account_columns IsStoredAccount columns result }
 {
-    let head = read_head(&columns)?;
-    let ended = read_account_end(columns.ended, columns.end_kind)?;
-    let key = Jwk::from_canonical(columns.jwk.into_string())?;
+    let head = head?;
+    let key = Jwk::from_canonical(jwk.into_string())?;
     Some(AccountRow {
         number: head.number,
         key,
         contacts,
         opened: head.opened,
-        ended,
+        ended: head.ended,
         status: head.status,
     })
 }
 
-// The parts of an account that stand in columns of their own, or `None` where no account has these columns.
+// The parts of an account that own nothing, or `None` where no account has these columns.
 fn read_head(columns: &AccountColumns) -> Option<AccountHead>
-    ensures { MatchOption result
-        ((row : Row) → IsStoredAccount row → columns.now ≢ account_columns row)
-        (λ head. IsAccountHead columns.now head) }
+    ensures { IsAccountHeadRead columns.now result }
 {
     Some(AccountHead {
         number: read_number(columns.num)?,
         opened: read_moment(columns.opened)?,
+        ended: read_account_end(columns.ended, &columns.end_kind)?,
         status: AccountStatus::from_text(columns.status.as_str())?,
     })
 }

@@ -15,9 +15,9 @@ use std::alloc::{AllocError, Global};
 /// When and how an account ended.
 pub(crate) fn read_account_end(
     ended: Option<i64>,
-    end_kind: Option<Text>,
+    end_kind: &Option<Text>,
 ) -> Option<Option<AccountEnd>>
-    ensures { IsRead account_end_columns (IfRecorded IsAccountEnd) (ended, end_kind) result }
+    ensures { IsRead account_end_columns (IfRecorded IsAccountEnd) (ended, end_kind.now) result }
 {
     match (ended, end_kind) {
         (None, None) => Some(None),
