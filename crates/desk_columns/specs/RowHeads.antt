@@ -1,16 +1,13 @@
--- The parts of rows that stand in columns of their own, beside those that take two columns or a text.
+-- The parts of rows that are read first, over columns that are lent.
 use Rattle.std.specs.Prelude.{◌≡◌, ◌≢◌, Option, None, Some, pos}
-use Rattle.std.specs.Option.{option_map}
 use Rattle.desk_model.specs.declared.rows.AccountRow.{AccountRow}
-use Rattle.desk_model.specs.Document.{account_status_text, authorization_status_text, challenge_status_text, kind_text, order_status_text}
-use Rattle.desk_columns.specs.Columns.{account_columns, account_end_columns, wildcard_column}
-use Rattle.desk_columns.specs.Limits.{IfRecorded, IsAccountEnd, IsExpiry, IsMoment, IsNumber, IsSixteen, IsStoredAccount}
+use Rattle.desk_model.specs.Document.{account_status_text, authorization_status_text, order_status_text}
+use Rattle.desk_columns.specs.Columns.{account_columns, account_end_columns, authorization_end_columns, wildcard_column}
+use Rattle.desk_columns.specs.Limits.{IfRecorded, IsAccountEnd, IsAuthorizationEnd, IsExpiry, IsMoment, IsNumber, IsStoredAccount}
 use Rattle.desk_columns.specs.declared.account.AccountHead.{AccountHead}
 use Rattle.desk_columns.specs.declared.authorization.AuthorizationHead.{AuthorizationHead}
-use Rattle.desk_columns.specs.declared.challenge.ChallengeHead.{ChallengeHead}
 use Rattle.desk_columns.specs.declared.columns.AccountColumns.{AccountColumns}
 use Rattle.desk_columns.specs.declared.columns.AuthzColumns.{AuthzColumns}
-use Rattle.desk_columns.specs.declared.columns.ChallColumns.{ChallColumns}
 use Rattle.desk_columns.specs.declared.columns.OrderColumns.{OrderColumns}
 use Rattle.desk_columns.specs.declared.order.OrderHead.{OrderHead}
 
@@ -41,13 +38,5 @@ pub record IsAuthorizationHead (columns : AuthzColumns) (head : AuthorizationHea
   pub wildcard : columns.wildcard ≡ wildcard_column head.wildcard
   pub made : (columns.made ≡ pos head.made) × IsMoment head.made
   pub expires : (columns.expires ≡ pos head.expires) × IsExpiry head.expires
+  pub ended : ((columns.ended, columns.end_kind) ≡ authorization_end_columns head.ended) × IfRecorded IsAuthorizationEnd head.ended
   pub status : columns.status ≡ authorization_status_text head.status
-
--- the columns of a challenge hold these
-pub record IsChallengeHead (columns : ChallColumns) (head : ChallengeHead) : Type 0 where
-  pub number : (columns.num ≡ pos head.number) × IsNumber head.number
-  pub owner : (columns.authz ≡ pos head.owner) × IsNumber head.owner
-  pub kind : columns.kind ≡ kind_text head.kind
-  pub token : (columns.token ≡ head.token) × IsSixteen head.token
-  pub answered : (columns.answered ≡ option_map (λ n. pos n) head.answered) × IfRecorded IsMoment head.answered
-  pub status : columns.status ≡ challenge_status_text head.status

@@ -10,10 +10,10 @@ use crate::columns::AuthzColumns;
 use crate::facts::read_authorization_end;
 use crate::numbers::{read_expiry, read_moment, read_number, read_wildcard};
 use crate::table::Columns;
-use desk_model::{AuthorizationRow, AuthzStatus, DnsName, Sequence};
+use desk_model::{AuthorizationEnd, AuthorizationRow, AuthzStatus, DnsName, Sequence};
 use std::alloc::{AllocError, Global};
 
-// What stands in columns of its own.
+// What owns nothing.
 #[derive(Clone, Copy)]
 struct AuthorizationHead {
     number: u64,
@@ -21,6 +21,7 @@ struct AuthorizationHead {
     wildcard: bool,
     made: u64,
     expires: u64,
+    ended: Option<AuthorizationEnd>,
     status: AuthzStatus,
 }
 
@@ -29,7 +30,6 @@ fn read_authorization(alloc: Global, columns: AuthzColumns) -> Option<Authorizat
     ensures { IsRead authorization_columns IsStoredAuthorization columns result }
 {
     let head = read_head(&columns)?;
-    let ended = read_authorization_end(columns.ended, columns.end_kind)?;
     let name = DnsName::new(columns.name, head.wildcard)?;
     Some(AuthorizationRow {
         number: head.number,
@@ -37,13 +37,13 @@ fn read_authorization(alloc: Global, columns: AuthzColumns) -> Option<Authorizat
         name,
         made: head.made,
         expires: head.expires,
-        ended,
+        ended: head.ended,
         challenges: Sequence::new(Vec::new(alloc)),
         status: head.status,
     })
 }
 
-// The parts of an authorization that stand in columns of their own, or `None` where none has these columns.
+// The parts of an authorization that own nothing, or `None` where none has these columns.
 fn read_head(columns: &AuthzColumns) -> Option<AuthorizationHead>
     ensures { MatchOption result
         ((row : Row) → IsStoredAuthorization row → columns.now ≢ authorization_columns row)
@@ -55,6 +55,7 @@ fn read_head(columns: &AuthzColumns) -> Option<AuthorizationHead>
         wildcard: read_wildcard(columns.wildcard)?,
         made: read_moment(columns.made)?,
         expires: read_expiry(columns.expires)?,
+        ended: read_authorization_end(columns.ended, &columns.end_kind)?,
         status: AuthzStatus::from_text(columns.status.as_str())?,
     })
 }

@@ -33,9 +33,9 @@ pub(crate) fn read_account_end(
 /// When and how an authorization ended.
 pub(crate) fn read_authorization_end(
     ended: Option<i64>,
-    end_kind: Option<Text>,
+    end_kind: &Option<Text>,
 ) -> Option<Option<AuthorizationEnd>>
-    ensures { IsRead authorization_end_columns (IfRecorded IsAuthorizationEnd) (ended, end_kind) result }
+    ensures { IsRead authorization_end_columns (IfRecorded IsAuthorizationEnd) (ended, end_kind.now) result }
 {
     match (ended, end_kind) {
         (None, None) => Some(None),
