@@ -68,14 +68,14 @@ fn read_unfailed(
         × (IsRead dated_bytes_columns (IfRecorded AreDatedBytes) (columns.finalized, columns.csr) (Some parts.1.0)
         × IsRead dated_bytes_columns (IfRecorded AreDatedBytes) (columns.certified, columns.cert) (Some parts.1.1))) }
 {
-    let head = read_head(&columns)?;
+    let head = read_head(&columns);
     let files = read_files(
         columns.finalized,
         columns.csr,
         columns.certified,
         columns.cert,
-    )?;
-    Some((head, files))
+    );
+    head.zip(files)
 }
 
 // When the request was handed in and the certificate issued, and their bytes.
@@ -91,9 +91,7 @@ fn read_files(
         (λ files. IsRead dated_bytes_columns (IfRecorded AreDatedBytes) (finalized, csr) (Some files.0)
         × IsRead dated_bytes_columns (IfRecorded AreDatedBytes) (certified, cert) (Some files.1)) }
 {
-    let finalized = read_dated_bytes(finalized, csr)?;
-    let certified = read_dated_bytes(certified, cert)?;
-    Some((finalized, certified))
+    read_dated_bytes(finalized, csr).zip(read_dated_bytes(certified, cert))
 }
 
 // The parts of an order that stand in columns of their own, or `None` where no order has these columns.
