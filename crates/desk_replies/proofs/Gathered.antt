@@ -3,28 +3,24 @@ use Rattle.std.proofs.Common.{◌≡◌, ◌<◌, ◌+◌, ℕ, Bool, true, fals
 use Rattle.std.proofs.lemmas.List.{map-append, take_more}
 
 -- the next of some items is shown
-pub shows-next : {X V Z : Type 0} (shown : V → Z) (f : X → Z) (xs : List X) (index : ℕ) (d : X) (value : V) (before after : List V) →
-    index < length xs → shown value ≡ f (get_or xs index d) → after ≡ before ++ value ∷ [] → map shown before ≡ map f (take index xs) →
-    map shown after ≡ map f (take (index + 1) xs)
-shows-next shown f xs index d value before after more is pushed known =
-    ap (map shown) pushed
-    ∙ map-append shown before (value ∷ [])
-    ∙ (λ i. known i ++ is i ∷ [])
+pub shown-next : {X Z : Type 0} (f : X → Z) (xs : List X) (index : ℕ) (d : X) (before after : List Z) →
+    index < length xs → after ≡ before ++ f (get_or xs index d) ∷ [] → before ≡ map f (take index xs) → after ≡ map f (take (index + 1) xs)
+shown-next f xs index d before after more pushed known =
+    pushed
+    ∙ ap (λ l. l ++ f (get_or xs index d) ∷ []) known
     ∙ sym (ap (map f) (take_more xs index d more) ∙ map-append f (take index xs) (get_or xs index d ∷ []))
 
 -- one that passes a test is shown
-pub shows-passing : {X V Z : Type 0} (shown : V → Z) (f : X → Z) (test : X → Bool) (x : X) (rest : List X) (value : V)
-    (before after : List V) (whole : List Z) →
-    test x ≡ true → shown value ≡ f x → after ≡ before ++ value ∷ [] → map shown before ++ map f (filter test (x ∷ rest)) ≡ whole →
-    map shown after ++ map f (filter test rest) ≡ whole
-shows-passing shown f test x rest value before after whole passes is pushed known =
-    ap (λ l. l ++ map f (filter test rest)) (ap (map shown) pushed ∙ map-append shown before (value ∷ []) ∙ ap (λ z. map shown before ++ z ∷ []) is)
-    ∙ append_assoc (map shown before) (f x ∷ []) (map f (filter test rest))
-    ∙ sym (ap (λ b. map shown before ++ map f (cond b (x ∷ filter test rest) (filter test rest))) passes)
+pub shown-passing : {X Z : Type 0} (f : X → Z) (test : X → Bool) (x : X) (rest : List X) (before after whole : List Z) →
+    test x ≡ true → after ≡ before ++ f x ∷ [] → before ++ map f (filter test (x ∷ rest)) ≡ whole → after ++ map f (filter test rest) ≡ whole
+shown-passing f test x rest before after whole passes pushed known =
+    ap (λ l. l ++ map f (filter test rest)) pushed
+    ∙ append_assoc before (f x ∷ []) (map f (filter test rest))
+    ∙ sym (ap (λ b. before ++ map f (cond b (x ∷ filter test rest) (filter test rest))) passes)
     ∙ known
 
 -- another one is left out
-pub shows-others : {X V Z : Type 0} (shown : V → Z) (f : X → Z) (test : X → Bool) (x : X) (rest : List X) (before : List V) (whole : List Z) →
-    test x ≡ false → map shown before ++ map f (filter test (x ∷ rest)) ≡ whole → map shown before ++ map f (filter test rest) ≡ whole
-shows-others shown f test x rest before whole fails known =
-    sym (ap (λ b. map shown before ++ map f (cond b (x ∷ filter test rest) (filter test rest))) fails) ∙ known
+pub shown-others : {X Z : Type 0} (f : X → Z) (test : X → Bool) (x : X) (rest : List X) (before whole : List Z) →
+    test x ≡ false → before ++ map f (filter test (x ∷ rest)) ≡ whole → before ++ map f (filter test rest) ≡ whole
+shown-others f test x rest before whole fails known =
+    sym (ap (λ b. before ++ map f (cond b (x ∷ filter test rest) (filter test rest))) fails) ∙ known

@@ -10,13 +10,14 @@ ghost use Rattle.desk_model.specs.Document.{authorization_status_text, challenge
 ghost use Rattle.desk_model.specs.Document.{identifier, error_of, report_error, validated, validated_by, challenge_document};
 ghost use Rattle.desk_model.specs.Document.{shown_challenges, authorization_document};
 ghost use Rattle.moments.specs.Capped.{capped};
-ghost use Rattle.desk_replies.specs.Shown.{capped_report, capped_challenge, capped_authorization, with_members, HasDatedReport, HasMoments};
+ghost use Rattle.desk_replies.specs.Shown.{capped_report, capped_challenge, capped_authorization, with_members};
 
 use crate::document_values::{
-    error_value, identifier_value, list_value, moment_value, put_str, put_text, put_value,
+    error_value, identifier_value, list_value, push_value, put_str, put_text, put_value, text_value,
 };
 use crate::urls::challenge_url;
-use desk_model::{AuthorizationRow, ChallengeRow, Document, Outcome, Policy, Report};
+use desk_model::{AuthorizationRow, ChallengeRow, Outcome, Policy, Report};
+use moments::capped_moment_text;
 use serde_json::{Map, Value, put};
 use std::alloc::{AllocError, Global};
 
@@ -31,8 +32,8 @@ fn put_error(
     if outcome.is_good() {
         return Ok(());
     }
-    let error = error_value(alloc, outcome.as_str(), outcome.detail(), outcome.status())?;
-    put(members, alloc, "error", error)
+    let error = error_value(alloc, outcome.as_str(), outcome.detail(), outcome.status());
+    put_value(members, alloc, "error", error)
 }
 
 // Adds when a good report was made.
@@ -47,8 +48,8 @@ fn put_date(
     if !report.outcome.is_good() {
         return Ok(());
     }
-    let date = moment_value(alloc, report.date)?;
-    put(members, alloc, "validated", date)
+    let date = capped_moment_text(alloc, report.date)?;
+    put(members, alloc, "validated", text_value(date))
 }
 
 // Adds what the report on a challenge showed, if there is one.
@@ -90,24 +91,17 @@ fn challenge_members(
     Ok(members)
 }
 
-fn challenge_value(alloc: Global, policy: &Policy, row: &ChallengeRow) -> Result<Value, AllocError>
+/// The document of a challenge (RFC 8555, 8).
+pub(crate) fn challenge_value(
+    alloc: Global,
+    policy: &Policy,
+    row: &ChallengeRow,
+) -> Result<Value, AllocError>
     ensures { IfOk result (λ v. view v ≡ challenge_document policy.now (capped_challenge row.now)) }
 {
     let mut members = challenge_members(alloc, policy, row)?;
     put_report(&mut members, alloc, row.reported)?;
     Ok(Value::Object(members))
-}
-
-/// The document of a challenge (RFC 8555, 8).
-pub(crate) fn challenge_document(
-    alloc: Global,
-    policy: &Policy,
-    row: &ChallengeRow,
-) -> Result<Document, AllocError>
-    ensures { IfOk result (λ d. HasDatedReport row.now.reported → d ≡ challenge_document policy.now row.now) }
-{
-    let value = challenge_value(alloc, policy, row)?;
-    Ok(Document::new(value))
 }
 
 // The values of all challenges.
@@ -120,7 +114,7 @@ fn all_challenges(
 {
     let mut values = Vec::new(alloc);
     for challenge in challenges {
-        values.push(challenge_value(alloc, policy, challenge)?)?;
+        push_value(&mut values, challenge_value(alloc, policy, challenge))?;
     }
     Ok(values)
 }
@@ -171,11 +165,11 @@ fn authorization_members(
         ∷ (codes "status", string (authorization_status_text row.now.status))
         ∷ [])) }
 {
-    let mut members = Map::new(alloc);
     let challenges = shown_challenges(alloc, policy, row.challenges.as_slice())?;
+    let mut members = Map::new(alloc);
     put(&mut members, alloc, "challenges", list_value(challenges))?;
-    let expires = moment_value(alloc, row.expires);
-    put_value(&mut members, alloc, "expires", expires)?;
+    let expires = capped_moment_text(alloc, row.expires);
+    put_text(&mut members, alloc, "expires", expires)?;
     let identifier = identifier_value(alloc, row.name.base());
     put_value(&mut members, alloc, "identifier", identifier)?;
     put_str(&mut members, alloc, "status", row.status.as_str())?;
@@ -197,7 +191,8 @@ fn put_wildcard(
     put(members, alloc, "wildcard", Value::Bool(true))
 }
 
-fn authorization_value(
+/// The document of an authorization (RFC 8555, 7.1.4).
+pub(crate) fn authorization_value(
     alloc: Global,
     policy: &Policy,
     row: &AuthorizationRow,
@@ -207,16 +202,4 @@ fn authorization_value(
     let mut members = authorization_members(alloc, policy, row)?;
     put_wildcard(&mut members, alloc, row.name.is_wildcard())?;
     Ok(Value::Object(members))
-}
-
-/// The document of an authorization (RFC 8555, 7.1.4).
-pub(crate) fn authorization_document(
-    alloc: Global,
-    policy: &Policy,
-    row: &AuthorizationRow,
-) -> Result<Document, AllocError>
-    ensures { IfOk result (λ d. HasMoments row.now → d ≡ authorization_document policy.now row.now) }
-{
-    let value = authorization_value(alloc, policy, row)?;
-    Ok(Document::new(value))
 }

@@ -1,15 +1,12 @@
 //! The values that several documents hold: lists, moments, identifiers and errors (RFC 8555, 6.7, 7.1).
-ghost use Rattle.std.specs.Prelude.{ℕ, List, ◌≡◌, ◌∷◌, [], map, string_bytes, IfOk, OnOk};
+ghost use Rattle.std.specs.Prelude.{ℕ, List, ◌≡◌, ◌∷◌, ◌++◌, [], map, string_bytes, IfOk, OnOk};
 ghost use Rattle.serde_json.specs.Data.{Data, string};
 ghost use Rattle.serde_json.specs.View.{view, members_view};
-ghost use Rattle.desk_model.specs.Json.{list};
+ghost use Rattle.desk_model.specs.Json.{document, list};
 ghost use Rattle.desk_model.specs.Document.{identifier, error};
-ghost use Rattle.desk_model.specs.Moment.{moment_text as text_of_moment};
-ghost use Rattle.moments.specs.Capped.{capped};
 ghost use Rattle.desk_replies.specs.Shown.{with_members};
 
 use desk_model::DNS;
-use moments::capped_moment_text;
 use refusals::type_text;
 use serde_json::{Map, Value, json, put};
 use std::alloc::{AllocError, Global};
@@ -28,13 +25,6 @@ pub(crate) fn list_value(items: Vec<Value>) -> Value
     Value::Array(items)
 }
 
-/// The text of a moment, in seconds since 1970; one past the last that has a text is shown as the last.
-pub(crate) fn moment_value(alloc: Global, moment: u64) -> Result<Value, AllocError>
-    ensures { IfOk result (λ v. view v ≡ string (text_of_moment (capped moment))) }
-{
-    Ok(text_value(capped_moment_text(alloc, moment)?))
-}
-
 /// An identifier with its text (RFC 8555, 7.1.3).
 pub(crate) fn identifier_value(alloc: Global, value: &str) -> Result<Value, AllocError>
     ensures { IfOk result (λ v. view v ≡ identifier value.now) }
@@ -51,11 +41,47 @@ pub(crate) fn error_value(
 ) -> Result<Value, AllocError>
     ensures { IfOk result (λ v. view v ≡ error kind.now detail.now status) }
 {
-    json!(in alloc; {
-        "detail": detail,
-        "status": status,
-        "type": type_text(alloc, kind)?
-    })
+    let kind = type_text(alloc, kind)?;
+    json!(in alloc; {"detail": detail, "status": status, "type": kind})
+}
+
+/// An object whose one member is a list, if that could be made.
+pub(crate) fn listing_value(
+    alloc: Global,
+    name: &str,
+    items: Result<Vec<Value>, AllocError>,
+) -> Result<Value, AllocError>
+    ensures { (shown : List Data) → IfOk items (λ v. map (λ d. view d) v.items ≡ shown)
+        → IfOk result (λ v. view v ≡ document ((name.now, list shown) ∷ [])) }
+{
+    let items = list_value(items?);
+    let mut members = Map::new(alloc);
+    put(&mut members, alloc, name, items)?;
+    Ok(Value::Object(members))
+}
+
+/// Adds a value to a list, if it could be made.
+pub(crate) fn push_value(
+    values: &mut Vec<Value>,
+    value: Result<Value, AllocError>,
+) -> Result<(), AllocError>
+    ensures { OnOk result ((shown : Data) → IfOk value (λ v. view v ≡ shown)
+        → map (λ d. view d) values.new.items ≡ map (λ d. view d) values.old.items ++ shown ∷ []) }
+{
+    values.push(value?)?;
+    Ok(())
+}
+
+/// Adds a text to a list, if it could be made.
+pub(crate) fn push_text(
+    values: &mut Vec<Value>,
+    text: Result<String, AllocError>,
+) -> Result<(), AllocError>
+    ensures { OnOk result ((bytes : List ℕ) → IfOk text (λ t. string_bytes t ≡ bytes)
+        → map (λ d. view d) values.new.items ≡ map (λ d. view d) values.old.items ++ string bytes ∷ []) }
+{
+    values.push(text_value(text?))?;
+    Ok(())
 }
 
 /// Puts a text among members.

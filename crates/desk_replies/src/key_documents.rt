@@ -5,7 +5,7 @@ ghost use Rattle.serde_json.specs.View.{view, members_view};
 ghost use Rattle.desk_model.specs.Document.{key_members, key_document};
 ghost use Rattle.desk_replies.specs.Shown.{with_members};
 
-use desk_model::{Document, Jwk};
+use desk_model::Jwk;
 use serde_json::{Map, Value, put};
 use std::alloc::{AllocError, Global};
 
@@ -33,19 +33,12 @@ fn put_members(
     }
 }
 
-fn key_value(alloc: Global, key: &Jwk) -> Result<Value, AllocError>
+/// The document of a key: the object that its canonical text spells.
+pub(crate) fn key_value(alloc: Global, key: &Jwk) -> Result<Value, AllocError>
     ensures { IfOk result (λ v. view v ≡ key_document key.now) }
 {
     let parts = parts_of(alloc, key.canonical())?;
     let mut members = Map::new(alloc);
     put_members(&mut members, alloc, parts.as_slice())?;
     Ok(Value::Object(members))
-}
-
-/// The document of a key: the object that its canonical text spells.
-pub(crate) fn key_document(alloc: Global, key: &Jwk) -> Result<Document, AllocError>
-    ensures { IfOk result (λ d. d ≡ key_document key.now) }
-{
-    let value = key_value(alloc, key)?;
-    Ok(Document::new(value))
 }

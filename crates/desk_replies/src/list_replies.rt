@@ -2,10 +2,10 @@
 ghost use Rattle.std.specs.Prelude.{◌≡◌, IfOk};
 ghost use Rattle.desk_model.specs.Shown.{list_reply};
 
-use crate::documents::directory_document;
+use crate::documents::directory_value;
 use crate::object_replies::json_reply;
-use crate::order_documents::orders_document;
-use crate::work_documents::{challenge_work, order_work};
+use crate::order_documents::orders_value;
+use crate::work_documents::{challenge_work_value, order_work_value};
 use desk_model::{Listing, Reply};
 use std::alloc::{AllocError, Global};
 use swept_rows::At;
@@ -18,11 +18,10 @@ use swept_rows::At;
 pub fn list_reply(alloc: Global, at: &At, listing: Listing) -> Result<Reply, AllocError>
     ensures { IfOk result (λ r. r ≡ list_reply at.now listing) }
 {
-    let document = match listing {
-        Listing::Directory => directory_document(alloc, at.policy())?,
-        Listing::Orders(number) => orders_document(alloc, at, number)?,
-        Listing::ChallengeWork => challenge_work(alloc, at)?,
-        Listing::OrderWork => order_work(alloc, at)?,
-    };
-    Ok(json_reply(document))
+    match listing {
+        Listing::Directory => json_reply(directory_value(alloc, at.policy())),
+        Listing::Orders(number) => json_reply(orders_value(alloc, at, number)),
+        Listing::ChallengeWork => json_reply(challenge_work_value(alloc, at)),
+        Listing::OrderWork => json_reply(order_work_value(alloc, at)),
+    }
 }

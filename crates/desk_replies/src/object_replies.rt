@@ -1,33 +1,60 @@
 //! Replies with one object, by its row (RFC 8555, 7).
-ghost use Rattle.std.specs.Prelude.{◌≡◌, ◌≤◌, map, IfOk, Some};
+ghost use Rattle.std.specs.Prelude.{ℕ, List, ◌≡◌, ◌≤◌, map, false, string_bytes, IfOk, Some};
+ghost use Rattle.serde_json.specs.Data.{Data};
+ghost use Rattle.serde_json.specs.View.{view};
+ghost use Rattle.serde_json.specs.Written.{has_float};
 ghost use Rattle.desk_model.specs.Limits.{last_end};
 ghost use Rattle.desk_model.specs.Document.{authorization_url, key_document, listed_rows};
-ghost use Rattle.desk_model.specs.Shown.{account_reply, authorization_reply, below, certificate_reply, challenge_reply, located_account, located_order, ok, order_reply};
+ghost use Rattle.desk_model.specs.Shown.{account_reply, at, authorization_reply, below, certificate_reply, challenge_reply, located_account, located_order, ok, order_reply};
 ghost use Rattle.desk_model.specs.Tables.{Tables};
 ghost use Rattle.desk_replies.specs.Shown.{HasDatedReport, HasMoments};
 
-use crate::authorization_documents::{authorization_document, challenge_document};
-use crate::documents::account_document;
-use crate::key_documents::key_document;
-use crate::order_documents::order_document;
+use crate::authorization_documents::{authorization_value, challenge_value};
+use crate::documents::account_value;
+use crate::key_documents::key_value;
+use crate::order_documents::order_value;
 use crate::urls::{account_url, authorization_url, order_url};
 use desk_model::{
     AccountRow, AuthorizationRow, Body, ChallengeRow, DatedBytes, DnsName, Document, OrderRow,
     Policy, Reply, Text,
 };
+use serde_json::Value;
 use std::alloc::{AllocError, Global};
 
-/// A reply with a document.
-pub(crate) fn json_reply(document: Document) -> Reply
-    ensures { result ≡ ok 200 document }
+/// A reply with a document, if that could be made.
+pub(crate) fn json_reply(value: Result<Value, AllocError>) -> Result<Reply, AllocError>
+    requires { IfOk value (λ v. has_float (view v) ≡ false) }
+    ensures { (shown : Data) → IfOk value (λ v. view v ≡ shown) → IfOk result (λ r. r ≡ ok 200 shown) }
 {
-    Reply {
+    let document = Document::new(value?);
+    Ok(Reply {
         status: 200,
         location: None,
         up: None,
         nonce: None,
         body: Body::Json(document),
-    }
+    })
+}
+
+// A reply with a status, the URL of its object and a document, if these could be made.
+fn located_reply(
+    status: u16,
+    url: Result<String, AllocError>,
+    value: Result<Value, AllocError>,
+) -> Result<Reply, AllocError>
+    requires { IfOk value (λ v. has_float (view v) ≡ false) }
+    ensures { (location : List ℕ) (shown : Data) → IfOk url (λ s. string_bytes s ≡ location) → IfOk value (λ v. view v ≡ shown)
+        → IfOk result (λ r. r ≡ at location (ok status shown)) }
+{
+    let location = Text::new(url?);
+    let document = Document::new(value?);
+    Ok(Reply {
+        status,
+        location: Some(location),
+        up: None,
+        nonce: None,
+        body: Body::Json(document),
+    })
 }
 
 /// The reply with an account (RFC 8555, 7.1.2).
@@ -38,8 +65,7 @@ pub(crate) fn json_reply(document: Document) -> Reply
 pub fn account_reply(alloc: Global, policy: &Policy, row: &AccountRow) -> Result<Reply, AllocError>
     ensures { IfOk result (λ r. (T : Tables) → T.meta.policy ≡ policy.now → r ≡ account_reply 200 T row.now) }
 {
-    let document = account_document(alloc, policy, row)?;
-    Ok(json_reply(document))
+    json_reply(account_value(alloc, policy, row))
 }
 
 /// The reply with an account and its Location (RFC 8555, 7.3).
@@ -55,13 +81,8 @@ pub fn located_account(
 ) -> Result<Reply, AllocError>
     ensures { IfOk result (λ r. (T : Tables) → T.meta.policy ≡ policy.now → r ≡ located_account status T row.now) }
 {
-    let location = account_url(alloc, policy, row.number)?;
-    let reply = account_reply(alloc, policy, row)?;
-    Ok(Reply {
-        status,
-        location: Some(Text::new(location)),
-        ..reply
-    })
+    let url = account_url(alloc, policy, row.number);
+    located_reply(status, url, account_value(alloc, policy, row))
 }
 
 /// The reply with an order whose authorizations have these names (RFC 8555, 7.1.3).
@@ -78,8 +99,7 @@ pub fn order_reply(
     ensures { IfOk result (λ r. (T : Tables) → T.meta.policy ≡ policy.now → map (λ a. a.name) (listed_rows T row.now) ≡ names.now
         → row.now.expires ≤ last_end → r ≡ order_reply 200 T row.now) }
 {
-    let document = order_document(alloc, policy, row, names)?;
-    Ok(json_reply(document))
+    json_reply(order_value(alloc, policy, row, names))
 }
 
 /// The reply with an order and its Location (RFC 8555, 7.4).
@@ -97,13 +117,8 @@ pub fn located_order(
     ensures { IfOk result (λ r. (T : Tables) → T.meta.policy ≡ policy.now → map (λ a. a.name) (listed_rows T row.now) ≡ names.now
         → row.now.expires ≤ last_end → r ≡ located_order status T row.now) }
 {
-    let location = order_url(alloc, policy, row.number)?;
-    let reply = order_reply(alloc, policy, row, names)?;
-    Ok(Reply {
-        status,
-        location: Some(Text::new(location)),
-        ..reply
-    })
+    let url = order_url(alloc, policy, row.number);
+    located_reply(status, url, order_value(alloc, policy, row, names))
 }
 
 /// The reply with a certificate (RFC 8555, 7.4.2).
@@ -136,8 +151,7 @@ pub fn authorization_reply(
 ) -> Result<Reply, AllocError>
     ensures { IfOk result (λ r. (T : Tables) → T.meta.policy ≡ policy.now → HasMoments row.now → r ≡ authorization_reply T row.now) }
 {
-    let document = authorization_document(alloc, policy, row)?;
-    Ok(json_reply(document))
+    json_reply(authorization_value(alloc, policy, row))
 }
 
 /// The reply with a challenge (RFC 8555, 8).
@@ -152,8 +166,7 @@ pub fn challenge_reply(
 ) -> Result<Reply, AllocError>
     ensures { IfOk result (λ r. (T : Tables) → T.meta.policy ≡ policy.now → HasDatedReport row.now.reported → r ≡ challenge_reply T row.now) }
 {
-    let document = challenge_document(alloc, policy, row)?;
-    Ok(json_reply(document))
+    json_reply(challenge_value(alloc, policy, row))
 }
 
 /// The reply with a challenge to its client, which names the authorization of this number (RFC 8555, 7.5.1).
@@ -186,6 +199,5 @@ pub fn client_challenge_reply(
 pub fn key_reply(alloc: Global, row: &AccountRow) -> Result<Reply, AllocError>
     ensures { IfOk result (λ r. r ≡ ok 200 (key_document row.now.key)) }
 {
-    let document = key_document(alloc, &row.key)?;
-    Ok(json_reply(document))
+    json_reply(key_value(alloc, &row.key))
 }

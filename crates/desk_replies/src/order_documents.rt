@@ -1,31 +1,28 @@
 //! The documents of orders (RFC 8555, 7.1.3).
-ghost use Rattle.std.specs.Prelude.{ℕ, ◌≡◌, ◌≤◌, ◌∷◌, [], map, codes, is_some, IfOk, OnOk};
+ghost use Rattle.std.specs.Prelude.{ℕ, ◌≡◌, ◌∷◌, [], map, codes, is_some, IfOk, OnOk};
 ghost use Rattle.std.specs.List.{filter};
 ghost use Rattle.serde_json.specs.Data.{string};
 ghost use Rattle.serde_json.specs.View.{view, members_view};
-ghost use Rattle.desk_model.specs.Limits.{last_end};
 ghost use Rattle.desk_model.specs.Json.{members, list, when};
 ghost use Rattle.desk_model.specs.Derived.{numbers_of};
 ghost use Rattle.desk_model.specs.Names.{shown_name};
 ghost use Rattle.desk_model.specs.Moment.{moment_text};
-ghost use Rattle.desk_model.specs.Tables.{Tables};
 ghost use Rattle.desk_model.specs.Effect.{swept, swept_order};
 ghost use Rattle.desk_model.specs.Document.{order_status_text, order_error, identifier, finalize_url, certificate_url};
-ghost use Rattle.desk_model.specs.Document.{authorization_url, order_url, rows_of, listed_rows, order_document, is_listed};
+ghost use Rattle.desk_model.specs.Document.{authorization_url, order_url, rows_of, listed_rows, is_listed};
 ghost use Rattle.desk_model.specs.Document.{orders_document, order_with_names};
 ghost use Rattle.moments.specs.Capped.{capped};
 ghost use Rattle.desk_replies.specs.Shown.{capped_order, with_members};
 
 use crate::document_values::{
-    error_value, identifier_value, list_value, moment_value, put_str, put_text, put_value,
-    text_value,
+    error_value, identifier_value, list_value, listing_value, push_text, push_value, put_str,
+    put_text, put_value,
 };
 use crate::urls::{authorization_url, certificate_url, finalize_url, order_url};
 use desk_book::{Book, Table};
-use desk_model::{
-    AuthorizationRow, DatedProblem, DnsName, Document, Listed, OrderRow, OrderStatus, Policy,
-};
-use serde_json::{Map, Value, json, put};
+use desk_model::{AuthorizationRow, DatedProblem, DnsName, Listed, OrderRow, OrderStatus, Policy};
+use moments::capped_moment_text;
+use serde_json::{Map, Value};
 use std::alloc::{AllocError, Global};
 use swept_rows::{At, order_status};
 
@@ -39,10 +36,18 @@ fn authorization_urls(
 {
     let mut urls = Vec::new(alloc);
     for place in listed {
-        let url = authorization_url(alloc, policy, place.authorization)?;
-        urls.push(text_value(url))?;
+        let url = authorization_url(alloc, policy, place.authorization);
+        push_text(&mut urls, url)?;
     }
     Ok(list_value(urls))
+}
+
+// The identifier of a name.
+fn name_identifier(alloc: Global, name: &DnsName) -> Result<Value, AllocError>
+    ensures { IfOk result (λ v. view v ≡ identifier (shown_name name.now)) }
+{
+    let text = name.shown(alloc)?;
+    identifier_value(alloc, text.as_str())
 }
 
 // The identifiers of names.
@@ -51,8 +56,7 @@ fn identifiers(alloc: Global, names: &[DnsName]) -> Result<Value, AllocError>
 {
     let mut identifiers = Vec::new(alloc);
     for name in names {
-        let text = name.shown(alloc)?;
-        identifiers.push(identifier_value(alloc, text.as_str())?)?;
+        push_value(&mut identifiers, name_identifier(alloc, name))?;
     }
     Ok(list_value(identifiers))
 }
@@ -75,8 +79,8 @@ fn order_members(
     let mut members = Map::new(alloc);
     let urls = authorization_urls(alloc, policy, row.listed.as_slice());
     put_value(&mut members, alloc, "authorizations", urls)?;
-    let expires = moment_value(alloc, row.expires);
-    put_value(&mut members, alloc, "expires", expires)?;
+    let expires = capped_moment_text(alloc, row.expires);
+    put_text(&mut members, alloc, "expires", expires)?;
     let finalize = finalize_url(alloc, policy, row.number);
     put_text(&mut members, alloc, "finalize", finalize)?;
     let identifiers = identifiers(alloc, names);
@@ -99,8 +103,8 @@ fn put_certificate(
     let Some(_certified) = &row.certified else {
         return Ok(());
     };
-    let url = text_value(certificate_url(alloc, policy, row.number)?);
-    put(members, alloc, "certificate", url)
+    let url = certificate_url(alloc, policy, row.number);
+    put_text(members, alloc, "certificate", url)
 }
 
 // Adds why the order failed, where the signing office failed it.
@@ -116,11 +120,13 @@ fn put_error(
     };
     let problem = &failed.problem;
     let detail = problem.detail.as_str();
-    let error = error_value(alloc, problem.kind.as_str(), detail, problem.status())?;
-    put(members, alloc, "error", error)
+    let error = error_value(alloc, problem.kind.as_str(), detail, problem.status());
+    put_value(members, alloc, "error", error)
 }
 
-fn order_value(
+/// The document of an order (RFC 8555, 7.1.3); the names are those of the authorizations that it lists, in their
+/// places.
+pub(crate) fn order_value(
     alloc: Global,
     policy: &Policy,
     row: &OrderRow,
@@ -132,21 +138,6 @@ fn order_value(
     put_certificate(&mut members, alloc, policy, row)?;
     put_error(&mut members, alloc, &row.failed)?;
     Ok(Value::Object(members))
-}
-
-/// The document of an order (RFC 8555, 7.1.3); the names are those of the authorizations that it lists, in their
-/// places.
-pub(crate) fn order_document(
-    alloc: Global,
-    policy: &Policy,
-    row: &OrderRow,
-    names: &[DnsName],
-) -> Result<Document, AllocError>
-    ensures { IfOk result (λ d. (T : Tables) → T.meta.policy ≡ policy.now → map (λ a. a.name) (listed_rows T row.now) ≡ names.now
-        → row.now.expires ≤ last_end → d ≡ order_document T row.now) }
-{
-    let value = order_value(alloc, policy, row, names)?;
-    Ok(Document::new(value))
 }
 
 // The names of the authorizations that these places list.
@@ -207,32 +198,18 @@ fn order_urls(
     let mut urls = Vec::new(alloc);
     for row in book.orders().iter() {
         if is_listed_at(book, moment, account, row) {
-            let url = order_url(alloc, &book.meta().policy, row.number)?;
-            urls.push(text_value(url))?;
+            let url = order_url(alloc, &book.meta().policy, row.number);
+            push_text(&mut urls, url)?;
         }
     }
     Ok(urls)
 }
 
-fn orders_list(alloc: Global, at: &At, account: u64) -> Result<Value, AllocError>
-    ensures { IfOk result (λ v. view v
-        ≡ list (map (λ o. string (order_url at.now.meta.policy o.number)) (filter (is_listed account) at.now.orders))) }
-{
-    let (book, moment) = at.parts();
-    Ok(list_value(order_urls(alloc, book, moment, account)?))
-}
-
-fn orders_value(alloc: Global, at: &At, account: u64) -> Result<Value, AllocError>
+/// The document of an account's orders at a moment (RFC 8555, 7.1.2.1).
+pub(crate) fn orders_value(alloc: Global, at: &At, account: u64) -> Result<Value, AllocError>
     ensures { IfOk result (λ v. view v ≡ orders_document at.now account) }
 {
-    let orders = orders_list(alloc, at, account)?;
-    json!(in alloc; {"orders": orders})
-}
-
-/// The document of an account's orders at a moment (RFC 8555, 7.1.2.1).
-pub(crate) fn orders_document(alloc: Global, at: &At, account: u64) -> Result<Document, AllocError>
-    ensures { IfOk result (λ d. d ≡ orders_document at.now account) }
-{
-    let value = orders_value(alloc, at, account)?;
-    Ok(Document::new(value))
+    let (book, moment) = at.parts();
+    let urls = order_urls(alloc, book, moment, account);
+    listing_value(alloc, "orders", urls)
 }

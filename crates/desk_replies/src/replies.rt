@@ -1,5 +1,5 @@
 //! Replies (RFC 8555, 6.5, 6.7, 7).
-ghost use Rattle.std.specs.Prelude.{◌≡◌, ◌<◌, IfOk};
+ghost use Rattle.std.specs.Prelude.{ℕ, List, ◌≡◌, ◌<◌, string_bytes, IfOk, OnOk};
 ghost use Rattle.desk_model.specs.Tokens.{nonce_text};
 ghost use Rattle.desk_model.specs.Shown.{refusal_reply, nonce_reply, with_nonce, plain};
 ghost use Rattle.desk_model.specs.declared.reply.Body.TheVariants.{Empty};
@@ -34,11 +34,16 @@ pub fn with_nonce(
 ) -> Result<Reply, AllocError>
     ensures { IfOk result (λ r. r ≡ with_nonce (nonce_text serial random) reply) }
 {
-    let text = keys::nonce_text(alloc, serial, random)?;
-    Ok(Reply {
-        nonce: Some(Text::new(text)),
-        ..reply
-    })
+    let mut reply = reply;
+    put_nonce(&mut reply, keys::nonce_text(alloc, serial, random)).and(Ok(reply))
+}
+
+// Writes a nonce into a reply, if its text could be made.
+fn put_nonce(reply: &mut Reply, text: Result<String, AllocError>) -> Result<(), AllocError>
+    ensures { OnOk result ((bytes : List ℕ) → IfOk text (λ t. string_bytes t ≡ bytes) → reply.new ≡ with_nonce bytes reply.old) }
+{
+    reply.nonce = Some(Text::new(text?));
+    Ok(())
 }
 
 // A reply without a body.

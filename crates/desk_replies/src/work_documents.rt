@@ -13,13 +13,15 @@ ghost use Rattle.desk_model.specs.Document.{expected, bytes_of, listed_rows, wor
 ghost use Rattle.desk_model.specs.Document.{order_work_document, order_work};
 ghost use Rattle.desk_replies.specs.Shown.{work_at};
 
-use crate::document_values::{list_value, text_value};
+use crate::document_values::{
+    list_value, listing_value, push_text, push_value, put_str, put_text, put_value,
+};
 use crate::order_documents::order_names;
 use base64::engine::general_purpose::URL_SAFE_NO_PAD;
 use desk_book::Book;
-use desk_model::{AuthorizationRow, ChallengeRow, DatedBytes, DnsName, Document, OrderRow};
+use desk_model::{AuthorizationRow, ChallengeRow, DatedBytes, DnsName, OrderRow};
 use keys::expected_text;
-use serde_json::{Value, json};
+use serde_json::{Map, Value, put};
 use std::alloc::{AllocError, Global};
 use swept_rows::{At, authorization_status, order_status};
 
@@ -44,13 +46,20 @@ fn work_value(
 ) -> Result<Value, AllocError>
     ensures { IfOk result (λ v. view v ≡ work_document book.now row.now challenge.now) }
 {
-    json!(in alloc; {
-        "challenge": challenge.number,
-        "expected": expected(alloc, book, row, challenge)?,
-        "name": row.name.base(),
-        "token": keys::token_text(alloc, challenge.token)?,
-        "type": challenge.kind.as_str()
-    })
+    let mut members = Map::new(alloc);
+    put(
+        &mut members,
+        alloc,
+        "challenge",
+        Value::from(challenge.number),
+    )?;
+    let expected = expected(alloc, book, row, challenge);
+    put_text(&mut members, alloc, "expected", expected)?;
+    put_str(&mut members, alloc, "name", row.name.base())?;
+    let token = keys::token_text(alloc, challenge.token);
+    put_text(&mut members, alloc, "token", token)?;
+    put_str(&mut members, alloc, "type", challenge.kind.as_str())?;
+    Ok(Value::Object(members))
 }
 
 // Adds the challenges of an authorization that were answered and not yet reported.
@@ -98,26 +107,13 @@ fn waiting_challenges(alloc: Global, book: &Book, moment: u64) -> Result<Vec<Val
     Ok(work)
 }
 
-fn challenge_list(alloc: Global, at: &At) -> Result<Value, AllocError>
-    ensures { IfOk result (λ v. view v ≡ list (flat_map (work_of at.now) at.now.authorizations)) }
-{
-    let (book, moment) = at.parts();
-    Ok(list_value(waiting_challenges(alloc, book, moment)?))
-}
-
-fn challenge_work_value(alloc: Global, at: &At) -> Result<Value, AllocError>
+/// The challenges that wait for the validator at a moment.
+pub(crate) fn challenge_work_value(alloc: Global, at: &At) -> Result<Value, AllocError>
     ensures { IfOk result (λ v. view v ≡ challenge_work at.now) }
 {
-    let challenges = challenge_list(alloc, at)?;
-    json!(in alloc; {"challenges": challenges})
-}
-
-/// The challenges that wait for the validator at a moment.
-pub(crate) fn challenge_work(alloc: Global, at: &At) -> Result<Document, AllocError>
-    ensures { IfOk result (λ d. d ≡ challenge_work at.now) }
-{
-    let value = challenge_work_value(alloc, at)?;
-    Ok(Document::new(value))
+    let (book, moment) = at.parts();
+    let challenges = waiting_challenges(alloc, book, moment);
+    listing_value(alloc, "challenges", challenges)
 }
 
 // The texts of names.
@@ -126,7 +122,7 @@ fn name_values(alloc: Global, names: &[DnsName]) -> Result<Vec<Value>, AllocErro
 {
     let mut values = Vec::new(alloc);
     for name in names {
-        values.push(text_value(name.shown(alloc)?))?;
+        push_text(&mut values, name.shown(alloc))?;
     }
     Ok(values)
 }
@@ -152,11 +148,13 @@ fn name_list(alloc: Global, book: &Book, row: &OrderRow) -> Result<Value, AllocE
 fn order_value(alloc: Global, book: &Book, row: &OrderRow) -> Result<Value, AllocError>
     ensures { IfOk result (λ v. view v ≡ order_work_document book.now row.now) }
 {
-    json!(in alloc; {
-        "csr": csr_text(alloc, &row.finalized)?,
-        "names": name_list(alloc, book, row)?,
-        "order": row.number
-    })
+    let mut members = Map::new(alloc);
+    let csr = csr_text(alloc, &row.finalized);
+    put_text(&mut members, alloc, "csr", csr)?;
+    let names = name_list(alloc, book, row);
+    put_value(&mut members, alloc, "names", names)?;
+    put(&mut members, alloc, "order", Value::from(row.number))?;
+    Ok(Value::Object(members))
 }
 
 fn waiting_orders(alloc: Global, book: &Book, moment: u64) -> Result<Vec<Value>, AllocError>
@@ -166,30 +164,17 @@ fn waiting_orders(alloc: Global, book: &Book, moment: u64) -> Result<Vec<Value>,
     let mut work = Vec::new(alloc);
     for row in book.orders().iter() {
         if order_status(book, moment, row).is_processing() {
-            work.push(order_value(alloc, book, row)?)?;
+            push_value(&mut work, order_value(alloc, book, row))?;
         }
     }
     Ok(work)
 }
 
-fn order_list(alloc: Global, at: &At) -> Result<Value, AllocError>
-    ensures { IfOk result (λ v. view v ≡ list (map (order_work_document at.now) (filter (λ o. is_processing o.status) at.now.orders))) }
-{
-    let (book, moment) = at.parts();
-    Ok(list_value(waiting_orders(alloc, book, moment)?))
-}
-
-fn order_work_value(alloc: Global, at: &At) -> Result<Value, AllocError>
+/// The orders that wait for the signing office at a moment.
+pub(crate) fn order_work_value(alloc: Global, at: &At) -> Result<Value, AllocError>
     ensures { IfOk result (λ v. view v ≡ order_work at.now) }
 {
-    let orders = order_list(alloc, at)?;
-    json!(in alloc; {"orders": orders})
-}
-
-/// The orders that wait for the signing office at a moment.
-pub(crate) fn order_work(alloc: Global, at: &At) -> Result<Document, AllocError>
-    ensures { IfOk result (λ d. d ≡ order_work at.now) }
-{
-    let value = order_work_value(alloc, at)?;
-    Ok(Document::new(value))
+    let (book, moment) = at.parts();
+    let orders = waiting_orders(alloc, book, moment);
+    listing_value(alloc, "orders", orders)
 }

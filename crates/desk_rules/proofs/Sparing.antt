@@ -1,5 +1,5 @@
 -- Verdicts that need no numbers and no random bytes.
-use Rattle.std.proofs.Common.{◌≡◌, ℕ, List, Bool, true, false, Option, Some, None, drop, sym, ap, subst, ◌∙◌}
+use Rattle.std.proofs.Common.{◌≡◌, ℕ, List, Bool, true, false, Option, Some, None, Result, Ok, Err, MatchResult, drop, sym, ap, subst, ◌∙◌}
 use Rattle.desk_model.specs.declared.refusal.Refusal.{Refusal}
 use Rattle.desk_model.specs.Rules.{account_verdict, authorization_verdict, certificate_verdict, challenge_verdict, finalize_verdict, target_verdict}
 use Rattle.desk_model.specs.Tables.{Tables}
@@ -16,7 +16,10 @@ use Rattle.desk_model.specs.declared.payload.ChallengeChange.{ChallengeChange}
 use Rattle.desk_model.specs.declared.payload.ChallengeChange.TheVariants as chall
 use Rattle.desk_model.specs.declared.rows.Counters.{Counters}
 use Rattle.desk_model.specs.declared.verdict.Verdict.{Verdict}
-use Rattle.desk_rules.specs.Needs.{NumbersLeft, BytesLeft}
+use Rattle.desk_rules.specs.Needs.{NumbersLeft, BytesLeft, IsNeedFault}
+use Rattle.desk_rules.specs.declared.fault.CoreFault.{CoreFault}
+use Rattle.desk_rules.specs.declared.fault.CoreFault.TheVariants as fault
+use Rattle.desk_rules.proofs.KeyVerdicts.{IsJudged}
 
 -- whatever numbers were given, and whatever random bytes there are
 abbrev pub Spares : Verdict → Type 0
@@ -95,3 +98,10 @@ pub target-spared : (C : Counters) (T : Tables) (random : List ℕ) (n : ℕ) (p
 target-spared C T random n p target reading v is e h =
     let left = subst Spares (sym e) h C random in
     (e ∙ ap (target_verdict T (drop 16 random) n p) (sym is), left.0, left.1)
+
+-- and its judgement, where memory alone may lack
+pub target-made : (C : Counters) (T : Tables) (random : List ℕ) (n : ℕ) (p : List ℕ) (target reading : Target) (r : Result Verdict CoreFault) →
+    target ≡ reading → MatchResult r (λ v. v ≡ target_verdict T (drop 16 random) n p reading) (λ e. e ≡ fault.Memory)
+    → Spares (target_verdict T (drop 16 random) n p reading) → IsJudged C random r (target_verdict T (drop 16 random) n p target)
+target-made C T random n p target reading (Ok v) is e h = target-spared C T random n p target reading v is e h
+target-made C T random n p target reading (Err f) is e h = subst (IsNeedFault C random (target_verdict T (drop 16 random) n p target)) (sym e) tt

@@ -1,5 +1,6 @@
 //! Verdicts on signed requests (RFC 8555, 6).
-ghost use Rattle.std.specs.Prelude.{◌≡◌, drop, MatchResult};
+ghost use Rattle.std.specs.Prelude.{◌≡◌, drop, IfOk, MatchResult};
+ghost use Rattle.desk_rules.specs.declared.fault.CoreFault.TheVariants.{Memory};
 ghost use Rattle.desk_rules.specs.Needs.{NumbersLeft, BytesLeft, IsNeedFault};
 ghost use Rattle.desk_model.specs.Payload.{new_order};
 ghost use Rattle.desk_model.specs.Rules.{holder_verdict, new_order_verdict, signed_verdict, target_verdict};
@@ -15,7 +16,7 @@ use crate::targets::{
 };
 use crate::verdicts::refused;
 use desk_model::{AccountRow, Refusal, Signed, Target, Verdict};
-use std::alloc::Global;
+use std::alloc::{AllocError, Global};
 use swept_rows::At;
 
 // A request for a new order (RFC 8555, 7.4).
@@ -39,6 +40,13 @@ fn new_order_target(
     }
 }
 
+// A verdict that needs memory alone.
+fn if_made(verdict: Result<Verdict, AllocError>) -> Result<Verdict, CoreFault>
+    ensures { (asked : Verdict) → IfOk verdict (λ v. v ≡ asked) → MatchResult result (λ v. v ≡ asked) (λ e. e ≡ Memory) }
+{
+    Ok(verdict?)
+}
+
 // A request of the holder of a valid account, by its target (RFC 8555, 7.3 to 7.5).
 fn target_verdict(
     alloc: Global,
@@ -53,15 +61,17 @@ fn target_verdict(
         (λ e. IsNeedFault at.now.meta.counters random.now asked e) }
 {
     match target {
-        Target::NewAccount => Ok(new_account_target(alloc, sender, payload)?),
+        Target::NewAccount => if_made(new_account_target(alloc, sender, payload)),
         Target::NewOrder => new_order_target(alloc, at, random, sender, payload),
-        Target::Account(number) => Ok(account_target(alloc, sender, number, payload)?),
+        Target::Account(number) => if_made(account_target(alloc, sender, number, payload)),
         Target::Orders(number) => Ok(orders_target(alloc, sender, number, payload)),
         Target::Order(number) => Ok(order_target(alloc, at, sender, number, payload)),
-        Target::Finalize(number) => { Ok(finalize_target(alloc, at, sender, number, payload)?) }
-        Target::Cert(number) => { Ok(certificate_target(alloc, at, sender, number, payload)) }
-        Target::Authz(number) => { Ok(authorization_target(alloc, at, sender, number, payload)?) }
-        Target::Chall(number) => { Ok(challenge_target(alloc, at, sender, number, payload)?) }
+        Target::Finalize(number) => if_made(finalize_target(alloc, at, sender, number, payload)),
+        Target::Cert(number) => Ok(certificate_target(alloc, at, sender, number, payload)),
+        Target::Authz(number) => {
+            if_made(authorization_target(alloc, at, sender, number, payload))
+        }
+        Target::Chall(number) => if_made(challenge_target(alloc, at, sender, number, payload)),
     }
 }
 

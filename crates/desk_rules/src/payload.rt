@@ -4,7 +4,7 @@ ghost use Rattle.serde_json.specs.View.{view, items_view};
 ghost use Rattle.desk_model.specs.Payload.{object_in, each_in, texts_in, optional, new_account, new_account_in};
 ghost use Rattle.desk_model.specs.Payload.{is_deactivated_text, says_deactivated, account_change, account_change_in};
 ghost use Rattle.desk_model.specs.Payload.{authorization_change, authorization_change_in, challenge_change, identifier_in};
-ghost use Rattle.desk_model.specs.Payload.{new_order, new_order_in, finalize};
+ghost use Rattle.desk_model.specs.Payload.{new_order, new_order_in, csr_text_in, finalize};
 ghost use Rattle.serde_json.specs.Find.{get, as_bool, as_str};
 
 use desk_model::{
@@ -219,15 +219,21 @@ pub(crate) fn new_order(alloc: Global, payload: &str) -> Result<Option<Vec<Ident
     }
 }
 
+fn csr_text_in(alloc: Global, value: &Value) -> Result<Option<String>, AllocError>
+    ensures { IfOk result (λ o. option_map (λ s. string_bytes s) o ≡ csr_text_in (view value.now)) }
+{
+    match text_of(value, "csr") {
+        Some(text) => Ok(Some(String::from_str(alloc, text)?)),
+        None => Ok(None),
+    }
+}
+
 /// The text of the CSR that a finalize payload hands in, `None` where it has another form (RFC 8555, 7.4).
 pub(crate) fn finalize(alloc: Global, payload: &str) -> Result<Option<String>, AllocError>
     ensures { IfOk result (λ o. option_map (λ s. string_bytes s) o ≡ finalize payload.now) }
 {
-    let Some(value) = object_in(alloc, payload)? else {
-        return Ok(None);
-    };
-    match text_of(&value, "csr") {
-        Some(text) => Ok(Some(String::from_str(alloc, text)?)),
+    match object_in(alloc, payload)? {
+        Some(value) => csr_text_in(alloc, &value),
         None => Ok(None),
     }
 }

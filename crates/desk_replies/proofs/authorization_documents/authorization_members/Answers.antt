@@ -11,11 +11,11 @@ use Rattle.desk_replies.proofs.authorization_documents.authorization_members.Goa
 pub returns : goal.returns
 returns c =
     and_put _ _ _ _ (c.in_ok-put_str.ensures
-    ∙ ap (λ text. with_members ((codes "status", string text) ∷ []) (members_view c.put_value-2.new.members.entries)) c.as_str.ensures)
+    ∙ ap (λ text. with_members ((codes "status", string text) ∷ []) (members_view c.put_value.new.members.entries)) c.as_str.ensures)
     (and_put _ _ _ _
-    (c.in_ok-put_value-2.ensures _ c.identifier_value-identifier.ensures
-    ∙ ap (λ name. with_members ((codes "identifier", identifier name) ∷ []) (members_view c.put_value.new.members.entries)) c.base.ensures.base)
-    (and_put _ _ _ _ (c.in_ok-put_value.ensures _ c.moment_value-expires.ensures)
+    (c.in_ok-put_value.ensures _ c.identifier_value-identifier.ensures
+    ∙ ap (λ name. with_members ((codes "identifier", identifier name) ∷ []) (members_view c.put_text.new.members.entries)) c.base.ensures.base)
+    (and_put _ _ _ _ (c.in_ok-put_text.ensures _ c.capped_moment_text-expires.ensures)
     (and_put _ _ _ _
     (c.in_ok-put.ensures.ok
     ∙ ap (λ shown. with_members ((codes "challenges", shown) ∷ []) (members_view c.new-members.result.entries))

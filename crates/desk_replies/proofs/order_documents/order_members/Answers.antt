@@ -11,10 +11,10 @@ use Rattle.desk_replies.proofs.order_documents.order_members.Goals as goal
 pub returns : goal.returns
 returns c =
     and_put _ _ _ _
-    (c.in_ok-put_str.ensures ∙ ap (λ text. with_members ((codes "status", string text) ∷ []) (members_view c.put_value-3.new.members.entries)) c.as_str.ensures)
-    (and_put _ _ _ _ (c.in_ok-put_value-3.ensures _ c.identifiers-identifiers.ensures)
-    (and_put _ _ _ _ (c.in_ok-put_text.ensures _ c.finalize_url-finalize.ensures)
-    (and_put _ _ _ _ (c.in_ok-put_value-2.ensures _ c.moment_value-expires.ensures)
+    (c.in_ok-put_str.ensures ∙ ap (λ text. with_members ((codes "status", string text) ∷ []) (members_view c.put_value-2.new.members.entries)) c.as_str.ensures)
+    (and_put _ _ _ _ (c.in_ok-put_value-2.ensures _ c.identifiers-identifiers.ensures)
+    (and_put _ _ _ _ (c.in_ok-put_text-2.ensures _ c.finalize_url-finalize.ensures)
+    (and_put _ _ _ _ (c.in_ok-put_text.ensures _ c.capped_moment_text-expires.ensures)
     (and_put _ _ _ _
     (c.in_ok-put_value.ensures _ c.authorization_urls-urls.ensures
     ∙ ap (λ listed. with_members

@@ -1,0 +1,28 @@
+-- What follows of a result where a step went well.
+use Rattle.std.proofs.Common.{◌≡◌, Result, Ok, Err, IfOk, OnOk, false, ap, sym, subst, ◌∙◌}
+use Rattle.std.specs.Result.{result_and}
+use Rattle.serde_json.specs.Data.{Data}
+use Rattle.serde_json.specs.View.{view}
+use Rattle.serde_json.specs.Written.{has_float}
+use Rattle.serde_json.specs.declared.value.Value.{Value}
+
+-- what follows of what is given
+pub ok_so : {X E : Type 0} {P Q : X → Type 0} (r : Result X E) → ((x : X) → P x → Q x) → IfOk r P → IfOk r Q
+ok_so (Ok x) f h = f x h
+ok_so (Err e) f h = tt
+
+-- what follows where a step went well
+pub on_ok : {X E : Type 0} {P Q : Type 0} (r : Result X E) → (P → Q) → OnOk r P → OnOk r Q
+on_ok (Ok x) f h = f h
+on_ok (Err e) f h = tt
+
+-- a step, and then a value
+pub and_so : {T U E : Type 0} {P : Type 0} (F : U → Type 0) (r : Result T E) (x : U) (s : Result U E) → s ≡ result_and r (Ok x)
+    → (P → F x) → OnOk r P → IfOk s F
+and_so F (Ok t) x s is f h = subst (λ o. IfOk o F) (sym is) (f h)
+and_so F (Err e) x s is f h = subst (λ o. IfOk o F) (sym is) tt
+
+-- a value that shows a document without floats has none
+pub plain_value : {E : Type 0} (r : Result Value E) (d : Data) → has_float d ≡ false → IfOk r (λ v. view v ≡ d)
+    → IfOk r (λ v. has_float (view v) ≡ false)
+plain_value r d plain = ok_so r (λ v is. ap has_float is ∙ plain)

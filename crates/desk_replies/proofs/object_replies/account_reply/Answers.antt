@@ -1,0 +1,12 @@
+use Rattle.std.proofs.Common.{◌∙◌, ap, sym}
+use Rattle.desk_model.specs.Document.{account_document}
+use Rattle.desk_model.specs.Shown.{ok}
+use Rattle.desk_replies.proofs.NoFloats.{account_plain}
+use Rattle.desk_replies.proofs.Results.{ok_so, plain_value}
+use Rattle.desk_replies.proofs.object_replies.account_reply.Goals as goal
+
+pub json_reply-requires : goal.json_reply-requires
+json_reply-requires c = plain_value c.account_value.result _ (account_plain c.args.policy.now c.args.row.now) c.account_value.ensures
+
+pub returns : goal.returns
+returns c = ok_so c.json_reply.result (λ r is. λ T same. is ∙ ap (ok 200) (ap (λ t. account_document t c.args.row.now) (sym same))) (c.json_reply.ensures _ c.account_value.ensures)

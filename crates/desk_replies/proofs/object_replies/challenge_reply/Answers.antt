@@ -1,0 +1,14 @@
+use Rattle.std.proofs.Common.{◌∙◌, ap, sym}
+use Rattle.desk_model.specs.Document.{challenge_document}
+use Rattle.desk_replies.specs.Shown.{capped_challenge}
+use Rattle.desk_replies.proofs.ShownAuthorizations.{capped_challenge-same}
+use Rattle.desk_model.specs.Shown.{ok}
+use Rattle.desk_replies.proofs.NoFloats.{challenge_plain}
+use Rattle.desk_replies.proofs.Results.{ok_so, plain_value}
+use Rattle.desk_replies.proofs.object_replies.challenge_reply.Goals as goal
+
+pub json_reply-requires : goal.json_reply-requires
+json_reply-requires c = plain_value c.challenge_value.result _ (challenge_plain c.args.policy.now (capped_challenge c.args.row.now)) c.challenge_value.ensures
+
+pub returns : goal.returns
+returns c = ok_so c.json_reply.result (λ r is. λ T same dated. is ∙ ap (ok 200) (ap (challenge_document c.args.policy.now) (capped_challenge-same c.args.row.now dated) ∙ ap (λ t. challenge_document t c.args.row.now) (sym same))) (c.json_reply.ensures _ c.challenge_value.ensures)

@@ -1,0 +1,21 @@
+use Rattle.std.proofs.Common.{◌∙◌, ap, sym}
+use Rattle.desk_model.specs.Document.{order_document, order_url}
+use Rattle.desk_model.specs.Shown.{at, ok}
+use Rattle.desk_replies.specs.Shown.{capped_order}
+use Rattle.desk_replies.proofs.NoFloats.{order_plain}
+use Rattle.desk_replies.proofs.ShownOrders.{order_with_names-is}
+use Rattle.desk_replies.proofs.Results.{ok_so, plain_value}
+use Rattle.desk_replies.proofs.object_replies.located_order.Goals as goal
+
+pub located_reply-requires : goal.located_reply-requires
+located_reply-requires c =
+    plain_value c.order_value.result _ (order_plain c.args.policy.now c.args.names.now (capped_order c.args.row.now)) c.order_value.ensures
+
+pub returns : goal.returns
+returns c =
+    ok_so c.located_reply.result
+    (λ r is. λ T same named ends. is
+    ∙ ap (λ d. at (order_url c.args.policy.now c.args.row.now.number) (ok c.args.status d))
+    (order_with_names-is T c.args.policy.now c.args.names.now c.args.row.now same named ends)
+    ∙ ap (λ t. at (order_url t c.args.row.now.number) (ok c.args.status (order_document T c.args.row.now))) (sym same))
+    (c.located_reply.ensures _ _ c.order_url-url.ensures c.order_value.ensures)

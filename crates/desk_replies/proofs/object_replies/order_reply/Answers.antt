@@ -1,0 +1,13 @@
+use Rattle.std.proofs.Common.{◌∙◌, ap, sym}
+use Rattle.desk_replies.specs.Shown.{capped_order}
+use Rattle.desk_replies.proofs.ShownOrders.{order_with_names-is}
+use Rattle.desk_model.specs.Shown.{ok}
+use Rattle.desk_replies.proofs.NoFloats.{order_plain}
+use Rattle.desk_replies.proofs.Results.{ok_so, plain_value}
+use Rattle.desk_replies.proofs.object_replies.order_reply.Goals as goal
+
+pub json_reply-requires : goal.json_reply-requires
+json_reply-requires c = plain_value c.order_value.result _ (order_plain c.args.policy.now c.args.names.now (capped_order c.args.row.now)) c.order_value.ensures
+
+pub returns : goal.returns
+returns c = ok_so c.json_reply.result (λ r is. λ T same named ends. is ∙ ap (ok 200) (order_with_names-is T c.args.policy.now c.args.names.now c.args.row.now same named ends)) (c.json_reply.ensures _ c.order_value.ensures)
