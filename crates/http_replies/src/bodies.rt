@@ -1,5 +1,5 @@
 //! The bodies of replies.
-ghost use Rattle.std.specs.Prelude.{◌≡◌, ◌++◌, IfOk, OnOk, Bool, is_some};
+ghost use Rattle.std.specs.Prelude.{ℕ, List, ◌≡◌, ◌++◌, string_bytes, IfOk, OnOk, Bool, is_some};
 ghost use Rattle.http_replies.specs.Replies.{body_allow, body_bytes, body_fields, has_body, has_index, is_new_nonce};
 
 use crate::writing::{put_allow, put_content};
@@ -7,14 +7,21 @@ use desk_model::{Body, Reply};
 use refusals::problem_text;
 use std::alloc::{AllocError, Global};
 
+// The bytes of a text, if it could be made.
+fn text_bytes(text: Result<String, AllocError>) -> Result<Vec<u8>, AllocError>
+    ensures { (bytes : List ℕ) → IfOk text (λ t. string_bytes t ≡ bytes) → IfOk result (λ v. v.items ≡ bytes) }
+{
+    Ok(text?.into_bytes())
+}
+
 /// The bytes of a body.
 pub(crate) fn body_bytes(alloc: Global, body: &Body) -> Result<Vec<u8>, AllocError>
     ensures { IfOk result (λ t. t.items ≡ body_bytes body.now) }
 {
     match body {
         Body::Empty => Ok(Vec::new(alloc)),
-        Body::Json(document) => Ok(document.value().to_string(alloc)?.into_bytes()),
-        Body::Problem(problem) => Ok(problem_text(alloc, problem)?.into_bytes()),
+        Body::Json(document) => text_bytes(document.value().to_string(alloc)),
+        Body::Problem(problem) => text_bytes(problem_text(alloc, problem)),
         Body::Certificate(bytes) => Vec::from_slice(alloc, bytes.as_slice()),
     }
 }

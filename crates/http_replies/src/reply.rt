@@ -23,12 +23,25 @@ pub fn reply_text(
 {
     let body = body_bytes(alloc, &reply.body)?;
     let mut out = Vec::new(alloc);
-    put_first(alloc, &mut out, reply, body.len())?;
-    put_last(&mut out, base, reply)?;
+    put_head(alloc, &mut out, base, reply, body.len())?;
     if !head_only {
         out.extend_from_slice(&body)?;
     }
     Ok(out)
+}
+
+// What stands before the body.
+fn put_head(
+    alloc: Global,
+    out: &mut Vec<u8>,
+    base: &str,
+    reply: &Reply,
+    len: usize,
+) -> Result<(), AllocError>
+    ensures { OnOk result (out.new.items ≡ out.old.items ++ (first_lines reply.now len ++ last_lines base.now reply.now)) }
+{
+    put_first(alloc, out, reply, len)?;
+    put_last(out, base, reply)
 }
 
 // The status line and the fields up to those of the body.

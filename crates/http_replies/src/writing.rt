@@ -73,8 +73,7 @@ fn put_link(out: &mut Vec<u8>, base: &str, path: &str, kind: &str) -> Result<(),
     put(out, path)?;
     put(out, ">;rel=\"")?;
     put(out, kind)?;
-    put(out, "\"")?;
-    put(out, "\r\n")
+    put(out, "\"\r\n")
 }
 
 /// The status line (RFC 9112, 4).
