@@ -27,10 +27,12 @@ returns-in_err-put_authorization-clause-ok g c = IfOk-from_err c.from_residual.r
 
 pub returns-clause-kept : goal.returns-clause-kept
 returns-clause-kept g c =
-    kept_behind (state g.S.Store c.args.tx.now.conn.now) (state g.S.Store c.put_authorization.new.tx.conn.now) (state g.S.Store c.put_challenges.new.tx.conn.now) _
+    kept_behind (state g.S.Store c.args.tx.now.conn.now) (state g.S.Store c.put_authorization.new.tx.conn.now)
+    (state g.S.Store c.put_challenges.new.tx.conn.now) _
     c.in_ok-put_authorization.ensures.ok c.put_challenges.ensures.survives c.put_challenges.ensures.kept
 
 pub returns-clause-survives : goal.returns-clause-survives
 returns-clause-survives g c =
-    survives_both (state g.S.Store c.args.tx.now.conn.now) (state g.S.Store c.put_authorization.new.tx.conn.now) (state g.S.Store c.put_challenges.new.tx.conn.now)
+    survives_both (state g.S.Store c.args.tx.now.conn.now) (state g.S.Store c.put_authorization.new.tx.conn.now)
+    (state g.S.Store c.put_challenges.new.tx.conn.now)
     c.in_ok-put_authorization.ensures.survives c.put_challenges.ensures.survives

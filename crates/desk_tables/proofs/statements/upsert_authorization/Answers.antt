@@ -10,4 +10,5 @@ use Rattle.desk_tables.proofs.statements.upsert_authorization.Goals as goal
 pub returns-clause-ok : goal.returns-clause-ok
 returns-clause-ok g c =
     while_answered _ _ _ _ c.perform.result _ c.and.result c.and.ensures c.perform.ensures.runs
-    (advances_by authorization_layout authorization_columns authorization_params upsert_authorization authorization_upsert _ _ c.args.columns.now _ c.authorization_values-values.ensures)
+    (advances_by authorization_layout authorization_columns authorization_params upsert_authorization authorization_upsert _ _ c.args.columns.now _
+    c.authorization_values-values.ensures)
