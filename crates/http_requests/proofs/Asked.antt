@@ -33,3 +33,8 @@ request_behind {E} known method path fields begun r n body (Err x) s e b a = tt
 request_behind {E} None method path fields begun r n body (Ok q) s e b a = tt
 request_behind {E} (Some left) method path fields begun r n body (Ok q) s e b a =
     request_by_body method path fields (begun ++ left) r n body q s e b a
+
+-- what is so whatever follows is so of what the reader has left
+pub whatever_is_left : (known : Option (List ℕ)) (begun : List ℕ) (P : List ℕ → Type 0) → ((rest : List ℕ) → P rest) → IfSome known (λ left. P (begun ++ left))
+whatever_is_left None begun P h = tt
+whatever_is_left (Some left) begun P h = h (begun ++ left)

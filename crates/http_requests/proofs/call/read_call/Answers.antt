@@ -1,7 +1,7 @@
-use Rattle.std.proofs.Common.{◌≤◌, arith, length, take}
+use Rattle.std.proofs.Common.{◌≤◌, ◌+◌, arith, length, take}
 use Rattle.std.proofs.lemmas.List.{length-take}
 use Rattle.http_requests.proofs.Hearing.{malformed_heard, too_large_heard, complete_read}
-use Rattle.http_requests.proofs.Bytes.{takes_then}
+use Rattle.http_requests.proofs.Bytes.{takes_then, takes_within}
 use Rattle.http_requests.proofs.call.read_call.Goals as goal
 use Rattle.desk_model.specs.Limits.{longest_body, longest_head}
 
@@ -34,3 +34,22 @@ returns-in-Complete-clause-taken g c =
     let le : length bytes ≤ longest_head = omega (arith, length-take c.in_ok-head.filled c.read_head.new.buffer) in
     takes_then known behind_head (g.R.Read.remaining c.read_headed.new.reader) longest_head longest_body (bytes, c.in_ok-head.ensures.bytes, le)
     c.read_headed.ensures.taken
+
+pub returns-in-Malformed-clause-taken : goal.returns-in-Malformed-clause-taken
+returns-in-Malformed-clause-taken g c =
+    let bytes = take c.in_ok-head.filled c.read_head.new.buffer in
+    let le : length bytes ≤ longest_head = omega (arith, length-take c.in_ok-head.filled c.read_head.new.buffer) in
+    takes_within (g.R.Read.remaining c.args.reader.now) (g.R.Read.remaining c.read_head.new.reader) longest_head (longest_head + longest_body)
+    (omega arith) (bytes, c.in_ok-head.ensures.bytes, le)
+
+pub returns-in-TooLarge-clause-taken : goal.returns-in-TooLarge-clause-taken
+returns-in-TooLarge-clause-taken g c =
+    let bytes = take c.in_ok-head.filled c.read_head.new.buffer in
+    let le : length bytes ≤ longest_head = omega (arith, length-take c.in_ok-head.filled c.read_head.new.buffer) in
+    takes_within (g.R.Read.remaining c.args.reader.now) (g.R.Read.remaining c.read_head.new.reader) longest_head (longest_head + longest_body)
+    (omega arith) (bytes, c.in_ok-head.ensures.bytes, le)
+
+pub returns-in_err-head-clause-taken : goal.returns-in_err-head-clause-taken
+returns-in_err-head-clause-taken g c =
+    takes_within (g.R.Read.remaining c.args.reader.now) (g.R.Read.remaining c.read_head.new.reader) longest_head (longest_head + longest_body)
+    (omega arith) c.in_err-head.ensures.failed

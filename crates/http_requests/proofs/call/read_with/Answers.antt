@@ -1,9 +1,11 @@
 use Rattle.std.proofs.Common.{map}
 use Rattle.httparse.specs.Spans.{header_bytes}
 use Rattle.http_requests.specs.Heard.{IsPlan}
+use Rattle.http_requests.specs.Spelled.{IsRequestWith}
+use Rattle.requests.specs.declared.request.Request.TheVariants as request
 use Rattle.http_requests.specs.declared.plan.Plan.TheVariants as plan
-use Rattle.http_requests.proofs.Asked.{request_behind}
-use Rattle.http_requests.proofs.Bytes.{takes_within}
+use Rattle.http_requests.proofs.Asked.{request_behind, whatever_is_left}
+use Rattle.http_requests.proofs.Bytes.{takes_none, takes_within}
 use Rattle.http_requests.proofs.Limits.{body_within}
 use Rattle.http_requests.proofs.call.read_with.Goals as goal
 use Rattle.desk_model.specs.Limits.{longest_body}
@@ -20,6 +22,33 @@ returns-in-Ok-2-clause-request g c =
 
 pub returns-in-Ok-2-clause-taken : goal.returns-in-Ok-2-clause-taken
 returns-in-Ok-2-clause-taken g c =
+    let fields = map (header_bytes c.args.buffer.now) c.args.headers.now in
+    let p : IsPlan c.args.method.now c.args.path.now fields (plan.Takes c.in-Takes.resource c.in-Takes.count) = rw c.in-Takes.is at c.in-Ok.ensures in
+    takes_within (g.R.Read.remaining c.args.reader.now) (g.R.Read.remaining c.read_body.new.reader) c.in-Takes.count longest_body
+    (body_within c.in-Takes.resource fields c.in-Takes.count p.1) c.read_body.ensures.taken
+
+pub returns-in-Err-clause-taken : goal.returns-in-Err-clause-taken
+returns-in-Err-clause-taken g c = takes_none (g.R.Read.remaining c.args.reader.now) longest_body
+
+pub returns-in-Answered-clause-taken : goal.returns-in-Answered-clause-taken
+returns-in-Answered-clause-taken g c = takes_none (g.R.Read.remaining c.args.reader.now) longest_body
+
+pub returns-in-Answered-clause-request : goal.returns-in-Answered-clause-request
+returns-in-Answered-clause-request g c =
+    let fields = map (header_bytes c.args.buffer.now) c.args.headers.now in
+    let p : IsPlan c.args.method.now c.args.path.now fields (plan.Answered c.in-Answered.reply) = rw c.in-Answered.is at c.in-Ok.ensures in
+    whatever_is_left (g.R.Read.remaining c.args.reader.now) c.args.begun.now
+    (λ rest. IsRequestWith c.args.method.now c.args.path.now fields rest (request.Refused c.in-Answered.reply)) p
+
+pub returns-in-Err-2-clause-taken : goal.returns-in-Err-2-clause-taken
+returns-in-Err-2-clause-taken g c =
+    let fields = map (header_bytes c.args.buffer.now) c.args.headers.now in
+    let p : IsPlan c.args.method.now c.args.path.now fields (plan.Takes c.in-Takes.resource c.in-Takes.count) = rw c.in-Takes.is at c.in-Ok.ensures in
+    takes_within (g.R.Read.remaining c.args.reader.now) (g.R.Read.remaining c.read_body.new.reader) c.in-Takes.count longest_body
+    (body_within c.in-Takes.resource fields c.in-Takes.count p.1) c.read_body.ensures.taken
+
+pub returns-in_err-body-in-Takes-clause-taken : goal.returns-in_err-body-in-Takes-clause-taken
+returns-in_err-body-in-Takes-clause-taken g c =
     let fields = map (header_bytes c.args.buffer.now) c.args.headers.now in
     let p : IsPlan c.args.method.now c.args.path.now fields (plan.Takes c.in-Takes.resource c.in-Takes.count) = rw c.in-Takes.is at c.in-Ok.ensures in
     takes_within (g.R.Read.remaining c.args.reader.now) (g.R.Read.remaining c.read_body.new.reader) c.in-Takes.count longest_body
