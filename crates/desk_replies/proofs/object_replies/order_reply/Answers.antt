@@ -1,4 +1,4 @@
-use Rattle.std.proofs.Common.{◌∙◌, ap, sym}
+use Rattle.std.proofs.Common.{◌∙◌, ap}
 use Rattle.desk_replies.specs.Shown.{capped_order}
 use Rattle.desk_replies.proofs.ShownOrders.{order_with_names-is}
 use Rattle.desk_model.specs.Shown.{ok}
