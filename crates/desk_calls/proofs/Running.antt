@@ -60,8 +60,8 @@ module _ {S C : Type 0} (v : Sight S C) where
     mid,
     subst (λ n. AnswersAll v old (take n calls) replies mid) (sym counted) all,
     subst (λ n. EndsBy v mid (drop n calls) (Some why) new) (sym counted)
-    (subst (λ l. EndsBy v mid l (Some why) new) (sym (drop-cons calls i call lt))
-    (subst (λ c. Answers v c mid new (Err why)) is ended)),
+        (subst (λ l. EndsBy v mid l (Some why) new) (sym (drop-cons calls i call lt))
+        (subst (λ c. Answers v c mid new (Err why)) is ended)),
   )
 
   -- all calls were answered
