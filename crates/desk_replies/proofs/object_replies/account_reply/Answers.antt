@@ -9,4 +9,6 @@ pub json_reply-requires : goal.json_reply-requires
 json_reply-requires c = plain_value c.account_value.result _ (account_plain c.args.policy.now c.args.row.now) c.account_value.ensures
 
 pub returns : goal.returns
-returns c = ok_so c.json_reply.result (λ r is. λ T same. is ∙ ap (ok 200) (ap (λ t. account_document t c.args.row.now) (sym same))) (c.json_reply.ensures _ c.account_value.ensures)
+returns c =
+    ok_so c.json_reply.result (λ r is T same. is ∙ ap (ok 200) (ap (λ t. account_document t c.args.row.now) (sym same)))
+    (c.json_reply.ensures _ c.account_value.ensures)

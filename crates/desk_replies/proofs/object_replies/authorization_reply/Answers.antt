@@ -8,7 +8,14 @@ use Rattle.desk_replies.proofs.Results.{ok_so, plain_value}
 use Rattle.desk_replies.proofs.object_replies.authorization_reply.Goals as goal
 
 pub json_reply-requires : goal.json_reply-requires
-json_reply-requires c = plain_value c.authorization_value.result _ (authorization_plain c.args.policy.now (capped_authorization c.args.row.now)) c.authorization_value.ensures
+json_reply-requires c =
+    plain_value c.authorization_value.result _ (authorization_plain c.args.policy.now (capped_authorization c.args.row.now))
+    c.authorization_value.ensures
 
 pub returns : goal.returns
-returns c = ok_so c.json_reply.result (λ r is. λ T same dated. is ∙ ap (ok 200) (ap (authorization_document c.args.policy.now) (capped_authorization-same c.args.row.now dated) ∙ ap (λ t. authorization_document t c.args.row.now) (sym same))) (c.json_reply.ensures _ c.authorization_value.ensures)
+returns c =
+    ok_so c.json_reply.result
+    (λ r is T same dated. is
+    ∙ ap (ok 200) (ap (authorization_document c.args.policy.now) (capped_authorization-same c.args.row.now dated)
+    ∙ ap (λ t. authorization_document t c.args.row.now) (sym same)))
+    (c.json_reply.ensures _ c.authorization_value.ensures)

@@ -11,4 +11,9 @@ pub json_reply-requires : goal.json_reply-requires
 json_reply-requires c = plain_value c.challenge_value.result _ (challenge_plain c.args.policy.now (capped_challenge c.args.row.now)) c.challenge_value.ensures
 
 pub returns : goal.returns
-returns c = ok_so c.json_reply.result (λ r is. λ T same dated. is ∙ ap (ok 200) (ap (challenge_document c.args.policy.now) (capped_challenge-same c.args.row.now dated) ∙ ap (λ t. challenge_document t c.args.row.now) (sym same))) (c.json_reply.ensures _ c.challenge_value.ensures)
+returns c =
+    ok_so c.json_reply.result
+    (λ r is T same dated. is
+    ∙ ap (ok 200) (ap (challenge_document c.args.policy.now) (capped_challenge-same c.args.row.now dated)
+    ∙ ap (λ t. challenge_document t c.args.row.now) (sym same)))
+    (c.json_reply.ensures _ c.challenge_value.ensures)

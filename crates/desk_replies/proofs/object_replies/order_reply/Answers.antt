@@ -10,4 +10,7 @@ pub json_reply-requires : goal.json_reply-requires
 json_reply-requires c = plain_value c.order_value.result _ (order_plain c.args.policy.now c.args.names.now (capped_order c.args.row.now)) c.order_value.ensures
 
 pub returns : goal.returns
-returns c = ok_so c.json_reply.result (λ r is. λ T same named ends. is ∙ ap (ok 200) (order_with_names-is T c.args.policy.now c.args.names.now c.args.row.now same named ends)) (c.json_reply.ensures _ c.order_value.ensures)
+returns c =
+    ok_so c.json_reply.result
+    (λ r is T same named ends. is ∙ ap (ok 200) (order_with_names-is T c.args.policy.now c.args.names.now c.args.row.now same named ends))
+    (c.json_reply.ensures _ c.order_value.ensures)
