@@ -1,5 +1,5 @@
 //! The routes of the desk in a router.
-ghost use Rattle.std.specs.Prelude.{◌≡◌, IfOk, OnOk, option_map};
+ghost use Rattle.std.specs.Prelude.{◌≡◌, [], IfOk, OnOk, option_map};
 ghost use Rattle.matchit.specs.Seek.{first};
 ghost use Rattle.requests.specs.Router.{add_route, desk_routes, value_of};
 
@@ -34,24 +34,32 @@ fn desk_router(alloc: Global) -> Result<Router<Route>, AllocError>
     ensures { IfOk result (λ r. r ≡ desk_routes) }
 {
     let mut router = Router::new(alloc);
-    add(&mut router, Route::Directory)?;
-    add(&mut router, Route::NewNonce)?;
-    add(&mut router, Route::NewAccount)?;
-    add(&mut router, Route::NewOrder)?;
-    add(&mut router, Route::Account)?;
-    add(&mut router, Route::Orders)?;
-    add(&mut router, Route::Order)?;
-    add(&mut router, Route::Finalize)?;
-    add(&mut router, Route::Cert)?;
-    add(&mut router, Route::Authz)?;
-    add(&mut router, Route::Chall)?;
-    add(&mut router, Route::Key)?;
-    add(&mut router, Route::ChallengeWork)?;
-    add(&mut router, Route::OrderWork)?;
-    add(&mut router, Route::Report)?;
-    add(&mut router, Route::Certify)?;
-    add(&mut router, Route::FailOrder)?;
+    add_all(&mut router)?;
     Ok(router)
+}
+
+// Adds the routes of the desk to a router that has none.
+fn add_all(router: &mut Router<Route>) -> Result<(), AllocError>
+    requires { router.old ≡ [] }
+    ensures { OnOk result (router.new ≡ desk_routes) }
+{
+    add(router, Route::Directory)?;
+    add(router, Route::NewNonce)?;
+    add(router, Route::NewAccount)?;
+    add(router, Route::NewOrder)?;
+    add(router, Route::Account)?;
+    add(router, Route::Orders)?;
+    add(router, Route::Order)?;
+    add(router, Route::Finalize)?;
+    add(router, Route::Cert)?;
+    add(router, Route::Authz)?;
+    add(router, Route::Chall)?;
+    add(router, Route::Key)?;
+    add(router, Route::ChallengeWork)?;
+    add(router, Route::OrderWork)?;
+    add(router, Route::Report)?;
+    add(router, Route::Certify)?;
+    add(router, Route::FailOrder)
 }
 
 // Adds a route.
