@@ -8,8 +8,9 @@ use Rattle.std.proofs.lemmas.List.Elements.{All-weaker, filter-append}
 use Rattle.std.proofs.lemmas.Str.{IsUtf8-from_ascii}
 use Rattle.std.proofs.lemmas.Str.Ascii.{IsAscii-from_all}
 use Rattle.std.proofs.Math.Seq.{take-suc}
-use Rattle.std.specs.Prelude.{IsUtf8}
-use Rattle.httparse.specs.Spans.{header_bytes, span_bytes}
+use Rattle.std.specs.Prelude.{All, IsUtf8}
+use Rattle.httparse.specs.Spans.{IsHeaderWithin, IsRequestWithin, header_bytes, span_bytes}
+use Rattle.httparse.specs.declared.spans.RequestSpans.{RequestSpans}
 use Rattle.httparse.specs.declared.spans.HeaderSpan.{HeaderSpan}
 use Rattle.httparse.specs.Grammar.{IsToken, is_token_byte}
 use Rattle.http_requests.specs.Framing.{values_of, same_name}
@@ -44,3 +45,11 @@ pub headers_more : (buffer : List ℕ) (headers : List HeaderSpan) (i : ℕ) (d 
 headers_more buffer headers i d name value h n v =
     (λ k. map (header_bytes buffer) (take i headers) ++ (n k, v k) ∷ [])
     ∙ sym (rw (add-one, take-suc headers i d h) (map-append (header_bytes buffer) (take i headers) (get_or headers i d ∷ [])))
+
+-- the spans of the fields of a head lie in the bytes that it was read from
+pub headers_within : (bytes : List ℕ) (headers : List HeaderSpan) (spans : RequestSpans) → IsRequestWithin bytes headers spans
+    → All (IsHeaderWithin (length bytes)) (take spans.headers headers)
+headers_within bytes headers spans w =
+    All-weaker (IsHeaderWithin spans.len) (IsHeaderWithin (length bytes)) (λ h lies.
+    ((lies.0.0, omega (arith, lies.0.1, w.section.len_fits)), (lies.1.0, omega (arith, lies.1.1, w.section.len_fits))))
+    (take spans.headers headers) w.section.headers_fit

@@ -1,5 +1,5 @@
 //! The body of a request, and what it asks.
-ghost use Rattle.std.specs.Prelude.{◌≡◌, ◌≤◌, ◌++◌, ℕ, List, Option, Some, IfOk, IfSome, option_map, length, take};
+ghost use Rattle.std.specs.Prelude.{◌≡◌, ◌≤◌, ◌++◌, ℕ, List, Option, Some, IfOk, IfSome, MatchResult, option_map, length, take};
 ghost use Rattle.http_requests.specs.Head.{TakesAtMost};
 ghost use Rattle.http_requests.specs.Heard.{IsAnswerTo, IsBody};
 
@@ -54,21 +54,21 @@ fn room_for(alloc: Global, begun: &[u8], count: usize) -> Result<Vec<u8>, AllocE
     Ok(body)
 }
 
-/// What a body asks of a resource, or its refusal; `None` is a body that ends early.
+/// What a body that was read asks of a resource, or its refusal; `None` is a body that ends early.
 ///
 /// # Errors
 ///
-/// Where there is no memory for it.
+/// Where there was no memory for the body, or is none for what it asks.
 pub(crate) fn answer_to(
     alloc: Global,
     resource: Resource,
     method: &str,
     index: bool,
-    body: Option<Vec<u8>>,
+    body: Result<Option<Vec<u8>>, AllocError>,
 ) -> Result<Request, AllocError>
-    ensures { IfOk result (λ q. IsAnswerTo resource method.now index (option_map (λ v. v.items) body) q) }
+    ensures { IfOk result (λ q. MatchResult body (λ b. IsAnswerTo resource method.now index (option_map (λ v. v.items) b) q) (λ _. ⊥)) }
 {
-    let asked = match body {
+    let asked = match body? {
         Some(body) => ask_in(alloc, resource, method, body.as_slice())?,
         None => None,
     };

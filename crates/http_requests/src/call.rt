@@ -160,18 +160,12 @@ fn read_with<R: Read>(
         (λ left. IsRequestWith method.now path.now (map (header_bytes buffer.now) headers.now) (begun.now ++ left) q))) }
     ensures taken { TakesAtMost (R.remaining reader.old) (R.remaining reader.new) longest_body }
 {
-    let plan = match plan_for(alloc, method, path, buffer, headers) {
-        Ok(plan) => plan,
-        Err(error) => return Ok(Err(error)),
-    };
-    match plan {
-        Plan::Answered(reply) => Ok(Ok(Request::Refused(reply))),
-        Plan::Takes(resource, count) => {
-            let body = match read_body(alloc, reader, begun, count)? {
-                Ok(body) => body,
-                Err(error) => return Ok(Err(error)),
-            };
+    match plan_for(alloc, method, path, buffer, headers) {
+        Ok(Plan::Answered(reply)) => Ok(Ok(Request::Refused(reply))),
+        Ok(Plan::Takes(resource, count)) => {
+            let body = read_body(alloc, reader, begun, count)?;
             Ok(answer_to(alloc, resource, method, has_index(path), body))
         }
+        Err(error) => Ok(Err(error)),
     }
 }

@@ -1,10 +1,27 @@
-use Rattle.std.proofs.Common.{◌∙◌, subst, sym}
-use Rattle.std.specs.Prelude.{IsUtf8}
-use Rattle.http_requests.proofs.Fields.{token_is_text}
+use Rattle.std.proofs.Common.{◌∙◌, arith, subst, sym, length}
+use Rattle.std.specs.Prelude.{All, IsUtf8}
+use Rattle.httparse.specs.Spans.{IsHeaderWithin}
+use Rattle.http_requests.proofs.Fields.{headers_within, token_is_text}
 use Rattle.http_requests.proofs.call.read_headed.Goals as goal
+
+pub of-requires-clause-in_range : goal.of-requires-clause-in_range
+of-requires-clause-in_range g c = omega (arith, c.requires.within.method.1, c.requires.within.section.len_fits)
 
 pub text_of-method-requires : goal.text_of-method-requires
 text_of-method-requires g c = subst IsUtf8 (sym c.of.ensures) (token_is_text _ c.requires.method)
+
+pub of-requires-2-clause-in_range : goal.of-requires-2-clause-in_range
+of-requires-2-clause-in_range g c = omega (arith, c.requires.within.path.1, c.requires.within.section.len_fits)
+
+pub text_of-path-requires : goal.text_of-path-requires
+text_of-path-requires g c = subst IsUtf8 (sym c.of-2.ensures) c.requires.path
+
+pub read_with-requires : goal.read_with-requires
+read_with-requires g c =
+    subst (All (IsHeaderWithin (length c.args.bytes.now))) (sym c.first.ensures) (headers_within c.args.bytes.now c.args.headers.now c.args.spans c.requires.within)
+
+pub returns-clause-manner : goal.returns-clause-manner
+returns-clause-manner g c = rw (c.text_of-method.ensures ∙ c.of.ensures, c.text_of-path.ensures ∙ c.of-2.ensures) at c.manner_by.ensures
 
 pub returns-clause-request : goal.returns-clause-request
 returns-clause-request g c =
