@@ -1,5 +1,5 @@
 -- From what was read to what is served.
-use Rattle.std.proofs.Common.{◌≡◌, ℕ, List, Option, Some, None, Result, Ok}
+use Rattle.std.proofs.Common.{◌≡◌, ℕ, List, Option, Some, None, Result, Ok, Err, inl, inr}
 use Rattle.std.specs.Prelude.{IfSome}
 use Rattle.std.specs.declared.alloc.AllocError.{AllocError}
 use Rattle.desk_model.specs.declared.reply.Reply.{Reply}
@@ -11,7 +11,7 @@ use Rattle.requests.specs.declared.request.Request.{Request}
 use Rattle.http_requests.specs.Heard.{Hears}
 use Rattle.http_requests.specs.Spelled.{IsManner, Spells}
 use Rattle.http_requests.specs.declared.call.Heard.{Heard}
-use Rattle.desk_http.specs.Serving.{Fails, HasAnswer, LacksReply, LacksText, ReadAnswer}
+use Rattle.desk_http.specs.Serving.{Fails, HasAnswer, IsLeft, LacksReply, LacksText, ReadAnswer}
 use Rattle.desk_http.specs.declared.saying.Cause.{Cause}
 use Rattle.desk_http.specs.declared.saying.Cause.TheVariants as cause
 
@@ -46,3 +46,10 @@ module _ {S C : Type 0} (v : Sight S C) (may_meet : StorageFault → Type 0) (at
   fails old new (cause.Desk fault) is l = answered old new _ is l
   fails old new cause.Reading is l = l
   fails old new cause.Text is l = (l.0, answered old new _ is l.1)
+
+  -- and then the desk is as it was, or as the answer to the input left it
+  pub leaves : (old new : DeskState S) (why : Cause) → IfSome known (λ input. Hears input h)
+      → LacksText v may_meet at random h.request why old new → IsLeft v may_meet at random known old new
+  leaves old new (cause.Desk fault) is l = inr (Err fault, answered old new (Err fault) is l)
+  leaves old new cause.Reading is l = inl l
+  leaves old new cause.Text is l = inr (Ok l.0, answered old new (Ok l.0) is l.1)

@@ -4,6 +4,7 @@ use desk_calls::{Desk, Memory};
 use std::alloc::Global;
 use std::io::{self, Read, Write};
 use std::net::{Ipv4Addr, Net, Shutdown, SocketAddr, TcpListener, TcpStream};
+use std::process::Abort;
 use std::test::Fail;
 
 // A client that has sent all that it sends.
@@ -46,6 +47,14 @@ fn replied<N: Net<Stream = TcpStream>>(
     Ok(reply)
 }
 
+// Whether this was read, and nothing failed.
+fn is_read(read: io::Result<Vec<u8>>, reply: &[u8]) -> bool {
+    match read {
+        Ok(read) => read.as_slice() == reply,
+        Err(_) => false,
+    }
+}
+
 // Whether the clients read the worked replies, one after the other.
 fn gives_worked<N: Net<Stream = TcpStream>>(
     alloc: Global,
@@ -54,19 +63,29 @@ fn gives_worked<N: Net<Stream = TcpStream>>(
     desk: &mut Desk<Memory>,
 ) -> bool {
     for (asked, reply) in WORKED {
-        match replied(alloc, net, listener, desk, asked) {
-            Ok(read) if read.as_slice() == reply => {}
-            _ => return false,
+        if !is_read(replied(alloc, net, listener, desk, asked), reply) {
+            return false;
         }
     }
     true
+}
+
+// Whether the clients of a new desk read them.
+fn new_desk_gives_worked<N: Net<Stream = TcpStream> + Abort>(
+    net: &N,
+    alloc: Global,
+    listener: &TcpListener,
+) -> Result<bool, Fail> {
+    let mut desk = new_desk(net, alloc)?;
+    let gives = gives_worked(alloc, net, listener, &mut desk);
+    drop(desk);
+    Ok(gives)
 }
 
 #[test]
 fn worked_replies_are_given_over_loopback(rt: HostRuntime) -> Result<(), Fail> {
     let address = SocketAddr::from((Ipv4Addr::LOCALHOST, 0));
     let listener = rt.bind(address).ok().expect(&rt, "a port");
-    let mut desk = new_desk(&rt, rt.alloc())?;
-    assert!(rt; gives_worked(rt.alloc(), &rt, &listener, &mut desk));
+    assert!(rt; new_desk_gives_worked(&rt, rt.alloc(), &listener)?);
     Ok(())
 }

@@ -3,6 +3,7 @@ use crate::worked_replies::{ASKS_NONCE, FIRST_NONCE, WORKED, new_desk, serve};
 use crate::{IoFault, Served};
 use desk_calls::{Desk, DeskFault, Memory};
 use std::alloc::Global;
+use std::process::Abort;
 use std::test::Fail;
 
 // A request with a body.
@@ -48,33 +49,57 @@ fn fails_to_read_all(alloc: Global, desk: &mut Desk<Memory>) -> bool {
     true
 }
 
-// Whether a writer that fails behind so many bytes is told, and the nonce is given all the same.
-fn fails_to_write(alloc: Global, mut desk: Desk<Memory>, room: usize) -> bool {
+// Whether a new desk gives the worked replies after readers that fail.
+fn new_desk_gives_worked(rt: &impl Abort, alloc: Global) -> Result<bool, Fail> {
+    let mut desk = new_desk(rt, alloc)?;
+    let gives = gives_worked_after_failures(alloc, &mut desk);
+    drop(desk);
+    Ok(gives)
+}
+
+// Whether a desk gives the worked replies after readers that fail.
+fn gives_worked_after_failures(alloc: Global, desk: &mut Desk<Memory>) -> bool {
+    fails_to_read_all(alloc, desk) && gives_worked(alloc, desk)
+}
+
+// Whether a writer that fails behind so many bytes is told, and a new desk gives the nonce all the same.
+fn new_desk_fails_to_write(rt: &impl Abort, alloc: Global, room: usize) -> Result<bool, Fail> {
+    let mut desk = new_desk(rt, alloc)?;
+    let fails = fails_to_write(alloc, &mut desk, room);
+    drop(desk);
+    Ok(fails)
+}
+
+// Whether a writer that fails behind so many bytes is told, and the desk gives the nonce all the same.
+fn fails_to_write(alloc: Global, desk: &mut Desk<Memory>, room: usize) -> bool {
     let mut input = ASKS_NONCE;
     let mut writer = FailingWriter { room };
-    let served = serve(alloc, &mut input, &mut writer, &mut desk);
-    served == Err(IoFault::Write) && !gives(alloc, &mut desk, ASKS_NONCE, FIRST_NONCE)
+    let served = serve(alloc, &mut input, &mut writer, desk);
+    served == Err(IoFault::Write) && !gives(alloc, desk, ASKS_NONCE, FIRST_NONCE)
+}
+
+// Whether a fault has this text.
+fn has_text(alloc: Global, fault: DeskFault, wanted: &str) -> Result<bool, Fail> {
+    let text = fault.to_string(alloc)?;
+    Ok(text.as_str() == wanted)
 }
 
 #[test]
 fn worked_replies_are_given_after_readers_that_fail(rt: HostRuntime) -> Result<(), Fail> {
-    let mut desk = new_desk(&rt, rt.alloc())?;
-    assert!(rt; fails_to_read_all(rt.alloc(), &mut desk) && gives_worked(rt.alloc(), &mut desk));
+    assert!(rt; new_desk_gives_worked(&rt, rt.alloc())?);
     Ok(())
 }
 
 #[test]
 fn a_writer_that_fails_is_told(rt: HostRuntime) -> Result<(), Fail> {
     for room in 0..FIRST_NONCE.len() + 1 {
-        let desk = new_desk(&rt, rt.alloc())?;
-        assert!(rt; fails_to_write(rt.alloc(), desk, room));
+        assert!(rt; new_desk_fails_to_write(&rt, rt.alloc(), room)?);
     }
     Ok(())
 }
 
 #[test]
 fn faults_have_numbers_and_texts(rt: HostRuntime) -> Result<(), Fail> {
-    let alloc = rt.alloc();
     for (fault, wanted) in [
         (DeskFault::Memory, "fault 20 memory"),
         (DeskFault::Device, "fault 21 device"),
@@ -85,7 +110,7 @@ fn faults_have_numbers_and_texts(rt: HostRuntime) -> Result<(), Fail> {
         (DeskFault::Full, "fault 26 full"),
         (DeskFault::NewerFormat, "fault 27 newer format"),
     ] {
-        assert!(rt; fault.to_string(alloc)?.as_str() == wanted, "{wanted}");
+        assert!(rt; has_text(rt.alloc(), fault, wanted)?, "{wanted}");
     }
     Ok(())
 }

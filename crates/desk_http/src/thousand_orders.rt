@@ -136,13 +136,20 @@ fn post_order(rt: &impl Abort, alloc: Global, number: u64) -> Result<Call, Fail>
     })
 }
 
+// How many challenges an authorization has, none where there is no authorization.
+fn count_challenges(row: Option<&AuthorizationRow>) -> usize {
+    match row {
+        Some(row) => row.challenges.as_slice().len(),
+        None => 0,
+    }
+}
+
 // How many orders, authorizations, challenges of the first of these and accounts a book has.
 fn counts(book: &Book) -> [usize; 4] {
-    let first = book.authorization(1);
     [
         book.orders().iter().count(),
         book.authorizations().iter().count(),
-        first.map_or(0, |row| row.challenges.as_slice().len()),
+        count_challenges(book.authorization(1)),
         book.accounts().iter().count(),
     ]
 }
@@ -162,13 +169,17 @@ fn touched_by_request(
     desk: &mut Book,
 ) -> Result<Option<[usize; 4]>, Fail> {
     let call = post_order(rt, alloc, 1)?;
-    Ok(touched(alloc, desk, &call))
+    let touched = touched(alloc, desk, &call);
+    drop(call);
+    Ok(touched)
 }
 
 // The same, of a new desk.
 fn touched_of_thousand(rt: &impl Abort, alloc: Global) -> Result<Option<[usize; 4]>, Fail> {
     let mut desk = desk(rt, alloc)?;
-    touched_by_request(rt, alloc, &mut desk)
+    let touched = touched_by_request(rt, alloc, &mut desk);
+    drop(desk);
+    touched
 }
 
 #[test]
