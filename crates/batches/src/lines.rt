@@ -68,7 +68,9 @@ pub fn batch_line<K: Storage + Drop>(
         Ok(reply) => reply,
         Err(fault) => return Err(AnswerFault::Desk(fault)),
     };
-    match reply_line(alloc, &reply) {
+    let said = reply_line(alloc, &reply);
+    drop(reply);
+    match said {
         Ok(text) => Ok(text.into_bytes()),
         Err(_) => Err(AnswerFault::Memory),
     }
@@ -86,7 +88,12 @@ fn reply_to<K: Storage + Drop>(
         (λ fault. DeclinesTo K.Storage.sight desk.old line request fault desk.new) }
 {
     match request {
-        Request::Asks(ask) => desk.answer(alloc, &call_of(line, ask)),
+        Request::Asks(ask) => {
+            let call = call_of(line, ask);
+            let answered = desk.answer(alloc, &call);
+            drop(call);
+            answered
+        }
         Request::Refused(reply) => Ok(reply),
     }
 }
