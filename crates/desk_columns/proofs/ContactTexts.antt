@@ -1,11 +1,12 @@
 -- Which contacts a text spells, by the value that it is read as.
-use Rattle.std.proofs.Common.{◌≡◌, ◌≢◌, ◌↔◌, ℕ, List, map, Bool, true, false, Some, None, sym, ap, ◌∙◌}
+use Rattle.std.proofs.Common.{◌≡◌, ◌≢◌, ◌↔◌, ℕ, List, map, Bool, true, false, Option, Some, None, sym, ap, ◌∙◌}
 use Rattle.std.specs.Prelude.{IsTrue}
 use Rattle.serde_json.specs.Data.{Data, string}
 use Rattle.serde_json.specs.Read.{read}
 use Rattle.serde_json.specs.Written.{compact_text, has_float}
 use Rattle.desk_model.specs.Json.{list}
 use Rattle.json_values.proofs.PlainLists.{no_float_in}
+use Rattle.desk_columns.specs.Reading.{IsRead, Unlimited}
 use Rattle.desk_columns.specs.Spelling.{contacts_text}
 use Rattle.desk_columns.proofs.JsonTexts.{read-contacts_text}
 
@@ -23,7 +24,7 @@ list_of : (text : List ℕ) (d : Data) → read text ≡ Some d → (contacts : 
 list_of text d there contacts same = let back : read text ≡ Some (contacts_list contacts) = ap read same ∙ read-contacts_text contacts in cc (there, back)
 
 -- a value that is no list of strings is spelled by none
-pub none_of_other_value : (text : List ℕ) (d : Data) → read text ≡ Some d → ((contacts : List (List ℕ)) → d ≢ contacts_list contacts)
+none_of_other_value : (text : List ℕ) (d : Data) → read text ≡ Some d → ((contacts : List (List ℕ)) → d ≢ contacts_list contacts)
     → (contacts : List (List ℕ)) → text ≢ contacts_text contacts
 none_of_other_value text d there other contacts same = other contacts (list_of text d there contacts same)
 
@@ -37,7 +38,15 @@ none_of_loose_text text d compact there tells loose contacts same =
     cc (loose, tight)
 
 -- a compact list of strings is spelled by these
-pub of_compact_text : (text : List ℕ) (d : Data) (compact : Bool) (contacts : List (List ℕ)) → d ≡ contacts_list contacts
+of_compact_text : (text : List ℕ) (d : Data) (compact : Bool) (contacts : List (List ℕ)) → d ≡ contacts_list contacts
     → (has_float d ≡ false → IsTrue compact ↔ (text ≡ compact_text d)) → compact ≡ true
     → text ≡ contacts_text contacts
 of_compact_text text d compact contacts is tells tight = (tells (no_float_in contacts d is)).0 tight ∙ ap compact_text is
+
+-- a compact text spells the strings that its value lists, if it lists strings
+pub of_value : (text : List ℕ) (d : Data) (compact : Bool) (found : Option (List (List ℕ))) → read text ≡ Some d
+    → (has_float d ≡ false → IsTrue compact ↔ (text ≡ compact_text d)) → compact ≡ true
+    → IsRead contacts_list Unlimited d found → IsRead contacts_text Unlimited text found
+of_value text d compact None there tells tight other = λ contacts _ same.
+    none_of_other_value text d there (λ row is. other row tt is) contacts same
+of_value text d compact (Some contacts) there tells tight listed = (tt, of_compact_text text d compact contacts listed.1 tells tight)

@@ -1,5 +1,5 @@
 //! The column `problem`: a compact JSON object of a detail and a type.
-ghost use Rattle.std.specs.Prelude.{◌≡◌, string_bytes, IfOk};
+ghost use Rattle.std.specs.Prelude.{◌≡◌, ◌↔◌, string_bytes, IfOk, IsTrue};
 ghost use Rattle.serde_json.specs.View.{view};
 ghost use Rattle.desk_columns.specs.Limits.{IsProblem};
 ghost use Rattle.desk_columns.specs.Reading.{IsRead};
@@ -17,14 +17,21 @@ pub(crate) fn read_problem(alloc: Global, text: &str) -> Result<Option<OrderProb
     let Some(problem) = order_problem(alloc, text)? else {
         return Ok(None);
     };
-    if !OrderProblem::is_kind(problem.kind.as_str()) {
-        return Ok(None);
-    }
-    let written = problem_text(alloc, &problem)?;
-    if is_same_text(text, written.as_str()) {
+    if spells_problem(alloc, text, &problem)? {
         return Ok(Some(problem));
     }
     Ok(None)
+}
+
+// Whether a problem is of a known type and a text is that of its object.
+fn spells_problem(alloc: Global, text: &str, problem: &OrderProblem) -> Result<bool, AllocError>
+    ensures { IfOk result (λ spells. IsTrue spells ↔ IsProblem problem.now × (text.now ≡ problem_text problem.now)) }
+{
+    if !OrderProblem::is_kind(problem.kind.as_str()) {
+        return Ok(false);
+    }
+    let written = problem_text(alloc, problem)?;
+    Ok(is_same_text(text, written.as_str()))
 }
 
 /// The text of a problem as a column, a JSON object of its detail and its type.
