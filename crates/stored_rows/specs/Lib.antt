@@ -1,3 +1,4 @@
+pub mod Both
 pub mod FaultNumbers
 pub mod IsBook
 pub mod Nesting

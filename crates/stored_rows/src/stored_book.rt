@@ -7,6 +7,7 @@ ghost use Rattle.desk_columns.specs.Flat.{AreReordered, flat};
 ghost use Rattle.desk_columns.specs.Columns.{rows_columns};
 ghost use Rattle.desk_columns.specs.Limits.{AreStored};
 ghost use Rattle.desk_columns.specs.declared.flat_rows.FlatRows.{FlatRows as Rows};
+ghost use Rattle.stored_rows.specs.Both.{both};
 ghost use Rattle.stored_rows.specs.IsBook.{AreFlat, AreInOrder, IsBookOf, IsBookOfStored, IsSound};
 ghost use Rattle.stored_rows.specs.Nesting.{IsNestOf};
 ghost use Rattle.stored_rows.specs.declared.rows_fault.RowsFault.TheVariants.{NotABook};
@@ -91,9 +92,7 @@ fn numbered_tables(
         (λ fault. fault ≡ NotABook → (T : Tables) → IsPermutation nonces T.nonces → Ascends (λ n. n.serial) 1 T.nonces
         → IsPermutation accounts T.accounts → Ascends (λ a. a.number) 1 T.accounts → ⊥) }
 {
-    let nonces = table_of(alloc, nonces)?;
-    let accounts = table_of(alloc, accounts)?;
-    Ok((nonces, accounts))
+    both(table_of(alloc, nonces), table_of(alloc, accounts))
 }
 
 // The tables of authorizations with their challenges and of orders with what they list.
@@ -113,9 +112,24 @@ fn nested_tables(
         → IsNestOf (λ a. a.number) (λ a. a.challenges) (λ a cs. record a { challenges = cs }) (λ c. c.number) authorizations challenges T.authorizations
         → IsNestOf (λ o. o.number) (λ o. o.listed) (λ o ls. record o { listed = ls }) (λ l. l.place) orders listed T.orders → ⊥) }
 {
-    let authorizations = nested_table_of(alloc, authorizations, challenges)?;
-    let orders = nested_table_of(alloc, orders, listed)?;
-    Ok((authorizations, orders))
+    both(
+        nested_table_of(alloc, authorizations, challenges),
+        nested_table_of(alloc, orders, listed),
+    )
+}
+
+// Both of two, or why the first is missing, or else the second.
+fn both<A: Drop, B: Drop>(
+    first: Result<A, RowsFault>,
+    second: Result<B, RowsFault>,
+) -> Result<(A, B), RowsFault>
+    ensures { result ≡ both first second }
+{
+    match (first, second) {
+        (Ok(first), Ok(second)) => Ok((first, second)),
+        (Ok(_), Err(fault)) => Err(fault),
+        (Err(fault), _) => Err(fault),
+    }
 }
 
 // The book whose rows stand by number, with those that belong to them.
@@ -125,14 +139,18 @@ fn book_in_order(alloc: Global, rows: FlatRows) -> Result<Book, RowsFault>
         (λ book. AreInOrder book × AreReordered rows (flat book))
         (λ fault. fault ≡ NotABook → (T : Tables) → AreInOrder T → AreReordered rows (flat T) → ⊥) }
 {
-    let meta = only_row(rows.metas)?;
-    let (nonces, accounts) = numbered_tables(alloc, rows.nonces, rows.accounts)?;
-    let (authorizations, orders) = nested_tables(
+    let meta = only_row(rows.metas);
+    let numbered = numbered_tables(alloc, rows.nonces, rows.accounts);
+    let nested = nested_tables(
         alloc,
         rows.authorizations,
         rows.challenges,
         rows.orders,
         rows.listed,
+    );
+    let (meta, ((nonces, accounts), (authorizations, orders))) = both(
+        meta,
+        both(numbered, nested),
     )?;
     Ok(Book::of_tables(meta, nonces, accounts, authorizations, orders))
 }

@@ -1,25 +1,35 @@
+use Rattle.std.proofs.Common.{◌≡◌}
 use Rattle.std.proofs.lemmas.Result.{err_from_is_err_and}
+use Rattle.desk_model.specs.Tables.{Tables}
+use Rattle.desk_columns.specs.Flat.{AreReordered, flat}
+use Rattle.stored_rows.specs.IsBook.{AreInOrder}
+use Rattle.stored_rows.specs.declared.rows_fault.RowsFault.{RowsFault}
+use Rattle.stored_rows.specs.declared.rows_fault.RowsFault.TheVariants.{NotABook}
+use Rattle.stored_rows.proofs.Outcomes.{outcome_both}
 use Rattle.stored_rows.proofs.SoundBooks.{authorizations-nest, orders-nest, in_order-from_tables}
 use Rattle.stored_rows.proofs.SortedLists.{same_single}
 use Rattle.stored_rows.proofs.stored_book.book_in_order.Goals as goal
 
 pub returns-in_err-meta : goal.returns-in_err-meta
 returns-in_err-meta c =
+    let none : RowsFault → Type 0 = λ fault. fault ≡ NotABook → (T : Tables) → AreInOrder T → AreReordered c.args.rows (flat T) → ⊥ in
+    let tables = outcome_both _ _ _ _ none c.numbered_tables-numbered.result c.nested_tables-nested.result c.both.result c.both.ensures
+    (λ fault no e T o r. no e T r.nonces o.nonces r.accounts o.accounts)
+    (λ fault no e T o r. no e T (authorizations-nest c.args.rows T o r) (orders-nest c.args.rows T o r))
+    c.numbered_tables-numbered.ensures c.nested_tables-nested.ensures in
+    let all = outcome_both _ _ _ _ none c.only_row-meta.result c.both.result c.both-2.result c.both-2.ensures
+    (λ fault no e T o r. no T.meta (same_single c.args.rows.metas T.meta r.metas)) (λ fault no. no) c.only_row-meta.ensures tables in
     let p = err_from_is_err_and c.from_residual.result c.from_residual.ensures.1 in
-    rw (p.1, p.2) (λ e T o r. c.in_err-meta.ensures T.meta (same_single c.args.rows.metas T.meta r.metas))
-
-pub returns-in_err-nonces : goal.returns-in_err-nonces
-returns-in_err-nonces c =
-    let p = err_from_is_err_and c.from_residual-in_err-nonces.result c.from_residual-in_err-nonces.ensures.1 in
-    rw (p.1, p.2) (λ e T o r. c.in_err-nonces.ensures e T r.nonces o.nonces r.accounts o.accounts)
-
-pub returns-in_err-authorizations : goal.returns-in_err-authorizations
-returns-in_err-authorizations c =
-    let p = err_from_is_err_and c.from_residual-in_err-authorizations.result c.from_residual-in_err-authorizations.ensures.1 in
-    rw (p.1, p.2) (λ e T o r. c.in_err-authorizations.ensures e T (authorizations-nest c.args.rows T o r) (orders-nest c.args.rows T o r))
+    rw (p.1, p.2) (rw c.in_err-meta.was at all)
 
 pub returns : goal.returns
 returns c =
-    rw c.of_tables.ensures
-    (in_order-from_tables c.args.rows _ c.in_ok-meta.ensures c.in_ok-nonces.ensures.0 c.in_ok-nonces.ensures.1
-    c.in_ok-authorizations.ensures.0 c.in_ok-authorizations.ensures.1)
+    let none : RowsFault → Type 0 = λ fault. fault ≡ NotABook → (T : Tables) → AreInOrder T → AreReordered c.args.rows (flat T) → ⊥ in
+    let tables = outcome_both _ _ _ _ none c.numbered_tables-numbered.result c.nested_tables-nested.result c.both.result c.both.ensures
+    (λ fault no e T o r. no e T r.nonces o.nonces r.accounts o.accounts)
+    (λ fault no e T o r. no e T (authorizations-nest c.args.rows T o r) (orders-nest c.args.rows T o r))
+    c.numbered_tables-numbered.ensures c.nested_tables-nested.ensures in
+    let all = outcome_both _ _ _ _ none c.only_row-meta.result c.both.result c.both-2.result c.both-2.ensures
+    (λ fault no e T o r. no T.meta (same_single c.args.rows.metas T.meta r.metas)) (λ fault no. no) c.only_row-meta.ensures tables in
+    let found = rw c.in_ok-meta.was at all in
+    rw c.of_tables.ensures (in_order-from_tables c.args.rows _ found.0 found.1.0.0 found.1.0.1 found.1.1.0 found.1.1.1)

@@ -1,12 +1,8 @@
-use Rattle.std.proofs.lemmas.Result.{err_from_is_err_and}
+use Rattle.stored_rows.proofs.Outcomes.{outcome_both}
 use Rattle.stored_rows.proofs.stored_book.nested_tables.Goals as goal
 
-pub returns-in_err-authorizations : goal.returns-in_err-authorizations
-returns-in_err-authorizations c =
-    let p = err_from_is_err_and c.from_residual.result c.from_residual.ensures.1 in
-    rw (p.1, p.2) (λ e T authorizations orders. c.in_err-authorizations.ensures e T.authorizations authorizations)
-
-pub returns-in_err-orders : goal.returns-in_err-orders
-returns-in_err-orders c =
-    let p = err_from_is_err_and c.from_residual-in_err-orders.result c.from_residual-in_err-orders.ensures.1 in
-    rw (p.1, p.2) (λ e T authorizations orders. c.in_err-orders.ensures e T.orders orders)
+pub returns : goal.returns
+returns c =
+    outcome_both _ _ _ _ _ c.nested_table_of.result c.nested_table_of-2.result c.both.result c.both.ensures
+    (λ fault no e T authorizations orders. no e T.authorizations authorizations)
+    (λ fault no e T authorizations orders. no e T.orders orders) c.nested_table_of.ensures c.nested_table_of-2.ensures
