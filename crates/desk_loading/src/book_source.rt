@@ -1,5 +1,5 @@
 //! A book in memory as a source of rows.
-ghost use Rattle.std.specs.Prelude.{◌≡◌, ◌==◌, ◌&&◌, ◌++◌, Bool, List, nat_lt, map, filter, IfOk, OnOk};
+ghost use Rattle.std.specs.Prelude.{◌≡◌, ◌==◌, ◌&&◌, ◌++◌, [], ◌∷◌, Bool, List, nat_lt, map, filter, IfOk, OnOk};
 ghost use Rattle.std.specs.Fn.{FnReturnsAt};
 ghost use Rattle.std.specs.List.{flat_map};
 ghost use Rattle.desk_model.specs.Derived.{authz_code, order_code};
@@ -15,12 +15,20 @@ use std::alloc::{AllocError, Global};
 
 // ---- rows
 
+// Adds a copy of a row.
+fn push_copy<R: Row + Drop>(rows: &mut Vec<R>, row: &R) -> Result<(), AllocError>
+    ensures { OnOk result (rows.new.items ≡ rows.old.items ++ row.now ∷ []) }
+{
+    rows.push(row.clone()?)?;
+    Ok(())
+}
+
 // Copies of the rows that pass a test.
 fn rows_where<R: Row + Drop, F: Fn(&R) -> bool>(
     alloc: Global,
     table: &Table<R>,
     passes: F,
-) -> Result<Vec<R>, AllocError>
+) -> Result<Vec<R>, StorageFault>
     requires { F.IsAlwaysCallable passes }
     ensures { IfOk result (λ rows. (test : R → Bool) → ((row : R) (yes : Bool) → FnReturnsAt F.Fn passes row yes → yes ≡ test row)
         → rows.items ≡ filter test table.now) }
@@ -28,14 +36,14 @@ fn rows_where<R: Row + Drop, F: Fn(&R) -> bool>(
     let mut rows = Vec::new(alloc);
     for row in table.iter() {
         if passes(row) {
-            rows.push(row.clone()?)?;
+            push_copy(&mut rows, row)?;
         }
     }
     Ok(rows)
 }
 
 // Copies of all rows.
-fn all_rows<R: Row + Drop>(alloc: Global, table: &Table<R>) -> Result<Vec<R>, AllocError>
+fn all_rows<R: Row + Drop>(alloc: Global, table: &Table<R>) -> Result<Vec<R>, StorageFault>
     ensures { IfOk result (λ rows. rows.items ≡ table.now) }
 {
     rows_where(alloc, table, |_| { true })
@@ -93,7 +101,7 @@ fn push_owner(
 
 // The orders that list an authorization.
 #[tactic(auto, using(crate::proofs::Pairs::orders_listing_rows))]
-fn orders_listing(alloc: Global, book: &Book, authorization: u64) -> Result<Vec<u64>, AllocError>
+fn orders_listing(alloc: Global, book: &Book, authorization: u64) -> Result<Vec<u64>, StorageFault>
     ensures { IfOk result (λ numbers. numbers.items ≡ listing_in book.now authorization) }
 {
     let mut numbers = Vec::new(alloc);
@@ -105,7 +113,7 @@ fn orders_listing(alloc: Global, book: &Book, authorization: u64) -> Result<Vec<
 
 // The authorization of a challenge.
 #[tactic(auto, using(crate::proofs::Pairs::owners_of_rows))]
-fn owners_of(alloc: Global, book: &Book, challenge: u64) -> Result<Vec<u64>, AllocError>
+fn owners_of(alloc: Global, book: &Book, challenge: u64) -> Result<Vec<u64>, StorageFault>
     ensures { IfOk result (λ numbers. numbers.items ≡ owners_in book.now challenge) }
 {
     let mut numbers = Vec::new(alloc);
@@ -130,27 +138,27 @@ impl LookUps for Book {
     }
 
     fn all_nonces(&mut self, alloc: Global) -> Result<Vec<Nonce>, StorageFault> {
-        Ok(all_rows(alloc, self.nonces())?)
+        all_rows(alloc, self.nonces())
     }
 
     fn all_accounts(&mut self, alloc: Global) -> Result<Vec<AccountRow>, StorageFault> {
-        Ok(all_rows(alloc, self.accounts())?)
+        all_rows(alloc, self.accounts())
     }
 
     fn all_orders(&mut self, alloc: Global) -> Result<Vec<OrderRow>, StorageFault> {
-        Ok(all_rows(alloc, self.orders())?)
+        all_rows(alloc, self.orders())
     }
 
     fn all_authorizations(&mut self, alloc: Global) -> Result<Vec<AuthorizationRow>, StorageFault> {
-        Ok(all_rows(alloc, self.authorizations())?)
+        all_rows(alloc, self.authorizations())
     }
 
     fn nonces_numbered(&mut self, alloc: Global, serial: u64) -> Result<Vec<Nonce>, StorageFault> {
-        Ok(rows_where(alloc, self.nonces(), |row| { row.serial == serial })?)
+        rows_where(alloc, self.nonces(), |row| { row.serial == serial })
     }
 
     fn nonces_before(&mut self, alloc: Global, moment: u64) -> Result<Vec<Nonce>, StorageFault> {
-        Ok(rows_where(alloc, self.nonces(), |row| { row.issued < moment })?)
+        rows_where(alloc, self.nonces(), |row| { row.issued < moment })
     }
 
     fn accounts_numbered(
@@ -158,7 +166,7 @@ impl LookUps for Book {
         alloc: Global,
         number: u64,
     ) -> Result<Vec<AccountRow>, StorageFault> {
-        Ok(rows_where(alloc, self.accounts(), |row| { row.number == number })?)
+        rows_where(alloc, self.accounts(), |row| { row.number == number })
     }
 
     fn accounts_with_key(
@@ -167,9 +175,9 @@ impl LookUps for Book {
         key: &Jwk,
     ) -> Result<Vec<AccountRow>, StorageFault> {
         let text = key.canonical();
-        Ok(rows_where(alloc, self.accounts(), |row| {
+        rows_where(alloc, self.accounts(), |row| {
             row.key.canonical() == text
-        })?)
+        })
     }
 
     fn orders_numbered(
@@ -177,11 +185,11 @@ impl LookUps for Book {
         alloc: Global,
         number: u64,
     ) -> Result<Vec<OrderRow>, StorageFault> {
-        Ok(rows_where(alloc, self.orders(), |row| { row.number == number })?)
+        rows_where(alloc, self.orders(), |row| { row.number == number })
     }
 
     fn orders_of(&mut self, alloc: Global, account: u64) -> Result<Vec<OrderRow>, StorageFault> {
-        Ok(rows_where(alloc, self.orders(), |row| { row.account == account })?)
+        rows_where(alloc, self.orders(), |row| { row.account == account })
     }
 
     fn orders_past(
@@ -190,9 +198,9 @@ impl LookUps for Book {
         status: OrderStatus,
         moment: u64,
     ) -> Result<Vec<OrderRow>, StorageFault> {
-        Ok(rows_where(alloc, self.orders(), |row| {
+        rows_where(alloc, self.orders(), |row| {
             is_past_order(row, status, moment)
-        })?)
+        })
     }
 
     fn authorizations_numbered(
@@ -200,7 +208,7 @@ impl LookUps for Book {
         alloc: Global,
         number: u64,
     ) -> Result<Vec<AuthorizationRow>, StorageFault> {
-        Ok(rows_where(alloc, self.authorizations(), |row| { row.number == number })?)
+        rows_where(alloc, self.authorizations(), |row| { row.number == number })
     }
 
     fn authorizations_of(
@@ -208,9 +216,9 @@ impl LookUps for Book {
         alloc: Global,
         account: u64,
     ) -> Result<Vec<AuthorizationRow>, StorageFault> {
-        Ok(rows_where(alloc, self.authorizations(), |row| {
+        rows_where(alloc, self.authorizations(), |row| {
             row.account == account
-        })?)
+        })
     }
 
     fn authorizations_past(
@@ -219,9 +227,9 @@ impl LookUps for Book {
         status: AuthzStatus,
         moment: u64,
     ) -> Result<Vec<AuthorizationRow>, StorageFault> {
-        Ok(rows_where(alloc, self.authorizations(), |row| {
+        rows_where(alloc, self.authorizations(), |row| {
             is_past_authorization(row, status, moment)
-        })?)
+        })
     }
 
     fn orders_listing(
@@ -229,10 +237,10 @@ impl LookUps for Book {
         alloc: Global,
         authorization: u64,
     ) -> Result<Vec<u64>, StorageFault> {
-        Ok(orders_listing(alloc, self, authorization)?)
+        orders_listing(alloc, self, authorization)
     }
 
     fn owners_of(&mut self, alloc: Global, challenge: u64) -> Result<Vec<u64>, StorageFault> {
-        Ok(owners_of(alloc, self, challenge)?)
+        owners_of(alloc, self, challenge)
     }
 }

@@ -3,13 +3,13 @@ use Rattle.std.proofs.lemmas.Result.{IfOk-from_err}
 use Rattle.desk_loading.proofs.book_source.rows_where.Goals as goal
 
 -- a row that passes goes to the end of those before
-row_kept : {X : Type 0} (test : X → Bool) (x copy : X) (rows pushed before rest all : List X) → test x ≡ true → copy ≡ x →
-    pushed ≡ rows ++ copy ∷ [] →
+row_kept : {X : Type 0} (test : X → Bool) (x : X) (rows pushed before rest all : List X) → test x ≡ true →
+    pushed ≡ rows ++ x ∷ [] →
     before ≡ x ∷ rest →
     rows ++ filter test before ≡ all →
     pushed ++ filter test rest ≡ all
-row_kept test x copy rows pushed before rest all passes same is next h =
-    ap (λ l. l ++ filter test rest) (is ∙ ap (λ y. rows ++ y ∷ []) same)
+row_kept test x rows pushed before rest all passes is next h =
+    ap (λ l. l ++ filter test rest) is
     ∙ append_assoc rows (x ∷ []) (filter test rest)
     ∙ ap (λ b. rows ++ cond b (x ∷ filter test rest) (filter test rest)) (sym passes)
     ∙ ap (λ l. rows ++ filter test l) (sym next)
@@ -22,19 +22,15 @@ row_left : {X : Type 0} (test : X → Bool) (x : X) (rows before rest all : List
 row_left test x rows before rest all fails next h =
     ap (λ b. rows ++ cond b (x ∷ filter test rest) (filter test rest)) (sym fails) ∙ ap (λ l. rows ++ filter test l) (sym next) ∙ h
 
-pub loop-row-preserved-in_ok-push : goal.loop-row-preserved-in_ok-push
-loop-row-preserved-in_ok-push g c test is =
+pub loop-row-preserved-in-Continue-1 : goal.loop-row-preserved-in-Continue-1
+loop-row-preserved-in-Continue-1 g c test is =
     let said = is c.in-Some.row.now true (record { shown = c.in-Some.row; shows = refl; says = record { met = c.if-passes.ensures } }) in
-    row_kept test c.in-Some.row.now _ _ _ _ _ _ (sym said) (g.met.R.Row.clones _ _ c.in_ok-clone.ensures.cases) c.in_ok-push.ensures.items
-    c.in-Some.ensures.steps (c.loop-row.invariant test is)
+    row_kept test c.in-Some.row.now _ _ _ _ _ (sym said) c.in_ok-push_copy.ensures c.in-Some.ensures.steps (c.loop-row.invariant test is)
 
 pub loop-row-preserved : goal.loop-row-preserved
 loop-row-preserved g c test is =
     let said = is c.in-Some.row.now false (record { shown = c.in-Some.row; shows = refl; says = record { met = c.if-passes.ensures } }) in
     row_left test c.in-Some.row.now _ _ _ _ (sym said) c.in-Some.ensures.steps (c.loop-row.invariant test is)
 
-pub returns-in_err-clone : goal.returns-in_err-clone
-returns-in_err-clone g c = IfOk-from_err c.from_residual.result _ c.from_residual.ensures.0
-
-pub returns-in_err-push : goal.returns-in_err-push
-returns-in_err-push g c = IfOk-from_err c.from_residual-in_err-push.result _ c.from_residual-in_err-push.ensures.0
+pub returns-in_err-push_copy : goal.returns-in_err-push_copy
+returns-in_err-push_copy g c = IfOk-from_err c.from_residual.result _ c.from_residual.ensures.0
