@@ -1,9 +1,12 @@
 -- The rows above a number, one after the other.
 use Rattle.std.proofs.Common.{◌≡◌, ◌<◌, ◌≤◌, ℕ, ◌+◌, List, [], ◌∷◌, ◌++◌, Bool, true, false, cond, refl, sym, ap, subst, ◌∙◌, arith, ltb}
+use Rattle.std.proofs.Common.{Option, Result, Ok, Err, IfErr, IfOk}
+use Rattle.std.proofs.lemmas.Result.{IfOk-at_ok}
 use Rattle.std.specs.List.{flat_map}
 use Rattle.std.proofs.lemmas.Bool.{ltb-true, lt-ltb, le-ltb, ltb-false}
 use Rattle.desk_laws.specs.Ordered.{Ascends}
 use Rattle.desk_parts.specs.Above.{above, first_of}
+use Rattle.desk_passes.specs.Stepping.{IsFirst}
 
 -- rows that ascend from above a number are all above it
 pub all_above : {X : Type 0} (number : X → ℕ) (n m : ℕ) (xs : List X) → n < m → Ascends number m xs → above number n xs ≡ xs
@@ -56,3 +59,24 @@ pub found_step : {X F : Type 0} (number : X → ℕ) (found_at : X → List F) (
     flat_map found_at (above number n xs) ≡ found ++ flat_map found_at (above number (number x) xs)
 found_step number found_at n m x xs found h e same =
     ap (flat_map found_at) (above_step number n m x xs h e) ∙ ap (λ l. l ++ flat_map found_at (above number (number x) xs)) (sym same)
+
+-- where no row is first, nothing is found
+pub nothing_left : {X F : Type 0} (found_at : X → List F) (rows : List X) → first_of rows ≡ [] → flat_map found_at rows ≡ []
+nothing_left found_at [] e = refl
+nothing_left found_at (x ∷ xs) e = absurd (cc e)
+
+-- the row of a look-up is the first of all, where there was no fault
+pub first_when_found : {V X F : Type 0} (items : V → List X) (found : Result V F) (r : Result (Option X) F) (row : Option X) (all : List X) →
+    IfOk found (λ vs. IfOk r (λ o. (all : List X) → items vs ≡ first_of all → IsFirst o all)) → IfErr found (λ why. r ≡ Err why) →
+    IfOk found (λ vs. items vs ≡ first_of all) → r ≡ Ok row →
+    IsFirst row all
+first_when_found {X = X} items (Ok vs) r row all first passed looked was =
+    IfOk-at_ok (λ o. (all : List X) → items vs ≡ first_of all → IsFirst o all) was first all looked
+first_when_found items (Err why) r row all first passed looked was = absurd (let e = sym passed ∙ was in cc)
+
+-- what was answered of what was found, where there was no fault
+pub answer_when_found : {V A F Z : Type 0} (P : V → A → Type 0) (Q : V → Type 0) (found : Result V F) (r : Result A F) (a : A) →
+    IfOk found (λ v. IfOk r (P v)) → IfErr found (λ why. r ≡ Err why) → IfOk found Q → r ≡ Ok a → ((v : V) → P v a → Q v → Z) →
+    Z
+answer_when_found P Q (Ok v) r a told passed looked was so = so v (IfOk-at_ok (P v) was told) looked
+answer_when_found P Q (Err why) r a told passed looked was so = absurd (let e = sym passed ∙ was in cc)

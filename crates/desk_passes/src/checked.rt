@@ -1,16 +1,19 @@
 //! One step of a pass through the objects of a kind.
-ghost use Rattle.std.specs.Prelude.{◌≡◌, ◌<◌, IfOk, IfSome};
+ghost use Rattle.std.specs.Prelude.{◌≡◌, ◌<◌, List, Err, IfErr, IfOk, IfSome};
+ghost use Rattle.desk_model.specs.Derived.{numbers_of, order_faults, stored_statuses};
+ghost use Rattle.desk_model.specs.declared.rows.AuthorizationRow.{AuthorizationRow as Authorization};
 ghost use Rattle.desk_storage.specs.Sight.{ForTables, Reads};
 ghost use Rattle.desk_passes.specs.InOrder.{IsInOrder};
 ghost use Rattle.desk_passes.specs.Left.{faults_above};
 ghost use Rattle.desk_passes.specs.Stepping.{Steps};
+ghost use Rattle.stored_rows.specs.RowFaults.{listed_fault};
 
 use crate::fault_kind::FaultKind;
 use crate::first::first_above;
 use crate::listed_statuses::listed_statuses;
 use crate::orders::order_after;
 use desk_loading::RowsAbove;
-use desk_model::StatusFault;
+use desk_model::{AuthzStatus, OrderRow, StatusFault};
 use desk_storage::StorageFault;
 use std::alloc::Global;
 use stored_rows::{account_fault, authorization_fault, challenge_fault, order_fault};
@@ -33,8 +36,7 @@ fn check_account<S: RowsAbove>(
         IfOk result (λ checked. Steps checked (faults_above T FaultKind.Account 0) above)) }
     ensures onward { IfOk result (λ checked. IfSome checked (λ c. above < c.number)) }
 {
-    let rows = source.account_above(alloc, above)?;
-    let Some(row) = first_above(rows, above)? else {
+    let Some(row) = first_above(source.account_above(alloc, above), above)? else {
         return Ok(None);
     };
     Ok(Some(Checked {
@@ -58,11 +60,27 @@ fn check_order<S: RowsAbove>(
     let Some(row) = order_after(alloc, source, above)? else {
         return Ok(None);
     };
-    let statuses = listed_statuses(alloc, source, row.listed.as_slice())?;
+    let number = row.number;
+    let statuses = listed_statuses(alloc, source, row.listed.as_slice());
+    let fault = order_fault_by(moment, &row, statuses);
+    drop(row);
     Ok(Some(Checked {
-        number: row.number,
-        fault: order_fault(moment, &row, &statuses),
+        number,
+        fault: fault?,
     }))
+}
+
+// The fault of an order by the stored statuses of the authorizations that it lists, if these were read.
+fn order_fault_by(
+    moment: u64,
+    row: &OrderRow,
+    statuses: Result<Vec<AuthzStatus>, StorageFault>,
+) -> Result<Option<StatusFault>, StorageFault>
+    ensures fault { IfOk statuses (λ read. IfOk result (λ fault. (rows : List Authorization) → stored_statuses rows (numbers_of row.now.listed) ≡ read.items
+        → listed_fault fault ≡ order_faults moment rows row.now)) }
+    ensures fails { IfErr statuses (λ why. result ≡ Err why) }
+{
+    Ok(order_fault(moment, row, &statuses?))
 }
 
 // Checks the authorization of the least number above this one.
@@ -77,8 +95,7 @@ fn check_authorization<S: RowsAbove>(
         IfOk result (λ checked. Steps checked (faults_above T FaultKind.Authorization moment) above)) }
     ensures onward { IfOk result (λ checked. IfSome checked (λ c. above < c.number)) }
 {
-    let rows = source.authorization_above(alloc, above)?;
-    let Some(row) = first_above(rows, above)? else {
+    let Some(row) = first_above(source.authorization_above(alloc, above), above)? else {
         return Ok(None);
     };
     Ok(Some(Checked {
@@ -98,8 +115,7 @@ fn check_challenge<S: RowsAbove>(
         IfOk result (λ checked. Steps checked (faults_above T FaultKind.Challenge 0) above)) }
     ensures onward { IfOk result (λ checked. IfSome checked (λ c. above < c.number)) }
 {
-    let rows = source.challenge_above(alloc, above)?;
-    let Some(row) = first_above(rows, above)? else {
+    let Some(row) = first_above(source.challenge_above(alloc, above), above)? else {
         return Ok(None);
     };
     Ok(Some(Checked {

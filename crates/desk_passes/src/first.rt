@@ -1,5 +1,5 @@
 //! The first of the rows above a number.
-ghost use Rattle.std.specs.Prelude.{◌≡◌, ◌<◌, List, IfOk, OnSome, IfSome};
+ghost use Rattle.std.specs.Prelude.{◌≡◌, ◌<◌, List, Err, IfErr, IfOk, OnSome, IfSome};
 ghost use Rattle.desk_parts.specs.Above.{first_of};
 ghost use Rattle.desk_passes.specs.Stepping.{IsFirst};
 
@@ -10,14 +10,16 @@ use desk_storage::StorageFault;
 ///
 /// # Errors
 ///
-/// `Reopen` where the row is not above the number.
+/// As the look-up, or `Reopen` where the row is not above the number.
 pub(crate) fn first_above<R: Row + Drop>(
-    mut rows: Vec<R>,
+    found: Result<Vec<R>, StorageFault>,
     above: u64,
 ) -> Result<Option<R>, StorageFault>
-    ensures first { IfOk result (λ row. (all : List R) → rows.items ≡ first_of all → IsFirst row all) }
+    ensures first { IfOk found (λ rows. IfOk result (λ row. (all : List R) → rows.items ≡ first_of all → IsFirst row all)) }
     ensures onward { IfOk result (λ row. IfSome row (λ r. above < R.number r)) }
+    ensures fails { IfErr found (λ fault. result ≡ Err fault) }
 {
+    let mut rows = found?;
     let Some(row) = rows.pop() else {
         return Ok(None);
     };

@@ -24,9 +24,7 @@ pub(crate) fn order_after<S: RowsAbove>(
     ensures first { ForTables S.sight source.old source.new (λ T. IfOk result (λ order. IsFirst order (orders_above T above))) }
     ensures onward { IfOk result (λ order. IfSome order (λ o. above < o.number)) }
 {
-    let rows = source.order_above(alloc, above)?;
-    let order = first_above(rows, above)?;
-    Ok(order)
+    first_above(source.order_above(alloc, above), above)
 }
 
 /// A pass through the orders of a desk, by number, which keeps one of them at most.

@@ -1,16 +1,52 @@
 use Rattle.std.proofs.Common.{subst}
+use Rattle.std.proofs.lemmas.Result.{IfOk-from_err}
 use Rattle.desk_model.specs.Derived.{authorization_faults}
 use Rattle.desk_model.specs.declared.rows.AuthorizationRow.{AuthorizationRow}
 use Rattle.desk_parts.specs.Above.{authorizations_above}
 use Rattle.stored_rows.specs.RowFaults.{listed_fault}
+use Rattle.desk_loading.proofs.Readings.{read_as, reads_failing, reads_found, reads_standing, stands_read}
 use Rattle.desk_passes.specs.Stepping.{IsFirst}
-use Rattle.desk_passes.proofs.Rows.{found_step}
+use Rattle.desk_passes.proofs.Rows.{first_when_found, found_step, nothing_left}
 use Rattle.desk_passes.proofs.checked.check_authorization.Goals as goal
+
+pub returns-clause-reads : goal.returns-clause-reads
+returns-clause-reads g c =
+    let read = reads_found _ c.first_above.result c.authorization_above.ensures.reads c.first_above.ensures.fails in
+    reads_standing _ (stands_read (read_as read c.in_ok-row.was))
 
 pub returns-clause-steps : goal.returns-clause-steps
 returns-clause-steps g c honest T holds h =
     let rows = authorizations_above T c.args.above in
-    let first : IsFirst _ rows = c.in_ok-row.ensures.first rows (c.in_ok-rows.ensures.found honest T holds) in
+    let first : IsFirst c.in_ok-row.field-0 rows =
+    first_when_found (λ found. found.items) c.authorization_above.result c.first_above.result c.in_ok-row.field-0 rows
+    c.first_above.ensures.first c.first_above.ensures.fails (c.authorization_above.ensures.found honest T holds) c.in_ok-row.was in
     found_step (λ (x : AuthorizationRow). x.number) (authorization_faults c.args.moment) c.args.above 1 c.in-Some.row T.authorizations
     (listed_fault c.authorization_fault.result) h.tables.authorizations.0
     (subst (λ r. IsFirst r rows) c.in-Some.is first) c.authorization_fault.ensures
+
+pub returns-clause-onward : goal.returns-clause-onward
+returns-clause-onward g c = rw c.in-Some.is at c.in_ok-row.ensures.onward
+
+pub returns-in_default-clause-reads : goal.returns-in_default-clause-reads
+returns-in_default-clause-reads g c =
+    let read = reads_found _ c.first_above.result c.authorization_above.ensures.reads c.first_above.ensures.fails in
+    reads_standing _ (stands_read (read_as read c.in_ok-row.was))
+
+pub returns-in_default-clause-steps : goal.returns-in_default-clause-steps
+returns-in_default-clause-steps g c honest T holds h =
+    let rows = authorizations_above T c.args.above in
+    let first : IsFirst c.in_ok-row.field-0 rows =
+    first_when_found (λ found. found.items) c.authorization_above.result c.first_above.result c.in_ok-row.field-0 rows
+    c.first_above.ensures.first c.first_above.ensures.fails (c.authorization_above.ensures.found honest T holds) c.in_ok-row.was in
+    nothing_left (authorization_faults c.args.moment) rows (subst (λ r. IsFirst r rows) c.in_default.is first)
+
+pub returns-in_err-row-clause-reads : goal.returns-in_err-row-clause-reads
+returns-in_err-row-clause-reads g c =
+    let read = reads_found _ c.first_above.result c.authorization_above.ensures.reads c.first_above.ensures.fails in
+    reads_failing _ (read_as read c.in_err-row.was) c.from_residual.ensures.1
+
+pub returns-in_err-row-clause-steps : goal.returns-in_err-row-clause-steps
+returns-in_err-row-clause-steps g c honest T holds h = IfOk-from_err c.from_residual.result _ c.from_residual.ensures.0
+
+pub returns-in_err-row-clause-onward : goal.returns-in_err-row-clause-onward
+returns-in_err-row-clause-onward g c = IfOk-from_err c.from_residual.result _ c.from_residual.ensures.0
