@@ -42,6 +42,17 @@ fn rows_where<R: Row + Drop, F: Fn(&R) -> bool>(
     Ok(rows)
 }
 
+// Copies of the rows of a number.
+fn rows_numbered<R: Row + Drop>(
+    alloc: Global,
+    table: &Table<R>,
+    number: u64,
+) -> Result<Vec<R>, StorageFault>
+    ensures { IfOk result (λ rows. rows.items ≡ filter (λ row. R.number row == number) table.now) }
+{
+    rows_where(alloc, table, |row| { row.number() == number })
+}
+
 // Copies of all rows.
 fn all_rows<R: Row + Drop>(alloc: Global, table: &Table<R>) -> Result<Vec<R>, StorageFault>
     ensures { IfOk result (λ rows. rows.items ≡ table.now) }
@@ -154,7 +165,7 @@ impl LookUps for Book {
     }
 
     fn nonces_numbered(&mut self, alloc: Global, serial: u64) -> Result<Vec<Nonce>, StorageFault> {
-        rows_where(alloc, self.nonces(), |row| { row.serial == serial })
+        rows_numbered(alloc, self.nonces(), serial)
     }
 
     fn nonces_before(&mut self, alloc: Global, moment: u64) -> Result<Vec<Nonce>, StorageFault> {
@@ -166,7 +177,7 @@ impl LookUps for Book {
         alloc: Global,
         number: u64,
     ) -> Result<Vec<AccountRow>, StorageFault> {
-        rows_where(alloc, self.accounts(), |row| { row.number == number })
+        rows_numbered(alloc, self.accounts(), number)
     }
 
     fn accounts_with_key(
@@ -185,7 +196,7 @@ impl LookUps for Book {
         alloc: Global,
         number: u64,
     ) -> Result<Vec<OrderRow>, StorageFault> {
-        rows_where(alloc, self.orders(), |row| { row.number == number })
+        rows_numbered(alloc, self.orders(), number)
     }
 
     fn orders_of(&mut self, alloc: Global, account: u64) -> Result<Vec<OrderRow>, StorageFault> {
@@ -208,7 +219,7 @@ impl LookUps for Book {
         alloc: Global,
         number: u64,
     ) -> Result<Vec<AuthorizationRow>, StorageFault> {
-        rows_where(alloc, self.authorizations(), |row| { row.number == number })
+        rows_numbered(alloc, self.authorizations(), number)
     }
 
     fn authorizations_of(
