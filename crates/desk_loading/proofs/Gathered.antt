@@ -1,6 +1,7 @@
 -- Rows that are looked up one number after the other, each put into its place.
 use Rattle.std.proofs.Common.{◌≡◌, ℕ, List, [], ◌∷◌, ◌++◌, Result, Ok, Err, IfErr, IfOk, OnOk, ap, subst, sym, ◌∙◌}
 use Rattle.std.specs.List.{flat_map}
+use Rattle.std.specs.Result.{result_and}
 use Rattle.std.proofs.lemmas.Result.{IfOk-at_ok}
 use Rattle.desk_laws.specs.Ordered.{Ascends}
 use Rattle.desk_laws.specs.Placing.{puts}
@@ -66,3 +67,9 @@ put_into_none number xs rows later put_now none = put_now ∙ ap (puts number xs
 pub put_by : {X Y : Type 0} (number : X → ℕ) (rows_of : Y → List X) (y z : Y) (rows later : List X) → later ≡ puts number (rows_of y) rows → y ≡ z →
     later ≡ puts number (rows_of z) rows
 put_by number rows_of y z rows later put_now same = put_now ∙ ap (λ v. puts number (rows_of v) rows) same
+
+-- what is made of what was put, where there was no fault
+pub made_of : {A B F : Type 0} (P : Type 0) (Q : B → Type 0) (x : B) (r : Result A F) (q : Result B F) → q ≡ result_and r (Ok x) → OnOk r P → (P → Q x) →
+    IfOk q Q
+made_of P Q x (Ok a) q is put_now so = subst (λ s. IfOk s Q) (sym is) (so put_now)
+made_of P Q x (Err why) q is put_now so = subst (λ s. IfOk s Q) (sym is) tt

@@ -1,5 +1,6 @@
 -- Look-ups one after the other.
 use Rattle.std.proofs.Common.{◌≡◌, Result, Ok, Err, IfOk, IfErr, IsErrAnd, subst, sym, ◌∙◌}
+use Rattle.std.specs.Result.{result_and}
 use Rattle.desk_storage.specs.Sight.{Reads, Sight, Stands}
 use Rattle.desk_storage.specs.declared.fault.StorageFault.{StorageFault}
 
@@ -69,3 +70,11 @@ module _ {S C : Type 0} {v : Sight S C} where
   -- a result that is another
   pub read_as : {A : Type 0} {old new : S} {r q : Result A StorageFault} → Reads v old new r → r ≡ q → Reads v old new q
   read_as {A} {old} {new} read same = subst (Reads v old new) same read
+
+  -- what was made of what was read
+  pub reads_and : {A B : Type 0} {old new : S} (x : B) (r : Result A StorageFault) (q : Result B StorageFault) → q ≡ result_and r (Ok x) →
+      Reads v old new r →
+      Reads v old new q
+  reads_and x (Ok a) q is read = read_as (reads_standing (Ok x) (stands_read read)) (sym is)
+  reads_and x (Err why) q is read =
+      read_as (record { honest = read.honest; left = read.left; tables = tt; without_memory = read.without_memory }) (sym is)

@@ -65,8 +65,7 @@ fn accounts_named<S: LookUps>(
     let mut accounts = Table::new(alloc);
     put_keyed(alloc, source, &mut accounts, ask)?;
     let numbers = account_numbers(alloc, ask)?;
-    put_accounts(alloc, source, &mut accounts, numbers)?;
-    Ok(accounts)
+    put_accounts(alloc, source, &mut accounts, numbers).and(Ok(accounts))
 }
 
 // Puts the accounts of these orders and authorizations into a table.
@@ -182,8 +181,7 @@ fn authorizations_and_orders<S: LookUps>(
     let mut orders = Table::new(alloc);
     put_first_orders(alloc, source, &mut orders, moment, ask, accounts)?;
     put_listing(alloc, source, &mut orders, &authorizations)?;
-    put_listed(alloc, source, &mut authorizations, &orders)?;
-    Ok((authorizations, orders))
+    put_listed(alloc, source, &mut authorizations, &orders).and(Ok((authorizations, orders)))
 }
 
 /// The accounts, authorizations and orders that are touched.
@@ -204,12 +202,11 @@ pub(crate) fn objects_touched<S: LookUps>(
     let (authorizations, orders) = authorizations_and_orders(
         alloc, source, moment, ask, &accounts,
     )?;
-    put_holders(alloc, source, &mut accounts, &orders, &authorizations)?;
-    Ok(Objects {
+    put_holders(alloc, source, &mut accounts, &orders, &authorizations).and(Ok(Objects {
         accounts,
         authorizations,
         orders,
-    })
+    }))
 }
 
 // ---- all rows
