@@ -27,6 +27,10 @@ pub and_put : (member : List ℕ × Data) (before now known : Members) → now �
     → now ≡ with_members (member ∷ []) known
 and_put member before now known put earlier = put ∙ ap (with_members (member ∷ [])) earlier
 
+-- members put onto known ones
+pub and_puts : (ms : List (List ℕ × Data)) (before now known : Members) → now ≡ with_members ms before → before ≡ known → now ≡ with_members ms known
+and_puts ms before now known put earlier = put ∙ ap (with_members ms) earlier
+
 -- the certificate and the error of an order stand in the order of names
 order_members-by : (certified : Option DatedBytes) (failed : Option DatedProblem) (a x f i s c : Data) →
     with_members (order_error failed) (with_members (when (is_some certified) (codes "certificate", c))

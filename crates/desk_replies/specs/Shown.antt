@@ -1,7 +1,7 @@
 -- What documents show, where their moments have a text, and members that are put one by one.
-use Rattle.std.specs.Prelude.{ℕ, ◌≤◌, List, [], ◌∷◌, map, Option, Some, None, if◌then◌else◌}
+use Rattle.std.specs.Prelude.{codes, ℕ, ◌≤◌, List, [], ◌∷◌, map, Option, Some, None, if◌then◌else◌}
 use Rattle.std.specs.List.{filter}
-use Rattle.serde_json.specs.Data.{Data, Members, put}
+use Rattle.serde_json.specs.Data.{Data, Members, number, put, string, unsigned}
 use Rattle.desk_model.specs.Limits.{last_end}
 use Rattle.desk_model.specs.declared.objects.Report.{Report}
 use Rattle.desk_model.specs.declared.rows.ChallengeRow.{ChallengeRow}
@@ -12,7 +12,17 @@ use Rattle.desk_model.specs.Authorization.{is_pending}
 use Rattle.desk_model.specs.Legal.{is_processing_challenge}
 use Rattle.desk_model.specs.Effect.{swept_authorization}
 use Rattle.desk_model.specs.Kept.{EachOf}
-use Rattle.desk_model.specs.Document.{work_document}
+use Rattle.desk_model.specs.Document.{account_status_text, authorization_status_text, authorization_url, bytes_of, challenge_document}
+use Rattle.desk_model.specs.Document.{challenge_status_text, challenge_url, expected, finalize_url, identifier, kind_text, listed_rows}
+use Rattle.desk_model.specs.Document.{order_status_text, orders_url, shown_challenges, url, work_document}
+use Rattle.desk_model.specs.Json.{list}
+use Rattle.desk_model.specs.Moment.{moment_text}
+use Rattle.desk_model.specs.Name.{Name}
+use Rattle.desk_model.specs.Names.{dns_type, shown_name}
+use Rattle.desk_model.specs.Refusals.{error_type}
+use Rattle.desk_model.specs.Terms.{Terms}
+use Rattle.desk_model.specs.Tokens.{base64url, token_text}
+use Rattle.desk_model.specs.declared.rows.AccountRow.{AccountRow}
 use Rattle.moments.specs.Capped.{capped}
 
 -- ---- moments: one past the last that has a text is shown as the last
@@ -47,7 +57,72 @@ abbrev pub with_members : List (List ℕ × Data) → Members → Members
 with_members [] others = others
 with_members (m ∷ ms) others = with_members ms (put m.0 m.1 others)
 
+abbrev pub directory_members : Terms → List (List ℕ × Data)
+directory_members t =
+    (codes "newAccount", string (url t (codes "/new-account")))
+    ∷ (codes "newNonce", string (url t (codes "/new-nonce")))
+    ∷ (codes "newOrder", string (url t (codes "/new-order")))
+    ∷ []
+
+abbrev pub account_members : Terms → AccountRow → List (List ℕ × Data)
+account_members t a =
+    (codes "contact", list (map string a.contacts))
+    ∷ (codes "orders", string (orders_url t a.number))
+    ∷ (codes "status", string (account_status_text a.status))
+    ∷ []
+
+abbrev pub identifier_members : List ℕ → List (List ℕ × Data)
+identifier_members value = (codes "type", string dns_type) ∷ (codes "value", string value) ∷ []
+
+abbrev pub error_members : (kind detail : List ℕ) (status : ℕ) → List (List ℕ × Data)
+error_members kind detail status =
+    (codes "detail", string detail) ∷ (codes "status", number (unsigned status)) ∷ (codes "type", string (error_type kind)) ∷ []
+
+-- those that the document of every challenge has
+abbrev pub challenge_members : Terms → ChallengeRow → List (List ℕ × Data)
+challenge_members t c =
+    (codes "status", string (challenge_status_text c.status))
+    ∷ (codes "token", string (token_text c.token))
+    ∷ (codes "type", string (kind_text c.kind))
+    ∷ (codes "url", string (challenge_url t c.number))
+    ∷ []
+
+-- of every authorization
+abbrev pub authorization_members : Terms → AuthorizationRow → List (List ℕ × Data)
+authorization_members t a =
+    (codes "challenges", list (map (λ c. challenge_document t (capped_challenge c)) (shown_challenges a.challenges)))
+    ∷ (codes "expires", string (moment_text (capped a.expires)))
+    ∷ (codes "identifier", identifier a.name.base)
+    ∷ (codes "status", string (authorization_status_text a.status))
+    ∷ []
+
+-- of every order whose authorizations have these names
+abbrev pub order_members : Terms → List Name → OrderRow → List (List ℕ × Data)
+order_members t names o =
+    (codes "authorizations", list (map (λ l. string (authorization_url t l.authorization)) o.listed))
+    ∷ (codes "expires", string (moment_text (capped o.expires)))
+    ∷ (codes "finalize", string (finalize_url t o.number))
+    ∷ (codes "identifiers", list (map (λ n. identifier (shown_name n)) names))
+    ∷ (codes "status", string (order_status_text o.status))
+    ∷ []
+
 -- ---- work
+
+abbrev pub work_members : Tables → AuthorizationRow → ChallengeRow → List (List ℕ × Data)
+work_members T a c =
+    (codes "challenge", number (unsigned c.number))
+    ∷ (codes "expected", string (expected T a c))
+    ∷ (codes "name", string a.name.base)
+    ∷ (codes "token", string (token_text c.token))
+    ∷ (codes "type", string (kind_text c.kind))
+    ∷ []
+
+abbrev pub order_work_members : Tables → OrderRow → List (List ℕ × Data)
+order_work_members T o =
+    (codes "csr", string (base64url (bytes_of o.finalized)))
+    ∷ (codes "names", list (map (λ a. string (shown_name a.name)) (listed_rows T o)))
+    ∷ (codes "order", number (unsigned o.number))
+    ∷ []
 
 -- the challenges of an authorization that wait for the validator at a moment
 abbrev pub work_at : ℕ → Tables → AuthorizationRow → List Data

@@ -1,19 +1,17 @@
 //! The documents of authorizations and their challenges (RFC 8555, 7.1.4, 7.1.5, 8).
-ghost use Rattle.std.specs.Prelude.{◌≡◌, ◌∷◌, [], map, codes, is_some, true, IfOk, OnOk};
+ghost use Rattle.std.specs.Prelude.{◌≡◌, map, codes, is_some, true, IfOk, OnOk};
 ghost use Rattle.std.specs.List.{filter};
-ghost use Rattle.serde_json.specs.Data.{string, boolean};
+ghost use Rattle.serde_json.specs.Data.{boolean};
 ghost use Rattle.serde_json.specs.View.{view, members_view};
-ghost use Rattle.desk_model.specs.Json.{members, list, when};
-ghost use Rattle.desk_model.specs.Moment.{moment_text};
-ghost use Rattle.desk_model.specs.Tokens.{token_text};
-ghost use Rattle.desk_model.specs.Document.{authorization_status_text, challenge_status_text, kind_text, challenge_url};
-ghost use Rattle.desk_model.specs.Document.{identifier, error_of, report_error, validated, validated_by, challenge_document};
+ghost use Rattle.desk_model.specs.Json.{when};
+ghost use Rattle.desk_model.specs.Document.{error_of, report_error, validated, validated_by, challenge_document};
 ghost use Rattle.desk_model.specs.Document.{shown_challenges, authorization_document};
 ghost use Rattle.moments.specs.Capped.{capped};
-ghost use Rattle.desk_replies.specs.Shown.{capped_report, capped_challenge, capped_authorization, with_members};
+ghost use Rattle.desk_replies.specs.Shown.{authorization_members, capped_authorization, capped_challenge, capped_report, challenge_members, with_members};
 
 use crate::document_values::{
-    error_value, identifier_value, list_value, push_value, put_str, put_text, put_value, text_value,
+    error_value, identifier_value, object_value, push_value, put_list, put_str, put_text,
+    put_value, text_value,
 };
 use crate::urls::challenge_url;
 use desk_model::{AuthorizationRow, ChallengeRow, Outcome, Policy, Report};
@@ -68,27 +66,24 @@ fn put_report(
     put_date(members, alloc, report)
 }
 
-// The members that the document of every challenge has.
-fn challenge_members(
+// Puts the members of a challenge.
+fn put_challenge(
+    members: &mut Map<String, Value>,
     alloc: Global,
     policy: &Policy,
     row: &ChallengeRow,
-) -> Result<Map<String, Value>, AllocError>
-    ensures { IfOk result (λ m. members_view m.entries ≡ members (
-        (codes "status", string (challenge_status_text row.now.status))
-        ∷ (codes "token", string (token_text row.now.token))
-        ∷ (codes "type", string (kind_text row.now.kind))
-        ∷ (codes "url", string (challenge_url policy.now row.now.number))
-        ∷ [])) }
+) -> Result<(), AllocError>
+    ensures { OnOk result (members_view members.new.entries
+        ≡ with_members (validated (capped_report row.now.reported)) (with_members (error_of row.now.reported)
+        (with_members (challenge_members policy.now row.now) (members_view members.old.entries)))) }
 {
-    let mut members = Map::new(alloc);
-    put_str(&mut members, alloc, "status", row.status.as_str())?;
+    put_str(members, alloc, "status", row.status.as_str())?;
     let token = keys::token_text(alloc, row.token);
-    put_text(&mut members, alloc, "token", token)?;
-    put_str(&mut members, alloc, "type", row.kind.as_str())?;
+    put_text(members, alloc, "token", token)?;
+    put_str(members, alloc, "type", row.kind.as_str())?;
     let url = challenge_url(alloc, policy, row.number);
-    put_text(&mut members, alloc, "url", url)?;
-    Ok(members)
+    put_text(members, alloc, "url", url)?;
+    put_report(members, alloc, row.reported)
 }
 
 /// The document of a challenge (RFC 8555, 8).
@@ -99,9 +94,9 @@ pub(crate) fn challenge_value(
 ) -> Result<Value, AllocError>
     ensures { IfOk result (λ v. view v ≡ challenge_document policy.now (capped_challenge row.now)) }
 {
-    let mut members = challenge_members(alloc, policy, row)?;
-    put_report(&mut members, alloc, row.reported)?;
-    Ok(Value::Object(members))
+    let mut members = Map::new(alloc);
+    let put = put_challenge(&mut members, alloc, policy, row);
+    object_value(members, put)
 }
 
 // The values of all challenges.
@@ -131,7 +126,7 @@ fn reported_challenges(
     let mut values = Vec::new(alloc);
     for challenge in challenges {
         if challenge.reported.is_some() {
-            values.push(challenge_value(alloc, policy, challenge)?)?;
+            push_value(&mut values, challenge_value(alloc, policy, challenge))?;
         }
     }
     Ok(values)
@@ -152,30 +147,6 @@ fn shown_challenges(
     Ok(reported)
 }
 
-// The members that the document of every authorization has.
-fn authorization_members(
-    alloc: Global,
-    policy: &Policy,
-    row: &AuthorizationRow,
-) -> Result<Map<String, Value>, AllocError>
-    ensures { IfOk result (λ m. members_view m.entries ≡ members (
-        (codes "challenges", list (map (λ c. challenge_document policy.now (capped_challenge c)) (shown_challenges row.now.challenges)))
-        ∷ (codes "expires", string (moment_text (capped row.now.expires)))
-        ∷ (codes "identifier", identifier row.now.name.base)
-        ∷ (codes "status", string (authorization_status_text row.now.status))
-        ∷ [])) }
-{
-    let challenges = shown_challenges(alloc, policy, row.challenges.as_slice())?;
-    let mut members = Map::new(alloc);
-    put(&mut members, alloc, "challenges", list_value(challenges))?;
-    let expires = capped_moment_text(alloc, row.expires);
-    put_text(&mut members, alloc, "expires", expires)?;
-    let identifier = identifier_value(alloc, row.name.base());
-    put_value(&mut members, alloc, "identifier", identifier)?;
-    put_str(&mut members, alloc, "status", row.status.as_str())?;
-    Ok(members)
-}
-
 // Adds that the authorization is for a wildcard name, where it is.
 fn put_wildcard(
     members: &mut Map<String, Value>,
@@ -191,6 +162,26 @@ fn put_wildcard(
     put(members, alloc, "wildcard", Value::Bool(true))
 }
 
+// Puts the members of an authorization.
+fn put_authorization(
+    members: &mut Map<String, Value>,
+    alloc: Global,
+    policy: &Policy,
+    row: &AuthorizationRow,
+) -> Result<(), AllocError>
+    ensures { OnOk result (members_view members.new.entries ≡ with_members (when row.now.name.wildcard (codes "wildcard", boolean true))
+        (with_members (authorization_members policy.now row.now) (members_view members.old.entries))) }
+{
+    let challenges = shown_challenges(alloc, policy, row.challenges.as_slice());
+    put_list(members, alloc, "challenges", challenges)?;
+    let expires = capped_moment_text(alloc, row.expires);
+    put_text(members, alloc, "expires", expires)?;
+    let identifier = identifier_value(alloc, row.name.base());
+    put_value(members, alloc, "identifier", identifier)?;
+    put_str(members, alloc, "status", row.status.as_str())?;
+    put_wildcard(members, alloc, row.name.is_wildcard())
+}
+
 /// The document of an authorization (RFC 8555, 7.1.4).
 pub(crate) fn authorization_value(
     alloc: Global,
@@ -199,7 +190,7 @@ pub(crate) fn authorization_value(
 ) -> Result<Value, AllocError>
     ensures { IfOk result (λ v. view v ≡ authorization_document policy.now (capped_authorization row.now)) }
 {
-    let mut members = authorization_members(alloc, policy, row)?;
-    put_wildcard(&mut members, alloc, row.name.is_wildcard())?;
-    Ok(Value::Object(members))
+    let mut members = Map::new(alloc);
+    let put = put_authorization(&mut members, alloc, policy, row);
+    object_value(members, put)
 }

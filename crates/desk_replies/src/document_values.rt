@@ -1,14 +1,14 @@
 //! The values that several documents hold: lists, moments, identifiers and errors (RFC 8555, 6.7, 7.1).
 ghost use Rattle.std.specs.Prelude.{ℕ, List, ◌≡◌, ◌∷◌, ◌++◌, [], map, string_bytes, IfOk, OnOk};
-ghost use Rattle.serde_json.specs.Data.{Data, string};
+ghost use Rattle.serde_json.specs.Data.{Data, Members, object, string};
 ghost use Rattle.serde_json.specs.View.{view, members_view};
 ghost use Rattle.desk_model.specs.Json.{document, list};
 ghost use Rattle.desk_model.specs.Document.{identifier, error};
-ghost use Rattle.desk_replies.specs.Shown.{with_members};
+ghost use Rattle.desk_replies.specs.Shown.{error_members, identifier_members, with_members};
 
 use desk_model::DNS;
 use refusals::type_text;
-use serde_json::{Map, Value, json, put};
+use serde_json::{Map, Value, put};
 use std::alloc::{AllocError, Global};
 
 /// A JSON text.
@@ -25,11 +25,35 @@ pub(crate) fn list_value(items: Vec<Value>) -> Value
     Value::Array(items)
 }
 
+/// An object with these members, if they could be put.
+pub(crate) fn object_value(
+    members: Map<String, Value>,
+    put: Result<(), AllocError>,
+) -> Result<Value, AllocError>
+    ensures { (shown : Members) → OnOk put (members_view members.entries ≡ shown) → IfOk result (λ v. view v ≡ object shown) }
+{
+    put.and(Ok(Value::Object(members)))
+}
+
 /// An identifier with its text (RFC 8555, 7.1.3).
 pub(crate) fn identifier_value(alloc: Global, value: &str) -> Result<Value, AllocError>
     ensures { IfOk result (λ v. view v ≡ identifier value.now) }
 {
-    json!(in alloc; {"type": DNS, "value": value})
+    let mut members = Map::new(alloc);
+    let put = put_identifier(&mut members, alloc, value);
+    object_value(members, put)
+}
+
+// Puts the members of an identifier.
+fn put_identifier(
+    members: &mut Map<String, Value>,
+    alloc: Global,
+    value: &str,
+) -> Result<(), AllocError>
+    ensures { OnOk result (members_view members.new.entries ≡ with_members (identifier_members value.now) (members_view members.old.entries)) }
+{
+    put_str(members, alloc, "type", DNS)?;
+    put_str(members, alloc, "value", value)
 }
 
 /// An error that is kept with an object: its type without the prefix, a text for people, and a status (RFC 8555, 6.7).
@@ -41,8 +65,25 @@ pub(crate) fn error_value(
 ) -> Result<Value, AllocError>
     ensures { IfOk result (λ v. view v ≡ error kind.now detail.now status) }
 {
-    let kind = type_text(alloc, kind)?;
-    json!(in alloc; {"detail": detail, "status": status, "type": kind})
+    let mut members = Map::new(alloc);
+    let put = put_error_members(&mut members, alloc, kind, detail, status);
+    object_value(members, put)
+}
+
+// Puts the members of an error.
+fn put_error_members(
+    members: &mut Map<String, Value>,
+    alloc: Global,
+    kind: &str,
+    detail: &str,
+    status: u16,
+) -> Result<(), AllocError>
+    ensures { OnOk result (members_view members.new.entries ≡ with_members (error_members kind.now detail.now status) (members_view members.old.entries)) }
+{
+    put_str(members, alloc, "detail", detail)?;
+    put(members, alloc, "status", Value::from(status))?;
+    let kind = type_text(alloc, kind);
+    put_text(members, alloc, "type", kind)
 }
 
 /// An object whose one member is a list, if that could be made.
@@ -54,10 +95,9 @@ pub(crate) fn listing_value(
     ensures { (shown : List Data) → IfOk items (λ v. map (λ d. view d) v.items ≡ shown)
         → IfOk result (λ v. view v ≡ document ((name.now, list shown) ∷ [])) }
 {
-    let items = list_value(items?);
     let mut members = Map::new(alloc);
-    put(&mut members, alloc, name, items)?;
-    Ok(Value::Object(members))
+    let put = put_list(&mut members, alloc, name, items);
+    object_value(members, put)
 }
 
 /// Adds a value to a list, if it could be made.
@@ -120,4 +160,17 @@ pub(crate) fn put_value(
         → members_view members.new.entries ≡ with_members ((name.now, shown) ∷ []) (members_view members.old.entries)) }
 {
     put(members, alloc, name, value?)
+}
+
+/// Puts a list of values among members, if it could be made.
+pub(crate) fn put_list(
+    members: &mut Map<String, Value>,
+    alloc: Global,
+    name: &str,
+    items: Result<Vec<Value>, AllocError>,
+) -> Result<(), AllocError>
+    ensures { OnOk result ((shown : List Data) → IfOk items (λ v. map (λ d. view d) v.items ≡ shown)
+        → members_view members.new.entries ≡ with_members ((name.now, list shown) ∷ []) (members_view members.old.entries)) }
+{
+    put(members, alloc, name, list_value(items?))
 }

@@ -5,8 +5,9 @@ ghost use Rattle.serde_json.specs.View.{view, members_view};
 ghost use Rattle.desk_model.specs.Document.{key_members, key_document};
 ghost use Rattle.desk_replies.specs.Shown.{with_members};
 
+use crate::document_values::{object_value, put_str};
 use desk_model::Jwk;
-use serde_json::{Map, Value, put};
+use serde_json::{Map, Value};
 use std::alloc::{AllocError, Global};
 
 // The parts of a text between its quotation marks.
@@ -26,19 +27,27 @@ fn put_members(
 {
     match parts {
         [_, name, _, value, rest @ ..] => {
-            put(members, alloc, name, Value::try_from_str(alloc, value)?)?;
+            put_str(members, alloc, name, value)?;
             put_members(members, alloc, rest)
         }
         _ => Ok(()),
     }
 }
 
+// Adds the members of a canonical key text.
+fn put_key(members: &mut Map<String, Value>, alloc: Global, text: &str) -> Result<(), AllocError>
+    ensures { OnOk result (members_view members.new.entries
+        ≡ with_members (key_members (slice_split (λ c. c == 34) text.now)) (members_view members.old.entries)) }
+{
+    let parts = parts_of(alloc, text)?;
+    put_members(members, alloc, parts.as_slice())
+}
+
 /// The document of a key: the object that its canonical text spells.
 pub(crate) fn key_value(alloc: Global, key: &Jwk) -> Result<Value, AllocError>
     ensures { IfOk result (λ v. view v ≡ key_document key.now) }
 {
-    let parts = parts_of(alloc, key.canonical())?;
     let mut members = Map::new(alloc);
-    put_members(&mut members, alloc, parts.as_slice())?;
-    Ok(Value::Object(members))
+    let put = put_key(&mut members, alloc, key.canonical());
+    object_value(members, put)
 }

@@ -1,22 +1,20 @@
 //! The documents of orders (RFC 8555, 7.1.3).
-ghost use Rattle.std.specs.Prelude.{ℕ, ◌≡◌, ◌∷◌, [], map, codes, is_some, IfOk, OnOk};
+ghost use Rattle.std.specs.Prelude.{ℕ, ◌≡◌, map, codes, is_some, IfOk, OnOk};
 ghost use Rattle.std.specs.List.{filter};
 ghost use Rattle.serde_json.specs.Data.{string};
 ghost use Rattle.serde_json.specs.View.{view, members_view};
-ghost use Rattle.desk_model.specs.Json.{members, list, when};
+ghost use Rattle.desk_model.specs.Json.{list, when};
 ghost use Rattle.desk_model.specs.Derived.{numbers_of};
 ghost use Rattle.desk_model.specs.Names.{shown_name};
-ghost use Rattle.desk_model.specs.Moment.{moment_text};
 ghost use Rattle.desk_model.specs.Effect.{swept, swept_order};
-ghost use Rattle.desk_model.specs.Document.{order_status_text, order_error, identifier, finalize_url, certificate_url};
-ghost use Rattle.desk_model.specs.Document.{authorization_url, order_url, rows_of, listed_rows, is_listed};
+ghost use Rattle.desk_model.specs.Document.{order_error, identifier, certificate_url, authorization_url};
+ghost use Rattle.desk_model.specs.Document.{order_url, rows_of, listed_rows, is_listed};
 ghost use Rattle.desk_model.specs.Document.{orders_document, order_with_names};
-ghost use Rattle.moments.specs.Capped.{capped};
-ghost use Rattle.desk_replies.specs.Shown.{capped_order, with_members};
+ghost use Rattle.desk_replies.specs.Shown.{capped_order, order_members, with_members};
 
 use crate::document_values::{
-    error_value, identifier_value, list_value, listing_value, push_text, push_value, put_str,
-    put_text, put_value,
+    error_value, identifier_value, list_value, listing_value, object_value, push_text, push_value,
+    put_str, put_text, put_value,
 };
 use crate::urls::{authorization_url, certificate_url, finalize_url, order_url};
 use desk_book::{Book, Table};
@@ -61,34 +59,6 @@ fn identifiers(alloc: Global, names: &[DnsName]) -> Result<Value, AllocError>
     Ok(list_value(identifiers))
 }
 
-// The members that the document of every order has.
-fn order_members(
-    alloc: Global,
-    policy: &Policy,
-    row: &OrderRow,
-    names: &[DnsName],
-) -> Result<Map<String, Value>, AllocError>
-    ensures { IfOk result (λ m. members_view m.entries ≡ members (
-        (codes "authorizations", list (map (λ l. string (authorization_url policy.now l.authorization)) row.now.listed))
-        ∷ (codes "expires", string (moment_text (capped row.now.expires)))
-        ∷ (codes "finalize", string (finalize_url policy.now row.now.number))
-        ∷ (codes "identifiers", list (map (λ n. identifier (shown_name n)) names.now))
-        ∷ (codes "status", string (order_status_text row.now.status))
-        ∷ [])) }
-{
-    let mut members = Map::new(alloc);
-    let urls = authorization_urls(alloc, policy, row.listed.as_slice());
-    put_value(&mut members, alloc, "authorizations", urls)?;
-    let expires = capped_moment_text(alloc, row.expires);
-    put_text(&mut members, alloc, "expires", expires)?;
-    let finalize = finalize_url(alloc, policy, row.number);
-    put_text(&mut members, alloc, "finalize", finalize)?;
-    let identifiers = identifiers(alloc, names);
-    put_value(&mut members, alloc, "identifiers", identifiers)?;
-    put_str(&mut members, alloc, "status", row.status.as_str())?;
-    Ok(members)
-}
-
 // Adds the URL of the certificate, where there is one.
 fn put_certificate(
     members: &mut Map<String, Value>,
@@ -124,6 +94,31 @@ fn put_error(
     put_value(members, alloc, "error", error)
 }
 
+// Puts the members of an order.
+fn put_order(
+    members: &mut Map<String, Value>,
+    alloc: Global,
+    policy: &Policy,
+    row: &OrderRow,
+    names: &[DnsName],
+) -> Result<(), AllocError>
+    ensures { OnOk result (members_view members.new.entries ≡ with_members (order_error row.now.failed)
+        (with_members (when (is_some row.now.certified) (codes "certificate", string (certificate_url policy.now row.now.number)))
+        (with_members (order_members policy.now names.now row.now) (members_view members.old.entries)))) }
+{
+    let urls = authorization_urls(alloc, policy, row.listed.as_slice());
+    put_value(members, alloc, "authorizations", urls)?;
+    let expires = capped_moment_text(alloc, row.expires);
+    put_text(members, alloc, "expires", expires)?;
+    let finalize = finalize_url(alloc, policy, row.number);
+    put_text(members, alloc, "finalize", finalize)?;
+    let identifiers = identifiers(alloc, names);
+    put_value(members, alloc, "identifiers", identifiers)?;
+    put_str(members, alloc, "status", row.status.as_str())?;
+    put_certificate(members, alloc, policy, row)?;
+    put_error(members, alloc, &row.failed)
+}
+
 /// The document of an order (RFC 8555, 7.1.3); the names are those of the authorizations that it lists, in their
 /// places.
 pub(crate) fn order_value(
@@ -134,10 +129,9 @@ pub(crate) fn order_value(
 ) -> Result<Value, AllocError>
     ensures { IfOk result (λ v. view v ≡ order_with_names policy.now names.now (capped_order row.now)) }
 {
-    let mut members = order_members(alloc, policy, row, names)?;
-    put_certificate(&mut members, alloc, policy, row)?;
-    put_error(&mut members, alloc, &row.failed)?;
-    Ok(Value::Object(members))
+    let mut members = Map::new(alloc);
+    let put = put_order(&mut members, alloc, policy, row, names);
+    object_value(members, put)
 }
 
 // The names of the authorizations that these places list.
@@ -166,8 +160,7 @@ pub fn order_names(alloc: Global, book: &Book, row: &OrderRow) -> Result<Vec<Dns
     ensures stored { IfOk result (λ v. v.items ≡ map (λ a. a.name) (listed_rows book.now row.now)) }
     ensures swept { IfOk result (λ v. (moment : ℕ) → v.items ≡ map (λ a. a.name) (listed_rows (swept moment book.now) row.now)) }
 {
-    let names = listed_names(alloc, book.authorizations(), row.listed.as_slice())?;
-    Ok(names)
+    listed_names(alloc, book.authorizations(), row.listed.as_slice())
 }
 
 // Whether an order with this status is an account's and not invalid.

@@ -2,7 +2,7 @@
 ghost use Rattle.std.specs.Prelude.{◌≡◌, ◌++◌, map, string_bytes, IfOk, OnOk};
 ghost use Rattle.std.specs.List.{filter, flat_map};
 ghost use Rattle.serde_json.specs.Data.{string};
-ghost use Rattle.serde_json.specs.View.{view};
+ghost use Rattle.serde_json.specs.View.{view, members_view};
 ghost use Rattle.desk_model.specs.Json.{list};
 ghost use Rattle.desk_model.specs.Names.{shown_name};
 ghost use Rattle.desk_model.specs.Tokens.{base64url};
@@ -11,10 +11,10 @@ ghost use Rattle.desk_model.specs.Order.{is_processing};
 ghost use Rattle.desk_model.specs.Effect.{swept_order};
 ghost use Rattle.desk_model.specs.Document.{expected, bytes_of, listed_rows, work_document, work_of, challenge_work};
 ghost use Rattle.desk_model.specs.Document.{order_work_document, order_work};
-ghost use Rattle.desk_replies.specs.Shown.{work_at};
+ghost use Rattle.desk_replies.specs.Shown.{order_work_members, with_members, work_at, work_members};
 
 use crate::document_values::{
-    list_value, listing_value, push_text, push_value, put_str, put_text, put_value,
+    list_value, listing_value, object_value, push_text, push_value, put_str, put_text, put_value,
 };
 use crate::order_documents::order_names;
 use base64::engine::general_purpose::URL_SAFE_NO_PAD;
@@ -37,6 +37,26 @@ fn expected(
     expected_text(alloc, challenge.kind, challenge.token, book.answer_key(row))
 }
 
+// Puts the members of a challenge that waits for the validator.
+fn put_work(
+    members: &mut Map<String, Value>,
+    alloc: Global,
+    book: &Book,
+    row: &AuthorizationRow,
+    challenge: &ChallengeRow,
+) -> Result<(), AllocError>
+    ensures { OnOk result (members_view members.new.entries ≡ with_members (work_members book.now row.now challenge.now) (members_view members.old.entries)) }
+{
+    let number = Value::from(challenge.number);
+    put(members, alloc, "challenge", number)?;
+    let expected = expected(alloc, book, row, challenge);
+    put_text(members, alloc, "expected", expected)?;
+    put_str(members, alloc, "name", row.name.base())?;
+    let token = keys::token_text(alloc, challenge.token);
+    put_text(members, alloc, "token", token)?;
+    put_str(members, alloc, "type", challenge.kind.as_str())
+}
+
 // A challenge that waits for the validator.
 fn work_value(
     alloc: Global,
@@ -47,19 +67,8 @@ fn work_value(
     ensures { IfOk result (λ v. view v ≡ work_document book.now row.now challenge.now) }
 {
     let mut members = Map::new(alloc);
-    put(
-        &mut members,
-        alloc,
-        "challenge",
-        Value::from(challenge.number),
-    )?;
-    let expected = expected(alloc, book, row, challenge);
-    put_text(&mut members, alloc, "expected", expected)?;
-    put_str(&mut members, alloc, "name", row.name.base())?;
-    let token = keys::token_text(alloc, challenge.token);
-    put_text(&mut members, alloc, "token", token)?;
-    put_str(&mut members, alloc, "type", challenge.kind.as_str())?;
-    Ok(Value::Object(members))
+    let put = put_work(&mut members, alloc, book, row, challenge);
+    object_value(members, put)
 }
 
 // Adds the challenges of an authorization that were answered and not yet reported.
@@ -75,7 +84,7 @@ fn push_answered(
     let challenges = row.challenges.as_slice();
     for challenge in challenges {
         if challenge.status.is_processing() {
-            work.push(work_value(alloc, book, row, challenge)?)?;
+            push_value(work, work_value(alloc, book, row, challenge))?;
         }
     }
     Ok(())
@@ -127,15 +136,22 @@ fn name_values(alloc: Global, names: &[DnsName]) -> Result<Vec<Value>, AllocErro
     Ok(values)
 }
 
-// The bytes of the CSR in base64url, none where there is none.
+// The bytes of the CSR, none where there is none.
+fn csr_bytes(finalized: &Option<DatedBytes>) -> &[u8]
+    ensures { result.now ≡ bytes_of finalized.now }
+{
+    match finalized {
+        Some(finalized) => finalized.bytes.as_slice(),
+        None => &[],
+    }
+}
+
+// The bytes of the CSR in base64url.
 #[tactic(auto, unfolding(desk_model::specs::Tokens::base64url))]
 fn csr_text(alloc: Global, finalized: &Option<DatedBytes>) -> Result<String, AllocError>
     ensures { IfOk result (λ t. string_bytes t ≡ base64url (bytes_of finalized.now)) }
 {
-    match finalized {
-        Some(finalized) => URL_SAFE_NO_PAD.encode(alloc, finalized.bytes.as_slice()),
-        None => URL_SAFE_NO_PAD.encode(alloc, &[]),
-    }
+    URL_SAFE_NO_PAD.encode(alloc, csr_bytes(finalized))
 }
 
 fn name_list(alloc: Global, book: &Book, row: &OrderRow) -> Result<Value, AllocError>
@@ -145,16 +161,29 @@ fn name_list(alloc: Global, book: &Book, row: &OrderRow) -> Result<Value, AllocE
     Ok(list_value(name_values(alloc, names.as_slice())?))
 }
 
+// Puts the members of an order that waits for the signing office.
+fn put_order(
+    members: &mut Map<String, Value>,
+    alloc: Global,
+    book: &Book,
+    row: &OrderRow,
+) -> Result<(), AllocError>
+    ensures { OnOk result (members_view members.new.entries ≡ with_members (order_work_members book.now row.now) (members_view members.old.entries)) }
+{
+    let csr = csr_text(alloc, &row.finalized);
+    put_text(members, alloc, "csr", csr)?;
+    let names = name_list(alloc, book, row);
+    put_value(members, alloc, "names", names)?;
+    put(members, alloc, "order", Value::from(row.number))
+}
+
+// An order that waits for the signing office.
 fn order_value(alloc: Global, book: &Book, row: &OrderRow) -> Result<Value, AllocError>
     ensures { IfOk result (λ v. view v ≡ order_work_document book.now row.now) }
 {
     let mut members = Map::new(alloc);
-    let csr = csr_text(alloc, &row.finalized);
-    put_text(&mut members, alloc, "csr", csr)?;
-    let names = name_list(alloc, book, row);
-    put_value(&mut members, alloc, "names", names)?;
-    put(&mut members, alloc, "order", Value::from(row.number))?;
-    Ok(Value::Object(members))
+    let put = put_order(&mut members, alloc, book, row);
+    object_value(members, put)
 }
 
 fn waiting_orders(alloc: Global, book: &Book, moment: u64) -> Result<Vec<Value>, AllocError>

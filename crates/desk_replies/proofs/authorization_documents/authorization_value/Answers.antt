@@ -1,17 +1,16 @@
 use Rattle.std.proofs.Common.{ap, ◌∙◌, true}
 use Rattle.std.specs.Prelude.{codes}
-use Rattle.serde_json.specs.Data.{object, boolean}
+use Rattle.serde_json.specs.Data.{boolean}
 use Rattle.serde_json.specs.View.{members_view}
-use Rattle.serde_json.proofs.Views.{view-Object}
 use Rattle.desk_model.specs.Json.{when}
-use Rattle.desk_replies.specs.Shown.{with_members}
+use Rattle.desk_replies.specs.Shown.{authorization_members, with_members}
+use Rattle.desk_replies.proofs.Results.{on_ok}
 use Rattle.desk_replies.proofs.ShownAuthorizations.{authorization_members-put}
 use Rattle.desk_replies.proofs.authorization_documents.authorization_value.Goals as goal
 
 pub returns : goal.returns
 returns c =
-    view-Object c.put_wildcard.new.members
-    ∙ ap object (c.in_ok-put_wildcard.ensures
-    ∙ ap (λ b. with_members (when b (codes "wildcard", boolean true)) (members_view c.in_ok-members.members.entries)) c.is_wildcard.ensures
-    ∙ ap (with_members (when c.args.row.now.name.wildcard (codes "wildcard", boolean true))) c.in_ok-members.ensures
-    ∙ authorization_members-put c.args.policy.now c.args.row.now)
+    c.object_value.ensures _ (on_ok c.put_authorization-put.result (λ put.
+    put
+    ∙ ap (λ es. with_members (when c.args.row.now.name.wildcard (codes "wildcard", boolean true)) (with_members (authorization_members c.args.policy.now c.args.row.now) (members_view es))) c.new-members.ensures.empty
+    ∙ authorization_members-put c.args.policy.now c.args.row.now) c.put_authorization-put.ensures)

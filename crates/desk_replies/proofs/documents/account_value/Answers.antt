@@ -1,20 +1,10 @@
-use Rattle.std.proofs.Common.{ap, ◌∙◌, map}
-use Rattle.std.specs.Prelude.{codes, ◌∷◌, []}
-use Rattle.serde_json.specs.Data.{object, string}
+use Rattle.std.proofs.Common.{ap}
 use Rattle.serde_json.specs.View.{members_view}
-use Rattle.serde_json.proofs.Views.{view-Object}
-use Rattle.desk_model.specs.Json.{list}
-use Rattle.desk_replies.specs.Shown.{with_members}
-use Rattle.desk_replies.proofs.ShownOrders.{and_put}
+use Rattle.desk_replies.specs.Shown.{account_members}
+use Rattle.desk_replies.proofs.Results.{on_ok}
+use Rattle.desk_replies.proofs.ShownOrders.{and_puts}
 use Rattle.desk_replies.proofs.documents.account_value.Goals as goal
 
 pub returns : goal.returns
 returns c =
-    view-Object c.put_str.new.members
-    ∙ ap object (and_put _ _ _ _
-    (c.in_ok-put_str.ensures ∙ ap (λ text. with_members ((codes "status", string text) ∷ []) (members_view c.put_text.new.members.entries)) c.as_str.ensures)
-    (and_put _ _ _ _ (c.in_ok-put_text.ensures _ c.orders_url-orders.ensures)
-    (and_put _ _ _ _
-    (c.in_ok-put_value.ensures _ c.text_list-contacts.ensures
-    ∙ ap (λ contacts. with_members ((codes "contact", list (map string contacts)) ∷ []) (members_view c.new-members.result.entries)) c.as_slice.ensures)
-    (ap members_view c.new-members.ensures.empty))))
+    c.object_value.ensures _ (on_ok c.put_account-put.result (λ put. and_puts (account_members c.args.policy.now c.args.row.now) _ _ _ put (ap members_view c.new-members.ensures.empty)) c.put_account-put.ensures)

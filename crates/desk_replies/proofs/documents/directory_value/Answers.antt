@@ -1,14 +1,10 @@
-use Rattle.std.proofs.Common.{ap, ◌∙◌}
-use Rattle.serde_json.specs.Data.{object}
+use Rattle.std.proofs.Common.{ap}
 use Rattle.serde_json.specs.View.{members_view}
-use Rattle.serde_json.proofs.Views.{view-Object}
-use Rattle.desk_replies.proofs.ShownOrders.{and_put}
+use Rattle.desk_replies.specs.Shown.{directory_members}
+use Rattle.desk_replies.proofs.Results.{on_ok}
+use Rattle.desk_replies.proofs.ShownOrders.{and_puts}
 use Rattle.desk_replies.proofs.documents.directory_value.Goals as goal
 
 pub returns : goal.returns
 returns c =
-    view-Object c.put_text-3.new.members
-    ∙ ap object (and_put _ _ _ _ (c.in_ok-put_text-3.ensures _ c.url-order.ensures)
-    (and_put _ _ _ _ (c.in_ok-put_text-2.ensures _ c.url-nonce.ensures)
-    (and_put _ _ _ _ (c.in_ok-put_text.ensures _ c.url-account.ensures)
-    (ap members_view c.new-members.ensures.empty))))
+    c.object_value.ensures _ (on_ok c.put_directory-put.result (λ put. and_puts (directory_members c.args.policy.now) _ _ _ put (ap members_view c.new-members.ensures.empty)) c.put_directory-put.ensures)

@@ -1,21 +1,10 @@
-use Rattle.std.proofs.Common.{ap, ◌∙◌}
-use Rattle.std.specs.Prelude.{codes, ◌∷◌, []}
-use Rattle.serde_json.specs.Data.{object, string}
+use Rattle.std.proofs.Common.{ap}
 use Rattle.serde_json.specs.View.{members_view}
-use Rattle.serde_json.proofs.Views.{view-Object}
-use Rattle.desk_replies.specs.Shown.{with_members}
-use Rattle.desk_replies.proofs.ShownOrders.{and_put}
+use Rattle.desk_replies.specs.Shown.{work_members}
+use Rattle.desk_replies.proofs.Results.{on_ok}
+use Rattle.desk_replies.proofs.ShownOrders.{and_puts}
 use Rattle.desk_replies.proofs.work_documents.work_value.Goals as goal
 
 pub returns : goal.returns
 returns c =
-    view-Object c.put_str-2.new.members
-    ∙ ap object (and_put _ _ _ _ (c.in_ok-put_str-2.ensures
-    ∙ ap (λ text. with_members ((codes "type", string text) ∷ []) (members_view c.put_text-2.new.members.entries)) c.as_str.ensures)
-    (and_put _ _ _ _ (c.in_ok-put_text-2.ensures _ c.token_text-token.ensures)
-    (and_put _ _ _ _ (c.in_ok-put_str.ensures
-    ∙ ap (λ text. with_members ((codes "name", string text) ∷ []) (members_view c.put_text.new.members.entries)) c.base.ensures.base)
-    (and_put _ _ _ _ (c.in_ok-put_text.ensures _ c.expected-expected.ensures)
-    (and_put _ _ _ _
-    (c.in_ok-put.ensures.ok ∙ ap (λ shown. with_members ((codes "challenge", shown) ∷ []) (members_view c.new-members.result.entries)) c.from.ensures)
-    (ap members_view c.new-members.ensures.empty))))))
+    c.object_value.ensures _ (on_ok c.put_work-put.result (λ put. and_puts (work_members c.args.book.now c.args.row.now c.args.challenge.now) _ _ _ put (ap members_view c.new-members.ensures.empty)) c.put_work-put.ensures)

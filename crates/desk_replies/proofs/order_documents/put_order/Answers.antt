@@ -1,23 +1,27 @@
 use Rattle.std.proofs.Common.{ap, map, ◌∙◌}
-use Rattle.std.specs.Prelude.{codes, ◌∷◌, []}
+use Rattle.std.specs.Prelude.{codes, is_some, ◌∷◌, []}
 use Rattle.serde_json.specs.Data.{string}
 use Rattle.serde_json.specs.View.{members_view}
-use Rattle.desk_model.specs.Json.{list}
-use Rattle.desk_model.specs.Document.{authorization_url}
 use Rattle.desk_replies.specs.Shown.{with_members}
+use Rattle.desk_replies.proofs.Results.{on_ok}
 use Rattle.desk_replies.proofs.ShownOrders.{and_put}
-use Rattle.desk_replies.proofs.order_documents.order_members.Goals as goal
+use Rattle.desk_model.specs.Json.{list, when}
+use Rattle.desk_model.specs.Document.{authorization_url, certificate_url, order_error}
+use Rattle.desk_replies.proofs.order_documents.put_order.Goals as goal
 
 pub returns : goal.returns
 returns c =
-    and_put _ _ _ _
+    on_ok c.put_error.result (λ put.
+    put
+    ∙ ap (with_members (order_error c.args.row.now.failed)) (c.in_ok-put_certificate.ensures
+    ∙ ap (with_members (when (is_some c.args.row.now.certified) (codes "certificate", string (certificate_url c.args.policy.now c.args.row.now.number))))
+    (and_put _ _ _ _
     (c.in_ok-put_str.ensures ∙ ap (λ text. with_members ((codes "status", string text) ∷ []) (members_view c.put_value-2.new.members.entries)) c.as_str.ensures)
     (and_put _ _ _ _ (c.in_ok-put_value-2.ensures _ c.identifiers-identifiers.ensures)
     (and_put _ _ _ _ (c.in_ok-put_text-2.ensures _ c.finalize_url-finalize.ensures)
     (and_put _ _ _ _ (c.in_ok-put_text.ensures _ c.capped_moment_text-expires.ensures)
-    (and_put _ _ _ _
     (c.in_ok-put_value.ensures _ c.authorization_urls-urls.ensures
     ∙ ap (λ listed. with_members
     ((codes "authorizations", list (map (λ l. string (authorization_url c.args.policy.now l.authorization)) listed)) ∷ [])
-    (members_view c.new-members.result.entries)) c.as_slice.ensures)
-    (ap members_view c.new-members.ensures.empty)))))
+    (members_view c.args.members.now.entries)) c.as_slice.ensures)))))))
+    c.put_error.ensures

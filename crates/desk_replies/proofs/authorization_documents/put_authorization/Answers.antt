@@ -1,0 +1,28 @@
+use Rattle.std.proofs.Common.{ap, map, ◌∙◌, true}
+use Rattle.std.specs.Prelude.{codes, ◌∷◌, []}
+use Rattle.serde_json.specs.Data.{string, boolean}
+use Rattle.serde_json.specs.View.{members_view}
+use Rattle.desk_replies.specs.Shown.{with_members}
+use Rattle.desk_replies.proofs.Results.{on_ok}
+use Rattle.desk_replies.proofs.ShownOrders.{and_put}
+use Rattle.desk_model.specs.Json.{list, when}
+use Rattle.desk_model.specs.Document.{challenge_document, identifier, shown_challenges}
+use Rattle.desk_replies.specs.Shown.{capped_challenge}
+use Rattle.desk_replies.proofs.authorization_documents.put_authorization.Goals as goal
+
+pub returns : goal.returns
+returns c =
+    on_ok c.put_wildcard.result (λ put.
+    put
+    ∙ ap (λ b. with_members (when b (codes "wildcard", boolean true)) (members_view c.put_str.new.members.entries)) c.is_wildcard.ensures
+    ∙ ap (with_members (when c.args.row.now.name.wildcard (codes "wildcard", boolean true)))
+    (and_put _ _ _ _ (c.in_ok-put_str.ensures
+    ∙ ap (λ text. with_members ((codes "status", string text) ∷ []) (members_view c.put_value.new.members.entries)) c.as_str.ensures)
+    (and_put _ _ _ _
+    (c.in_ok-put_value.ensures _ c.identifier_value-identifier.ensures
+    ∙ ap (λ name. with_members ((codes "identifier", identifier name) ∷ []) (members_view c.put_text.new.members.entries)) c.base.ensures.base)
+    (and_put _ _ _ _ (c.in_ok-put_text.ensures _ c.capped_moment_text-expires.ensures)
+    (c.in_ok-put_list.ensures _ c.shown_challenges-challenges.ensures
+    ∙ ap (λ rows. with_members ((codes "challenges", list (map (λ x. challenge_document c.args.policy.now (capped_challenge x)) (shown_challenges rows))) ∷ [])
+    (members_view c.args.members.now.entries)) c.as_slice.ensures)))))
+    c.put_wildcard.ensures
