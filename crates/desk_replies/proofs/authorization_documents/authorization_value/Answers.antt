@@ -12,5 +12,6 @@ pub returns : goal.returns
 returns c =
     c.object_value.ensures _ (on_ok c.put_authorization-put.result (λ put.
     put
-    ∙ ap (λ es. with_members (when c.args.row.now.name.wildcard (codes "wildcard", boolean true)) (with_members (authorization_members c.args.policy.now c.args.row.now) (members_view es))) c.new-members.ensures.empty
+    ∙ ap (λ es. with_members (when c.args.row.now.name.wildcard (codes "wildcard", boolean true))
+    (with_members (authorization_members c.args.policy.now c.args.row.now) (members_view es))) c.new-members.ensures.empty
     ∙ authorization_members-put c.args.policy.now c.args.row.now) c.put_authorization-put.ensures)

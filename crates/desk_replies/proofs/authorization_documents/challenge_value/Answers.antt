@@ -10,6 +10,7 @@ pub returns : goal.returns
 returns c =
     c.object_value.ensures _ (on_ok c.put_challenge-put.result (λ put.
     put
-    ∙ ap (λ es. with_members (validated (capped_report c.args.row.now.reported)) (with_members (error_of c.args.row.now.reported) (with_members (challenge_members c.args.policy.now c.args.row.now) (members_view es))))
+    ∙ ap (λ es. with_members (validated (capped_report c.args.row.now.reported)) (with_members (error_of c.args.row.now.reported)
+    (with_members (challenge_members c.args.policy.now c.args.row.now) (members_view es))))
     c.new-members.ensures.empty
     ∙ challenge_members-put c.args.row.now.reported _ _ _ _) c.put_challenge-put.ensures)

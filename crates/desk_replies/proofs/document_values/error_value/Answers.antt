@@ -7,4 +7,7 @@ use Rattle.desk_replies.proofs.document_values.error_value.Goals as goal
 
 pub returns : goal.returns
 returns c =
-    c.object_value.ensures _ (on_ok c.put_error_members-put.result (λ put. and_puts (error_members c.args.kind.now c.args.detail.now c.args.status) _ _ _ put (ap members_view c.new-members.ensures.empty)) c.put_error_members-put.ensures)
+    c.object_value.ensures _
+    (on_ok c.put_error_members-put.result (λ put.
+    and_puts (error_members c.args.kind.now c.args.detail.now c.args.status) _ _ _ put (ap members_view c.new-members.ensures.empty))
+    c.put_error_members-put.ensures)

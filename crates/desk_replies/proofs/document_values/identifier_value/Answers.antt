@@ -7,4 +7,7 @@ use Rattle.desk_replies.proofs.document_values.identifier_value.Goals as goal
 
 pub returns : goal.returns
 returns c =
-    c.object_value.ensures _ (on_ok c.put_identifier-put.result (λ put. and_puts (identifier_members c.args.value.now) _ _ _ put (ap members_view c.new-members.ensures.empty)) c.put_identifier-put.ensures)
+    c.object_value.ensures _
+    (on_ok c.put_identifier-put.result (λ put.
+    and_puts (identifier_members c.args.value.now) _ _ _ put (ap members_view c.new-members.ensures.empty))
+    c.put_identifier-put.ensures)

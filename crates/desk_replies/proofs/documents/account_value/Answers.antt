@@ -7,4 +7,7 @@ use Rattle.desk_replies.proofs.documents.account_value.Goals as goal
 
 pub returns : goal.returns
 returns c =
-    c.object_value.ensures _ (on_ok c.put_account-put.result (λ put. and_puts (account_members c.args.policy.now c.args.row.now) _ _ _ put (ap members_view c.new-members.ensures.empty)) c.put_account-put.ensures)
+    c.object_value.ensures _
+    (on_ok c.put_account-put.result (λ put.
+    and_puts (account_members c.args.policy.now c.args.row.now) _ _ _ put (ap members_view c.new-members.ensures.empty))
+    c.put_account-put.ensures)

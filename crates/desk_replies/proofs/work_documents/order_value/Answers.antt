@@ -7,4 +7,7 @@ use Rattle.desk_replies.proofs.work_documents.order_value.Goals as goal
 
 pub returns : goal.returns
 returns c =
-    c.object_value.ensures _ (on_ok c.put_order-put.result (λ put. and_puts (order_work_members c.args.book.now c.args.row.now) _ _ _ put (ap members_view c.new-members.ensures.empty)) c.put_order-put.ensures)
+    c.object_value.ensures _
+    (on_ok c.put_order-put.result (λ put.
+    and_puts (order_work_members c.args.book.now c.args.row.now) _ _ _ put (ap members_view c.new-members.ensures.empty))
+    c.put_order-put.ensures)
