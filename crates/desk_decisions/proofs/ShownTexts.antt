@@ -1,5 +1,5 @@
 -- The moments of rows that are found have texts.
-use Rattle.std.proofs.Common.{◌≡◌, ℕ, ◌≤◌, List, Option, Some, None, IfSome, Result, Ok, Err, IfOk, OnOk, ◌∙◌, ap, refl, subst, sym}
+use Rattle.std.proofs.Common.{◌≡◌, ℕ, ◌≤◌, List, Option, Some, None, IfSome, Result, Ok, IfOk, OnOk, ◌∙◌, ap, refl, subst, sym}
 use Rattle.std.specs.Prelude.{◌==◌, find, is_some, Bool}
 use Rattle.std.specs.Option.{option_map}
 use Rattle.desk_laws.proofs.Finds.{each_found}
@@ -32,11 +32,6 @@ authorization_moments T n texts = found_has HasMoments (λ a. a.number == n) T.a
 -- and the one that a challenge is of
 pub owner_moments : (T : Tables) (n : ℕ) → HasTexts T → IfSome (owner_on T n) HasMoments
 owner_moments T n texts = found_has HasMoments (has_row n) T.authorizations texts.authorizations
-
--- what follows of what is given
-pub ok_so : {X E : Type 0} {P Q : X → Type 0} (r : Result X E) → ((x : X) → P x → Q x) → IfOk r P → IfOk r Q
-ok_so (Ok x) f h = f x h
-ok_so (Err e) f h = tt
 
 -- what holds of a result holds of the value that it is
 pub ok_if : {X E : Type 0} (P : X → Type 0) (r : Result X E) (x : X) → r ≡ Ok x → IfOk r P → P x

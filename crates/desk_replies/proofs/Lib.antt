@@ -1,7 +1,7 @@
 pub mod Gathered
 pub mod KeyMembers
 pub mod NoFloats
-mod Results
+pub mod Results
 pub mod ShownAuthorizations
 pub mod ShownOrders
 pub mod ShownWork

@@ -4,7 +4,7 @@ use Rattle.desk_model.specs.Shown.{reply_of}
 use Rattle.desk_model.specs.declared.verdict.Verdict.TheVariants.{Answers as answers, Orders as orders, Refused as refused}
 use Rattle.desk_decisions.specs.HasTexts.{HasTexts}
 use Rattle.desk_decisions.proofs.Acting.{Records, Replies, clock_at, records_nothing, replies_move, where_answered}
-use Rattle.desk_decisions.proofs.ShownTexts.{ok_so}
+use Rattle.desk_replies.proofs.Results.{ok_so}
 use Rattle.desk_decisions.proofs.acts.act.Goals as goal
 
 pub returns-in-Refused-clause-recorded : goal.returns-in-Refused-clause-recorded

@@ -5,7 +5,7 @@ use Rattle.desk_model.specs.Tables.{Tables}
 use Rattle.desk_model.specs.declared.entry.Entry.TheVariants.{Opened as opened}
 use Rattle.desk_model.specs.declared.rows.Meta.{Meta}
 use Rattle.desk_decisions.proofs.ActingRows.{opened_found}
-use Rattle.desk_decisions.proofs.ShownTexts.{ok_so}
+use Rattle.desk_replies.proofs.Results.{ok_so}
 use Rattle.desk_decisions.proofs.acts.act_on_account.Goals as goal
 
 pub returns-clause-reply : goal.returns-clause-reply

@@ -11,7 +11,7 @@ use Rattle.desk_model.specs.declared.rows.OrderRow.{OrderRow}
 use Rattle.desk_changes.specs.Made.{next_order}
 use Rattle.desk_decisions.proofs.Acting.{where_answered}
 use Rattle.desk_decisions.proofs.ActingRows.{ordered_found, ordered_names, ordered_text}
-use Rattle.desk_decisions.proofs.ShownTexts.{ok_so}
+use Rattle.desk_replies.proofs.Results.{ok_so}
 use Rattle.desk_decisions.proofs.acts.act_on_order.Goals as goal
 
 pub returns-clause-recorded : goal.returns-clause-recorded

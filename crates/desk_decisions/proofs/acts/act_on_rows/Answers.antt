@@ -1,6 +1,6 @@
 use Rattle.desk_decisions.proofs.Acting.{where_answered}
 use Rattle.desk_decisions.proofs.MovedThere.{among_moved}
-use Rattle.desk_decisions.proofs.ShownTexts.{ok_so}
+use Rattle.desk_replies.proofs.Results.{ok_so}
 use Rattle.desk_decisions.proofs.acts.act_on_rows.Goals as goal
 
 pub show_moved-requires : goal.show_moved-requires

@@ -4,7 +4,7 @@ use Rattle.desk_model.specs.Rules.{office_verdict}
 use Rattle.desk_model.specs.Tables.{Tables}
 use Rattle.desk_decisions.specs.There.{NamesRows}
 use Rattle.desk_decisions.proofs.NamedRows.{office_there}
-use Rattle.desk_decisions.proofs.ShownTexts.{ok_so}
+use Rattle.desk_replies.proofs.Results.{ok_so}
 use Rattle.desk_decisions.proofs.decisions.office_verdict.Goals as goal
 
 pub returns-clause-judged : goal.returns-clause-judged

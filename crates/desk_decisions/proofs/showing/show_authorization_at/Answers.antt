@@ -3,7 +3,7 @@ use Rattle.std.specs.Prelude.{◌==◌}
 use Rattle.desk_laws.proofs.Finds.{each_found}
 use Rattle.desk_model.specs.Shown.{authorization_reply, shown}
 use Rattle.desk_replies.specs.Shown.{HasMoments}
-use Rattle.desk_decisions.proofs.ShownTexts.{ok_so}
+use Rattle.desk_replies.proofs.Results.{ok_so}
 use Rattle.desk_decisions.proofs.showing.show_authorization_at.Goals as goal
 
 pub returns : goal.returns

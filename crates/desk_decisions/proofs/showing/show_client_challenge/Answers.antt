@@ -2,7 +2,7 @@ use Rattle.std.proofs.Common.{◌∙◌, ap, sym}
 use Rattle.desk_model.specs.Document.{authorization_url}
 use Rattle.desk_model.specs.Shown.{below, challenge_reply, shown}
 use Rattle.desk_decisions.proofs.ShownChallenges.{challenge_text}
-use Rattle.desk_decisions.proofs.ShownTexts.{ok_so}
+use Rattle.desk_replies.proofs.Results.{ok_so}
 use Rattle.desk_decisions.proofs.showing.show_client_challenge.Goals as goal
 
 pub returns : goal.returns

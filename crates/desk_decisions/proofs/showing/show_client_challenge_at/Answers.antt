@@ -5,7 +5,7 @@ use Rattle.desk_model.specs.Effect.{has_row}
 use Rattle.desk_model.specs.Shown.{client_challenge_in, shown}
 use Rattle.desk_model.specs.Tables.{Tables}
 use Rattle.desk_replies.specs.Shown.{HasMoments}
-use Rattle.desk_decisions.proofs.ShownTexts.{ok_so}
+use Rattle.desk_replies.proofs.Results.{ok_so}
 use Rattle.desk_decisions.proofs.showing.show_client_challenge_at.Goals as goal
 
 pub show_client_challenge-requires : goal.show_client_challenge-requires

@@ -10,7 +10,8 @@ use Rattle.desk_model.specs.declared.rows.Meta.{Meta}
 use Rattle.desk_replies.specs.Shown.{HasMoments}
 use Rattle.desk_changes.proofs.ShownAfter.{policy_moved}
 use Rattle.desk_decisions.proofs.MovedReplies.{account_there, authorization_there, named_after, order_there, owner_there}
-use Rattle.desk_decisions.proofs.ShownTexts.{authorization_moments, ok_so, order_ends, owner_moments, shown_found}
+use Rattle.desk_replies.proofs.Results.{ok_so}
+use Rattle.desk_decisions.proofs.ShownTexts.{authorization_moments, order_ends, owner_moments, shown_found}
 use Rattle.desk_decisions.proofs.showing.show_moved.Goals as goal
 
 pub show_client_challenge-requires : goal.show_client_challenge-requires

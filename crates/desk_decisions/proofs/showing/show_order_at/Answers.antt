@@ -4,7 +4,7 @@ use Rattle.desk_laws.proofs.Finds.{each_found}
 use Rattle.desk_model.specs.Limits.{last_end}
 use Rattle.desk_model.specs.Shown.{order_reply, shown}
 use Rattle.desk_decisions.proofs.MovedReplies.{named_at}
-use Rattle.desk_decisions.proofs.ShownTexts.{ok_so}
+use Rattle.desk_replies.proofs.Results.{ok_so}
 use Rattle.desk_decisions.proofs.showing.show_order_at.Goals as goal
 
 pub returns : goal.returns
