@@ -13,29 +13,53 @@ use std::alloc::Global;
 fn order<'a>(matches: &ArgMatches<'a>) -> Option<Order<'a>> {
     let (name, given) = matches.subcommand()?;
     match Task::named(name)? {
-        Task::Make => Some(Order::Make {
-            file: file(given)?,
-            terms: terms(given)?,
-        }),
-        Task::Serve => Some(Order::Serve {
-            file: file(given)?,
-            port: given.get_one::<u16>(arguments::PORT)?,
-            count: given.get_one::<u64>(arguments::COUNT),
-        }),
-        Task::Batch => Some(Order::Batch {
-            file: given.get_str(arguments::BATCH_FILE),
-        }),
-        Task::Status => Some(Order::Status {
-            file: file(given)?,
-            listing: listing(given)?,
-        }),
-        Task::Check => Some(Order::Check {
-            file: file(given)?,
-            json: given.get_flag(arguments::JSON),
-        }),
-        Task::RevokeAuthorization => revoke(Target::Authorization(number(given)?), given),
-        Task::RevokeAccount => revoke(Target::Account(number(given)?), given),
+        Task::Make => make(given),
+        Task::Serve => serve(given),
+        Task::Batch => Some(batch(given)),
+        Task::Status => status(given),
+        Task::Check => check(given),
+        Task::RevokeAuthorization => revoke_authorization(given),
+        Task::RevokeAccount => revoke_account(given),
     }
+}
+
+fn make<'a>(given: &ArgMatches<'a>) -> Option<Order<'a>> {
+    let (file, terms) = file(given).zip(terms(given))?;
+    Some(Order::Make { file, terms })
+}
+
+fn serve<'a>(given: &ArgMatches<'a>) -> Option<Order<'a>> {
+    let (file, port) = file(given).zip(given.get_one::<u16>(arguments::PORT))?;
+    let count = given.get_one::<u64>(arguments::COUNT);
+    Some(Order::Serve { file, port, count })
+}
+
+fn batch<'a>(given: &ArgMatches<'a>) -> Order<'a> {
+    let file = given.get_str(arguments::BATCH_FILE);
+    Order::Batch { file }
+}
+
+fn status<'a>(given: &ArgMatches<'a>) -> Option<Order<'a>> {
+    let (file, listing) = file(given).zip(listing(given))?;
+    Some(Order::Status { file, listing })
+}
+
+fn check<'a>(given: &ArgMatches<'a>) -> Option<Order<'a>> {
+    let file = file(given)?;
+    let json = given.get_flag(arguments::JSON);
+    Some(Order::Check { file, json })
+}
+
+fn revoke_authorization<'a>(given: &ArgMatches<'a>) -> Option<Order<'a>> {
+    let (file, number) = file(given).zip(number(given))?;
+    let target = Target::Authorization(number);
+    Some(Order::Revoke { file, target })
+}
+
+fn revoke_account<'a>(given: &ArgMatches<'a>) -> Option<Order<'a>> {
+    let (file, number) = file(given).zip(number(given))?;
+    let target = Target::Account(number);
+    Some(Order::Revoke { file, target })
 }
 
 // The file that holds the desk, or that will.
@@ -46,14 +70,6 @@ fn file<'a>(given: &ArgMatches<'a>) -> Option<&'a str> {
 // The number of what is revoked.
 fn number(given: &ArgMatches<'_>) -> Option<u64> {
     given.get_one::<u64>(arguments::NUMBER)
-}
-
-// To revoke this.
-fn revoke<'a>(target: Target, given: &ArgMatches<'a>) -> Option<Order<'a>> {
-    Some(Order::Revoke {
-        file: file(given)?,
-        target,
-    })
 }
 
 // The terms among them.

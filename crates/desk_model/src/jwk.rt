@@ -79,28 +79,33 @@ fn is_key_text(text: &str) -> bool
 fn has_key_shape(text: &str) -> bool
     ensures { IsTrue result ↔ HasKeyShape text.now }
 {
-    has_ec_shape(text)
-        || has_two_numbers(text, "{\"e\":\"", ",\"kty\":\"RSA\",\"n\":\"")
-        || has_one_number(text, "{\"crv\":\"Ed25519\",\"kty\":\"OKP\",\"x\":\"")
+    if has_ec_shape(text) {
+        return true;
+    }
+    if has_two_numbers(text, "{\"e\":\"", ",\"kty\":\"RSA\",\"n\":\"") {
+        return true;
+    }
+    has_one_number(text, "{\"crv\":\"Ed25519\",\"kty\":\"OKP\",\"x\":\"")
 }
 
 // Whether the text has the shape of a key on a curve of the NIST.
 fn has_ec_shape(text: &str) -> bool
     ensures { IsTrue result ↔ HasEcShape text.now }
 {
-    has_two_numbers(
-        text,
-        "{\"crv\":\"P-256\",\"kty\":\"EC\",\"x\":\"",
-        ",\"y\":\"",
-    ) || has_two_numbers(
-        text,
-        "{\"crv\":\"P-384\",\"kty\":\"EC\",\"x\":\"",
-        ",\"y\":\"",
-    ) || has_two_numbers(
-        text,
-        "{\"crv\":\"P-521\",\"kty\":\"EC\",\"x\":\"",
-        ",\"y\":\"",
-    )
+    if is_on_curve(text, "{\"crv\":\"P-256\",\"kty\":\"EC\",\"x\":\"") {
+        return true;
+    }
+    if is_on_curve(text, "{\"crv\":\"P-384\",\"kty\":\"EC\",\"x\":\"") {
+        return true;
+    }
+    is_on_curve(text, "{\"crv\":\"P-521\",\"kty\":\"EC\",\"x\":\"")
+}
+
+// Whether the two coordinates of a point stand behind the head, and end the text.
+fn is_on_curve(text: &str, head: &str) -> bool
+    ensures { IsTrue result ↔ HasTwoNumbers head.now (codes ",\"y\":\"") text.now }
+{
+    has_two_numbers(text, head, ",\"y\":\"")
 }
 
 // Whether two numbers stand behind the head, with this between them, and end the text.
