@@ -40,6 +40,11 @@ abbrev pub AreFilled : {X K : Type 0} → (number : X → ℕ) (children : X →
 AreFilled {X} number children under bare read rows =
     (xs : List X) → EachOf (λ x. under (number x) ≡ children x) xs → read ≡ map bare xs → rows ≡ xs
 
+-- no row was filled yet
+pub filled_none : {X K : Type 0} (number : X → ℕ) (children : X → List K) (under : ℕ → List K) (bare : X → X) → AreFilled number children under bare [] []
+filled_none number children under bare [] own are = refl
+filled_none number children under bare (x ∷ xs) own are = absurd (cc are)
+
 -- one row more
 pub filled_more : {X K : Type 0} (number : X → ℕ) (children : X → List K) (under : ℕ → List K) (bare : X → X) (fill : X → List K → X)
     → ((x : X) → number (bare x) ≡ number x) → ((x : X) → fill (bare x) (children x) ≡ x)

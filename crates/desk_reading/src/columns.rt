@@ -6,7 +6,7 @@ ghost use Rattle.desk_reading.specs.Fitting.{FitsAccount, FitsAuthorization, Fit
 ghost use Rattle.desk_reading.specs.Spelled.{account_in, authorization_in, challenge_in, listed_in, meta_in, nonce_in, order_in};
 
 use crate::values::{
-    bytes, bytes_or_none, number_or_none, numbers, numbers_or_none, text, text_or_none,
+    both, bytes, bytes_or_none, number_or_none, numbers, numbers_or_none, text, text_or_none,
 };
 use desk_columns::{
     AccountColumns, AuthzColumns, ChallColumns, Columns, MetaColumns, NonceColumns,
@@ -106,14 +106,17 @@ impl Selected for AccountColumns {
 
     fn of(row: &Row) -> Result<AccountColumns, Error> {
         let [num, opened] = numbers(row, [0, 3])?;
+        let ended = number_or_none(row, 4)?;
+        let (jwk, contacts) = both(text(row, 1), text(row, 2))?;
+        let (end_kind, status) = both(text_or_none(row, 5), text(row, 6))?;
         Ok(AccountColumns {
             num,
+            jwk,
+            contacts,
             opened,
-            ended: number_or_none(row, 4)?,
-            jwk: text(row, 1)?,
-            contacts: text(row, 2)?,
-            end_kind: text_or_none(row, 5)?,
-            status: text(row, 6)?,
+            ended,
+            end_kind,
+            status,
         })
     }
 }
@@ -126,18 +129,20 @@ impl Selected for OrderColumns {
     fn of(row: &Row) -> Result<OrderColumns, Error> {
         let [num, account, made, expires] = numbers(row, [0, 1, 2, 3])?;
         let [finalized, certified, failed] = numbers_or_none(row, [4, 6, 8])?;
+        let (csr, cert) = both(bytes_or_none(row, 5), bytes_or_none(row, 7))?;
+        let (problem, status) = both(text_or_none(row, 9), text(row, 10))?;
         Ok(OrderColumns {
             num,
             account,
             made,
             expires,
             finalized,
+            csr,
             certified,
+            cert,
             failed,
-            csr: bytes_or_none(row, 5)?,
-            cert: bytes_or_none(row, 7)?,
-            problem: text_or_none(row, 9)?,
-            status: text(row, 10)?,
+            problem,
+            status,
         })
     }
 }
@@ -149,16 +154,19 @@ impl Selected for AuthzColumns {
 
     fn of(row: &Row) -> Result<AuthzColumns, Error> {
         let [num, account, wildcard, made, expires] = numbers(row, [0, 1, 3, 4, 5])?;
+        let ended = number_or_none(row, 6)?;
+        let name = text(row, 2)?;
+        let (end_kind, status) = both(text_or_none(row, 7), text(row, 8))?;
         Ok(AuthzColumns {
             num,
             account,
+            name,
             wildcard,
             made,
             expires,
-            ended: number_or_none(row, 6)?,
-            name: text(row, 2)?,
-            end_kind: text_or_none(row, 7)?,
-            status: text(row, 8)?,
+            ended,
+            end_kind,
+            status,
         })
     }
 }
@@ -182,15 +190,17 @@ impl Selected for ChallColumns {
     fn of(row: &Row) -> Result<ChallColumns, Error> {
         let [num, authz] = numbers(row, [0, 1])?;
         let [answered, reported] = numbers_or_none(row, [4, 5])?;
+        let (kind, token) = both(text(row, 2), bytes(row, 3))?;
+        let (outcome, status) = both(text_or_none(row, 6), text(row, 7))?;
         Ok(ChallColumns {
             num,
             authz,
+            kind,
+            token,
             answered,
             reported,
-            kind: text(row, 2)?,
-            token: bytes(row, 3)?,
-            outcome: text_or_none(row, 6)?,
-            status: text(row, 7)?,
+            outcome,
+            status,
         })
     }
 }

@@ -1,5 +1,5 @@
 //! The values of a row of an answer.
-ghost use Rattle.std.specs.Prelude.{◌≡◌, IfErr, IfOk, map, option_map, string_bytes};
+ghost use Rattle.std.specs.Prelude.{◌≡◌, IfErr, IfOk, Ok, map, option_map, string_bytes};
 ghost use Rattle.sqlite.specs.Order.{column};
 ghost use Rattle.desk_model.specs.Kept.{EachOf};
 ghost use Rattle.desk_reading.specs.Failures.{IsOutOfMemory};
@@ -122,4 +122,17 @@ pub(crate) fn bytes_or_none(row: &Row, at: usize) -> Result<Option<Sequence<u8>>
         Some(found) => Ok(Some(Sequence::new(found))),
         None => Ok(None),
     }
+}
+
+/// Two values, where neither fails: a row that owns several has one exit so, not one for each.
+pub(crate) fn both<A: Drop, B: Drop>(
+    first: Result<A, Error>,
+    second: Result<B, Error>,
+) -> Result<(A, B), Error>
+    ensures read { IfOk result (λ pair. (first ≡ Ok pair.0) × (second ≡ Ok pair.1)) }
+    ensures fails { IfErr first IsOutOfMemory → IfErr second IsOutOfMemory → IfErr result IsOutOfMemory }
+{
+    let first = first?;
+    let second = second?;
+    Ok((first, second))
 }

@@ -1,5 +1,5 @@
 -- What is left of a connection after calls that change nothing.
-use Rattle.std.proofs.Common.{inl, inr, List, [], ℕ, IfOk, IfErr, Result, Ok, Err, sym, ◌∙◌, arith}
+use Rattle.std.proofs.Common.{inl, inr, List, [], ℕ, IfOk, IfErr, Result, Ok, Err, refl, sym, ◌∙◌, arith}
 use Rattle.sqlite.specs.Order.{Row}
 use Rattle.sqlite.specs.declared.error.Error.{Error}
 use Rattle.sqlite.specs.State.{State, IsNotRun, IsUnchanged}
@@ -38,4 +38,19 @@ asks_then a b c p q = record {
   survives = survives_then a b c (λ _. ⊥) (λ _. ⊥) (λ _. ⊥) (λ _ db none. none) (λ _ db none. none) p.survives q.survives;
   stays = λ clean. stays_then a b c (p.stays (omega (arith, clean, q.survives.clean))) (q.stays clean);
   idle = λ h. q.idle (p.idle h);
+}
+
+-- a call that was not made
+pub asks_nothing : (s : State) → Asks s s
+asks_nothing s = record {
+  survives = record {
+    clean = omega arith;
+    shield = λ h. h;
+    counts = omega arith;
+    limit = refl;
+    closes = λ clean h. inl h;
+    crash = λ clean trees may. inl may;
+  };
+  stays = λ clean. record { was_open = λ h. h; committed = λ h. refl; now = λ h is. is };
+  idle = λ h. h;
 }

@@ -1,5 +1,5 @@
 -- What a connection still holds after calls that change nothing.
-use Rattle.std.proofs.Common.{◌≡◌, Result, Ok, Err, inl, inr, refl, sym, subst, ◌∙◌, arith}
+use Rattle.std.proofs.Common.{◌≡◌, Result, Ok, Err, inl, inr, sym, subst, ◌∙◌, arith}
 use Rattle.std.specs.Prelude.{IfOk, IsTrue, false}
 use Rattle.sqlite.specs.Held.{Held, state}
 use Rattle.sqlite.specs.State.{State, HasCleanDisk, IsUnchanged, Survives}
@@ -18,21 +18,6 @@ use Rattle.desk_store.specs.Desks.{HasDesk, IsDesk, sight_by}
 use Rattle.desk_store.proofs.Books.{stored_book}
 
 -- ---- states
-
--- a call that was not made
-pub asks_nothing : (s : State) → Asks s s
-asks_nothing s = record {
-  survives = record {
-    clean = omega arith;
-    shield = λ h. h;
-    counts = omega arith;
-    limit = refl;
-    closes = λ clean h. inl h;
-    crash = λ clean trees may. inl may;
-  };
-  stays = λ clean. record { was_open = λ h. h; committed = λ h. refl; now = λ h is. is };
-  idle = λ h. h;
-}
 
 -- a state that shows what another one showed, which had a desk, has it
 pub desk_again : (old new : State) (T : Tables) → IsTrue new.is_open → new.in_transaction ≡ false → new.step_limit ≡ old.step_limit

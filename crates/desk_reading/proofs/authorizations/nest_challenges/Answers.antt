@@ -1,16 +1,30 @@
-use Rattle.std.proofs.Common.{◌∙◌, ◌<◌, ◌≤◌, arith, length, length-set, refl, sym}
+use Rattle.std.proofs.Common.{◌∙◌, ◌<◌, ◌≤◌, ap, arith, length, length-set, refl, sym}
 use Rattle.std.proofs.lemmas.List.{take_all}
 use Rattle.std.proofs.lemmas.Result.{IfOk-from_err}
 use Rattle.sqlite.proofs.Callers.{unchanged_then}
+use Rattle.sqlite.proofs.StateLemmas.{unchanged}
 use Rattle.sqlite.specs.Held.{state}
 use Rattle.sqlite.specs.State.{HasCleanDisk}
 use Rattle.desk_columns.specs.Flat.{challenge_rows, without_challenges}
 use Rattle.desk_model.specs.declared.rows.AuthorizationRow.{AuthorizationRow}
-use Rattle.desk_schema.proofs.StaysLemmas.{asks_then}
+use Rattle.desk_schema.proofs.StaysLemmas.{asks_nothing, asks_then}
 use Rattle.desk_tables.proofs.Holding.{holds_still}
 use Rattle.desk_reading.specs.Under.{rows_under}
-use Rattle.desk_reading.proofs.NestLemmas.{filled_next, left_next, written_over}
+use Rattle.desk_reading.proofs.NestLemmas.{filled_next, filled_none, left_next, written_over}
 use Rattle.desk_reading.proofs.authorizations.nest_challenges.Goals as goal
+
+pub loop-head-init : goal.loop-head-init
+loop-head-init g c =
+    let first = state g.S.Store c.args.conn.now in
+    let same = c.deref_mut-head-items.ensures.value in
+    record {
+      size = ap length same;
+      left = same;
+      found = λ clean T has book open_. filled_none (λ (a : AuthorizationRow). a.number) (λ (a : AuthorizationRow). a.challenges)
+          (λ n. rows_under n (challenge_rows T.authorizations)) without_challenges;
+      unchanged = λ clean open_. unchanged first open_;
+      asks = asks_nothing first;
+    }
 
 pub loop-head-preserved : goal.loop-head-preserved
 loop-head-preserved g c =

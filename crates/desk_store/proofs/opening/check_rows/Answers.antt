@@ -1,8 +1,8 @@
 use Rattle.std.proofs.Common.{◌∙◌, ap, sym}
 use Rattle.sqlite.specs.Held.{state}
 use Rattle.desk_schema.specs.Names.{has_all_indexes}
+use Rattle.desk_schema.proofs.StaysLemmas.{asks_nothing}
 use Rattle.desk_store.proofs.OpeningFaults.{lacks_none}
-use Rattle.desk_store.proofs.Standing.{asks_nothing}
 use Rattle.desk_store.proofs.opening.check_rows.Goals as goal
 
 pub returns-then-not-has_indexes-clause-desk : goal.returns-then-not-has_indexes-clause-desk
