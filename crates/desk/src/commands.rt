@@ -92,8 +92,16 @@ fn answer_lines<R: Read + Drop, W: Write, E: Write>(
     };
     match file {
         Some(file) => run_over_file(rt, file, task),
-        None => Ok(task.answer(&mut memory_desk(alloc)?)),
+        None => answer_in_memory(&mut task),
     }
+}
+
+// Answers the lines by a new desk in memory.
+fn answer_in_memory<R: Read, W: Write, E: Write>(
+    task: &mut AnswerLines<'_, '_, '_, R, W, E>,
+) -> Result<u8, Fault> {
+    let mut desk = memory_desk(task.alloc)?;
+    Ok(task.answer(&mut desk))
 }
 
 // Says what the words lack, or the help that they ask for.

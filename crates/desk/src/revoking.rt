@@ -36,7 +36,9 @@ impl<'a, W: Write> Revoke<'a, W> {
 
     fn answer<K: Storage + Drop>(&self, desk: &mut Desk<K>) -> Result<Reply, Fault> {
         let call = self.call()?;
-        Ok(desk.answer(self.rt.alloc(), &call)?)
+        let answered = desk.answer(self.rt.alloc(), &call);
+        drop(call);
+        Ok(answered?)
     }
 
     // Revokes it by a desk.
