@@ -27,6 +27,7 @@ pub mod Names
 pub mod Nonce
 pub mod Order
 pub mod Payload
+pub mod Plain
 pub mod Questions
 pub mod Refusals
 pub mod Rules

@@ -1,15 +1,16 @@
 //! JSON documents of replies.
-ghost use Rattle.std.specs.Prelude.{◌≡◌, false};
-ghost use Rattle.serde_json.specs.View.{view as data_of};
-ghost use Rattle.serde_json.specs.Written.{has_float};
+ghost use Rattle.std.specs.Prelude.{◌≡◌, Some, string_bytes};
+ghost use Rattle.serde_json.specs.Read.{read};
+ghost use Rattle.serde_json.specs.Written.{compact_text};
+ghost use Rattle.desk_model.specs.Plain.{IsWritten};
 
-use serde_json::Value;
+use crate::text::Text;
 use std::marker::Model;
 
-/// A JSON document without a float, so that its compact text is a function of it.
+/// A JSON document as its compact text, which contracts see as the value that the text reads as.
 #[derive(Drop)]
 pub struct Document {
-    value: Value,
+    text: Text,
 }
 
 impl Model for Document {
@@ -20,29 +21,29 @@ impl Model for Document {
 
     ghost coded = { data_code };
 
-    ghost use Rattle.std.specs.Prelude.{◌≡◌, false};
-    ghost use Rattle.serde_json.specs.View.{view as data_of};
-    ghost use Rattle.serde_json.specs.Written.{has_float};
+    ghost use Rattle.std.specs.Prelude.{◌≡◌};
+    ghost use Rattle.serde_json.specs.Written.{compact_text};
+    ghost use Rattle.desk_model.specs.Plain.{data_in};
 
-    ghost view = { λ d. data_of d.value };
+    ghost view = { λ d. data_in d.text };
 
-    ghost invariant = { λ d. has_float (data_of d.value) ≡ false };
+    ghost invariant = { λ d. d.text ≡ compact_text (data_in d.text) };
 }
 
 impl Document {
-    /// The document of a JSON value that holds no float.
-    pub fn new(value: Value) -> Document
-        requires { has_float (data_of value) ≡ false }
-        ensures { result ≡ data_of value }
+    /// The document of this text, which is the compact text of the value that it reads as.
+    pub fn of_text(text: String) -> Document
+        requires { IsWritten (string_bytes text) }
+        ensures { read (string_bytes text) ≡ Some result }
     {
-        Document { value }
+        let text = Text::new(text);
+        Document { text }
     }
 
-    /// The JSON value.
-    pub fn value(&self) -> &Value
-        ensures same { data_of result.now ≡ self.now }
-        ensures no_float { has_float self.now ≡ false }
+    /// The compact text: no space, and the members in the order of the value.
+    pub fn text(&self) -> &str
+        ensures { result.now ≡ compact_text self.now }
     {
-        &self.value
+        self.text.as_str()
     }
 }

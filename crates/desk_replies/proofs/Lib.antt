@@ -1,6 +1,6 @@
 pub mod Gathered
 pub mod KeyMembers
-pub mod NoFloats
+pub mod PlainDocuments
 pub mod Results
 pub mod ShownAuthorizations
 pub mod ShownOrders

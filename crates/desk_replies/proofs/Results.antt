@@ -1,10 +1,6 @@
 -- What follows of a result where a step went well.
-use Rattle.std.proofs.Common.{◌≡◌, Result, Ok, Err, IfOk, OnOk, false, ap, sym, subst, ◌∙◌}
+use Rattle.std.proofs.Common.{◌≡◌, Result, Ok, Err, IfOk, OnOk, sym, subst}
 use Rattle.std.specs.Result.{result_and}
-use Rattle.serde_json.specs.Data.{Data}
-use Rattle.serde_json.specs.View.{view}
-use Rattle.serde_json.specs.Written.{has_float}
-use Rattle.serde_json.specs.declared.value.Value.{Value}
 
 -- what follows of what is given
 pub ok_so : {X E : Type 0} {P Q : X → Type 0} (r : Result X E) → ((x : X) → P x → Q x) → IfOk r P → IfOk r Q
@@ -21,8 +17,3 @@ pub and_so : {T U E : Type 0} {P : Type 0} (F : U → Type 0) (r : Result T E) (
     → (P → F x) → OnOk r P → IfOk s F
 and_so F (Ok t) x s is f h = subst (λ o. IfOk o F) (sym is) (f h)
 and_so F (Err e) x s is f h = subst (λ o. IfOk o F) (sym is) tt
-
--- a value that shows a document without floats has none
-pub plain_value : {E : Type 0} (r : Result Value E) (d : Data) → has_float d ≡ false → IfOk r (λ v. view v ≡ d)
-    → IfOk r (λ v. has_float (view v) ≡ false)
-plain_value r d plain = ok_so r (λ v is. ap has_float is ∙ plain)

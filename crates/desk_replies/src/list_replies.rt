@@ -19,9 +19,9 @@ pub fn list_reply(alloc: Global, at: &At, listing: Listing) -> Result<Reply, All
     ensures { IfOk result (λ r. r ≡ list_reply at.now listing) }
 {
     match listing {
-        Listing::Directory => json_reply(directory_value(alloc, at.policy())),
-        Listing::Orders(number) => json_reply(orders_value(alloc, at, number)),
-        Listing::ChallengeWork => json_reply(challenge_work_value(alloc, at)),
-        Listing::OrderWork => json_reply(order_work_value(alloc, at)),
+        Listing::Directory => json_reply(alloc, directory_value(alloc, at.policy())),
+        Listing::Orders(number) => json_reply(alloc, orders_value(alloc, at, number)),
+        Listing::ChallengeWork => json_reply(alloc, challenge_work_value(alloc, at)),
+        Listing::OrderWork => json_reply(alloc, order_work_value(alloc, at)),
     }
 }

@@ -1,10 +1,10 @@
 //! Replies with one object, by its row (RFC 8555, 7).
-ghost use Rattle.std.specs.Prelude.{ℕ, List, ◌≡◌, ◌≤◌, map, false, string_bytes, IfOk, Some};
+ghost use Rattle.std.specs.Prelude.{ℕ, List, ◌≡◌, ◌≤◌, map, string_bytes, IfOk, IsTrue, Some};
 ghost use Rattle.serde_json.specs.Data.{Data};
 ghost use Rattle.serde_json.specs.View.{view};
-ghost use Rattle.serde_json.specs.Written.{has_float};
 ghost use Rattle.desk_model.specs.Limits.{last_end};
 ghost use Rattle.desk_model.specs.Document.{authorization_url, key_document, listed_rows};
+ghost use Rattle.desk_model.specs.Plain.{is_document};
 ghost use Rattle.desk_model.specs.Shown.{account_reply, at, authorization_reply, below, certificate_reply, challenge_reply};
 ghost use Rattle.desk_model.specs.Shown.{located_account, located_order, ok, order_reply};
 ghost use Rattle.desk_model.specs.Tables.{Tables};
@@ -22,12 +22,26 @@ use desk_model::{
 use serde_json::Value;
 use std::alloc::{AllocError, Global};
 
+// The document of a value, if that could be made.
+fn document_of(alloc: Global, value: Result<Value, AllocError>) -> Result<Document, AllocError>
+    requires { IfOk value (λ v. IsTrue (is_document (view v))) }
+    ensures { (shown : Data) → IfOk value (λ v. view v ≡ shown) → IfOk result (λ d. d ≡ shown) }
+{
+    let value = value?;
+    let text = value.to_string(alloc);
+    drop(value);
+    Ok(Document::of_text(text?))
+}
+
 /// A reply with a document, if that could be made.
-pub(crate) fn json_reply(value: Result<Value, AllocError>) -> Result<Reply, AllocError>
-    requires { IfOk value (λ v. has_float (view v) ≡ false) }
+pub(crate) fn json_reply(
+    alloc: Global,
+    value: Result<Value, AllocError>,
+) -> Result<Reply, AllocError>
+    requires { IfOk value (λ v. IsTrue (is_document (view v))) }
     ensures { (shown : Data) → IfOk value (λ v. view v ≡ shown) → IfOk result (λ r. r ≡ ok 200 shown) }
 {
-    let document = Document::new(value?);
+    let document = document_of(alloc, value)?;
     Ok(Reply {
         status: 200,
         location: None,
@@ -39,16 +53,18 @@ pub(crate) fn json_reply(value: Result<Value, AllocError>) -> Result<Reply, Allo
 
 // A reply with a status, the URL of its object and a document, if these could be made.
 fn located_reply(
+    alloc: Global,
     status: u16,
     url: Result<String, AllocError>,
     value: Result<Value, AllocError>,
 ) -> Result<Reply, AllocError>
-    requires { IfOk value (λ v. has_float (view v) ≡ false) }
+    requires { IfOk value (λ v. IsTrue (is_document (view v))) }
     ensures { (location : List ℕ) (shown : Data) → IfOk url (λ s. string_bytes s ≡ location) → IfOk value (λ v. view v ≡ shown)
         → IfOk result (λ r. r ≡ at location (ok status shown)) }
 {
+    let document = document_of(alloc, value);
     let location = Text::new(url?);
-    let document = Document::new(value?);
+    let document = document?;
     Ok(Reply {
         status,
         location: Some(location),
@@ -66,7 +82,7 @@ fn located_reply(
 pub fn account_reply(alloc: Global, policy: &Policy, row: &AccountRow) -> Result<Reply, AllocError>
     ensures { IfOk result (λ r. (T : Tables) → T.meta.policy ≡ policy.now → r ≡ account_reply 200 T row.now) }
 {
-    json_reply(account_value(alloc, policy, row))
+    json_reply(alloc, account_value(alloc, policy, row))
 }
 
 /// The reply with an account and its Location (RFC 8555, 7.3).
@@ -83,7 +99,7 @@ pub fn located_account(
     ensures { IfOk result (λ r. (T : Tables) → T.meta.policy ≡ policy.now → r ≡ located_account status T row.now) }
 {
     let url = account_url(alloc, policy, row.number);
-    located_reply(status, url, account_value(alloc, policy, row))
+    located_reply(alloc, status, url, account_value(alloc, policy, row))
 }
 
 /// The reply with an order whose authorizations have these names (RFC 8555, 7.1.3).
@@ -100,7 +116,7 @@ pub fn order_reply(
     ensures { IfOk result (λ r. (T : Tables) → T.meta.policy ≡ policy.now → map (λ a. a.name) (listed_rows T row.now) ≡ names.now
         → row.now.expires ≤ last_end → r ≡ order_reply 200 T row.now) }
 {
-    json_reply(order_value(alloc, policy, row, names))
+    json_reply(alloc, order_value(alloc, policy, row, names))
 }
 
 /// The reply with an order and its Location (RFC 8555, 7.4).
@@ -119,7 +135,7 @@ pub fn located_order(
         → row.now.expires ≤ last_end → r ≡ located_order status T row.now) }
 {
     let url = order_url(alloc, policy, row.number);
-    located_reply(status, url, order_value(alloc, policy, row, names))
+    located_reply(alloc, status, url, order_value(alloc, policy, row, names))
 }
 
 /// The reply with a certificate (RFC 8555, 7.4.2).
@@ -152,7 +168,7 @@ pub fn authorization_reply(
 ) -> Result<Reply, AllocError>
     ensures { IfOk result (λ r. (T : Tables) → T.meta.policy ≡ policy.now → HasMoments row.now → r ≡ authorization_reply T row.now) }
 {
-    json_reply(authorization_value(alloc, policy, row))
+    json_reply(alloc, authorization_value(alloc, policy, row))
 }
 
 /// The reply with a challenge (RFC 8555, 8).
@@ -167,7 +183,7 @@ pub fn challenge_reply(
 ) -> Result<Reply, AllocError>
     ensures { IfOk result (λ r. (T : Tables) → T.meta.policy ≡ policy.now → HasDatedReport row.now.reported → r ≡ challenge_reply T row.now) }
 {
-    json_reply(challenge_value(alloc, policy, row))
+    json_reply(alloc, challenge_value(alloc, policy, row))
 }
 
 /// The reply with a challenge to its client, which names the authorization of this number (RFC 8555, 7.5.1).
@@ -200,5 +216,5 @@ pub fn client_challenge_reply(
 pub fn key_reply(alloc: Global, row: &AccountRow) -> Result<Reply, AllocError>
     ensures { IfOk result (λ r. r ≡ ok 200 (key_document row.now.key)) }
 {
-    json_reply(key_value(alloc, &row.key))
+    json_reply(alloc, key_value(alloc, &row.key))
 }

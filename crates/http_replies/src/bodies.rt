@@ -20,7 +20,7 @@ pub(crate) fn body_bytes(alloc: Global, body: &Body) -> Result<Vec<u8>, AllocErr
 {
     match body {
         Body::Empty => Ok(Vec::new(alloc)),
-        Body::Json(document) => text_bytes(document.value().to_string(alloc)),
+        Body::Json(document) => Vec::from_slice(alloc, document.text().as_bytes()),
         Body::Problem(problem) => text_bytes(problem_text(alloc, problem)),
         Body::Certificate(bytes) => Vec::from_slice(alloc, bytes.as_slice()),
     }

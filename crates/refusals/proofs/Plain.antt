@@ -1,12 +1,12 @@
--- The documents of refusals: their shapes, and that they hold no float.
-use Rattle.std.proofs.Common.{◌≡◌, List, [], ◌∷◌, ◌++◌, map, codes, false, refl, ap}
-use Rattle.std.specs.Prelude.{◌||◌}
+-- The documents of refusals: their shapes, and that they are plain.
+use Rattle.std.proofs.Common.{◌≡◌, List, [], ◌∷◌, ◌++◌, map, codes, true, refl, ap}
+use Rattle.std.specs.Prelude.{◌&&◌}
 use Rattle.serde_json.specs.Data.{Members, object, put, string, unsigned}
 use Rattle.serde_json.specs.Data as json
 use Rattle.serde_json.specs.View.{items_of}
-use Rattle.serde_json.specs.Written.{has_float, items_have_float}
 use Rattle.desk_model.specs.declared.refusal.Refusal.{Refusal}
 use Rattle.desk_model.specs.Json.{document, list, members}
+use Rattle.desk_model.specs.Plain.{is_document, items_are_plain}
 use Rattle.desk_model.specs.Refusals.{refusal_of, error_type, problem_document, subproblem_document, subproblem_members}
 use Rattle.desk_model.specs.declared.reply.Problem.{Problem}
 use Rattle.desk_model.specs.declared.reply.Subproblem.{Subproblem}
@@ -42,15 +42,15 @@ pub some_put : (subproblems : List Subproblem) (others : Members) → (subproble
 some_put [] others some = absurd (some refl)
 some_put (s ∷ rest) others some = refl
 
--- no document of a refused identifier holds a float
-subproblems_plain : (subproblems : List Subproblem) → items_have_float (items_of (map subproblem_document subproblems)) ≡ false
+-- the documents of refused identifiers are plain
+subproblems_plain : (subproblems : List Subproblem) → items_are_plain 6 (items_of (map subproblem_document subproblems)) ≡ true
 subproblems_plain [] = refl
 subproblems_plain (s ∷ rest) = subproblems_plain rest
 
--- nor does the document of a refusal
-plain : (why : Refusal) (subproblems : List Subproblem) → has_float (shaped why subproblems) ≡ false
+-- so is the document of a refusal
+plain : (why : Refusal) (subproblems : List Subproblem) → is_document (shaped why subproblems) ≡ true
 plain why [] = refl
-plain why (s ∷ rest) = ap (λ b. b || false) (subproblems_plain rest)
+plain why (s ∷ rest) = ap (λ b. b && true) (subproblems_plain rest)
 
-pub problem_plain : (p : Problem) → has_float (problem_document p) ≡ false
+pub problem_plain : (p : Problem) → is_document (problem_document p) ≡ true
 problem_plain p = plain p.refusal p.subproblems

@@ -1,6 +1,7 @@
 //! The JSON documents of refusals (RFC 7807, RFC 8555, 6.7).
-ghost use Rattle.std.specs.Prelude.{◌≡◌, IfOk, OnOk, map, string_bytes};
+ghost use Rattle.std.specs.Prelude.{◌≡◌, IfOk, OnOk, Some, map, string_bytes};
 ghost use Rattle.serde_json.specs.Data.{string};
+ghost use Rattle.serde_json.specs.Read.{read};
 ghost use Rattle.serde_json.specs.View.{view, members_view};
 ghost use Rattle.serde_json.specs.Written.{compact_text};
 ghost use Rattle.desk_model.specs.Json.{list, members};
@@ -19,8 +20,8 @@ use std::alloc::{AllocError, Global};
 pub fn problem_document(alloc: Global, problem: &Problem) -> Result<Document, AllocError>
     ensures { IfOk result (λ d. d ≡ problem_document problem.now) }
 {
-    let value = problem_value(alloc, problem)?;
-    Ok(Document::new(value))
+    let text = problem_text(alloc, problem)?;
+    Ok(Document::of_text(text))
 }
 
 /// The text of a refusal's document.
@@ -29,9 +30,10 @@ pub fn problem_document(alloc: Global, problem: &Problem) -> Result<Document, Al
 ///
 /// Where there is no memory for it.
 pub fn problem_text(alloc: Global, problem: &Problem) -> Result<String, AllocError>
-    ensures { IfOk result (λ text. string_bytes text ≡ compact_text (problem_document problem.now)) }
+    ensures text { IfOk result (λ text. string_bytes text ≡ compact_text (problem_document problem.now)) }
+    ensures reads { IfOk result (λ text. read (string_bytes text) ≡ Some (problem_document problem.now)) }
 {
-    problem_document(alloc, problem)?.value().to_string(alloc)
+    problem_value(alloc, problem)?.to_string(alloc)
 }
 
 // The JSON value of a refusal.

@@ -1,5 +1,4 @@
-use Rattle.desk_replies.proofs.NoFloats.{orders_plain, challenge_work_plain, order_work_plain}
-use Rattle.desk_replies.proofs.Results.{plain_value}
+use Rattle.desk_replies.proofs.PlainDocuments.{challenge_work_plain, order_work_plain, orders_plain, plain_value}
 use Rattle.desk_replies.proofs.list_replies.list_reply.Goals as goal
 
 pub json_reply-requires-in-Orders : goal.json_reply-requires-in-Orders

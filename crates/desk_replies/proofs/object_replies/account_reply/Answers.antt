@@ -1,8 +1,8 @@
 use Rattle.std.proofs.Common.{◌∙◌, ap, sym}
 use Rattle.desk_model.specs.Document.{account_document}
 use Rattle.desk_model.specs.Shown.{ok}
-use Rattle.desk_replies.proofs.NoFloats.{account_plain}
-use Rattle.desk_replies.proofs.Results.{ok_so, plain_value}
+use Rattle.desk_replies.proofs.PlainDocuments.{account_plain, plain_value}
+use Rattle.desk_replies.proofs.Results.{ok_so}
 use Rattle.desk_replies.proofs.object_replies.account_reply.Goals as goal
 
 pub json_reply-requires : goal.json_reply-requires

@@ -3,8 +3,8 @@ use Rattle.desk_model.specs.Document.{authorization_document}
 use Rattle.desk_replies.specs.Shown.{capped_authorization}
 use Rattle.desk_replies.proofs.ShownAuthorizations.{capped_authorization-same}
 use Rattle.desk_model.specs.Shown.{ok}
-use Rattle.desk_replies.proofs.NoFloats.{authorization_plain}
-use Rattle.desk_replies.proofs.Results.{ok_so, plain_value}
+use Rattle.desk_replies.proofs.PlainDocuments.{authorization_plain, plain_value}
+use Rattle.desk_replies.proofs.Results.{ok_so}
 use Rattle.desk_replies.proofs.object_replies.authorization_reply.Goals as goal
 
 pub json_reply-requires : goal.json_reply-requires

@@ -3,8 +3,8 @@ use Rattle.desk_model.specs.Document.{challenge_document}
 use Rattle.desk_replies.specs.Shown.{capped_challenge}
 use Rattle.desk_replies.proofs.ShownAuthorizations.{capped_challenge-same}
 use Rattle.desk_model.specs.Shown.{ok}
-use Rattle.desk_replies.proofs.NoFloats.{challenge_plain}
-use Rattle.desk_replies.proofs.Results.{ok_so, plain_value}
+use Rattle.desk_replies.proofs.PlainDocuments.{challenge_plain, plain_value}
+use Rattle.desk_replies.proofs.Results.{ok_so}
 use Rattle.desk_replies.proofs.object_replies.challenge_reply.Goals as goal
 
 pub json_reply-requires : goal.json_reply-requires

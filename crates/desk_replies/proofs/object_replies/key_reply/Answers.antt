@@ -1,5 +1,4 @@
-use Rattle.desk_replies.proofs.NoFloats.{key_plain}
-use Rattle.desk_replies.proofs.Results.{plain_value}
+use Rattle.desk_replies.proofs.PlainDocuments.{key_plain, plain_value}
 use Rattle.desk_replies.proofs.object_replies.key_reply.Goals as goal
 
 pub json_reply-requires : goal.json_reply-requires

@@ -1,8 +1,8 @@
 use Rattle.std.proofs.Common.{◌∙◌, ap, sym}
 use Rattle.desk_model.specs.Document.{account_document, account_url}
 use Rattle.desk_model.specs.Shown.{at, ok}
-use Rattle.desk_replies.proofs.NoFloats.{account_plain}
-use Rattle.desk_replies.proofs.Results.{ok_so, plain_value}
+use Rattle.desk_replies.proofs.PlainDocuments.{account_plain, plain_value}
+use Rattle.desk_replies.proofs.Results.{ok_so}
 use Rattle.desk_replies.proofs.object_replies.located_account.Goals as goal
 
 pub located_reply-requires : goal.located_reply-requires

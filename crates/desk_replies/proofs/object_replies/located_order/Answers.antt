@@ -2,9 +2,9 @@ use Rattle.std.proofs.Common.{◌∙◌, ap, sym}
 use Rattle.desk_model.specs.Document.{order_document, order_url}
 use Rattle.desk_model.specs.Shown.{at, ok}
 use Rattle.desk_replies.specs.Shown.{capped_order}
-use Rattle.desk_replies.proofs.NoFloats.{order_plain}
+use Rattle.desk_replies.proofs.PlainDocuments.{order_plain, plain_value}
 use Rattle.desk_replies.proofs.ShownOrders.{order_with_names-is}
-use Rattle.desk_replies.proofs.Results.{ok_so, plain_value}
+use Rattle.desk_replies.proofs.Results.{ok_so}
 use Rattle.desk_replies.proofs.object_replies.located_order.Goals as goal
 
 pub located_reply-requires : goal.located_reply-requires

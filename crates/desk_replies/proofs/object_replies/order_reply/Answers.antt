@@ -2,8 +2,8 @@ use Rattle.std.proofs.Common.{◌∙◌, ap}
 use Rattle.desk_replies.specs.Shown.{capped_order}
 use Rattle.desk_replies.proofs.ShownOrders.{order_with_names-is}
 use Rattle.desk_model.specs.Shown.{ok}
-use Rattle.desk_replies.proofs.NoFloats.{order_plain}
-use Rattle.desk_replies.proofs.Results.{ok_so, plain_value}
+use Rattle.desk_replies.proofs.PlainDocuments.{order_plain, plain_value}
+use Rattle.desk_replies.proofs.Results.{ok_so}
 use Rattle.desk_replies.proofs.object_replies.order_reply.Goals as goal
 
 pub json_reply-requires : goal.json_reply-requires
