@@ -1,7 +1,7 @@
 -- Rows of one table, and changes, made one after the other inside a transaction.
 use Rattle.std.proofs.Common.{zero, suc, arith, ◌≡◌, Result, Ok, Err, OnOk, ℕ, ◌+◌, ◌<◌, ◌++◌, List, [], ◌∷◌, take, get_or}
 use Rattle.std.proofs.Common.{length, refl, sym, ap, subst, ◌∙◌, add-one}
-use Rattle.std.specs.Prelude.{ℤ, pos}
+use Rattle.std.specs.Prelude.{ℤ, is_ok, pos}
 use Rattle.std.proofs.Math.Seq.{take-suc}
 use Rattle.std.proofs.lemmas.List.{map-append}
 use Rattle.sqlite.specs.Effect.{Database}
@@ -20,14 +20,22 @@ use Rattle.desk_schema.specs.Advances.{Advances}
 use Rattle.desk_saving.specs.Fitting.{AreFit, IsFit}
 use Rattle.desk_laws.specs.Placing.{puts}
 use Rattle.desk_saving.specs.Makes.{ArePlaced, Makes, MakesAll, PlacesAll, PutsAll}
+use Rattle.desk_saving.proofs.Exits.{done_as}
 use Rattle.desk_saving.proofs.Numbered.{puts_snoc}
-use Rattle.desk_tables.specs.Effects.{Places, PlacesColumns, Puts, Removes, RemovesNumbered, is_same_place}
+use Rattle.desk_tables.specs.Effects.{Places, PlacesColumns, Puts, PutsColumns, Removes, RemovesNumbered, is_same_place}
 use Rattle.desk_tables.specs.Hidden.{IsPlaced}
 use Rattle.desk_tables.specs.Holds.{Holds}
 use Rattle.desk_tables.specs.Layouts.{HasRows, Layout, nonce_layout}
 use Rattle.desk_laws.proofs.Recorded.{applied-append}
 
 -- ---- one row
+
+-- a row, by its columns, where the statement was run
+pub puts_typed : {X C A B E F : Type 0} (L : Layout X) (columns_of : X → C) (columns : C) (row : X) (old new : State) (r : Result A E) (q : Result B F)
+    → is_ok q ≡ is_ok r → columns ≡ columns_of row → OnOk r (Advances old new (PutsColumns L columns_of columns))
+    → OnOk q (Advances old new (Puts L row))
+puts_typed L columns_of columns row old new r q same are =
+    done_as r q same (advances_as old new (PutsColumns L columns_of columns) (Puts L row) (λ does. does row (sym are)))
 
 -- what an order lists, by its columns
 pub places_typed : (columns : OrderAuthzColumns) (row : Owned Listed) (old new : State) → columns ≡ listed_columns row

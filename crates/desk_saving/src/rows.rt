@@ -36,7 +36,7 @@ pub(crate) fn put_meta<S: Alter>(
     let columns = meta_columns(alloc, row)?;
     let put = upsert_meta(tx, &columns);
     drop(columns);
-    Ok(put?)
+    put.map_err(SaveFault::Statement)
 }
 
 /// Puts a nonce.
@@ -54,7 +54,7 @@ pub(crate) fn put_nonce<S: Alter>(
     let columns = nonce_columns(alloc, row)?;
     let put = upsert_nonce(tx, &columns);
     drop(columns);
-    Ok(put?)
+    put.map_err(SaveFault::Statement)
 }
 
 /// Puts an account.
@@ -72,7 +72,7 @@ pub(crate) fn put_account<S: Alter>(
     let columns = account_columns(alloc, row)?;
     let put = upsert_account(tx, &columns);
     drop(columns);
-    Ok(put?)
+    put.map_err(SaveFault::Statement)
 }
 
 /// Puts an order, without what it lists.
@@ -90,7 +90,7 @@ pub(crate) fn put_order<S: Alter>(
     let columns = order_columns(alloc, row)?;
     let put = upsert_order(tx, &columns);
     drop(columns);
-    Ok(put?)
+    put.map_err(SaveFault::Statement)
 }
 
 /// Puts an authorization, without its challenges.
@@ -108,7 +108,7 @@ pub(crate) fn put_authorization<S: Alter>(
     let columns = authorization_columns(alloc, row)?;
     let put = upsert_authorization(tx, &columns);
     drop(columns);
-    Ok(put?)
+    put.map_err(SaveFault::Statement)
 }
 
 /// Puts what an order lists at a place.
@@ -144,7 +144,7 @@ pub(crate) fn put_challenge<S: Alter>(
     let columns = challenge_columns(alloc, authorization, row)?;
     let put = upsert_challenge(tx, &columns);
     drop(columns);
-    Ok(put?)
+    put.map_err(SaveFault::Statement)
 }
 
 /// Removes the nonce of this serial, if there is one.

@@ -1,0 +1,13 @@
+use Rattle.sqlite.specs.Held.{state}
+use Rattle.desk_columns.specs.Columns.{account_columns}
+use Rattle.desk_saving.proofs.RowsInTurn.{puts_typed}
+use Rattle.desk_saving.proofs.rows.put_account.Goals as goal
+use Rattle.desk_tables.specs.Layouts.{account_layout}
+
+pub returns-clause-ok : goal.returns-clause-ok
+returns-clause-ok g c =
+    let written = c.in_ok-columns in
+    let old = state g.S.Store c.args.tx.now.conn.now in
+    let new = state g.S.Store c.upsert_account-put.new.tx.conn.now in
+    puts_typed account_layout account_columns written.columns c.args.row.now old new c.upsert_account-put.result c.map_err.result c.map_err.ensures.variant
+    written.ensures.columns c.upsert_account-put.ensures.ok
