@@ -4,6 +4,7 @@ use Rattle.sqlite.proofs.StateLemmas.{survives_then}
 use Rattle.desk_columns.specs.Flat.{owned_by}
 use Rattle.desk_schema.specs.Advances.{Advances}
 use Rattle.desk_saving.specs.Makes.{PlacesAll}
+use Rattle.desk_saving.proofs.Exits.{kept_behind, survives_both}
 use Rattle.desk_saving.proofs.RowsInTurn.{advances_placed, each_owned}
 use Rattle.desk_saving.proofs.children.put_all_listed.Goals as goal
 use Rattle.written_rows.specs.Fits.{FitsListed}
@@ -34,3 +35,13 @@ returns-clause-ok g c =
     let new = state g.S.Store c.loop-row.tx.conn.now in
     let whole = take_all c.loop-row.row-index c.args.rows.now (omega arith) in
     subst (λ xs. Advances first new (PlacesAll (owned_by c.args.order xs))) whole c.loop-row.invariant.advances
+
+pub returns-in_err-put_listed-clause-kept : goal.returns-in_err-put_listed-clause-kept
+returns-in_err-put_listed-clause-kept g c =
+    kept_behind (state g.S.Store c.args.tx.now.conn.now) (state g.S.Store c.loop-row.tx.conn.now) (state g.S.Store c.put_listed.new.tx.conn.now) _
+    c.loop-row.invariant.advances c.put_listed.ensures.survives c.put_listed.ensures.kept
+
+pub returns-in_err-put_listed-clause-survives : goal.returns-in_err-put_listed-clause-survives
+returns-in_err-put_listed-clause-survives g c =
+    survives_both (state g.S.Store c.args.tx.now.conn.now) (state g.S.Store c.loop-row.tx.conn.now) (state g.S.Store c.put_listed.new.tx.conn.now)
+    c.loop-row.invariant.survives c.put_listed.ensures.survives

@@ -4,6 +4,7 @@ use Rattle.sqlite.proofs.StateLemmas.{survives_then}
 use Rattle.desk_columns.specs.Flat.{owned_by}
 use Rattle.desk_schema.specs.Advances.{Advances}
 use Rattle.desk_saving.specs.Makes.{PutsAll}
+use Rattle.desk_saving.proofs.Exits.{kept_behind, survives_both}
 use Rattle.desk_saving.proofs.RowsInTurn.{advances_put, each_owned}
 use Rattle.desk_saving.proofs.children.put_challenges.Goals as goal
 use Rattle.desk_tables.specs.Layouts.{challenge_layout}
@@ -35,3 +36,13 @@ returns-clause-ok g c =
     let new = state g.S.Store c.loop-row.tx.conn.now in
     let whole = take_all c.loop-row.row-index c.args.rows.now (omega arith) in
     subst (λ xs. Advances first new (PutsAll challenge_layout (owned_by c.args.authorization xs))) whole c.loop-row.invariant.advances
+
+pub returns-in_err-put_challenge-clause-kept : goal.returns-in_err-put_challenge-clause-kept
+returns-in_err-put_challenge-clause-kept g c =
+    kept_behind (state g.S.Store c.args.tx.now.conn.now) (state g.S.Store c.loop-row.tx.conn.now) (state g.S.Store c.put_challenge.new.tx.conn.now) _
+    c.loop-row.invariant.advances c.put_challenge.ensures.survives c.put_challenge.ensures.kept
+
+pub returns-in_err-put_challenge-clause-survives : goal.returns-in_err-put_challenge-clause-survives
+returns-in_err-put_challenge-clause-survives g c =
+    survives_both (state g.S.Store c.args.tx.now.conn.now) (state g.S.Store c.loop-row.tx.conn.now) (state g.S.Store c.put_challenge.new.tx.conn.now)
+    c.loop-row.invariant.survives c.put_challenge.ensures.survives

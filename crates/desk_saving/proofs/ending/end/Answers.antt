@@ -1,0 +1,14 @@
+use Rattle.std.proofs.lemmas.Result.{IfOk-from_err}
+use Rattle.desk_saving.proofs.ending.end.Goals as goal
+
+pub returns-in_err-done-clause-done : goal.returns-in_err-done-clause-done
+returns-in_err-done-clause-done g c = IfOk-from_err c.from_residual.result _ c.from_residual.ensures.0
+
+pub returns-in_err-done-clause-ok : goal.returns-in_err-done-clause-ok
+returns-in_err-done-clause-ok g c clean = IfOk-from_err c.from_residual.result _ c.from_residual.ensures.0
+
+pub returns-in_err-done-clause-ended : goal.returns-in_err-done-clause-ended
+returns-in_err-done-clause-ended g c = c.drop-tx.ensures.ended
+
+pub returns-clause-ended : goal.returns-clause-ended
+returns-clause-ended g c = c.commit.ensures.ended
