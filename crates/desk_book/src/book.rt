@@ -187,8 +187,7 @@ impl Book {
         ensures { IfOk result (λ book. book ≡ applied changes.items self.now) }
     {
         let mut next = self.clone()?;
-        next.apply_all(changes)?;
-        Ok(next)
+        next.apply_all(changes).and(Ok(next))
     }
 
     fn apply_all(&mut self, changes: Vec<Change>) -> Result<(), AllocError>
