@@ -7,7 +7,8 @@ use Rattle.desk_tables.specs.Layouts.{nonce_layout}
 pub returns-clause-ok : goal.returns-clause-ok
 returns-clause-ok g c =
     let written = c.in_ok-columns in
+    let put = c.upsert_nonce-put in
     let old = state g.S.Store c.args.tx.now.conn.now in
-    let new = state g.S.Store c.upsert_nonce-put.new.tx.conn.now in
-    puts_typed nonce_layout nonce_columns written.columns c.args.row.now old new c.upsert_nonce-put.result c.map_err.result c.map_err.ensures.variant
-    written.ensures.columns c.upsert_nonce-put.ensures.ok
+    let new = state g.S.Store put.new.tx.conn.now in
+    puts_typed nonce_layout nonce_columns written.columns c.args.row.now old new put.result c.map_err.result
+    c.map_err.ensures.variant written.ensures.columns put.ensures.ok
