@@ -4,8 +4,10 @@ use crate::task::{TASKS, Task};
 use crate::{arguments, help};
 use clap::builder::ValueParser;
 use clap::{Arg, ArgAction, Command};
-use desk_model::LAST_NUMBER;
 use std::alloc::{AllocError, Global};
+
+// The greatest number that an object may have, `LAST_NUMBER` of desk_model.
+const LAST_NUMBER: u64 = 1 << 62;
 
 // The statuses of an order (RFC 8555, 7.1.6).
 const ORDER_STATUSES: &[&str] = &["pending", "ready", "processing", "valid", "invalid"];

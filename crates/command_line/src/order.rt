@@ -1,5 +1,4 @@
 //! What the words ask for.
-use desk_model::OrderStatus;
 
 /// What the words ask for.
 #[derive(Clone, Copy)]
@@ -25,7 +24,7 @@ pub enum Order<'a> {
         /// The path of the file that holds the desk.
         file: &'a str,
         /// Which of them, and how.
-        listing: Listing,
+        listing: Listing<'a>,
     },
     /// To list the stored statuses that are wrong.
     Check {
@@ -72,11 +71,11 @@ pub struct Terms<'a> {
 
 /// Which orders are listed, and how.
 #[derive(Clone, Copy)]
-pub struct Listing {
+pub struct Listing<'a> {
     /// The account whose orders they are, or `None` for all accounts.
     pub account: Option<u64>,
-    /// The status that they have, or `None` for every status.
-    pub status: Option<OrderStatus>,
+    /// The word of the status that they have (RFC 8555, 7.1.6), or `None` for every status.
+    pub status: Option<&'a str>,
     /// Whether as JSON.
     pub json: bool,
 }

@@ -6,7 +6,6 @@ use crate::order::{Listing, Order, Target, Terms};
 use crate::task::Task;
 use clap::error::ErrorKind;
 use clap::{ArgMatches, Command};
-use desk_model::OrderStatus;
 use std::alloc::Global;
 
 // What the matches ask for.
@@ -40,7 +39,8 @@ fn batch<'a>(given: &ArgMatches<'a>) -> Order<'a> {
 }
 
 fn status<'a>(given: &ArgMatches<'a>) -> Option<Order<'a>> {
-    let (file, listing) = file(given).zip(listing(given))?;
+    let file = file(given)?;
+    let listing = listing(given);
     Some(Order::Status { file, listing })
 }
 
@@ -83,15 +83,12 @@ fn terms<'a>(given: &ArgMatches<'a>) -> Option<Terms<'a>> {
 }
 
 // Which orders are listed, and how.
-fn listing(given: &ArgMatches<'_>) -> Option<Listing> {
-    Some(Listing {
+fn listing<'a>(given: &ArgMatches<'a>) -> Listing<'a> {
+    Listing {
         account: given.get_one::<u64>(arguments::ACCOUNT),
-        status: match given.get_str(arguments::STATUS) {
-            Some(word) => Some(OrderStatus::from_text(word)?),
-            None => None,
-        },
+        status: given.get_str(arguments::STATUS),
         json: given.get_flag(arguments::JSON),
-    })
+    }
 }
 
 // What the matches of a command ask for, or that they ask for nothing.

@@ -4,7 +4,9 @@ use crate::desks::adopt;
 use crate::fault::{Fault, tell};
 use crate::reporting::{CheckStatuses, ListOrders};
 use crate::revoking::Revoke;
-use command_line::{AUTHZ_LIFE, NONCE_LIFE, ORDER_LIFE, Order, Terms, WordsFault, read_words};
+use command_line::{
+    AUTHZ_LIFE, Listing, NONCE_LIFE, ORDER_LIFE, Order, Terms, WordsFault, read_words,
+};
 use desk_calls::{Desk, DeskFault, Memory};
 use desk_model::{Clock, Policy};
 use file_tasks::{make_desk, run_over_file};
@@ -64,15 +66,24 @@ fn run_order<R: Read + Drop, W: Write, E: Write>(
             };
             run_over_file(rt, file, task)
         }
-        Order::Status { file, listing } => {
-            run_over_file(rt, file, ListOrders::new(alloc, out, listing))
-        }
+        Order::Status { file, listing } => list_orders(rt, file, listing, out),
         Order::Check { file, json } => {
             run_over_file(rt, file, CheckStatuses::new(alloc, out, json))
         }
         Order::Revoke { file, target } => run_over_file(rt, file, Revoke { rt, target, out }),
         Order::Batch { file } => answer_lines(rt, file, reader, out, errors),
     }
+}
+
+// Lists the orders of the desk in a file.
+fn list_orders<W: Write>(
+    rt: &HostRuntime,
+    file: &str,
+    listing: Listing<'_>,
+    out: &mut W,
+) -> Result<u8, Fault> {
+    let task = ListOrders::new(rt.alloc(), out, listing)?;
+    run_over_file(rt, file, task)
 }
 
 // Answers the lines of a reader, by the desk of a file or by a new one in memory.

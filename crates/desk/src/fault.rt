@@ -14,6 +14,9 @@ pub(crate) enum Fault {
     /// A limit of the terms is broken.
     #[error("bad policy")]
     BadPolicy,
+    /// A word names no status of an order.
+    #[error("no status of an order")]
+    NoStatus,
     /// A fault of the desk, 20 to 27.
     #[error(transparent)]
     Desk(#[from] DeskFault),
@@ -57,7 +60,7 @@ impl From<ReportFault> for Fault {
 pub(crate) fn tell<E: Write>(errors: &mut E, fault: Fault) -> u8 {
     let _ = writeln!(errors, "desk: {fault}");
     match fault {
-        Fault::BadPolicy => 2,
+        Fault::BadPolicy | Fault::NoStatus => 2,
         _ => 1,
     }
 }

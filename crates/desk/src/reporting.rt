@@ -1,6 +1,7 @@
 //! Reports on the rows of a store.
 use crate::fault::Fault;
 use command_line::Listing;
+use desk_model::OrderStatus;
 use file_tasks::{Tables, Task};
 use reports::{Form, OrderFilter};
 use std::alloc::Global;
@@ -14,6 +15,23 @@ fn form(json: bool) -> Form {
     if json { Form::Json } else { Form::Text }
 }
 
+// The status of an order that a word names.
+fn status_named(word: &str) -> Result<OrderStatus, Fault> {
+    OrderStatus::from_text(word).ok_or(Fault::NoStatus)
+}
+
+// The orders that the words ask for.
+fn filter(listing: Listing<'_>) -> Result<OrderFilter, Fault> {
+    let status = match listing.status {
+        Some(word) => Some(status_named(word)?),
+        None => None,
+    };
+    Ok(OrderFilter {
+        account: listing.account,
+        status,
+    })
+}
+
 /// Lists the orders.
 #[derive(Drop)]
 pub(crate) struct ListOrders<'a, W: Write> {
@@ -25,18 +43,22 @@ pub(crate) struct ListOrders<'a, W: Write> {
 
 impl<'a, W: Write> ListOrders<'a, W> {
     /// Lists those that the words ask for.
-    pub(crate) fn new(alloc: Global, out: &'a mut W, listing: Listing) -> ListOrders<'a, W> {
-        let Listing {
-            account,
-            status,
-            json,
-        } = listing;
-        ListOrders {
+    ///
+    /// # Errors
+    ///
+    /// `NoStatus` where the word of the status names none.
+    pub(crate) fn new(
+        alloc: Global,
+        out: &'a mut W,
+        listing: Listing<'_>,
+    ) -> Result<ListOrders<'a, W>, Fault> {
+        let filter = filter(listing)?;
+        Ok(ListOrders {
             alloc,
             out,
-            form: form(json),
-            filter: OrderFilter { account, status },
-        }
+            form: form(listing.json),
+            filter,
+        })
     }
 }
 
