@@ -13,6 +13,9 @@ use sqlite_disk::Disk;
 
 /// Copies the log into the database file, and gives both files back.
 ///
+/// A desk need not be closed to be kept: each recorded call is durable when it is answered. Closing spares the next opening
+/// the log, and lets the database file be copied alone.
+///
 /// # Errors
 ///
 /// `Storage` where the copy failed: a stop then leaves no more than it did, and the next opening reads both files.

@@ -16,6 +16,9 @@ use sqlite::{Alter, Connection, FileFrom, FileStore, Leftover, Start};
 use sqlite_disk::Disk;
 
 /// Why no desk is opened or made, and what there is of the files.
+///
+/// The files are in one place: `refused` where the engine did not open them, `conn` where it did and they hold no desk, or
+/// none could be made in them. Where neither is there, the files could not be reached at all, and the fault is `Storage`.
 #[derive(Drop)]
 pub struct NotOpened<A: Alter, D: Disk> {
     /// Of the disk and the engine, or of what the files hold.
@@ -51,6 +54,10 @@ fn connect<S: Start>(
 
 /// Opens the desk that the files at a path hold, where `S` stands for their bytes. No clause ties these to the path.
 ///
+/// What a log holds that was not copied into the database file is read with it, so that a desk whose program was stopped is
+/// opened as its last commit left it. Opening writes nothing that changes the desk: until the first call that is recorded,
+/// a stop leaves what was there.
+///
 /// # Errors
 ///
 /// `Storage` where the files or their store failed, `NotADesk` where the engine refuses the files as corrupt or
@@ -81,6 +88,9 @@ pub fn open_from<S: Start>(
 }
 
 /// Makes a desk with a policy at a moment in the files at a path, where `S` stands for their bytes.
+///
+/// The tables and the first row are written by one transaction, so there is no desk without its policy. A caller that must
+/// not write into files of others looks first whether there are any.
 ///
 /// # Errors
 ///
