@@ -9,6 +9,7 @@ mod lives;
 mod order;
 mod reading;
 mod task;
+mod words;
 
 pub use fault::WordsFault;
 pub use lives::{AUTHZ_LIFE, Life, NONCE_LIFE, ORDER_LIFE};

@@ -1,4 +1,5 @@
 //! What the program does, a word each.
+use crate::words::words;
 
 /// What the program does, a word each.
 #[derive(Clone, Copy)]
@@ -19,33 +20,10 @@ pub(crate) enum Task {
     RevokeAccount,
 }
 
-/// The tasks, as help lists them.
-pub(crate) const TASKS: &[Task] = &[
-    Task::Make,
-    Task::Serve,
-    Task::Batch,
-    Task::Status,
-    Task::Check,
-    Task::RevokeAuthorization,
-    Task::RevokeAccount,
-];
-
 impl Task {
-    /// The word that asks for it.
-    pub(crate) fn name(self) -> &'static str {
-        match self {
-            Task::Make => "make",
-            Task::Serve => "serve",
-            Task::Batch => "batch",
-            Task::Status => "status",
-            Task::Check => "check",
-            Task::RevokeAuthorization => "revoke-authz",
-            Task::RevokeAccount => "revoke-account",
-        }
-    }
-
     /// The task that a word asks for.
     pub(crate) fn named(name: &str) -> Option<Task> {
-        TASKS.iter().copied().find(|task| task.name() == name)
+        let word = words().iter().find(|word| word.name == name)?;
+        Some(word.task)
     }
 }
