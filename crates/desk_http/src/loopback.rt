@@ -2,68 +2,64 @@
 use crate::worked_replies::{WORKED, new_desk, serve};
 use desk_calls::{Desk, Memory};
 use std::alloc::Global;
-use std::io::{self, Read, Write};
+use std::io::{Read, Write};
 use std::net::{Ipv4Addr, Net, Shutdown, SocketAddr, TcpListener, TcpStream};
 use std::process::Abort;
 use std::test::Fail;
 
 // A client that has sent all that it sends.
-fn client<N: Net<Stream = TcpStream>>(
+fn client<N: Net<Stream = TcpStream> + Abort>(
     net: &N,
     address: SocketAddr,
     asked: &[u8],
-) -> io::Result<TcpStream> {
-    let mut stream = net.connect(address)?;
-    stream.write_all(asked)?;
-    stream.shutdown(Shutdown::Write)?;
-    Ok(stream)
+) -> TcpStream {
+    let mut stream = net.connect(address).ok().expect(net, "a connection");
+    stream
+        .write_all(asked)
+        .ok()
+        .expect(net, "a request that is sent");
+    stream
+        .shutdown(Shutdown::Write)
+        .ok()
+        .expect(net, "an end of it");
+    stream
 }
 
 // Serves the client that waits.
-fn serve_client(
-    alloc: Global,
-    listener: &TcpListener,
-    desk: &mut Desk<Memory>,
-) -> io::Result<bool> {
-    let (stream, _) = listener.accept()?;
+fn serve_client<N: Abort>(net: &N, alloc: Global, listener: &TcpListener, desk: &mut Desk<Memory>) {
+    let (stream, _) = listener.accept().ok().expect(net, "a client");
     let mut reader = &stream;
     let mut writer = &stream;
-    Ok(serve(alloc, &mut reader, &mut writer, desk).is_ok())
+    serve(alloc, &mut reader, &mut writer, desk)
+        .ok()
+        .expect(net, "a reply that is sent");
 }
 
 // What a client that asks this reads.
-fn replied<N: Net<Stream = TcpStream>>(
-    alloc: Global,
+fn replied<N: Net<Stream = TcpStream> + Abort>(
     net: &N,
+    alloc: Global,
     listener: &TcpListener,
     desk: &mut Desk<Memory>,
     asked: &[u8],
-) -> io::Result<Vec<u8>> {
-    let mut stream = client(net, listener.local_addr()?, asked)?;
+) -> Vec<u8> {
+    let address = listener.local_addr().ok().expect(net, "an address");
+    let mut stream = client(net, address, asked);
+    serve_client(net, alloc, listener, desk);
     let mut reply = Vec::new(alloc);
-    if serve_client(alloc, listener, desk)? {
-        stream.read_to_end(&mut reply)?;
-    }
-    Ok(reply)
-}
-
-// Whether this was read, and nothing failed.
-fn is_read(read: io::Result<Vec<u8>>, reply: &[u8]) -> bool {
-    match read {
-        Ok(read) => read.as_slice() == reply,
-        Err(_) => false,
-    }
+    stream.read_to_end(&mut reply).ok().expect(net, "a reply");
+    reply
 }
 
 // Whether the clients read the worked replies, one after the other.
-fn gives_worked<N: Net<Stream = TcpStream>>(
-    alloc: Global,
+fn gives_worked<N: Net<Stream = TcpStream> + Abort>(
     net: &N,
+    alloc: Global,
     listener: &TcpListener,
     desk: &mut Desk<Memory>,
 ) -> bool {
     for (asked, reply) in WORKED {
-        if !is_read(replied(alloc, net, listener, desk, asked), reply) {
+        if replied(net, alloc, listener, desk, asked).as_slice() != reply {
             return false;
         }
     }
@@ -77,7 +73,7 @@ fn new_desk_gives_worked<N: Net<Stream = TcpStream> + Abort>(
     listener: &TcpListener,
 ) -> Result<bool, Fail> {
     let mut desk = new_desk(net, alloc)?;
-    let gives = gives_worked(alloc, net, listener, &mut desk);
+    let gives = gives_worked(net, alloc, listener, &mut desk);
     drop(desk);
     Ok(gives)
 }
