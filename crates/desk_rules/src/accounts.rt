@@ -1,5 +1,7 @@
 //! The rules on accounts (RFC 8555, 7.3).
-ghost use Rattle.std.specs.Prelude.{◌≡◌, ℕ, List, MatchResult};
+ghost use Rattle.std.specs.Prelude.{◌≡◌, ℕ, List, MatchResult, option_map};
+ghost use Rattle.serde_json.specs.View.{view};
+ghost use Rattle.desk_model.specs.Payload.{object_in};
 ghost use Rattle.desk_rules.specs.Needs.{NumbersLeft, BytesLeft, IsNeedFault};
 ghost use Rattle.desk_model.specs.declared.payload.AccountChange.TheVariants.{Update};
 ghost use Rattle.desk_model.specs.Rules.{account_verdict, open_account, unknown_key_verdict};
@@ -7,7 +9,7 @@ ghost use Rattle.desk_model.specs.Rules.{account_verdict, open_account, unknown_
 use crate::contacts::contacts_refusal;
 use crate::fault::CoreFault;
 use crate::limits::has_room;
-use crate::payload::new_account;
+use crate::payload::{Payload, new_account};
 use crate::verdicts::refused;
 use desk_model::{
     AccountChange, Ending, Jwk, Move, NewAccount, Refusal, Sequence, Shows, Target, Text, Verdict,
@@ -21,10 +23,11 @@ pub(crate) fn unknown_key_verdict(
     alloc: Global,
     at: &At,
     key: &Jwk,
-    payload: &str,
+    payload: Payload,
     target: Target,
 ) -> Result<Verdict, CoreFault>
-    ensures { (random : List ℕ) → (let asked = unknown_key_verdict key.now payload.now target in
+    requires { option_map (λ v. view v.now) payload.object ≡ object_in payload.text.now }
+    ensures { (random : List ℕ) → (let asked = unknown_key_verdict key.now payload.entry.text.now target in
         MatchResult result (λ v. (v ≡ asked) × NumbersLeft at.now.meta.counters v × BytesLeft random v)
         (λ e. IsNeedFault at.now.meta.counters random asked e)) }
 {

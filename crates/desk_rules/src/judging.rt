@@ -1,21 +1,23 @@
 //! Verdicts on signed requests (RFC 8555, 6).
-ghost use Rattle.std.specs.Prelude.{◌≡◌, drop, IfOk, MatchResult};
+ghost use Rattle.std.specs.Prelude.{◌≡◌, drop, IfOk, MatchResult, option_map};
+ghost use Rattle.serde_json.specs.View.{view};
 ghost use Rattle.desk_rules.specs.declared.fault.CoreFault.TheVariants.{Memory};
 ghost use Rattle.desk_rules.specs.Needs.{NumbersLeft, BytesLeft, IsNeedFault};
-ghost use Rattle.desk_model.specs.Payload.{new_order};
-ghost use Rattle.desk_model.specs.Rules.{holder_verdict, new_order_verdict, signed_verdict, target_verdict};
+ghost use Rattle.desk_model.specs.Payload.{new_order, object_in};
+ghost use Rattle.desk_model.specs.Questions.{account_with_key};
+ghost use Rattle.desk_model.specs.Rules.{holder_verdict, key_verdict, new_order_verdict, signed_verdict, target_verdict};
 ghost use Rattle.desk_model.specs.Verdict.{given};
 
 use crate::accounts::unknown_key_verdict;
 use crate::fault::CoreFault;
 use crate::new_orders::new_order_verdict;
-use crate::payload::new_order;
+use crate::payload::{Payload, new_order, object_in};
 use crate::targets::{
     account_target, authorization_target, certificate_target, challenge_target, finalize_target,
     new_account_target, order_target, orders_target,
 };
 use crate::verdicts::refused;
-use desk_model::{AccountRow, Refusal, Signed, Target, Verdict};
+use desk_model::{AccountRow, Jwk, Refusal, Signed, Target, Verdict};
 use std::alloc::{AllocError, Global};
 use swept_rows::At;
 
@@ -26,9 +28,10 @@ fn new_order_target(
     at: &At,
     random: &[u8],
     sender: u64,
-    payload: &str,
+    payload: Payload,
 ) -> Result<Verdict, CoreFault>
-    ensures { let asked = given (new_order payload.now) Refusal.Malformed (new_order_verdict (drop 16 random.now) sender) in
+    requires { option_map (λ v. view v.now) payload.object ≡ object_in payload.text.now }
+    ensures { let asked = given (new_order payload.entry.text.now) Refusal.Malformed (new_order_verdict (drop 16 random.now) sender) in
         MatchResult result (λ v. (v ≡ asked) × NumbersLeft at.now.meta.counters v × BytesLeft random.now v)
         (λ e. IsNeedFault at.now.meta.counters random.now asked e) }
 {
@@ -53,10 +56,11 @@ fn target_verdict(
     at: &At,
     random: &[u8],
     sender: u64,
-    payload: &str,
+    payload: Payload,
     target: Target,
 ) -> Result<Verdict, CoreFault>
-    ensures { let asked = target_verdict at.now (drop 16 random.now) sender payload.now target in
+    requires { option_map (λ v. view v.now) payload.object ≡ object_in payload.text.now }
+    ensures { let asked = target_verdict at.now (drop 16 random.now) sender payload.entry.text.now target in
         MatchResult result (λ v. (v ≡ asked) × NumbersLeft at.now.meta.counters v × BytesLeft random.now v)
         (λ e. IsNeedFault at.now.meta.counters random.now asked e) }
 {
@@ -64,14 +68,12 @@ fn target_verdict(
         Target::NewAccount => if_made(new_account_target(alloc, sender, payload)),
         Target::NewOrder => new_order_target(alloc, at, random, sender, payload),
         Target::Account(number) => if_made(account_target(alloc, sender, number, payload)),
-        Target::Orders(number) => Ok(orders_target(alloc, sender, number, payload)),
-        Target::Order(number) => Ok(order_target(alloc, at, sender, number, payload)),
+        Target::Orders(number) => Ok(orders_target(alloc, sender, number, payload.text)),
+        Target::Order(number) => Ok(order_target(alloc, at, sender, number, payload.text)),
         Target::Finalize(number) => if_made(finalize_target(alloc, at, sender, number, payload)),
-        Target::Cert(number) => Ok(certificate_target(alloc, at, sender, number, payload)),
-        Target::Authz(number) => {
-            if_made(authorization_target(alloc, at, sender, number, payload))
-        }
-        Target::Chall(number) => if_made(challenge_target(alloc, at, sender, number, payload)),
+        Target::Cert(number) => Ok(certificate_target(alloc, at, sender, number, payload.text)),
+        Target::Authz(number) => Ok(authorization_target(alloc, at, sender, number, payload)),
+        Target::Chall(number) => Ok(challenge_target(alloc, at, sender, number, payload)),
     }
 }
 
@@ -82,10 +84,11 @@ fn holder_verdict(
     at: &At,
     random: &[u8],
     row: &AccountRow,
-    payload: &str,
+    payload: Payload,
     target: Target,
 ) -> Result<Verdict, CoreFault>
-    ensures { let asked = holder_verdict at.now (drop 16 random.now) payload.now target row.now in
+    requires { option_map (λ v. view v.now) payload.object ≡ object_in payload.text.now }
+    ensures { let asked = holder_verdict at.now (drop 16 random.now) payload.entry.text.now target row.now in
         MatchResult result (λ v. (v ≡ asked) × NumbersLeft at.now.meta.counters v × BytesLeft random.now v)
         (λ e. IsNeedFault at.now.meta.counters random.now asked e) }
 {
@@ -93,6 +96,26 @@ fn holder_verdict(
         return Ok(refused(alloc, Refusal::Unauthorized));
     }
     target_verdict(alloc, at, random, row.number, payload, target)
+}
+
+// A request that is signed with an accepted key, by the account that has it.
+fn key_verdict(
+    alloc: Global,
+    at: &At,
+    random: &[u8],
+    key: &Jwk,
+    payload: Payload,
+    target: Target,
+) -> Result<Verdict, CoreFault>
+    requires { option_map (λ v. view v.now) payload.object ≡ object_in payload.text.now }
+    ensures { let asked = key_verdict at.now (drop 16 random.now) key.now payload.entry.text.now target (account_with_key at.now key.now) in
+        MatchResult result (λ v. (v ≡ asked) × NumbersLeft at.now.meta.counters v × BytesLeft random.now v)
+        (λ e. IsNeedFault at.now.meta.counters random.now asked e) }
+{
+    match at.account_with_key(key.canonical()) {
+        Some(row) => holder_verdict(alloc, at, random, row, payload, target),
+        None => unknown_key_verdict(alloc, at, key, payload, target),
+    }
 }
 
 /// The verdict on a signed request that has passed the test of its nonce, by the tables of a book at a moment. The
@@ -115,9 +138,8 @@ pub fn judge_signed(
     let Ok(key) = &signed.key else {
         return Ok(refused(alloc, Refusal::BadPublicKey));
     };
-    let payload = signed.payload.as_str();
-    match at.account_with_key(key.canonical()) {
-        Some(row) => holder_verdict(alloc, at, random, row, payload, signed.target),
-        None => unknown_key_verdict(alloc, at, key, payload, signed.target),
-    }
+    let text = signed.payload.as_str();
+    let object = object_in(alloc, text)?;
+    let payload = Payload::new(text, &object);
+    key_verdict(alloc, at, random, key, payload, signed.target)
 }

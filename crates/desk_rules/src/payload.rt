@@ -1,10 +1,10 @@
 //! The payloads of signed requests: JSON texts in the forms that the routes read.
-ghost use Rattle.std.specs.Prelude.{◌≡◌, Some, Option, option_map, option_and_then, string_bytes, IfOk};
+ghost use Rattle.std.specs.Prelude.{◌≡◌, Some, Option, option_map, option_and_then, IfOk};
 ghost use Rattle.serde_json.specs.View.{view, items_view};
 ghost use Rattle.desk_model.specs.Payload.{object_in, each_in, texts_in, optional, new_account, new_account_in};
 ghost use Rattle.desk_model.specs.Payload.{is_deactivated_text, says_deactivated, account_change, account_change_in};
 ghost use Rattle.desk_model.specs.Payload.{authorization_change, authorization_change_in, challenge_change, identifier_in};
-ghost use Rattle.desk_model.specs.Payload.{new_order, new_order_in, csr_text_in, finalize};
+ghost use Rattle.desk_model.specs.Payload.{new_order, new_order_in, finalize};
 ghost use Rattle.serde_json.specs.Find.{get, as_bool, as_str};
 
 use desk_model::{
@@ -14,9 +14,28 @@ use json_values::{text_of, texts_in, value_of};
 use serde_json::Value;
 use std::alloc::{AllocError, Global};
 
-// The object that a text holds, `None` where it holds no JSON, or something else.
+/// The payload of a signed request, and the object that it holds, if it holds one.
+#[derive(Clone, Copy)]
+pub(crate) struct Payload<'a> {
+    pub(crate) text: &'a str,
+    pub(crate) object: Option<&'a Value>,
+}
+
+impl<'a> Payload<'a> {
+    /// A payload with the object that was read in its text.
+    pub(crate) fn new(text: &'a str, object: &'a Option<Value>) -> Payload<'a>
+        requires { option_map (λ v. view v) object.now ≡ object_in text.now }
+        ensures text { result.text.now ≡ text.now }
+        ensures object { option_map (λ v. view v.now) result.object ≡ object_in result.text.now }
+    {
+        let object = object.as_ref();
+        Payload { text, object }
+    }
+}
+
+/// The object that a text holds, `None` where it holds no JSON, or something else.
 #[tactic(auto, unfolding(desk_model::specs::Payload::object_in))]
-fn object_in(alloc: Global, text: &str) -> Result<Option<Value>, AllocError>
+pub(crate) fn object_in(alloc: Global, text: &str) -> Result<Option<Value>, AllocError>
     ensures { IfOk result (λ o. option_map (λ v. view v) o ≡ object_in text.now) }
 {
     let Some(value) = value_of(alloc, text)? else {
@@ -74,11 +93,12 @@ fn new_account_in(alloc: Global, value: &Value) -> Result<Option<NewAccount>, Al
 }
 
 /// What a newAccount payload asks, `None` where it has another form (RFC 8555, 7.3).
-pub(crate) fn new_account(alloc: Global, payload: &str) -> Result<Option<NewAccount>, AllocError>
-    ensures { IfOk result (λ o. o ≡ new_account payload.now) }
+pub(crate) fn new_account(alloc: Global, payload: Payload) -> Result<Option<NewAccount>, AllocError>
+    requires { option_map (λ v. view v.now) payload.object ≡ object_in payload.text.now }
+    ensures { IfOk result (λ o. o ≡ new_account payload.entry.text.now) }
 {
-    match object_in(alloc, payload)? {
-        Some(value) => new_account_in(alloc, &value),
+    match payload.object {
+        Some(value) => new_account_in(alloc, value),
         None => Ok(None),
     }
 }
@@ -113,15 +133,16 @@ fn account_change_in(alloc: Global, value: &Value) -> Result<Option<AccountChang
 /// What a request to an account asks, `None` where the payload has another form (RFC 8555, 7.3.2).
 pub(crate) fn account_change(
     alloc: Global,
-    payload: &str,
+    payload: Payload,
 ) -> Result<Option<AccountChange>, AllocError>
-    ensures { IfOk result (λ o. o ≡ account_change payload.now) }
+    requires { option_map (λ v. view v.now) payload.object ≡ object_in payload.text.now }
+    ensures { IfOk result (λ o. o ≡ account_change payload.entry.text.now) }
 {
-    if payload.is_empty() {
+    if payload.text.is_empty() {
         return Ok(Some(AccountChange::Read));
     }
-    match object_in(alloc, payload)? {
-        Some(value) => account_change_in(alloc, &value),
+    match payload.object {
+        Some(value) => account_change_in(alloc, value),
         None => Ok(None),
     }
 }
@@ -137,34 +158,27 @@ fn authorization_change_in(value: &Value) -> Option<AuthorizationChange>
 }
 
 /// What a request to an authorization asks, `None` where the payload has another form (RFC 8555, 7.5.2).
-pub(crate) fn authorization_change(
-    alloc: Global,
-    payload: &str,
-) -> Result<Option<AuthorizationChange>, AllocError>
-    ensures { IfOk result (λ o. o ≡ authorization_change payload.now) }
+pub(crate) fn authorization_change(payload: Payload) -> Option<AuthorizationChange>
+    requires { option_map (λ v. view v.now) payload.object ≡ object_in payload.text.now }
+    ensures { result ≡ authorization_change payload.entry.text.now }
 {
-    if payload.is_empty() {
-        return Ok(Some(AuthorizationChange::Read));
+    if payload.text.is_empty() {
+        return Some(AuthorizationChange::Read);
     }
-    match object_in(alloc, payload)? {
-        Some(value) => Ok(authorization_change_in(&value)),
-        None => Ok(None),
-    }
+    authorization_change_in(payload.object?)
 }
 
 /// What a request to a challenge asks, `None` where the payload has another form (RFC 8555, 7.5.1).
-pub(crate) fn challenge_change(
-    alloc: Global,
-    payload: &str,
-) -> Result<Option<ChallengeChange>, AllocError>
-    ensures { IfOk result (λ o. o ≡ challenge_change payload.now) }
+pub(crate) fn challenge_change(payload: Payload) -> Option<ChallengeChange>
+    requires { option_map (λ v. view v.now) payload.object ≡ object_in payload.text.now }
+    ensures { result ≡ challenge_change payload.entry.text.now }
 {
-    if payload.is_empty() {
-        return Ok(Some(ChallengeChange::Read));
+    if payload.text.is_empty() {
+        return Some(ChallengeChange::Read);
     }
-    match object_in(alloc, payload)? {
-        Some(_) => Ok(Some(ChallengeChange::Answer)),
-        None => Ok(None),
+    match payload.object {
+        Some(_) => Some(ChallengeChange::Answer),
+        None => None,
     }
 }
 
@@ -210,30 +224,23 @@ fn new_order_in(alloc: Global, value: &Value) -> Result<Option<Vec<Identifier>>,
 }
 
 /// The identifiers that a newOrder payload asks for, `None` where it has another form (RFC 8555, 7.4).
-pub(crate) fn new_order(alloc: Global, payload: &str) -> Result<Option<Vec<Identifier>>, AllocError>
-    ensures { IfOk result (λ o. option_map (λ v. v.items) o ≡ new_order payload.now) }
+pub(crate) fn new_order(
+    alloc: Global,
+    payload: Payload,
+) -> Result<Option<Vec<Identifier>>, AllocError>
+    requires { option_map (λ v. view v.now) payload.object ≡ object_in payload.text.now }
+    ensures { IfOk result (λ o. option_map (λ v. v.items) o ≡ new_order payload.entry.text.now) }
 {
-    match object_in(alloc, payload)? {
-        Some(value) => new_order_in(alloc, &value),
-        None => Ok(None),
-    }
-}
-
-fn csr_text_in(alloc: Global, value: &Value) -> Result<Option<String>, AllocError>
-    ensures { IfOk result (λ o. option_map (λ s. string_bytes s) o ≡ csr_text_in (view value.now)) }
-{
-    match text_of(value, "csr") {
-        Some(text) => Ok(Some(String::from_str(alloc, text)?)),
+    match payload.object {
+        Some(value) => new_order_in(alloc, value),
         None => Ok(None),
     }
 }
 
 /// The text of the CSR that a finalize payload hands in, `None` where it has another form (RFC 8555, 7.4).
-pub(crate) fn finalize(alloc: Global, payload: &str) -> Result<Option<String>, AllocError>
-    ensures { IfOk result (λ o. option_map (λ s. string_bytes s) o ≡ finalize payload.now) }
+pub(crate) fn finalize<'a>(payload: Payload<'a>) -> Option<&'a str>
+    requires { option_map (λ v. view v.now) payload.object ≡ object_in payload.text.now }
+    ensures { option_map (λ s. s.now) result ≡ finalize payload.entry.text.now }
 {
-    match object_in(alloc, payload)? {
-        Some(value) => csr_text_in(alloc, &value),
-        None => Ok(None),
-    }
+    text_of(payload.object?, "csr")
 }

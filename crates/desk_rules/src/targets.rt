@@ -1,6 +1,7 @@
 //! Signed requests, by their targets (RFC 8555, 6.2, 6.3).
 ghost use Rattle.std.specs.Prelude.{◌≡◌, ◌==◌, IfOk, option_map};
-ghost use Rattle.desk_model.specs.Payload.{account_change, authorization_change, challenge_change, finalize, new_account};
+ghost use Rattle.serde_json.specs.View.{view};
+ghost use Rattle.desk_model.specs.Payload.{account_change, authorization_change, challenge_change, finalize, new_account, object_in};
 ghost use Rattle.desk_model.specs.Questions.{authorization_on, order_on, owner_on};
 ghost use Rattle.desk_model.specs.Rules.{account_verdict, authorization_verdict, certificate_verdict, challenge_verdict, finalize_verdict, nothing, own};
 ghost use Rattle.desk_model.specs.Verdict.{check, given};
@@ -13,7 +14,7 @@ use crate::authorization_rules::authorization_verdict;
 use crate::challenge_rules::challenge_verdict;
 use crate::order_rules::{certificate_verdict, finalize_verdict};
 use crate::payload::{
-    account_change, authorization_change, challenge_change, finalize, new_account,
+    Payload, account_change, authorization_change, challenge_change, finalize, new_account,
 };
 use crate::verdicts::refused;
 use desk_model::{
@@ -69,9 +70,10 @@ fn own_authorization<'a>(
 pub(crate) fn new_account_target(
     alloc: Global,
     sender: u64,
-    payload: &str,
+    payload: Payload,
 ) -> Result<Verdict, AllocError>
-    ensures { IfOk result (λ v. v ≡ given (new_account payload.now) Refusal.Malformed (λ asked. answers (show.KnownAccount sender))) }
+    requires { option_map (λ v. view v.now) payload.object ≡ object_in payload.text.now }
+    ensures { IfOk result (λ v. v ≡ given (new_account payload.entry.text.now) Refusal.Malformed (λ asked. answers (show.KnownAccount sender))) }
 {
     match new_account(alloc, payload)? {
         Some(_) => Ok(Verdict::Answers(Shows::KnownAccount(sender))),
@@ -85,9 +87,11 @@ pub(crate) fn account_target(
     alloc: Global,
     sender: u64,
     number: u64,
-    payload: &str,
+    payload: Payload,
 ) -> Result<Verdict, AllocError>
-    ensures { IfOk result (λ v. v ≡ check (number == sender) Refusal.NotFound (given (account_change payload.now) Refusal.Malformed (account_verdict sender))) }
+    requires { option_map (λ v. view v.now) payload.object ≡ object_in payload.text.now }
+    ensures { IfOk result (λ v. v ≡ check (number == sender) Refusal.NotFound
+        (given (account_change payload.entry.text.now) Refusal.Malformed (account_verdict sender))) }
 {
     if number != sender {
         return Ok(refused(alloc, Refusal::NotFound));
@@ -141,16 +145,17 @@ pub(crate) fn finalize_target(
     at: &At,
     sender: u64,
     number: u64,
-    payload: &str,
+    payload: Payload,
 ) -> Result<Verdict, AllocError>
+    requires { option_map (λ v. view v.now) payload.object ≡ object_in payload.text.now }
     ensures { IfOk result (λ v. v ≡ given (own (λ o. o.account) sender (order_on at.now number)) Refusal.NotFound
-        (λ o. given (finalize payload.now) Refusal.Malformed (finalize_verdict number o))) }
+        (λ o. given (finalize payload.entry.text.now) Refusal.Malformed (finalize_verdict number o))) }
 {
     let Some((_row, status)) = own_order(at, sender, number) else {
         return Ok(refused(alloc, Refusal::NotFound));
     };
-    match finalize(alloc, payload)? {
-        Some(text) => finalize_verdict(alloc, number, status, text.as_str()),
+    match finalize(payload) {
+        Some(text) => finalize_verdict(alloc, number, status, text),
         None => Ok(refused(alloc, Refusal::Malformed)),
     }
 }
@@ -184,17 +189,18 @@ pub(crate) fn authorization_target(
     at: &At,
     sender: u64,
     number: u64,
-    payload: &str,
-) -> Result<Verdict, AllocError>
-    ensures { IfOk result (λ v. v ≡ given (own (λ a. a.account) sender (authorization_on at.now number)) Refusal.NotFound
-        (λ a. given (authorization_change payload.now) Refusal.Malformed (authorization_verdict number a))) }
+    payload: Payload,
+) -> Verdict
+    requires { option_map (λ v. view v.now) payload.object ≡ object_in payload.text.now }
+    ensures { result ≡ given (own (λ a. a.account) sender (authorization_on at.now number)) Refusal.NotFound
+        (λ a. given (authorization_change payload.entry.text.now) Refusal.Malformed (authorization_verdict number a)) }
 {
     let Some((row, status)) = own_authorization(at, sender, number) else {
-        return Ok(refused(alloc, Refusal::NotFound));
+        return refused(alloc, Refusal::NotFound);
     };
-    match authorization_change(alloc, payload)? {
-        Some(change) => Ok(authorization_verdict(number, row, status, change)),
-        None => Ok(refused(alloc, Refusal::Malformed)),
+    match authorization_change(payload) {
+        Some(change) => authorization_verdict(number, row, status, change),
+        None => refused(alloc, Refusal::Malformed),
     }
 }
 
@@ -205,19 +211,20 @@ pub(crate) fn challenge_target(
     at: &At,
     sender: u64,
     number: u64,
-    payload: &str,
-) -> Result<Verdict, AllocError>
-    ensures { IfOk result (λ v. v ≡ given (own (λ a. a.account) sender (owner_on at.now number)) Refusal.NotFound
-        (λ a. given (challenge_change payload.now) Refusal.Malformed (challenge_verdict number a))) }
+    payload: Payload,
+) -> Verdict
+    requires { option_map (λ v. view v.now) payload.object ≡ object_in payload.text.now }
+    ensures { result ≡ given (own (λ a. a.account) sender (owner_on at.now number)) Refusal.NotFound
+        (λ a. given (challenge_change payload.entry.text.now) Refusal.Malformed (challenge_verdict number a)) }
 {
     let Some((row, status, challenge)) = at.challenge(number) else {
-        return Ok(refused(alloc, Refusal::NotFound));
+        return refused(alloc, Refusal::NotFound);
     };
     if row.account != sender {
-        return Ok(refused(alloc, Refusal::NotFound));
+        return refused(alloc, Refusal::NotFound);
     }
-    match challenge_change(alloc, payload)? {
-        Some(change) => Ok(challenge_verdict(number, status, challenge, change)),
-        None => Ok(refused(alloc, Refusal::Malformed)),
+    match challenge_change(payload) {
+        Some(change) => challenge_verdict(number, status, challenge, change),
+        None => refused(alloc, Refusal::Malformed),
     }
 }
