@@ -5,12 +5,14 @@ use Rattle.std.proofs.lemmas.List.{at_drop_all, at_drop_more, map-append}
 use Rattle.std.specs.Prelude.{◌==◌, ◌&&◌, ◌||◌, find, unwrap_or}
 use Rattle.std.specs.Option.{option_map}
 use Rattle.desk_model.specs.Lookup.{holds}
-use Rattle.desk_model.specs.Derived.{authorization_numbered, numbers_of}
+use Rattle.desk_model.specs.Derived.{and_status, authorization_numbered, numbers_of, stored_statuses}
 use Rattle.desk_model.specs.Effect.{swept_authorization, swept_order, touches_authorization, touches_order, names_order, lists_one, moved_authorization}
 use Rattle.desk_model.specs.Change.{moved_rows}
 use Rattle.desk_model.specs.declared.entry.Entry.{Entry}
 use Rattle.desk_model.specs.declared.rows.AuthorizationRow.{AuthorizationRow}
 use Rattle.desk_model.specs.declared.rows.OrderRow.{OrderRow}
+use Rattle.desk_model.specs.declared.rows.Listed.{Listed}
+use Rattle.desk_model.specs.declared.status.AuthzStatus.{AuthzStatus}
 use Rattle.desk_laws.proofs.Local.{moved_number}
 use Rattle.desk_laws.proofs.SweptParts.{touches_swept}
 use Rattle.desk_changes.specs.Moved.{authorizations_moved, standing_rows, rows_after, moved_one, row_of, stated_authorization, touched_one}
@@ -202,3 +204,20 @@ pub maps-end : {X Y : Type 0} (f : X → Y) (xs : List X) (index : ℕ) (done wh
     length xs ≤ index → done ++ map f (drop index xs) ≡ whole → done ≡ whole
 maps-end f xs index done whole all kept =
     sym (ap (λ l. done ++ l) (at_drop_all (map f) xs index all) ∙ append-nil done) ∙ kept
+
+-- the statuses of listed authorizations, by one more of them
+pub statuses-step : (rows : List AuthorizationRow) (ls : List Listed) (index : ℕ) (d : Listed) (o : Option AuthzStatus)
+    (before after whole : List AuthzStatus) → index < length ls →
+    o ≡ option_map (λ r. r.status) (authorization_numbered (get_or ls index d).authorization rows) → after ≡ before ++ row_of o →
+    before ++ stored_statuses rows (numbers_of (drop index ls)) ≡ whole → after ++ stored_statuses rows (numbers_of (drop (index + 1) ls)) ≡ whole
+statuses-step rows ls index d o before after whole more is pushed kept =
+    (λ i. (pushed ∙ ap (λ p. before ++ row_of p) is) i ++ stored_statuses rows (numbers_of (drop (index + 1) ls)))
+    ∙ append_assoc before (row_of (option_map (λ r. r.status) (authorization_numbered (get_or ls index d).authorization rows)))
+    (stored_statuses rows (numbers_of (drop (index + 1) ls)))
+    ∙ ap (λ l. before ++ l) (one (authorization_numbered (get_or ls index d).authorization rows) (stored_statuses rows (numbers_of (drop (index + 1) ls)))
+    ∙ sym (at_drop_more (λ l. stored_statuses rows (numbers_of l)) ls index d more))
+    ∙ kept
+  where
+    one : (found : Option AuthorizationRow) (rest : List AuthzStatus) → row_of (option_map (λ r. r.status) found) ++ rest ≡ and_status found rest
+    one None rest = refl
+    one (Some r) rest = refl

@@ -1,9 +1,14 @@
 //! Rows as a move leaves them, and the changes that this makes.
-ghost use Rattle.std.specs.Prelude.{◌≡◌, ◌==◌, ◌++◌, ◌∷◌, [], cond, map, find, option_copied, option_map, IfOk, IsOkAnd, OnOk};
+ghost use Rattle.std.specs.Prelude.{◌≡◌, ◌==◌, ◌++◌, ◌∷◌, [], ⊤, ℕ, Bool, List, cond, map, find, option_copied, option_map, IfOk, IsOkAnd, OnOk};
+ghost use Rattle.std.specs.List.{filter};
 ghost use Rattle.desk_model.specs.Derived.{authorization_numbered, numbers_of, stored_statuses};
 ghost use Rattle.desk_model.specs.Entry.{entry_of};
 ghost use Rattle.desk_model.specs.Effect.{has_row, swept_authorization, swept_order, noted_account, touches_account, touches_authorization, touches_order};
 ghost use Rattle.desk_model.specs.Change.{account_differs, authorization_differs, order_differs, moved_rows};
+ghost use Rattle.desk_model.specs.Tables.{Tables};
+ghost use Rattle.desk_model.specs.declared.entry.Entry.{Entry};
+ghost use Rattle.desk_model.specs.declared.rows.AuthorizationRow.{AuthorizationRow as AuthorizationOf};
+ghost use Rattle.desk_model.specs.declared.rows.Change.{Change as ChangeOf};
 ghost use Rattle.desk_model.specs.declared.rows.Change.TheVariants.{PutAccount, PutAuthorization, PutOrder};
 ghost use Rattle.desk_changes.specs.Moved.{accounts_moved, authorizations_moved, moved_one, orders_moved, rows_after};
 ghost use Rattle.desk_changes.specs.Moved.{standing_rows, stated_authorization, stated_order, row_of, touched_one};
@@ -11,10 +16,17 @@ ghost use Rattle.desk_changes.specs.Moved.{standing_rows, stated_authorization, 
 use crate::differing::{account_differs, authorization_differs, order_differs};
 use crate::noted::{noted_account, noted_authorization, noted_order};
 use crate::touched::{touches_account, touches_authorization, touches_order};
-use desk_book::{Book, derived_authorization, derived_order, has_challenge};
+use desk_book::{Book, Row, Table, derived_authorization, derived_order, has_challenge};
 use desk_model::{AccountRow, AuthorizationRow, AuthzStatus, Change, Listed, Move, OrderRow};
 use std::alloc::{AllocError, Global};
 use swept_rows::{authorization_status, order_status};
+
+// The row of a number among these.
+fn row_numbered<R: Row>(rows: &[R], number: u64) -> Option<&R>
+    ensures { option_copied result ≡ find (λ row. R.number row == number) rows.now }
+{
+    rows.iter().find(|row| row.number() == number)
+}
 
 /// The rows that a move touches, as it leaves them.
 #[derive(Drop)]
@@ -32,14 +44,14 @@ impl MovedRows {
     pub fn account(&self, number: u64) -> Option<&AccountRow>
         ensures { option_copied result ≡ find (λ a. a.number == number) self.now.accounts.items }
     {
-        self.accounts.iter().find(|row| row.number == number)
+        row_numbered(&self.accounts, number)
     }
 
     /// The authorization of a number.
     pub fn authorization(&self, number: u64) -> Option<&AuthorizationRow>
         ensures { option_copied result ≡ find (λ a. a.number == number) self.now.authorizations.items }
     {
-        self.authorizations.iter().find(|row| row.number == number)
+        row_numbered(&self.authorizations, number)
     }
 
     /// The authorization that a challenge is of.
@@ -55,7 +67,7 @@ impl MovedRows {
     pub fn order(&self, number: u64) -> Option<&OrderRow>
         ensures { option_copied result ≡ find (λ o. o.number == number) self.now.orders.items }
     {
-        self.orders.iter().find(|row| row.number == number)
+        row_numbered(&self.orders, number)
     }
 }
 
@@ -67,7 +79,7 @@ pub(crate) fn push_change(changes: &mut Vec<Change>, change: Change) -> Result<(
     Ok(())
 }
 
-// Adds the row to the rows, if there is one.
+// Adds a row to the rows, or a status to the statuses, if there is one.
 fn push_row<R: Drop>(rows: &mut Vec<R>, row: Option<R>) -> Result<(), AllocError>
     ensures { OnOk result (rows.new.items ≡ rows.old.items ++ row_of row) }
 {
@@ -87,39 +99,168 @@ fn push_moved<R: Drop>(
     push_row(rows, moved?)
 }
 
-// ---- accounts
+// ---- rows of any table
 
-// Puts an account that a move touches, where it differs from the one before.
-fn put_account(
-    changes: &mut Vec<Change>,
-    before: &AccountRow,
-    after: &AccountRow,
-) -> Result<(), AllocError>
-    ensures { OnOk result (changes.new.items ≡ changes.old.items ++ map PutAccount (cond (account_differs before.now after.now) (after.now ∷ []) [])) }
-{
-    if account_differs(before, after) {
-        push_change(changes, Change::PutAccount(after.clone()?))?;
-    }
-    Ok(())
+/// A row that a move may touch.
+trait Movable: Row {
+    // Whether an entry at a moment touches it.
+    ghost touched: { Entry → ℕ → Tables → Self → Bool };
+
+    // The row at a moment.
+    ghost standing: { ℕ → Tables → Self → Self };
+
+    // The row as an entry leaves it, with the status that it ought to have.
+    ghost stated: { Entry → ℕ → Tables → Self → Self };
+
+    // Whether a row after a step differs from the row before it.
+    ghost differs: { (before after : Self) → Bool };
+
+    // The change that puts it.
+    ghost puts: { Self → ChangeOf };
+
+    // What is known of the authorizations that the entry touches, as it leaves them.
+    ghost Knows: { Entry → ℕ → Tables → List AuthorizationOf → Type 0 };
+
+    /// Whether a move touches the row.
+    fn is_touched(&self, book: &Book, moved: &Move) -> bool
+        ensures { (m : ℕ) → result ≡ touched (entry_of moved.now) m book.now (standing m book.now self.now) };
+
+    /// The row at a moment.
+    fn at_moment(&self, book: &Book, moment: u64) -> Result<Self, AllocError>
+        ensures { IfOk result (λ r. r ≡ standing moment book.now self.now) };
+
+    /// The row as a move leaves it.
+    fn restated(
+        &self,
+        alloc: Global,
+        book: &Book,
+        moved: &Move,
+        after: &[AuthorizationRow],
+        moment: u64,
+    ) -> Result<Self, AllocError>
+        requires { Knows (entry_of moved.now) moment book.now after.now }
+        ensures { IfOk result (λ r. r ≡ stated (entry_of moved.now) moment book.now self.now) };
+
+    /// Puts the row as it is after a move, where it differs from this one.
+    fn put_where_differs(&self, changes: &mut Vec<Change>, after: &Self) -> Result<(), AllocError>
+        ensures { OnOk result (changes.new.items ≡ changes.old.items ++ map puts (cond (differs self.now after.now) (after.now ∷ []) [])) };
 }
 
-// The account as a move leaves it, if it touches it, with the change that this makes.
-fn move_account(
+// A row that a move touches, as it leaves it, with the change that this makes.
+fn restate_row<R: Movable + Drop>(
     changes: &mut Vec<Change>,
+    alloc: Global,
+    book: &Book,
     moved: &Move,
+    after: &[AuthorizationRow],
     moment: u64,
-    row: &AccountRow,
-) -> Result<Option<AccountRow>, AllocError>
+    standing: &R,
+) -> Result<R, AllocError>
+    requires { R.Knows (entry_of moved.now) moment book.now after.now }
     ensures changes { OnOk result (changes.new.items ≡ changes.old.items
-        ++ map PutAccount (moved_one (touches_account (entry_of moved.now)) account_differs (noted_account (entry_of moved.now) moment) row.now)) }
-    ensures row { IfOk result (λ o. o ≡ touched_one (touches_account (entry_of moved.now)) (noted_account (entry_of moved.now) moment) row.now) }
+        ++ map R.puts (cond (R.differs standing.now (R.stated (entry_of moved.now) moment book.now standing.now))
+        (R.stated (entry_of moved.now) moment book.now standing.now ∷ []) [])) }
+    ensures row { IfOk result (λ r. r ≡ R.stated (entry_of moved.now) moment book.now standing.now) }
 {
-    if !touches_account(moved, row) {
+    let next = standing.restated(alloc, book, moved, after, moment)?;
+    standing.put_where_differs(changes, &next).and(Ok(next))
+}
+
+// The row as a move leaves it, if it touches it, with the change that this makes.
+fn move_row<R: Movable + Drop>(
+    changes: &mut Vec<Change>,
+    alloc: Global,
+    book: &Book,
+    moved: &Move,
+    after: &[AuthorizationRow],
+    moment: u64,
+    row: &R,
+) -> Result<Option<R>, AllocError>
+    requires { R.Knows (entry_of moved.now) moment book.now after.now }
+    ensures changes { OnOk result (changes.new.items ≡ changes.old.items
+        ++ map R.puts (moved_one (R.touched (entry_of moved.now) moment book.now) R.differs
+        (R.stated (entry_of moved.now) moment book.now) (R.standing moment book.now row.now))) }
+    ensures row { IfOk result (λ o. o ≡ touched_one (R.touched (entry_of moved.now) moment book.now)
+        (R.stated (entry_of moved.now) moment book.now) (R.standing moment book.now row.now)) }
+{
+    if !row.is_touched(book, moved) {
         return Ok(None);
     }
-    let next = noted_account(moved, moment, row)?;
-    put_account(changes, row, &next)?;
-    Ok(Some(next))
+    let standing = row.at_moment(book, moment)?;
+    let next = restate_row(changes, alloc, book, moved, after, moment, &standing);
+    drop(standing);
+    Ok(Some(next?))
+}
+
+// Puts the rows of a table that a move changes, and gives those that it touches.
+fn put_moved<R: Movable + Drop>(
+    changes: &mut Vec<Change>,
+    alloc: Global,
+    table: &Table<R>,
+    book: &Book,
+    moved: &Move,
+    after: &[AuthorizationRow],
+    moment: u64,
+) -> Result<Vec<R>, AllocError>
+    requires { R.Knows (entry_of moved.now) moment book.now after.now }
+    ensures changes { OnOk result (changes.new.items ≡ changes.old.items
+        ++ map R.puts (moved_rows (R.touched (entry_of moved.now) moment book.now) R.differs
+        (R.stated (entry_of moved.now) moment book.now) (map (R.standing moment book.now) table.now))) }
+    ensures rows { IfOk result (λ v. v.items ≡ map (R.stated (entry_of moved.now) moment book.now)
+        (filter (R.touched (entry_of moved.now) moment book.now) (map (R.standing moment book.now) table.now))) }
+{
+    let mut rows = Vec::new(alloc);
+    for row in table.iter() {
+        let next = move_row(changes, alloc, book, moved, after, moment, row);
+        push_moved(&mut rows, next)?;
+    }
+    Ok(rows)
+}
+
+// ---- accounts
+
+impl Movable for AccountRow {
+    ghost touched = { λ e m B. touches_account e };
+
+    ghost standing = { λ m B row. row };
+
+    ghost stated = { λ e m B. noted_account e m };
+
+    ghost differs = { account_differs };
+
+    ghost puts = { PutAccount };
+
+    ghost Knows = { λ e m B after. ⊤ };
+
+    fn is_touched(&self, _book: &Book, moved: &Move) -> bool {
+        touches_account(moved, self)
+    }
+
+    fn at_moment(&self, _book: &Book, _moment: u64) -> Result<AccountRow, AllocError> {
+        self.clone()
+    }
+
+    fn restated(
+        &self,
+        _alloc: Global,
+        _book: &Book,
+        moved: &Move,
+        _after: &[AuthorizationRow],
+        moment: u64,
+    ) -> Result<AccountRow, AllocError> {
+        noted_account(moved, moment, self)
+    }
+
+    fn put_where_differs(
+        &self,
+        changes: &mut Vec<Change>,
+        after: &AccountRow,
+    ) -> Result<(), AllocError> {
+        if account_differs(self, after) {
+            push_change(changes, Change::PutAccount(after.clone()?))?;
+        }
+        Ok(())
+    }
 }
 
 /// Puts the accounts that a move changes, and gives those that it touches.
@@ -134,94 +275,57 @@ pub(crate) fn put_accounts(
         ++ map PutAccount (moved_rows (touches_account (entry_of moved.now)) account_differs (noted_account (entry_of moved.now) moment) book.now.accounts)) }
     ensures rows { IfOk result (λ v. v.items ≡ accounts_moved (entry_of moved.now) moment book.now.accounts) }
 {
-    let mut rows = Vec::new(alloc);
-    for row in book.accounts().iter() {
-        let next = move_account(changes, moved, moment, row);
-        push_moved(&mut rows, next)?;
-    }
-    Ok(rows)
+    put_moved(changes, alloc, book.accounts(), book, moved, &[], moment)
 }
 
 // ---- authorizations
 
-// An authorization at a moment.
-fn standing_authorization(
-    moment: u64,
-    row: &AuthorizationRow,
-) -> Result<AuthorizationRow, AllocError>
-    ensures { IfOk result (λ r. r ≡ swept_authorization moment row.now) }
-{
-    let mut standing = row.clone()?;
-    standing.status = authorization_status(moment, row);
-    Ok(standing)
-}
+impl Movable for AuthorizationRow {
+    ghost touched = { λ e m B. touches_authorization e };
 
-fn stated_authorization(
-    alloc: Global,
-    moved: &Move,
-    moment: u64,
-    standing: &AuthorizationRow,
-) -> Result<AuthorizationRow, AllocError>
-    ensures { IfOk result (λ r. r ≡ stated_authorization (entry_of moved.now) moment standing.now) }
-{
-    let mut stated = noted_authorization(alloc, moved, moment, standing)?;
-    stated.status = derived_authorization(moment, &stated);
-    Ok(stated)
-}
+    ghost standing = { λ m B. swept_authorization m };
 
-// Puts an authorization that a move touches, where it differs from the one before.
-fn put_authorization(
-    changes: &mut Vec<Change>,
-    before: &AuthorizationRow,
-    after: &AuthorizationRow,
-) -> Result<(), AllocError>
-    ensures { OnOk result (changes.new.items ≡ changes.old.items
-        ++ map PutAuthorization (cond (authorization_differs before.now after.now) (after.now ∷ []) [])) }
-{
-    if authorization_differs(before, after) {
-        push_change(changes, Change::PutAuthorization(after.clone()?))?;
+    ghost stated = { λ e m B. stated_authorization e m };
+
+    ghost differs = { authorization_differs };
+
+    ghost puts = { PutAuthorization };
+
+    ghost Knows = { λ e m B after. ⊤ };
+
+    fn is_touched(&self, _book: &Book, moved: &Move) -> bool {
+        touches_authorization(moved, self)
     }
-    Ok(())
-}
 
-// An authorization that a move touches, as it leaves it, with the change that this makes.
-fn restate_authorization(
-    changes: &mut Vec<Change>,
-    alloc: Global,
-    moved: &Move,
-    moment: u64,
-    standing: &AuthorizationRow,
-) -> Result<AuthorizationRow, AllocError>
-    ensures changes { OnOk result (changes.new.items ≡ changes.old.items
-        ++ map PutAuthorization (cond (authorization_differs standing.now (stated_authorization (entry_of moved.now) moment standing.now))
-        (stated_authorization (entry_of moved.now) moment standing.now ∷ []) [])) }
-    ensures row { IfOk result (λ r. r ≡ stated_authorization (entry_of moved.now) moment standing.now) }
-{
-    let next = stated_authorization(alloc, moved, moment, standing)?;
-    put_authorization(changes, standing, &next).and(Ok(next))
-}
-
-// The authorization as a move leaves it, if it touches it, with the change that this makes.
-fn move_authorization(
-    changes: &mut Vec<Change>,
-    alloc: Global,
-    moved: &Move,
-    moment: u64,
-    row: &AuthorizationRow,
-) -> Result<Option<AuthorizationRow>, AllocError>
-    ensures changes { OnOk result (changes.new.items ≡ changes.old.items
-        ++ map PutAuthorization (moved_one (touches_authorization (entry_of moved.now)) authorization_differs
-        (stated_authorization (entry_of moved.now) moment) (swept_authorization moment row.now))) }
-    ensures row { IfOk result (λ o. o ≡ touched_one (touches_authorization (entry_of moved.now))
-        (stated_authorization (entry_of moved.now) moment) (swept_authorization moment row.now)) }
-{
-    if !touches_authorization(moved, row) {
-        return Ok(None);
+    fn at_moment(&self, _book: &Book, moment: u64) -> Result<AuthorizationRow, AllocError> {
+        let mut standing = self.clone()?;
+        standing.status = authorization_status(moment, self);
+        Ok(standing)
     }
-    let standing = standing_authorization(moment, row)?;
-    let next = restate_authorization(changes, alloc, moved, moment, &standing);
-    drop(standing);
-    Ok(Some(next?))
+
+    fn restated(
+        &self,
+        alloc: Global,
+        _book: &Book,
+        moved: &Move,
+        _after: &[AuthorizationRow],
+        moment: u64,
+    ) -> Result<AuthorizationRow, AllocError> {
+        let mut stated = noted_authorization(alloc, moved, moment, self)?;
+        stated.status = derived_authorization(moment, &stated);
+        Ok(stated)
+    }
+
+    fn put_where_differs(
+        &self,
+        changes: &mut Vec<Change>,
+        after: &AuthorizationRow,
+    ) -> Result<(), AllocError> {
+        if authorization_differs(self, after) {
+            push_change(changes, Change::PutAuthorization(after.clone()?))?;
+        }
+        Ok(())
+    }
 }
 
 /// Puts the authorizations that a move changes, and gives those that it touches.
@@ -237,22 +341,18 @@ pub(crate) fn put_authorizations(
         (stated_authorization (entry_of moved.now) moment) (standing_rows moment book.now.authorizations))) }
     ensures rows { IfOk result (λ v. v.items ≡ authorizations_moved (entry_of moved.now) moment book.now.authorizations) }
 {
-    let mut rows = Vec::new(alloc);
-    for row in book.authorizations().iter() {
-        let next = move_authorization(changes, alloc, moved, moment, row);
-        push_moved(&mut rows, next)?;
-    }
-    Ok(rows)
+    put_moved(
+        changes,
+        alloc,
+        book.authorizations(),
+        book,
+        moved,
+        &[],
+        moment,
+    )
 }
 
 // ---- orders
-
-// The authorization of a number among these.
-fn row_numbered(rows: &[AuthorizationRow], number: u64) -> Option<&AuthorizationRow>
-    ensures { option_copied result ≡ authorization_numbered number rows.now }
-{
-    rows.iter().find(|row| row.number == number)
-}
 
 // The status of the authorization of a number after a move, by those that it touches.
 fn status_after(
@@ -286,104 +386,59 @@ fn statuses_after(
 {
     let mut statuses = Vec::new(alloc);
     for listed in listed {
-        if let Some(status) = status_after(book, moved, after, moment, listed.authorization) {
-            statuses.push(status)?;
-        }
+        let status = status_after(book, moved, after, moment, listed.authorization);
+        push_row(&mut statuses, status)?;
     }
     Ok(statuses)
 }
 
-// An order at a moment.
-fn standing_order(book: &Book, moment: u64, row: &OrderRow) -> Result<OrderRow, AllocError>
-    ensures { IfOk result (λ r. r ≡ swept_order moment book.now.authorizations row.now) }
-{
-    let mut standing = row.clone()?;
-    standing.status = order_status(book, moment, row);
-    Ok(standing)
-}
+impl Movable for OrderRow {
+    ghost touched = { λ e m B. touches_order e (standing_rows m B.authorizations) };
 
-fn stated_order(
-    alloc: Global,
-    book: &Book,
-    moved: &Move,
-    after: &[AuthorizationRow],
-    moment: u64,
-    standing: &OrderRow,
-) -> Result<OrderRow, AllocError>
-    requires { after.now ≡ authorizations_moved (entry_of moved.now) moment book.now.authorizations }
-    ensures { IfOk result (λ r. r ≡ stated_order (entry_of moved.now) moment book.now.authorizations standing.now) }
-{
-    let statuses = statuses_after(
-        alloc,
-        book,
-        moved,
-        after,
-        moment,
-        standing.listed.as_slice(),
-    )?;
-    let mut stated = noted_order(moved, moment, standing)?;
-    stated.status = derived_order(moment, &stated, &statuses);
-    Ok(stated)
-}
+    ghost standing = { λ m B. swept_order m B.authorizations };
 
-// Puts an order that a move touches, where it differs from the one before.
-fn put_order(
-    changes: &mut Vec<Change>,
-    before: &OrderRow,
-    after: &OrderRow,
-) -> Result<(), AllocError>
-    ensures { OnOk result (changes.new.items ≡ changes.old.items ++ map PutOrder (cond (order_differs before.now after.now) (after.now ∷ []) [])) }
-{
-    if order_differs(before, after) {
-        push_change(changes, Change::PutOrder(after.clone()?))?;
+    ghost stated = { λ e m B. stated_order e m B.authorizations };
+
+    ghost differs = { order_differs };
+
+    ghost puts = { PutOrder };
+
+    ghost Knows = { λ e m B after. after ≡ authorizations_moved e m B.authorizations };
+
+    fn is_touched(&self, book: &Book, moved: &Move) -> bool {
+        touches_order(moved, book, self)
     }
-    Ok(())
-}
 
-// An order that a move touches, as it leaves it, with the change that this makes.
-fn restate_order(
-    changes: &mut Vec<Change>,
-    alloc: Global,
-    book: &Book,
-    moved: &Move,
-    after: &[AuthorizationRow],
-    moment: u64,
-    standing: &OrderRow,
-) -> Result<OrderRow, AllocError>
-    requires { after.now ≡ authorizations_moved (entry_of moved.now) moment book.now.authorizations }
-    ensures changes { OnOk result (changes.new.items ≡ changes.old.items
-        ++ map PutOrder (cond (order_differs standing.now (stated_order (entry_of moved.now) moment book.now.authorizations standing.now))
-        (stated_order (entry_of moved.now) moment book.now.authorizations standing.now ∷ []) [])) }
-    ensures row { IfOk result (λ r. r ≡ stated_order (entry_of moved.now) moment book.now.authorizations standing.now) }
-{
-    let next = stated_order(alloc, book, moved, after, moment, standing)?;
-    put_order(changes, standing, &next).and(Ok(next))
-}
-
-// The order as a move leaves it, if it touches it, with the change that this makes.
-fn move_order(
-    changes: &mut Vec<Change>,
-    alloc: Global,
-    book: &Book,
-    moved: &Move,
-    after: &[AuthorizationRow],
-    moment: u64,
-    row: &OrderRow,
-) -> Result<Option<OrderRow>, AllocError>
-    requires { after.now ≡ authorizations_moved (entry_of moved.now) moment book.now.authorizations }
-    ensures changes { OnOk result (changes.new.items ≡ changes.old.items
-        ++ map PutOrder (moved_one (touches_order (entry_of moved.now) (standing_rows moment book.now.authorizations)) order_differs
-        (stated_order (entry_of moved.now) moment book.now.authorizations) (swept_order moment book.now.authorizations row.now))) }
-    ensures row { IfOk result (λ o. o ≡ touched_one (touches_order (entry_of moved.now) (standing_rows moment book.now.authorizations))
-        (stated_order (entry_of moved.now) moment book.now.authorizations) (swept_order moment book.now.authorizations row.now)) }
-{
-    if !touches_order(moved, book, row) {
-        return Ok(None);
+    fn at_moment(&self, book: &Book, moment: u64) -> Result<OrderRow, AllocError> {
+        let mut standing = self.clone()?;
+        standing.status = order_status(book, moment, self);
+        Ok(standing)
     }
-    let standing = standing_order(book, moment, row)?;
-    let next = restate_order(changes, alloc, book, moved, after, moment, &standing);
-    drop(standing);
-    Ok(Some(next?))
+
+    fn restated(
+        &self,
+        alloc: Global,
+        book: &Book,
+        moved: &Move,
+        after: &[AuthorizationRow],
+        moment: u64,
+    ) -> Result<OrderRow, AllocError> {
+        let statuses = statuses_after(alloc, book, moved, after, moment, self.listed.as_slice())?;
+        let mut stated = noted_order(moved, moment, self)?;
+        stated.status = derived_order(moment, &stated, &statuses);
+        Ok(stated)
+    }
+
+    fn put_where_differs(
+        &self,
+        changes: &mut Vec<Change>,
+        after: &OrderRow,
+    ) -> Result<(), AllocError> {
+        if order_differs(self, after) {
+            push_change(changes, Change::PutOrder(after.clone()?))?;
+        }
+        Ok(())
+    }
 }
 
 /// Puts the orders that a move changes, by the authorizations that it touches, and gives those that it touches.
@@ -401,10 +456,5 @@ pub(crate) fn put_orders(
         (stated_order (entry_of moved.now) moment book.now.authorizations) (map (swept_order moment book.now.authorizations) book.now.orders))) }
     ensures rows { IfOk result (λ v. v.items ≡ orders_moved (entry_of moved.now) moment book.now.authorizations book.now.orders) }
 {
-    let mut rows = Vec::new(alloc);
-    for row in book.orders().iter() {
-        let next = move_order(changes, alloc, book, moved, after, moment, row);
-        push_moved(&mut rows, next)?;
-    }
-    Ok(rows)
+    put_moved(changes, alloc, book.orders(), book, moved, after, moment)
 }

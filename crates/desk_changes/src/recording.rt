@@ -106,15 +106,6 @@ impl Recording {
             → IsRecorded m B es self.old.changes.items self.old.counters
             → IsRecorded m B (es ++ issued random ∷ []) self.new.changes.items self.new.counters) }
     {
-        self.push_nonce(random)
-    }
-
-    fn push_nonce(&mut self, random: [u8; 16]) -> Result<(), AllocError>
-        requires { self.old.counters.nonces < last_number }
-        ensures changes { OnOk result (self.new.changes.items ≡ self.old.changes.items
-            ++ PutNonce (record { serial = self.old.counters.nonces + 1; random = random; issued = self.old.counters.clock }) ∷ []) }
-        ensures counters { OnOk result (self.new.counters ≡ record self.old.counters { nonces = self.old.counters.nonces + 1 }) }
-    {
         self.counters.nonces += 1;
         let nonce = Nonce {
             serial: self.counters.nonces,
@@ -176,21 +167,6 @@ impl Recording {
             → IsRecorded m book.now es self.old.changes.items self.old.counters
             → IsRecorded m book.now (es ++ entry_of moved.now ∷ []) self.new.changes.items self.new.counters) }
     {
-        self.push_moves(alloc, book, moved)
-    }
-
-    // Records the rows that move.
-    fn push_moves(
-        &mut self,
-        alloc: Global,
-        book: &Book,
-        moved: &Move,
-    ) -> Result<MovedRows, AllocError>
-        ensures changes { OnOk result (self.new.changes.items ≡ self.old.changes.items ++ book_moves self.old.counters.clock book.now (entry_of moved.now)) }
-        ensures counters { OnOk result (self.new.counters ≡ self.old.counters) }
-        ensures rows { IfOk result (λ r. AreMoved self.old.counters.clock book.now (entry_of moved.now) r.accounts.items
-            r.authorizations.items r.orders.items) }
-    {
         let moment = self.counters.clock.moment();
         let accounts = put_accounts(&mut self.changes, alloc, book, moved, moment)?;
         let authorizations = put_authorizations(&mut self.changes, alloc, book, moved, moment)?;
@@ -232,25 +208,6 @@ impl Recording {
         ensures recorded { OnOk result ((m : ℕ) (B : Tables) (es : List EntryOf) → B.meta.policy ≡ policy.now → IsOrdered B → IsUntouched m B es
             → IsRecorded m B es self.old.changes.items self.old.counters
             → IsRecorded m B (es ++ ordered account wanted.now ∷ []) self.new.changes.items self.new.counters) }
-    {
-        self.push_order(alloc, policy, account, wanted)
-    }
-
-    fn push_order(
-        &mut self,
-        alloc: Global,
-        policy: &Policy,
-        account: u64,
-        wanted: &[Wanted],
-    ) -> Result<OrderRow, AllocError>
-        requires orders { self.old.counters.orders < last_number }
-        requires authorizations { self.old.counters.authorizations + length wanted.now ≤ last_number }
-        requires challenges { self.old.counters.challenges + count_tokens wanted.now ≤ last_number }
-        ensures changes { OnOk result (self.new.changes.items ≡ self.old.changes.items
-            ++ (map PutAuthorization (next_rows policy.now self.old.counters account wanted.now)
-            ++ PutOrder (next_order policy.now self.old.counters account wanted.now) ∷ [])) }
-        ensures counters { OnOk result (self.new.counters ≡ ordered_counters policy.now self.old.counters account wanted.now) }
-        ensures order { IfOk result (λ o. o ≡ next_order policy.now self.old.counters account wanted.now) }
     {
         let rows = self.make_rows(alloc, policy, account, wanted)?;
         let order = self.next_order(alloc, policy, account, &rows)?;
