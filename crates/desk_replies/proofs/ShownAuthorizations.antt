@@ -1,6 +1,7 @@
 -- What the documents of authorizations and challenges show.
 use Rattle.std.proofs.Common.{◌≡◌, ℕ, List, [], ◌∷◌, ◌++◌, map, filter, Bool, true, false, cond, Option, Some, None, refl, sym, ap, ◌∙◌}
-use Rattle.std.specs.Prelude.{is_some, codes}
+use Rattle.std.specs.Prelude.{is_some, codes, not, ◌||◌}
+use Rattle.std.specs.List.{list_any}
 use Rattle.std.proofs.lemmas.Simd.{map-map}
 use Rattle.serde_json.specs.Data.{Data, string, boolean}
 use Rattle.desk_model.specs.Json.{members, list, when}
@@ -38,6 +39,34 @@ capped_authorization-same a dated =
     ∙ ap (λ cs. record a { challenges = cs }) (capped_challenges-same a.challenges dated.reports)
 
 -- ---- challenges
+
+-- or_all by a test that one passes, or that none does
+or_all-any : (p : ChallengeRow → Bool) (rows all : List ChallengeRow) → list_any p rows ≡ true → or_all (filter p rows) all ≡ filter p rows
+or_all-any p [] all any = cc
+or_all-any p (r ∷ rs) all any = by (p r) any (or_all-any p rs all)
+  where
+    by : (b : Bool) → (b || list_any p rs) ≡ true → (list_any p rs ≡ true → or_all (filter p rs) all ≡ filter p rs) →
+        or_all (cond b (r ∷ filter p rs) (filter p rs)) all ≡ cond b (r ∷ filter p rs) (filter p rs)
+    by true h later = refl
+    by false h later = later h
+
+none-filtered : (p : ChallengeRow → Bool) (rows : List ChallengeRow) → list_any p rows ≡ false → filter p rows ≡ []
+none-filtered p [] none = refl
+none-filtered p (r ∷ rs) none = by (p r) none (none-filtered p rs)
+  where
+    by : (b : Bool) → (b || list_any p rs) ≡ false → (list_any p rs ≡ false → filter p rs ≡ []) → cond b (r ∷ filter p rs) (filter p rs) ≡ []
+    by true h later = cc
+    by false h later = later h
+
+all-filtered : (rows : List ChallengeRow) → filter (λ r. true) rows ≡ rows
+all-filtered [] = refl
+all-filtered (r ∷ rs) = ap (λ l. r ∷ l) (all-filtered rs)
+
+-- the rows that pass, if one does, else all, are filtered in one pass
+pub or_all-filtered : (p : ChallengeRow → Bool) (rows : List ChallengeRow) (b : Bool) → b ≡ list_any p rows →
+    filter (λ r. not b || p r) rows ≡ or_all (filter p rows) rows
+or_all-filtered p rows true is = sym (or_all-any p rows rows (sym is))
+or_all-filtered p rows false is = all-filtered rows ∙ sym (ap (λ l. or_all l rows) (none-filtered p rows (sym is)))
 
 challenge_members-by : (o : Outcome) (date : ℕ) (s t k u : Data) →
     with_members (validated_by o (capped date))

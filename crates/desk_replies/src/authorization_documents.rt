@@ -1,6 +1,6 @@
 //! The documents of authorizations and their challenges (RFC 8555, 7.1.4, 7.1.5, 8).
-ghost use Rattle.std.specs.Prelude.{◌≡◌, map, codes, is_some, true, IfOk, OnOk};
-ghost use Rattle.std.specs.List.{filter};
+ghost use Rattle.std.specs.Prelude.{◌≡◌, ◌||◌, map, not, codes, is_some, true, IfOk, OnOk};
+ghost use Rattle.std.specs.List.{list_any};
 ghost use Rattle.serde_json.specs.Data.{boolean};
 ghost use Rattle.serde_json.specs.View.{view, members_view};
 ghost use Rattle.desk_model.specs.Json.{when};
@@ -99,40 +99,23 @@ pub(crate) fn challenge_value(
     object_value(members, put)
 }
 
-// The values of all challenges.
-fn all_challenges(
-    alloc: Global,
-    policy: &Policy,
-    challenges: &[ChallengeRow],
-) -> Result<Vec<Value>, AllocError>
-    ensures { IfOk result (λ v. map (λ d. view d) v.items ≡ map (λ c. challenge_document policy.now (capped_challenge c)) challenges.now) }
+// Whether one of the challenges was reported.
+fn is_reported(challenges: &[ChallengeRow]) -> bool
+    ensures { result ≡ list_any (λ c. is_some c.reported) challenges.now }
 {
-    let mut values = Vec::new(alloc);
-    for challenge in challenges {
-        push_value(&mut values, challenge_value(alloc, policy, challenge))?;
-    }
-    Ok(values)
+    challenges
+        .iter()
+        .any(|challenge| challenge.reported.is_some())
 }
 
-// The values of the challenges that were reported.
-fn reported_challenges(
-    alloc: Global,
-    policy: &Policy,
-    challenges: &[ChallengeRow],
-) -> Result<Vec<Value>, AllocError>
-    ensures { IfOk result (λ v. map (λ d. view d) v.items
-        ≡ map (λ c. challenge_document policy.now (capped_challenge c)) (filter (λ c. is_some c.reported) challenges.now)) }
+// Whether a challenge is shown: the one that was reported, if one was, else each.
+fn is_shown(reported: bool, challenge: &ChallengeRow) -> bool
+    ensures { result ≡ (not reported || is_some challenge.now.reported) }
 {
-    let mut values = Vec::new(alloc);
-    for challenge in challenges {
-        if challenge.reported.is_some() {
-            push_value(&mut values, challenge_value(alloc, policy, challenge))?;
-        }
-    }
-    Ok(values)
+    !reported || challenge.reported.is_some()
 }
 
-// The values of the challenges that an authorization shows: the one that was reported, if one was, else all.
+// The values of the challenges that an authorization shows.
 fn shown_challenges(
     alloc: Global,
     policy: &Policy,
@@ -140,11 +123,14 @@ fn shown_challenges(
 ) -> Result<Vec<Value>, AllocError>
     ensures { IfOk result (λ v. map (λ d. view d) v.items ≡ map (λ c. challenge_document policy.now (capped_challenge c)) (shown_challenges challenges.now)) }
 {
-    let reported = reported_challenges(alloc, policy, challenges)?;
-    if reported.is_empty() {
-        return all_challenges(alloc, policy, challenges);
+    let reported = is_reported(challenges);
+    let mut values = Vec::new(alloc);
+    for challenge in challenges {
+        if is_shown(reported, challenge) {
+            push_value(&mut values, challenge_value(alloc, policy, challenge))?;
+        }
     }
-    Ok(reported)
+    Ok(values)
 }
 
 // Adds that the authorization is for a wildcard name, where it is.

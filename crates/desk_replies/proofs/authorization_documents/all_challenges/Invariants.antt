@@ -1,9 +1,0 @@
-use Rattle.std.proofs.Common.{◌≡◌, map, take}
-use Rattle.serde_json.specs.View.{view}
-use Rattle.desk_model.specs.Document.{challenge_document}
-use Rattle.desk_replies.specs.Shown.{capped_challenge}
-use Rattle.desk_replies.proofs.authorization_documents.all_challenges.Given as goal
-
-abbrev pub invariant-loop-challenge : goal.invariant-loop-challenge
-invariant-loop-challenge l =
-    map view l.values.items ≡ map (λ c. challenge_document l.policy (capped_challenge c)) (take l.challenge-index l.challenges)
