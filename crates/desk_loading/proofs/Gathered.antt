@@ -2,10 +2,8 @@
 use Rattle.std.proofs.Common.{◌≡◌, ℕ, List, [], ◌∷◌, ◌++◌, Result, Ok, Err, IfErr, IfOk, OnOk, ap, subst, sym, ◌∙◌}
 use Rattle.std.specs.List.{flat_map}
 use Rattle.std.specs.Result.{result_and}
-use Rattle.std.proofs.lemmas.Result.{IfOk-at_ok}
-use Rattle.desk_laws.specs.Ordered.{Ascends}
 use Rattle.desk_laws.specs.Placing.{puts}
-use Rattle.desk_laws.proofs.RowLists.{puts_append, puts_ascending}
+use Rattle.desk_laws.proofs.RowLists.{puts_append}
 
 -- the rows of the next one are put, and what is left to be put is what follows it
 pub gathered : {N X : Type 0} (number : X → ℕ) (rows_of : N → List X) (n : N) (before rest : List N) (found rows later all : List X) →
@@ -27,32 +25,6 @@ pub put_if_found : {F V B X : Type 0} (number : X → ℕ) (items : V → List X
 put_if_found number items (Ok vs) (Ok done) xs rows later put_now passed looked = put_now ∙ ap (λ l. puts number l rows) looked
 put_if_found number items (Ok vs) (Err why) xs rows later put_now passed looked = tt
 put_if_found number items (Err why) r xs rows later put_now passed looked = subst (λ q. OnOk q (later ≡ puts number xs rows)) (sym passed) tt
-
--- and so are its rows, where they were put
-pub put_when_found : {F V B X : Type 0} (number : X → ℕ) (items : V → List X) (found : Result V F) (r : Result B F) (done : B) (xs rows later : List X) →
-    IfOk found (λ vs. OnOk r (later ≡ puts number (items vs) rows)) → IfErr found (λ why. r ≡ Err why) → IfOk found (λ vs. items vs ≡ xs) → r ≡ Ok done →
-    later ≡ puts number xs rows
-put_when_found number items found r done xs rows later put_now passed looked was =
-    IfOk-at_ok (λ _. later ≡ puts number xs rows) was (put_if_found number items found r xs rows later put_now passed looked)
-
--- where it is put into an empty table, this is the rows themselves
-pub table_put : {F V B X : Type 0} (number : X → ℕ) (items : V → List X) (found : Result V F) (r : Result B F) (done : B) (rows table : List X) →
-    IfOk found (λ vs. OnOk r (table ≡ puts number (items vs) rows)) → r ≡ Ok done → rows ≡ [] →
-    IfOk found (λ vs. (n : ℕ) → Ascends number n (items vs) → table ≡ items vs)
-table_put number items (Ok vs) r done rows table put_now was none = λ n ascends.
-    IfOk-at_ok (λ _. table ≡ puts number (items vs) rows) was put_now
-    ∙ ap (puts number (items vs)) none
-    ∙ puts_ascending number n (items vs) ascends
-table_put number items (Err why) r done rows table put_now was none = tt
-
--- the table of what was found, where it was made
-pub table_when_found : {F V X : Type 0} (number : X → ℕ) (items : V → List X) (found : Result V F) (r : Result (List X) F) (table xs : List X) (n : ℕ) →
-    IfOk found (λ vs. IfOk r (λ t. (n : ℕ) → Ascends number n (items vs) → t ≡ items vs)) → IfErr found (λ why. r ≡ Err why) →
-    IfOk found (λ vs. items vs ≡ xs) → r ≡ Ok table → Ascends number n xs →
-    table ≡ xs
-table_when_found number items (Ok vs) r table xs n made passed looked was ascends =
-    IfOk-at_ok (λ t. (n : ℕ) → Ascends number n (items vs) → t ≡ items vs) was made n (subst (Ascends number n) (sym looked) ascends) ∙ looked
-table_when_found number items (Err why) r table xs n made passed looked was ascends = absurd (let e = sym passed ∙ was in cc)
 
 -- rows are put, and then others
 pub put_then : {X : Type 0} (number : X → ℕ) (xs ys rows mid later : List X) → mid ≡ puts number xs rows → later ≡ puts number ys mid →

@@ -1,13 +1,8 @@
 -- Look-ups one after the other.
-use Rattle.std.proofs.Common.{◌≡◌, Result, Ok, Err, IfOk, IfErr, IsErrAnd, subst, sym, ◌∙◌}
+use Rattle.std.proofs.Common.{◌≡◌, Result, Ok, Err, IfErr, IsErrAnd, subst, sym, ◌∙◌}
 use Rattle.std.specs.Result.{result_and}
 use Rattle.desk_storage.specs.Sight.{Reads, Sight, Stands}
 use Rattle.desk_storage.specs.declared.fault.StorageFault.{StorageFault}
-
--- a value is what its equal is
-pub value_is : {A E : Type 0} (r : Result A E) (x y : A) → IfOk r (λ a. a ≡ x) → x ≡ y → IfOk r (λ a. a ≡ y)
-value_is (Ok a) x y is same = is ∙ same
-value_is (Err e) x y is same = tt
 
 module _ {S C : Type 0} {v : Sight S C} where
   -- what was not read stands
@@ -53,12 +48,6 @@ module _ {S C : Type 0} {v : Sight S C} where
     without_memory = λ memory. read.without_memory (sym failed ∙ memory);
   }
 
-  -- and behind others
-  pub fails_then : {A B : Type 0} {old mid new : S} {why : StorageFault} (r : Result A StorageFault) →
-      Stands v old mid → Reads v {R = B} mid new (Err why) → IsErrAnd r (λ e. e ≡ why) →
-      Reads v old new r
-  fails_then r stands read failed = reads_then r stands (reads_failing r read failed)
-
   -- what was found was read, and its fault is passed on
   pub reads_found : {A B : Type 0} {old new : S} (found : Result A StorageFault) (r : Result B StorageFault) →
       Reads v old new found → IfErr found (λ why. r ≡ Err why) →
@@ -68,7 +57,7 @@ module _ {S C : Type 0} {v : Sight S C} where
       (record { honest = read.honest; left = read.left; tables = tt; without_memory = read.without_memory })
 
   -- a result that is another
-  pub read_as : {A : Type 0} {old new : S} {r q : Result A StorageFault} → Reads v old new r → r ≡ q → Reads v old new q
+  read_as : {A : Type 0} {old new : S} {r q : Result A StorageFault} → Reads v old new r → r ≡ q → Reads v old new q
   read_as {A} {old} {new} read same = subst (Reads v old new) same read
 
   -- what was made of what was read

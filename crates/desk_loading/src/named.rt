@@ -1,5 +1,5 @@
 //! What an ask names, by numbers.
-ghost use Rattle.std.specs.Prelude.{◌≡◌, ◌∷◌, [], IfOk};
+ghost use Rattle.std.specs.Prelude.{◌≡◌, option_to_list};
 ghost use Rattle.desk_model.specs.Tokens.{nonce_in};
 ghost use Rattle.desk_parts.specs.Loaded.{account_numbers as account_numbers_of};
 ghost use Rattle.desk_parts.specs.Loaded.{authorization_numbers as authorization_numbers_of};
@@ -10,126 +10,116 @@ ghost use Rattle.desk_model.specs.Asked.{asks_authorizations as asks_authorizati
 
 use desk_model::{Ask, OfficeAsk, Target};
 use keys::read_nonce;
-use std::alloc::{AllocError, Global};
-
-// A list of one number.
-fn one(alloc: Global, number: u64) -> Result<Vec<u64>, AllocError>
-    ensures { IfOk result (λ v. v.items ≡ number ∷ []) }
-{
-    let mut numbers = Vec::new(alloc);
-    numbers.push(number)?;
-    Ok(numbers)
-}
 
 // The serial in the text of a nonce.
-fn serials_in(alloc: Global, text: &str) -> Result<Vec<u64>, AllocError>
-    ensures { IfOk result (λ v. v.items ≡ of_text (nonce_in text.now)) }
+fn serial_in(text: &str) -> Option<u64>
+    ensures { option_to_list result ≡ of_text (nonce_in text.now) }
 {
     match read_nonce(text) {
-        Some((serial, _)) => one(alloc, serial),
-        None => Ok(Vec::new(alloc)),
+        Some((serial, _)) => Some(serial),
+        None => None,
     }
 }
 
 /// The serial of the nonce that a request carries.
-pub(crate) fn serials(alloc: Global, ask: &Ask) -> Result<Vec<u64>, AllocError>
-    ensures { IfOk result (λ v. v.items ≡ serials_of ask.now) }
+pub(crate) fn serial(ask: &Ask) -> Option<u64>
+    ensures { option_to_list result ≡ serials_of ask.now }
 {
     match ask {
         Ask::Signed(request) => match &request.nonce {
-            Some(text) => serials_in(alloc, text.as_str()),
-            None => Ok(Vec::new(alloc)),
+            Some(text) => serial_in(text.as_str()),
+            None => None,
         },
-        _ => Ok(Vec::new(alloc)),
+        _ => None,
     }
 }
 
 // The account that a target names.
-fn accounts_at(alloc: Global, target: &Target) -> Result<Vec<u64>, AllocError>
-    ensures { IfOk result (λ v. v.items ≡ target_accounts target.now) }
+fn account_at(target: &Target) -> Option<u64>
+    ensures { option_to_list result ≡ target_accounts target.now }
 {
     match target {
-        Target::Account(number) => one(alloc, *number),
-        Target::Orders(number) => one(alloc, *number),
-        _ => Ok(Vec::new(alloc)),
+        Target::Account(number) => Some(*number),
+        Target::Orders(number) => Some(*number),
+        _ => None,
     }
 }
 
 /// The account that an ask names by its number.
-pub(crate) fn account_numbers(alloc: Global, ask: &Ask) -> Result<Vec<u64>, AllocError>
-    ensures { IfOk result (λ v. v.items ≡ account_numbers_of ask.now) }
+pub(crate) fn account_number(ask: &Ask) -> Option<u64>
+    ensures { option_to_list result ≡ account_numbers_of ask.now }
 {
     match ask {
-        Ask::Signed(request) => accounts_at(alloc, &request.target),
-        Ask::Office(OfficeAsk::RevokeAccount(number)) => one(alloc, *number),
-        Ask::Office(OfficeAsk::KeyOf(number)) => one(alloc, *number),
-        _ => Ok(Vec::new(alloc)),
+        Ask::Signed(request) => account_at(&request.target),
+        Ask::Office(OfficeAsk::RevokeAccount(number)) => Some(*number),
+        Ask::Office(OfficeAsk::KeyOf(number)) => Some(*number),
+        _ => None,
     }
 }
 
 // The order that a target names.
-fn orders_at(alloc: Global, target: &Target) -> Result<Vec<u64>, AllocError>
-    ensures { IfOk result (λ v. v.items ≡ target_order_numbers target.now) }
+fn order_at(target: &Target) -> Option<u64>
+    ensures { option_to_list result ≡ target_order_numbers target.now }
 {
     match target {
-        Target::Order(number) => one(alloc, *number),
-        Target::Finalize(number) => one(alloc, *number),
-        Target::Cert(number) => one(alloc, *number),
-        _ => Ok(Vec::new(alloc)),
+        Target::Order(number) => Some(*number),
+        Target::Finalize(number) => Some(*number),
+        Target::Cert(number) => Some(*number),
+        _ => None,
     }
 }
 
 /// The order that an ask names.
-pub(crate) fn order_numbers(alloc: Global, ask: &Ask) -> Result<Vec<u64>, AllocError>
-    ensures { IfOk result (λ v. v.items ≡ order_numbers_of ask.now) }
+pub(crate) fn order_number(ask: &Ask) -> Option<u64>
+    ensures { option_to_list result ≡ order_numbers_of ask.now }
 {
     match ask {
-        Ask::Signed(request) => orders_at(alloc, &request.target),
-        Ask::Office(OfficeAsk::Certify { order, .. }) => one(alloc, *order),
-        Ask::Office(OfficeAsk::FailOrder { order, .. }) => one(alloc, *order),
-        _ => Ok(Vec::new(alloc)),
+        Ask::Signed(request) => order_at(&request.target),
+        Ask::Office(OfficeAsk::Certify { order, .. }) => Some(*order),
+        Ask::Office(OfficeAsk::FailOrder { order, .. }) => Some(*order),
+        _ => None,
     }
 }
 
 // The authorization that a target names.
-fn authorizations_at(alloc: Global, target: &Target) -> Result<Vec<u64>, AllocError>
-    ensures { IfOk result (λ v. v.items ≡ target_authorization_numbers target.now) }
+fn authorization_at(target: &Target) -> Option<u64>
+    ensures { option_to_list result ≡ target_authorization_numbers target.now }
 {
     match target {
-        Target::Authz(number) => one(alloc, *number),
-        _ => Ok(Vec::new(alloc)),
+        Target::Authz(number) => Some(*number),
+        _ => None,
     }
 }
 
 /// The authorization that an ask names.
-pub(crate) fn authorization_numbers(alloc: Global, ask: &Ask) -> Result<Vec<u64>, AllocError>
-    ensures { IfOk result (λ v. v.items ≡ authorization_numbers_of ask.now) }
+pub(crate) fn authorization_number(ask: &Ask) -> Option<u64>
+    ensures { option_to_list result ≡ authorization_numbers_of ask.now }
 {
     match ask {
-        Ask::Signed(request) => authorizations_at(alloc, &request.target),
-        Ask::Office(OfficeAsk::RevokeAuthz(number)) => one(alloc, *number),
-        _ => Ok(Vec::new(alloc)),
+        Ask::Signed(request) => authorization_at(&request.target),
+        Ask::Office(OfficeAsk::RevokeAuthz(number)) => Some(*number),
+        _ => None,
     }
 }
 
 // The challenge that a target names.
-fn challenges_at(alloc: Global, target: &Target) -> Result<Vec<u64>, AllocError>
-    ensures { IfOk result (λ v. v.items ≡ target_challenge_numbers target.now) }
+fn challenge_at(target: &Target) -> Option<u64>
+    ensures { option_to_list result ≡ target_challenge_numbers target.now }
 {
     match target {
-        Target::Chall(number) => one(alloc, *number),
-        _ => Ok(Vec::new(alloc)),
+        Target::Chall(number) => Some(*number),
+        _ => None,
     }
 }
 
 /// The challenge that an ask names.
-pub(crate) fn challenge_numbers(alloc: Global, ask: &Ask) -> Result<Vec<u64>, AllocError>
-    ensures { IfOk result (λ v. v.items ≡ challenge_numbers_of ask.now) }
+pub(crate) fn challenge_number(ask: &Ask) -> Option<u64>
+    ensures { option_to_list result ≡ challenge_numbers_of ask.now }
 {
     match ask {
-        Ask::Signed(request) => challenges_at(alloc, &request.target),
-        Ask::Office(OfficeAsk::Report { challenge, .. }) => one(alloc, *challenge),
-        _ => Ok(Vec::new(alloc)),
+        Ask::Signed(request) => challenge_at(&request.target),
+        Ask::Office(OfficeAsk::Report { challenge, .. }) => Some(*challenge),
+        _ => None,
     }
 }
 

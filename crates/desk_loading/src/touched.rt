@@ -1,117 +1,132 @@
 //! The book of the rows that a call touches.
-ghost use Rattle.std.specs.Prelude.{◌≡◌, List, IfOk};
+ghost use Rattle.std.specs.Prelude.{◌≡◌, [], IfOk};
 ghost use Rattle.desk_laws.specs.Ordered.{IsOrdered};
-ghost use Rattle.desk_model.specs.Tables.{Tables};
-ghost use Rattle.desk_model.specs.Touched.{only_meta, touched};
-ghost use Rattle.desk_parts.specs.Loaded.{loaded_at, loaded_rows};
+ghost use Rattle.desk_laws.specs.Placing.{puts};
+ghost use Rattle.desk_loading.specs.Finding.{AreNone, AreRowsOf, Finds, book_with};
+ghost use Rattle.desk_model.specs.Touched.{touched};
+ghost use Rattle.desk_parts.specs.Loaded.{found_nonces, loaded_at, loaded_rows};
 ghost use Rattle.desk_storage.specs.Sight.{ForTables, Reads};
 ghost use Rattle.desk_storage.specs.Storing.{Loads};
 
-use crate::gathering::{put_found, put_nonces, table_of};
+use crate::gathering::{put_each, put_found};
 use crate::look_ups::LookUps;
-use crate::named::serials;
-use crate::objects::{Objects, all_objects, objects_touched};
+use crate::named::serial;
+use crate::objects::put_objects;
 use desk_book::{Book, Table};
-use desk_model::{Ask, Call, Meta, Nonce, OfficeAsk, Policy};
+use desk_model::{
+    AccountRow, Ask, AuthorizationRow, Call, Meta, Nonce, OfficeAsk, OrderRow, Policy,
+};
 use desk_storage::StorageFault;
 use std::alloc::Global;
 
-// ---- nonces
+/// Rows of each table.
+#[derive(Drop)]
+struct Rows {
+    nonces: Table<Nonce>,
+    accounts: Table<AccountRow>,
+    authorizations: Table<AuthorizationRow>,
+    orders: Table<OrderRow>,
+}
 
-// The nonces that are touched: the one that is carried, and those past their life.
-fn nonces_touched<S: LookUps>(
+// Tables without rows.
+fn no_rows(alloc: Global) -> Rows
+    ensures { result ≡ record { nonces = []; accounts = []; authorizations = []; orders = [] } }
+{
+    Rows {
+        nonces: Table::new(alloc),
+        accounts: Table::new(alloc),
+        authorizations: Table::new(alloc),
+        orders: Table::new(alloc),
+    }
+}
+
+// The book of these rows.
+fn book_of(meta: Meta, rows: Rows) -> Book
+    ensures { result ≡ book_with meta rows }
+{
+    Book::of_tables(
+        meta,
+        rows.nonces,
+        rows.accounts,
+        rows.authorizations,
+        rows.orders,
+    )
+}
+
+// Puts the nonces that are touched into a table: the one that is carried, and those past their life.
+fn put_nonces<S: LookUps>(
     alloc: Global,
     source: &mut S,
+    nonces: &mut Table<Nonce>,
     policy: &Policy,
     moment: u64,
     ask: &Ask,
-) -> Result<Table<Nonce>, StorageFault>
-    ensures reads { Reads S.sight source.old source.new result }
-    ensures found { ForTables S.sight source.old source.new (λ T. policy.now ≡ T.meta.policy
-        → IfOk result (λ t. t ≡ (loaded_rows T moment ask.now).nonces)) }
+) -> Result<(), StorageFault>
+    ensures { Finds S.sight source.old source.new result (λ T. policy.now ≡ T.meta.policy
+        → nonces.new ≡ puts (λ x. x.serial) (found_nonces T moment ask.now) nonces.old) }
 {
-    let numbers = serials(alloc, ask)?;
-    let mut nonces = Table::new(alloc);
-    put_nonces(alloc, source, &mut nonces, numbers)?;
+    put_each(alloc, source, nonces, serial(ask).as_slice())?;
     put_found(
-        &mut nonces,
-        source.nonces_before(alloc, policy.first_lasting(moment)),
-    )?;
-    Ok(nonces)
-}
-
-// ---- books
-
-// The book of these rows.
-fn book_of(meta: Meta, nonces: Table<Nonce>, objects: Objects) -> Book
-    ensures { result ≡ record { meta = meta; nonces = nonces; accounts = objects.accounts; authorizations = objects.authorizations; orders = objects.orders } }
-{
-    Book::of_tables(
-        meta,
         nonces,
-        objects.accounts,
-        objects.authorizations,
-        objects.orders,
+        source.nonces_before(alloc, policy.first_lasting(moment)),
     )
 }
 
-// The book of the rows that an ask touches at a moment, the directory and the work lists apart.
-fn rows_touched<S: LookUps>(
+// Puts the rows that an ask touches at a moment into empty tables, the directory and the work lists apart.
+fn put_touched<S: LookUps>(
     alloc: Global,
     source: &mut S,
-    meta: Meta,
+    rows: &mut Rows,
+    policy: &Policy,
     moment: u64,
     ask: &Ask,
-) -> Result<Book, StorageFault>
-    ensures reads { Reads S.sight source.old source.new result }
-    ensures found { ForTables S.sight source.old source.new (λ T.
-        meta ≡ T.meta → IfOk result (λ book. book ≡ loaded_rows T moment ask.now)) }
+) -> Result<(), StorageFault>
+    ensures { Finds S.sight source.old source.new result (λ T. policy.now ≡ T.meta.policy → AreNone rows.old
+        → AreRowsOf (loaded_rows T moment ask.now) rows.new) }
 {
-    let nonces = nonces_touched(alloc, source, &meta.policy, moment, ask)?;
-    let objects = objects_touched(alloc, source, moment, ask)?;
-    Ok(book_of(meta, nonces, objects))
-}
-
-// The book of all rows.
-fn all_rows<S: LookUps>(alloc: Global, source: &mut S, meta: Meta) -> Result<Book, StorageFault>
-    ensures reads { Reads S.sight source.old source.new result }
-    ensures found { ForTables S.sight source.old source.new (λ T. meta ≡ T.meta → IsOrdered T → IfOk result (λ book. book ≡ T)) }
-{
-    let nonces = table_of(alloc, source.all_nonces(alloc))?;
-    let objects = all_objects(alloc, source)?;
-    Ok(book_of(meta, nonces, objects))
-}
-
-// The book of the desk's own row alone.
-fn meta_alone(alloc: Global, meta: Meta) -> Book
-    ensures { (T : Tables) → meta ≡ T.meta → result ≡ only_meta T }
-{
-    Book::of_tables(
-        meta,
-        Table::new(alloc),
-        Table::new(alloc),
-        Table::new(alloc),
-        Table::new(alloc),
+    put_nonces(alloc, source, &mut rows.nonces, policy, moment, ask)?;
+    put_objects(
+        alloc,
+        source,
+        &mut rows.accounts,
+        &mut rows.authorizations,
+        &mut rows.orders,
+        moment,
+        ask,
     )
 }
 
-// The book of the rows that an ask touches at a moment.
-fn rows_at<S: LookUps>(
+// Puts all rows into empty tables.
+fn put_all_rows<S: LookUps>(
     alloc: Global,
     source: &mut S,
-    meta: Meta,
+    rows: &mut Rows,
+) -> Result<(), StorageFault>
+    ensures { Finds S.sight source.old source.new result (λ T. IsOrdered T → AreNone rows.old → AreRowsOf T rows.new) }
+{
+    put_found(&mut rows.nonces, source.all_nonces(alloc))?;
+    put_found(&mut rows.accounts, source.all_accounts(alloc))?;
+    put_found(&mut rows.authorizations, source.all_authorizations(alloc))?;
+    put_found(&mut rows.orders, source.all_orders(alloc))
+}
+
+// Puts the rows that an ask touches at a moment into empty tables.
+fn put_rows_at<S: LookUps>(
+    alloc: Global,
+    source: &mut S,
+    rows: &mut Rows,
+    policy: &Policy,
     moment: u64,
     ask: &Ask,
-) -> Result<Book, StorageFault>
-    ensures reads { Reads S.sight source.old source.new result }
-    ensures found { ForTables S.sight source.old source.new (λ T.
-        meta ≡ T.meta → IsOrdered T → IfOk result (λ book. book ≡ loaded_at T moment ask.now)) }
+) -> Result<(), StorageFault>
+    ensures { Finds S.sight source.old source.new result (λ T. policy.now ≡ T.meta.policy → IsOrdered T → AreNone rows.old
+        → AreRowsOf (loaded_at T moment ask.now) rows.new) }
 {
     match ask {
-        Ask::Office(OfficeAsk::Directory) => Ok(meta_alone(alloc, meta)),
-        Ask::Office(OfficeAsk::ChallengeWork) => all_rows(alloc, source, meta),
-        Ask::Office(OfficeAsk::OrderWork) => all_rows(alloc, source, meta),
-        _ => rows_touched(alloc, source, meta, moment, ask),
+        Ask::Office(OfficeAsk::Directory) => Ok(()),
+        Ask::Office(OfficeAsk::ChallengeWork) => put_all_rows(alloc, source, rows),
+        Ask::Office(OfficeAsk::OrderWork) => put_all_rows(alloc, source, rows),
+        _ => put_touched(alloc, source, rows, policy, moment, ask),
     }
 }
 
@@ -133,7 +148,10 @@ pub fn touched_book<S: LookUps>(
     let meta = source.meta_row(alloc)?;
     let counters = meta.counters;
     let moment = call.at.max(counters.clock.moment());
-    rows_at(alloc, source, meta, moment, &call.ask)
+    let mut rows = no_rows(alloc);
+    put_rows_at(alloc, source, &mut rows, &meta.policy, moment, &call.ask).and(Ok(book_of(
+        meta, rows,
+    )))
 }
 
 /// A part for the call, whatever legal history's picture the source has: the book of exactly the rows that it touches.

@@ -1,3 +1,4 @@
 pub mod Alls
 pub mod Firsts
+pub mod Passing
 pub mod Rows

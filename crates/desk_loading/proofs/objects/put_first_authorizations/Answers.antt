@@ -1,71 +1,32 @@
-use Rattle.std.proofs.Common.{◌++◌}
+use Rattle.std.proofs.Common.{ℕ, List, ◌++◌}
 use Rattle.std.specs.List.{flat_map}
-use Rattle.std.proofs.lemmas.Result.{IfOk-from_err, on_ok_weaker}
+use Rattle.desk_loading.proofs.Found.{fails_behind, finds_failing, finds_fourth, finds_then, listed_as, put_asked_by}
+use Rattle.desk_loading.proofs.Gathered.{put_by, put_then}
+use Rattle.desk_loading.proofs.objects.put_first_authorizations.Goals as goal
+use Rattle.desk_model.specs.declared.rows.AccountRow.{AccountRow}
 use Rattle.desk_model.specs.declared.rows.AuthorizationRow.{AuthorizationRow}
 use Rattle.desk_parts.specs.Loaded.{authorization_numbers, challenge_numbers, named_authorizations, own_authorizations, past_authorizations}
-use Rattle.desk_parts.specs.LookUps.{authorizations_numbered, owners_of}
-use Rattle.desk_loading.proofs.Gathered.{put_by, put_then}
-use Rattle.desk_loading.proofs.Readings.{fails_then, reads_failing, reads_standing, reads_then, stands_here, stands_read, stands_then}
-use Rattle.desk_loading.proofs.objects.put_first_authorizations.Goals as goal
+use Rattle.desk_parts.specs.LookUps.{authorizations_numbered, authorizations_of, owners_of}
 
-pub returns-clause-found : goal.returns-clause-found
-returns-clause-found g c honest T held named =
-    let asked = c.put_past_authorizations.ensures.reads.honest honest in
-    let owned = c.in_ok-put_asked_authorizations.ensures.reads.honest asked in
-    let numbered = c.in_ok-put_owners.ensures.reads.honest owned in
-    let has = c.in_ok-put_authorizations.ensures.reads.tables numbered T held in
-    let still = c.in_ok-put_owners.ensures.reads.tables owned T has in
+pub returns : goal.returns
+returns g c =
     let number = λ (a : AuthorizationRow). a.number in
-    let by_number = flat_map (authorizations_numbered T) (authorization_numbers c.args.ask.now) in
-    on_ok_weaker c.put_past_authorizations.result (λ put_last.
-    put_then number (named_authorizations T c.args.ask.now) (own_authorizations T c.args.ask.now ++ past_authorizations T c.args.moment) _ _ _
-    (put_then number by_number (flat_map (λ k. flat_map (authorizations_numbered T) (owners_of T k)) (challenge_numbers c.args.ask.now)) _ _ _
-    (put_by number (flat_map (authorizations_numbered T)) _ _ _ _ (c.in_ok-put_authorizations.ensures.found numbered T held) c.in_ok-numbers.ensures)
-    (put_by number (λ ks. flat_map (λ k. flat_map (authorizations_numbered T) (owners_of T k)) ks) _ _ _ _
-    (c.in_ok-put_owners.ensures.found owned T has) c.in_ok-challenges.ensures))
-    (put_then number (own_authorizations T c.args.ask.now) (past_authorizations T c.args.moment) _ _ _
-    (c.in_ok-put_asked_authorizations.ensures.found asked T still named) put_last))
-    (c.put_past_authorizations.ensures.found honest T (c.in_ok-put_asked_authorizations.ensures.reads.tables asked T still))
+    let ask = c.args.ask.now in
+    finds_fourth c.put_past_authorizations.result c.in_ok-put_each.ensures c.in_ok-put_owner.ensures c.in_ok-put_asked.ensures
+    c.put_past_authorizations.ensures (λ T numbered owners asked past same.
+    let owners_rows = λ (ks : List ℕ). flat_map (λ k. flat_map (authorizations_numbered T) (owners_of T k)) ks in
+    put_then number (named_authorizations T ask) (own_authorizations T ask ++ past_authorizations T c.args.moment) _ _ _
+    (put_then number (flat_map (authorizations_numbered T) (authorization_numbers ask)) (owners_rows (challenge_numbers ask)) _ _ _
+    (put_by number (flat_map (authorizations_numbered T)) _ _ _ _ numbered (listed_as _ _ _ c.as_slice.ensures c.authorization_number.ensures))
+    (put_by number owners_rows _ _ _ _ owners c.challenge_number.ensures))
+    (put_then number (own_authorizations T ask) (past_authorizations T c.args.moment) _ _ _
+    (put_asked_by number (λ (x : AccountRow). authorizations_of T x.number) _ _ _ _ _ _ asked c.asks_authorizations.ensures same) past))
 
-pub returns-in_err-numbers-clause-reads : goal.returns-in_err-numbers-clause-reads
-returns-in_err-numbers-clause-reads g c = reads_standing _ stands_here
+pub returns-in_err-put_each : goal.returns-in_err-put_each
+returns-in_err-put_each g c = finds_failing _ c.in_err-put_each.ensures c.from_residual.ensures.1
 
-pub returns-in_err-numbers-clause-found : goal.returns-in_err-numbers-clause-found
-returns-in_err-numbers-clause-found g c honest T held named = IfOk-from_err c.from_residual.result _ c.from_residual.ensures.0
+pub returns-in_err-put_owner : goal.returns-in_err-put_owner
+returns-in_err-put_owner g c = fails_behind _ c.in_ok-put_each.ensures c.in_err-put_owner.ensures c.from_residual-in_err-put_owner.ensures.1
 
-pub returns-in_err-put_authorizations-clause-reads : goal.returns-in_err-put_authorizations-clause-reads
-returns-in_err-put_authorizations-clause-reads g c =
-    reads_failing _ c.in_err-put_authorizations.ensures.reads c.from_residual-in_err-put_authorizations.ensures.1
-
-pub returns-in_err-put_authorizations-clause-found : goal.returns-in_err-put_authorizations-clause-found
-returns-in_err-put_authorizations-clause-found g c honest T held named =
-    IfOk-from_err c.from_residual-in_err-put_authorizations.result _ c.from_residual-in_err-put_authorizations.ensures.0
-
-pub returns-in_err-challenges-clause-reads : goal.returns-in_err-challenges-clause-reads
-returns-in_err-challenges-clause-reads g c = reads_standing _ (stands_read c.in_ok-put_authorizations.ensures.reads)
-
-pub returns-in_err-challenges-clause-found : goal.returns-in_err-challenges-clause-found
-returns-in_err-challenges-clause-found g c honest T held named =
-    IfOk-from_err c.from_residual-in_err-challenges.result _ c.from_residual-in_err-challenges.ensures.0
-
-pub returns-in_err-put_owners-clause-reads : goal.returns-in_err-put_owners-clause-reads
-returns-in_err-put_owners-clause-reads g c =
-    fails_then _ (stands_read c.in_ok-put_authorizations.ensures.reads) c.in_err-put_owners.ensures.reads c.from_residual-in_err-put_owners.ensures.1
-
-pub returns-in_err-put_owners-clause-found : goal.returns-in_err-put_owners-clause-found
-returns-in_err-put_owners-clause-found g c honest T held named =
-    IfOk-from_err c.from_residual-in_err-put_owners.result _ c.from_residual-in_err-put_owners.ensures.0
-
-pub returns-in_err-put_asked_authorizations-clause-reads : goal.returns-in_err-put_asked_authorizations-clause-reads
-returns-in_err-put_asked_authorizations-clause-reads g c =
-    fails_then _ (stands_then (stands_read c.in_ok-put_authorizations.ensures.reads) c.in_ok-put_owners.ensures.reads)
-    c.in_err-put_asked_authorizations.ensures.reads c.from_residual-in_err-put_asked_authorizations.ensures.1
-
-pub returns-in_err-put_asked_authorizations-clause-found : goal.returns-in_err-put_asked_authorizations-clause-found
-returns-in_err-put_asked_authorizations-clause-found g c honest T held named =
-    IfOk-from_err c.from_residual-in_err-put_asked_authorizations.result _ c.from_residual-in_err-put_asked_authorizations.ensures.0
-
-pub returns-clause-reads : goal.returns-clause-reads
-returns-clause-reads g c =
-    reads_then _ (stands_then (stands_then (stands_read c.in_ok-put_authorizations.ensures.reads) c.in_ok-put_owners.ensures.reads)
-    c.in_ok-put_asked_authorizations.ensures.reads) c.put_past_authorizations.ensures.reads
+pub returns-in_err-put_asked : goal.returns-in_err-put_asked
+returns-in_err-put_asked g c = fails_behind _ (finds_then _ c.in_ok-put_each.ensures c.in_ok-put_owner.ensures (λ T first second. second)) c.in_err-put_asked.ensures c.from_residual-in_err-put_asked.ensures.1

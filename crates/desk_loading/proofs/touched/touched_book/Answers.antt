@@ -1,21 +1,54 @@
-use Rattle.std.proofs.Common.{ap, max, ◌∙◌}
+use Rattle.std.proofs.Common.{◌≡◌, ℕ, ap, max, refl, sym, ◌∙◌}
 use Rattle.std.proofs.lemmas.Result.{IfOk-from_err}
+use Rattle.desk_model.specs.Tables.{Tables}
+use Rattle.desk_model.specs.declared.call.Ask.{Ask}
+use Rattle.desk_model.specs.declared.call.Ask.TheVariants as ask
+use Rattle.desk_model.specs.declared.call.OfficeAsk.TheVariants as office
 use Rattle.desk_model.specs.declared.rows.Meta.{Meta}
 use Rattle.desk_parts.proofs.Loading.{loaded_touched}
 use Rattle.desk_parts.specs.Loaded.{loaded_at}
-use Rattle.desk_loading.proofs.Readings.{reads_failing, reads_then, stands_read, value_is}
+use Rattle.desk_loading.specs.Finding.{AreRowsOf, book_with}
+use Rattle.desk_loading.specs.declared.touched.Rows.{Rows}
+use Rattle.desk_loading.proofs.Gathered.{made_of}
+use Rattle.desk_loading.proofs.Readings.{reads_and, reads_failing, reads_then, stands_read}
 use Rattle.desk_loading.proofs.touched.touched_book.Goals as goal
 
+-- the row of the desk is loaded as it is
+loaded_meta : (T : Tables) (m : ℕ) (a : Ask) → (loaded_at T m a).meta ≡ T.meta
+loaded_meta T m (ask.Office office.Directory) = refl
+loaded_meta T m (ask.Office office.ChallengeWork) = refl
+loaded_meta T m (ask.Office office.OrderWork) = refl
+loaded_meta T m (ask.NewNonce head) = refl
+loaded_meta T m (ask.Signed s) = refl
+loaded_meta T m (ask.Office (office.Report n finding)) = refl
+loaded_meta T m (ask.Office (office.Certify n bytes)) = refl
+loaded_meta T m (ask.Office (office.FailOrder n problem)) = refl
+loaded_meta T m (ask.Office (office.RevokeAuthz n)) = refl
+loaded_meta T m (ask.Office (office.RevokeAccount n)) = refl
+loaded_meta T m (ask.Office (office.KeyOf n)) = refl
+
+-- the tables of rows that are those of tables
+book_are : (meta : Meta) (rows : Rows) (T : Tables) → meta ≡ T.meta → AreRowsOf T rows → book_with meta rows ≡ T
+book_are meta rows T same are = λ i.
+    record { meta = same i; nonces = are.nonces i; accounts = are.accounts i; authorizations = are.authorizations i; orders = are.orders i }
+
 pub returns-clause-reads : goal.returns-clause-reads
-returns-clause-reads g c = reads_then _ (stands_read c.in_ok-meta.ensures.reads) c.rows_at.ensures.reads
+returns-clause-reads g c =
+    reads_then _ (stands_read c.in_ok-meta.ensures.reads) (reads_and _ c.put_rows_at.result c.and.result c.and.ensures c.put_rows_at.ensures.reads)
 
 pub returns-clause-touched : goal.returns-clause-touched
 returns-clause-touched g c = λ honest T held ordered.
-    let so_far = c.rows_at.ensures.reads.honest honest in
+    let so_far = c.put_rows_at.ensures.reads.honest honest in
     let same = c.in_ok-meta.ensures.found so_far T held in
-    value_is c.rows_at.result _ _
-    (c.rows_at.ensures.found honest T (c.in_ok-meta.ensures.reads.tables so_far T held) same ordered)
-    (ap (λ m. loaded_at T m c.args.call.now.ask)
+    made_of _ _ _ c.put_rows_at.result c.and.result c.and.ensures
+    (c.put_rows_at.ensures.found honest T (c.in_ok-meta.ensures.reads.tables so_far T held))
+    (λ put_now.
+    let none = c.no_rows-rows.ensures in
+    let are = put_now (λ i. (same i).policy) ordered
+    (record { nonces = λ i. (none i).nonces; accounts = λ i. (none i).accounts; authorizations = λ i. (none i).authorizations; orders = λ i. (none i).orders }) in
+    c.book_of.ensures
+    ∙ book_are c.in_ok-meta.meta _ (loaded_at T c.max-moment.result c.args.call.now.ask) (same ∙ sym (loaded_meta T c.max-moment.result c.args.call.now.ask)) are
+    ∙ ap (λ m. loaded_at T m c.args.call.now.ask)
     (c.max-moment.ensures ∙ ap (max c.args.call.now.at) (c.moment.ensures.same ∙ ap (λ (m : Meta). m.counters.clock) same))
     ∙ loaded_touched T c.args.call.now ordered)
 

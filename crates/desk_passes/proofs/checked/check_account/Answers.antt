@@ -4,8 +4,9 @@ use Rattle.desk_model.specs.Derived.{account_faults}
 use Rattle.desk_model.specs.declared.rows.AccountRow.{AccountRow}
 use Rattle.desk_parts.specs.Above.{accounts_above}
 use Rattle.stored_rows.specs.RowFaults.{listed_fault}
-use Rattle.desk_loading.proofs.Readings.{read_as, reads_failing, reads_found, reads_standing, stands_read}
+use Rattle.desk_loading.proofs.Readings.{reads_failing, reads_found, reads_standing, stands_read}
 use Rattle.desk_passes.specs.Stepping.{IsFirst}
+use Rattle.desk_passes.proofs.Passing.{read_as}
 use Rattle.desk_passes.proofs.Rows.{first_when_found, found_step, nothing_left}
 use Rattle.desk_passes.proofs.checked.check_account.Goals as goal
 

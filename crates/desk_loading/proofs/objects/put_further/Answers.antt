@@ -1,0 +1,29 @@
+use Rattle.std.specs.List.{flat_map}
+use Rattle.desk_loading.proofs.Found.{fails_behind, finds_failing, finds_fourth, finds_then}
+use Rattle.desk_loading.proofs.Gathered.{put_then}
+use Rattle.desk_loading.proofs.objects.put_further.Goals as goal
+use Rattle.desk_model.specs.declared.rows.AccountRow.{AccountRow}
+use Rattle.desk_model.specs.declared.rows.AuthorizationRow.{AuthorizationRow}
+use Rattle.desk_model.specs.declared.rows.OrderRow.{OrderRow}
+use Rattle.desk_parts.specs.LookUps.{accounts_numbered}
+
+pub returns : goal.returns
+returns g c =
+    finds_fourth c.put_linked-4.result c.in_ok-put_linked.ensures c.in_ok-put_linked-2.ensures c.in_ok-put_linked-3.ensures c.put_linked-4.ensures
+    (λ T orders authorizations of_orders of_authorizations. (
+      orders,
+      authorizations,
+      put_then (λ (x : AccountRow). x.number) (flat_map (λ (o : OrderRow). accounts_numbered T o.account) _)
+          (flat_map (λ (a : AuthorizationRow). accounts_numbered T a.account) _) _ _ _ of_orders of_authorizations,
+    ))
+
+pub returns-in_err-put_linked : goal.returns-in_err-put_linked
+returns-in_err-put_linked g c = finds_failing _ c.in_err-put_linked.ensures c.from_residual.ensures.1
+
+pub returns-in_err-put_linked-2 : goal.returns-in_err-put_linked-2
+returns-in_err-put_linked-2 g c = fails_behind _ c.in_ok-put_linked.ensures c.in_err-put_linked-2.ensures
+    c.from_residual-in_err-put_linked-2.ensures.1
+
+pub returns-in_err-put_linked-3 : goal.returns-in_err-put_linked-3
+returns-in_err-put_linked-3 g c = fails_behind _ (finds_then _ c.in_ok-put_linked.ensures c.in_ok-put_linked-2.ensures (λ T first second. second)) c.in_err-put_linked-3.ensures
+    c.from_residual-in_err-put_linked-3.ensures.1

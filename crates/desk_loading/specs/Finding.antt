@@ -1,0 +1,32 @@
+-- Look-ups whose rows are put into tables.
+use Rattle.std.specs.Prelude.{◌≡◌, [], Result, OnOk}
+use Rattle.desk_model.specs.Tables.{Tables}
+use Rattle.desk_model.specs.declared.rows.Meta.{Meta}
+use Rattle.desk_storage.specs.Sight.{ForTables, Reads, Sight}
+use Rattle.desk_storage.specs.declared.fault.StorageFault.{StorageFault}
+use Rattle.desk_loading.specs.declared.touched.Rows.{Rows}
+
+module _ {S C : Type 0} (v : Sight S C) where
+  -- a call that looked things up, after which this is so of what it found
+  pub record Finds {A : Type 0} (old new : S) (result : Result A StorageFault) (P : Tables → Type 0) : Type 0 where
+    pub reads : Reads v old new result
+    pub found : ForTables v old new (λ T. OnOk result (P T))
+
+-- the tables of these rows
+abbrev pub book_with : Meta → Rows → Tables
+book_with meta rows =
+    record { meta = meta; nonces = rows.nonces; accounts = rows.accounts; authorizations = rows.authorizations; orders = rows.orders }
+
+-- rows that are those of tables
+pub record AreRowsOf (T : Tables) (rows : Rows) : Type 0 where
+  pub nonces : rows.nonces ≡ T.nonces
+  pub accounts : rows.accounts ≡ T.accounts
+  pub authorizations : rows.authorizations ≡ T.authorizations
+  pub orders : rows.orders ≡ T.orders
+
+-- there are none
+pub record AreNone (rows : Rows) : Type 0 where
+  pub nonces : rows.nonces ≡ []
+  pub accounts : rows.accounts ≡ []
+  pub authorizations : rows.authorizations ≡ []
+  pub orders : rows.orders ≡ []
