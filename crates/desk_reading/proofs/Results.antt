@@ -1,5 +1,5 @@
 -- Results, and tests.
-use Rattle.std.proofs.Common.{◌≡◌, Bool, true, false, IsTrue, IfErr, IfOk, IsErrAnd, MatchResult, OnOk, Result, Ok, Err, refl, subst, sym}
+use Rattle.std.proofs.Common.{◌≡◌, Bool, true, false, IsTrue, IfErr, IfOk, IsErrAnd, OnOk, Result, Ok, Err, refl, subst, sym}
 use Rattle.sqlite.specs.State.{State, IsUnchanged}
 use Rattle.sqlite.proofs.Callers.{unchanged_then}
 
@@ -7,11 +7,6 @@ use Rattle.sqlite.proofs.Callers.{unchanged_then}
 pub read_then : {A E : Type 0} (r : Result A E) {P Q : A → Type 0} → IfOk r P → ((a : A) → P a → Q a) → IfOk r Q
 read_then (Ok a) p f = f a p
 read_then (Err e) p f = tt
-
--- and what is so of one that may say why it failed
-pub matched_then : {A E : Type 0} (r : Result A E) {P Q : A → Type 0} (W : E → Type 0) → MatchResult r P W → ((a : A) → P a → Q a) → IfOk r Q
-matched_then (Ok a) W p f = f a p
-matched_then (Err e) W p f = tt
 
 -- what a failure of a result says
 pub fails_then : {A E : Type 0} (r : Result A E) {P Q : E → Type 0} → IfErr r P → ((e : E) → P e → Q e) → IfErr r Q

@@ -1,10 +1,12 @@
 -- The readings of whole tables fail for memory or the disk alone.
-use Rattle.std.proofs.Common.{ℕ, List, [], ◌∷◌, map, true, refl, ap, subst, ◌∙◌}
+use Rattle.std.proofs.Common.{◌≡◌, ℕ, List, [], ◌∷◌, map, true, refl, sym, ap, subst, ◌∙◌}
 use Rattle.std.proofs.lemmas.List.Sorted.{All-permutation}
 use Rattle.std.proofs.lemmas.Simd.{map-map}
 use Rattle.sqlite_value.specs.Order.{Row}
 use Rattle.sqlite_sql.specs.Term.{Term, col}
+use Rattle.sqlite.specs.Held.{Held, state}
 use Rattle.sqlite.specs.State.{State, FailsToQuery}
+use Rattle.sqlite.specs.Store.{Ghosts}
 use Rattle.sqlite.specs.declared.error.Error.{Error}
 use Rattle.desk_columns.specs.Columns.{account_columns, authorization_columns, challenge_columns, listed_columns, meta_columns, nonce_columns, order_columns}
 use Rattle.desk_columns.specs.Flat.{challenge_rows, listed_rows, without_challenges, without_listed}
@@ -17,7 +19,7 @@ use Rattle.desk_tables.specs.Holds.{Holds}
 use Rattle.desk_tables.specs.Images.{listed_cells, listed_params}
 use Rattle.desk_tables.specs.Layouts.{HasRows, Layout, account_layout, authorization_layout, challenge_layout, meta_layout, nonce_layout, order_layout}
 use Rattle.desk_tables.proofs.Holding.{accounts_held, authorizations_held, challenges_held, meta_held, nonces_held, orders_held}
-use Rattle.desk_reading.specs.Failures.{FailsToRead, HasTexts, MayRead}
+use Rattle.desk_reading.specs.Failures.{FailsToRead, HasTexts, IsReadable, MayRead}
 use Rattle.desk_reading.specs.Fitting.{FitsAccount, FitsAuthorization, FitsChallenge, FitsListed, FitsMeta, FitsNonce, FitsOrder}
 use Rattle.desk_reading.specs.Spelled.{account_in, authorization_in, challenge_in, meta_in, nonce_in, order_in}
 use Rattle.desk_reading.specs.Texts.{select_accounts, select_authorizations, select_challenges, select_format, select_listed}
@@ -100,3 +102,38 @@ module _ (old new : State) (T : Tables) (e : Error) (has : Holds old.now T) (may
 -- the format
 pub format_fails : (old new : State) (T : Tables) (e : Error) → Holds old.now T → MayRead old → FailsToQuery select_format [] old new e → IsFailure e
 format_fails old new T e has may = query_fails select_format 0 (col 1 2 ∷ []) [] format_reading format_sure old new has.schema e may
+
+-- ---- wherever tables are held
+
+module _ {S : Type 0} (g : Ghosts S) (here : Held S) (T : Tables) (has : Holds (state g here).now T) (texts : HasTexts T) where
+  -- they are held by any such database
+  held : (before : Held S) → (state g before).now ≡ (state g here).now → Holds (state g before).now T
+  held before same = subst (λ db. Holds db T) (sym same) has
+
+  -- `meta`
+  pub meta_readable : IsReadable g here select_meta FitsMeta
+  meta_readable before after e same may = meta_fails (state g before) (state g after) T e (held before same) may texts
+
+  -- `nonce`
+  pub nonces_readable : IsReadable g here select_nonces FitsNonce
+  nonces_readable before after e same may = nonces_fails (state g before) (state g after) T e (held before same) may texts
+
+  -- `account`
+  pub accounts_readable : IsReadable g here select_accounts FitsAccount
+  accounts_readable before after e same may = accounts_fails (state g before) (state g after) T e (held before same) may texts
+
+  -- `ord`
+  pub orders_readable : IsReadable g here select_orders FitsOrder
+  orders_readable before after e same may = orders_fails (state g before) (state g after) T e (held before same) may texts
+
+  -- `ord_authz`
+  pub listed_readable : IsReadable g here select_listed FitsListed
+  listed_readable before after e same may = listed_fails (state g before) (state g after) T e (held before same) may texts
+
+  -- `authz`
+  pub authorizations_readable : IsReadable g here select_authorizations FitsAuthorization
+  authorizations_readable before after e same may = authorizations_fails (state g before) (state g after) T e (held before same) may texts
+
+  -- `chall`
+  pub challenges_readable : IsReadable g here select_challenges FitsChallenge
+  challenges_readable before after e same may = challenges_fails (state g before) (state g after) T e (held before same) may texts

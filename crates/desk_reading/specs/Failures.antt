@@ -1,7 +1,9 @@
 -- Why a reading of a desk's tables fails.
-use Rattle.std.specs.Prelude.{◌≡◌, ◌⊎◌, ℕ, All, IsTrue, List, None}
+use Rattle.std.specs.Prelude.{◌≡◌, ◌⊎◌, ℕ, All, IsTrue, List, [], None}
+use Rattle.sqlite.specs.Held.{Held, state}
 use Rattle.sqlite.specs.Order.{Row}
 use Rattle.sqlite.specs.State.{State, FailsToQuery, Shown}
+use Rattle.sqlite.specs.Store.{Ghosts}
 use Rattle.sqlite.specs.declared.error.Error.{Error}
 use Rattle.sqlite.specs.declared.error.Error.TheVariants.{SqliteFailure}
 use Rattle.sqlite.specs.declared.error.ErrorCode.TheVariants.{OutOfMemory}
@@ -9,6 +11,7 @@ use Rattle.desk_columns.specs.Columns.{rows_columns}
 use Rattle.desk_columns.specs.Flat.{flat}
 use Rattle.desk_columns.specs.TextColumns.{ColumnsAreTexts}
 use Rattle.desk_model.specs.Tables.{Tables}
+use Rattle.desk_schema.specs.Failing.{IsFailure}
 
 -- memory was refused
 abbrev pub IsOutOfMemory : Error → Type 0
@@ -27,3 +30,9 @@ HasTexts T = ColumnsAreTexts (rows_columns (flat T))
 abbrev pub FailsToRead : List ℕ → Row → State → State → (Row → Type 0) → Error → Type 0
 FailsToRead text params old new Fits e =
     FailsToQuery text params old new e ⊎ ((rows : List Row) × Shown text params old new rows × (All Fits rows → IsOutOfMemory e))
+
+-- wherever the database is as it is here and may be read, this reading fails for memory or the disk alone
+abbrev pub IsReadable : {S : Type 0} → Ghosts S → Held S → List ℕ → (Row → Type 0) → Type 0
+IsReadable {S} g here text Fits =
+    (before after : Held S) (e : Error) → (state g before).now ≡ (state g here).now → MayRead (state g before)
+    → FailsToRead text [] (state g before) (state g after) Fits e → IsFailure e

@@ -10,8 +10,8 @@ ghost use Rattle.desk_reading.specs.StoredBook.{IsStoredBook};
 
 use crate::fault::ReadFault;
 use crate::params::{number_param, text_param};
-use crate::rows::{find_rows, rows_of};
-use crate::tables::account_table;
+use crate::rows::find_rows;
+use crate::tables::ACCOUNTS;
 use desk_columns::AccountColumns;
 use desk_model::{AccountRow, Jwk};
 use sqlite::{Alter, Connection};
@@ -30,8 +30,7 @@ pub fn all_accounts<S: Alter>(
     ensures unchanged { HasCleanDisk (state S.Store conn.new) → OnOk result (IsUnchanged (state S.Store conn.old) (state S.Store conn.new)) }
     ensures asks { Asks (state S.Store conn.old) (state S.Store conn.new) }
 {
-    let columns = account_table(alloc, conn)?;
-    rows_of(alloc, columns)
+    find_rows::<S, AccountColumns>(alloc, conn, ACCOUNTS, &[])
 }
 
 /// The accounts of a number.

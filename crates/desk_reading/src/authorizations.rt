@@ -18,8 +18,8 @@ ghost use Rattle.desk_reading.specs.Under.{HasItsChallenges, rows_under};
 use crate::fault::ReadFault;
 use crate::owned::{owners, without_owners};
 use crate::params::{number_param, text_and_number};
-use crate::rows::{find_rows, rows_of};
-use crate::tables::authorization_table;
+use crate::rows::find_rows;
+use crate::tables::AUTHORIZATIONS;
 use desk_columns::{AuthzColumns, ChallColumns};
 use desk_model::{AuthorizationRow, AuthzStatus, ChallengeRow, Sequence};
 use sqlite::types::ValueRef;
@@ -98,9 +98,7 @@ pub fn all_authorizations<S: Alter>(
     ensures unchanged { HasCleanDisk (state S.Store conn.new) → OnOk result (IsUnchanged (state S.Store conn.old) (state S.Store conn.new)) }
     ensures asks { Asks (state S.Store conn.old) (state S.Store conn.new) }
 {
-    let columns = authorization_table(alloc, conn)?;
-    let heads = rows_of(alloc, columns)?;
-    nest_challenges(alloc, conn, heads)
+    find_authorizations(alloc, conn, AUTHORIZATIONS, &[])
 }
 
 /// The authorizations of a number.

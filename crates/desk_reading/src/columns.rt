@@ -107,8 +107,10 @@ impl Selected for AccountColumns {
     fn of(row: &Row) -> Result<AccountColumns, Error> {
         let [num, opened] = numbers(row, [0, 3])?;
         let ended = number_or_none(row, 4)?;
-        let (jwk, contacts) = both(text(row, 1), text(row, 2))?;
-        let (end_kind, status) = both(text_or_none(row, 5), text(row, 6))?;
+        let ((jwk, contacts), (end_kind, status)) = both(
+            both(text(row, 1), text(row, 2)),
+            both(text_or_none(row, 5), text(row, 6)),
+        )?;
         Ok(AccountColumns {
             num,
             jwk,
@@ -129,8 +131,10 @@ impl Selected for OrderColumns {
     fn of(row: &Row) -> Result<OrderColumns, Error> {
         let [num, account, made, expires] = numbers(row, [0, 1, 2, 3])?;
         let [finalized, certified, failed] = numbers_or_none(row, [4, 6, 8])?;
-        let (csr, cert) = both(bytes_or_none(row, 5), bytes_or_none(row, 7))?;
-        let (problem, status) = both(text_or_none(row, 9), text(row, 10))?;
+        let ((csr, cert), (problem, status)) = both(
+            both(bytes_or_none(row, 5), bytes_or_none(row, 7)),
+            both(text_or_none(row, 9), text(row, 10)),
+        )?;
         Ok(OrderColumns {
             num,
             account,
@@ -155,8 +159,10 @@ impl Selected for AuthzColumns {
     fn of(row: &Row) -> Result<AuthzColumns, Error> {
         let [num, account, wildcard, made, expires] = numbers(row, [0, 1, 3, 4, 5])?;
         let ended = number_or_none(row, 6)?;
-        let name = text(row, 2)?;
-        let (end_kind, status) = both(text_or_none(row, 7), text(row, 8))?;
+        let (name, (end_kind, status)) = both(
+            text(row, 2),
+            both(text_or_none(row, 7), text(row, 8)),
+        )?;
         Ok(AuthzColumns {
             num,
             account,
@@ -190,8 +196,10 @@ impl Selected for ChallColumns {
     fn of(row: &Row) -> Result<ChallColumns, Error> {
         let [num, authz] = numbers(row, [0, 1])?;
         let [answered, reported] = numbers_or_none(row, [4, 5])?;
-        let (kind, token) = both(text(row, 2), bytes(row, 3))?;
-        let (outcome, status) = both(text_or_none(row, 6), text(row, 7))?;
+        let ((kind, token), (outcome, status)) = both(
+            both(text(row, 2), bytes(row, 3)),
+            both(text_or_none(row, 6), text(row, 7)),
+        )?;
         Ok(ChallColumns {
             num,
             authz,

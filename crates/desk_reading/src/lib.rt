@@ -30,7 +30,3 @@ pub use orders::{
     all_orders, order_above, orders_listing, orders_numbered, orders_of, orders_past,
 };
 pub use stored::load_stored;
-pub use tables::{
-    account_table, authorization_table, challenge_table, listed_table, meta_table, nonce_table,
-    order_table,
-};

@@ -8,8 +8,9 @@ ghost use Rattle.desk_reading.specs.Held.{ForHeld};
 ghost use Rattle.desk_reading.specs.StoredBook.{IsStoredBook};
 
 use crate::fault::ReadFault;
-use crate::rows::rows_of;
-use crate::tables::meta_table;
+use crate::rows::find_rows;
+use crate::tables::META;
+use desk_columns::MetaColumns;
 use desk_model::Meta;
 use sqlite::{Alter, Connection};
 use std::alloc::Global;
@@ -31,7 +32,6 @@ pub fn meta_row<S: Alter>(alloc: Global, conn: &mut Connection<S>) -> Result<Met
     ensures unchanged { HasCleanDisk (state S.Store conn.new) → OnOk result (IsUnchanged (state S.Store conn.old) (state S.Store conn.new)) }
     ensures asks { Asks (state S.Store conn.old) (state S.Store conn.new) }
 {
-    let columns = meta_table(alloc, conn)?;
-    let rows = rows_of(alloc, columns)?;
+    let rows = find_rows::<S, MetaColumns>(alloc, conn, META, &[])?;
     last_row(rows)
 }

@@ -9,8 +9,8 @@ ghost use Rattle.desk_reading.specs.StoredBook.{IsStoredBook};
 
 use crate::fault::ReadFault;
 use crate::params::number_param;
-use crate::rows::{find_rows, rows_of};
-use crate::tables::nonce_table;
+use crate::rows::find_rows;
+use crate::tables::NONCES;
 use desk_columns::NonceColumns;
 use desk_model::Nonce;
 use sqlite::{Alter, Connection};
@@ -29,8 +29,7 @@ pub fn all_nonces<S: Alter>(
     ensures unchanged { HasCleanDisk (state S.Store conn.new) → OnOk result (IsUnchanged (state S.Store conn.old) (state S.Store conn.new)) }
     ensures asks { Asks (state S.Store conn.old) (state S.Store conn.new) }
 {
-    let columns = nonce_table(alloc, conn)?;
-    rows_of(alloc, columns)
+    find_rows::<S, NonceColumns>(alloc, conn, NONCES, &[])
 }
 
 /// The nonces of a serial.

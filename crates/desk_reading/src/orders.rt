@@ -18,8 +18,8 @@ ghost use Rattle.desk_reading.specs.Under.{HasItsListed, rows_under};
 use crate::fault::ReadFault;
 use crate::owned::{owners, without_owners};
 use crate::params::{number_param, text_and_number};
-use crate::rows::{find_rows, rows_of};
-use crate::tables::order_table;
+use crate::rows::find_rows;
+use crate::tables::ORDERS;
 use desk_columns::{OrderAuthzColumns, OrderColumns};
 use desk_model::{Listed, OrderRow, OrderStatus, Sequence};
 use sqlite::types::ValueRef;
@@ -98,9 +98,7 @@ pub fn all_orders<S: Alter>(
     ensures unchanged { HasCleanDisk (state S.Store conn.new) → OnOk result (IsUnchanged (state S.Store conn.old) (state S.Store conn.new)) }
     ensures asks { Asks (state S.Store conn.old) (state S.Store conn.new) }
 {
-    let columns = order_table(alloc, conn)?;
-    let heads = rows_of(alloc, columns)?;
-    nest_listed(alloc, conn, heads)
+    find_orders(alloc, conn, ORDERS, &[])
 }
 
 /// The orders of a number.

@@ -11,7 +11,8 @@ use Rattle.desk_columns.specs.declared.columns.StoredRows.{StoredRows}
 use Rattle.desk_model.specs.History.{clock}
 use Rattle.desk_model.specs.Tables.{Tables}
 use Rattle.desk_reading.specs.Failures.{HasTexts, MayRead}
-use Rattle.desk_reading.specs.Shown.{AreShown}
+use Rattle.desk_reading.specs.Shown.{AreColumnsOf, AreShown}
+use Rattle.desk_reading.proofs.Loading.{reordered}
 use Rattle.desk_reading.proofs.ShownRows.{shown_before}
 use Rattle.desk_schema.specs.Names.{has_all_indexes}
 use Rattle.desk_reading.specs.StoredBook.{IsStoredBook}
@@ -43,8 +44,8 @@ only_book db T desk stored told =
 
 -- the book that was made of the rows that were read
 pub book_told : {E : Type 0} (s : State) (stored : StoredRows) (made : Result Tables E) → IfOk made (λ book. IsBookOfStored stored book)
-    → ((T : Tables) → Holds s.now T → AreReorderedColumns stored (rows_columns (flat T))) → IfOk made (λ book. (T : Tables) → HasDesk s T → book ≡ T)
-book_told s stored (Ok book) is told = λ T has. (only_book s.now T has.desk stored (told T has.desk.holds)).only book is
+    → ((T : Tables) → Holds s.now T → AreColumnsOf stored T) → IfOk made (λ book. (T : Tables) → HasDesk s T → book ≡ T)
+book_told s stored (Ok book) is told = λ T has. (only_book s.now T has.desk stored (reordered stored T (told T has.desk.holds))).only book is
 book_told s stored (Err why) is told = tt
 
 -- its texts are UTF-8
@@ -58,10 +59,10 @@ may_read s T has = record { is_open = has.is_open; unlimited = has.unlimited }
 -- there is one, so only memory can have failed
 pub book_fails : (s : State) (stored : StoredRows) (made : Result Tables OpenFault)
     → IfErr made (λ why. (why ≡ Storage Memory) ⊎ ((why ≡ NotADesk) × ((T : Tables) → IsBookOfStored stored T → ⊥)))
-    → ((T : Tables) → Holds s.now T → AreReorderedColumns stored (rows_columns (flat T))) → IfErr made (λ why. (T : Tables) → HasDesk s T → IsOfStorage why)
+    → ((T : Tables) → Holds s.now T → AreColumnsOf stored T) → IfErr made (λ why. (T : Tables) → HasDesk s T → IsOfStorage why)
 book_fails s stored (Ok book) fault told = tt
 book_fails s stored (Err why) (inl is) told = λ T has. (Memory, is)
-book_fails s stored (Err why) (inr none) told = λ T has. absurd (none.1 T (only_book s.now T has.desk stored (told T has.desk.holds)).book)
+book_fails s stored (Err why) (inr none) told = λ T has. absurd (none.1 T (only_book s.now T has.desk stored (reordered stored T (told T has.desk.holds))).book)
 
 -- the book that was made is that of the rows that were shown
 pub book_shown : {S E : Type 0} (g : Ghosts S) (conn : Held S) (stored : StoredRows) (made : Result Tables E) → IfOk made (λ book. IsBookOfStored stored book)
