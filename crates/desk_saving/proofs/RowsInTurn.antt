@@ -1,7 +1,7 @@
 -- Rows of one table, and changes, made one after the other inside a transaction.
 use Rattle.std.proofs.Common.{zero, suc, arith, ◌≡◌, Result, Ok, Err, OnOk, ℕ, ◌+◌, ◌<◌, ◌++◌, List, [], ◌∷◌, take, get_or}
 use Rattle.std.proofs.Common.{length, refl, sym, ap, subst, ◌∙◌, add-one}
-use Rattle.std.specs.Prelude.{ℤ, is_ok, pos}
+use Rattle.std.specs.Prelude.{ℤ, IfErr, IfOk, IsOk, pos}
 use Rattle.std.proofs.Math.Seq.{take-suc}
 use Rattle.std.proofs.lemmas.List.{map-append}
 use Rattle.sqlite.specs.Effect.{Database}
@@ -20,7 +20,6 @@ use Rattle.desk_schema.specs.Advances.{Advances}
 use Rattle.desk_saving.specs.Fitting.{AreFit, IsFit}
 use Rattle.desk_laws.specs.Placing.{puts}
 use Rattle.desk_saving.specs.Makes.{ArePlaced, Makes, MakesAll, PlacesAll, PutsAll}
-use Rattle.desk_saving.proofs.Exits.{done_as}
 use Rattle.desk_saving.proofs.Numbered.{puts_snoc}
 use Rattle.desk_tables.specs.Effects.{Places, PlacesColumns, Puts, PutsColumns, Removes, RemovesNumbered, is_same_place}
 use Rattle.desk_tables.specs.Hidden.{IsPlaced}
@@ -30,18 +29,30 @@ use Rattle.desk_laws.proofs.Recorded.{applied-append}
 
 -- ---- one row
 
--- a row, by its columns, where the statement was run
-pub puts_typed : {X C A B E F : Type 0} (L : Layout X) (columns_of : X → C) (columns : C) (row : X) (old new : State) (r : Result A E) (q : Result B F)
-    → is_ok q ≡ is_ok r → columns ≡ columns_of row → OnOk r (Advances old new (PutsColumns L columns_of columns))
+-- a row, by the columns that were written of it, where their statement was run
+pub puts_written : {X C B E F : Type 0} (L : Layout X) (columns_of : X → C) (row : X) (old new : State) (written : Result C E) (q : Result B F)
+    → IfOk written (λ columns. columns ≡ columns_of row)
+    → OnOk q ((put : C) × (written ≡ Ok put) × Advances old new (PutsColumns L columns_of put))
     → OnOk q (Advances old new (Puts L row))
-puts_typed L columns_of columns row old new r q same are =
-    done_as r q same (advances_as old new (PutsColumns L columns_of columns) (Puts L row) (λ does. does row (sym are)))
+puts_written L columns_of row old new written (Ok done) are it =
+    let same = subst (λ w. IfOk w (λ columns. columns ≡ columns_of row)) it.1 are in
+    advances_as old new (PutsColumns L columns_of it.0) (Puts L row) (λ does. does row (sym same)) it.2
+puts_written L columns_of row old new written (Err why) are it = tt
 
--- what an order lists, by its columns
-pub places_typed : (columns : OrderAuthzColumns) (row : Owned Listed) (old new : State) → columns ≡ listed_columns row
-    → Advances old new (PlacesColumns columns)
-    → Advances old new (Places row)
-places_typed columns row old new are = advances_as old new (PlacesColumns columns) (Places row) (λ does. does row (sym are))
+-- what an order lists, by the columns that were written of it
+pub places_written : {B E F : Type 0} (row : Owned Listed) (old new : State) (written : Result OrderAuthzColumns E) (q : Result B F)
+    → IfOk written (λ columns. columns ≡ listed_columns row)
+    → OnOk q ((put : OrderAuthzColumns) × (written ≡ Ok put) × Advances old new (PlacesColumns put))
+    → OnOk q (Advances old new (Places row))
+places_written row old new written (Ok done) are it =
+    let same = subst (λ w. IfOk w (λ columns. columns ≡ listed_columns row)) it.1 are in
+    advances_as old new (PlacesColumns it.0) (Places row) (λ does. does row (sym same)) it.2
+places_written row old new written (Err why) are it = tt
+
+-- columns that were written have no fault
+pub written_whole : {A E : Type 0} (written : Result A E) (P : E → Type 0) → IsOk written → IfErr written P
+written_whole (Ok columns) P is = tt
+written_whole (Err why) P is = cc
 
 -- the nonce of a serial, by the number of its column
 pub removes_numbered : (column : ℤ) (serial : ℕ) (old new : State) → column ≡ pos serial → Advances old new (RemovesNumbered nonce_layout column)

@@ -1,25 +1,118 @@
 //! Rows, each put into its table by a statement.
-ghost use Rattle.std.specs.Prelude.{◌≡◌, OnOk, IfErr};
+ghost use Rattle.std.specs.Prelude.{◌≡◌, IfErr, Ok, OnOk};
+ghost use Rattle.sqlite.specs.Effect.{Database};
 ghost use Rattle.sqlite.specs.State.{Survives};
 ghost use Rattle.sqlite.specs.Held.{state};
+ghost use Rattle.desk_columns.specs.Columns.{account_columns, authorization_columns, challenge_columns, meta_columns, nonce_columns, order_columns};
 ghost use Rattle.desk_schema.specs.Advances.{Advances, KeepsLast};
 ghost use Rattle.desk_saving.specs.Numbers.{IsNotTooLarge};
-ghost use Rattle.desk_tables.specs.Effects.{Places, Puts, Removes};
+ghost use Rattle.desk_tables.specs.Effects.{Places, PlacesColumns, Puts, PutsColumns, Removes};
 ghost use Rattle.desk_tables.specs.Layouts.{account_layout, authorization_layout, challenge_layout, meta_layout, nonce_layout, order_layout};
 ghost use Rattle.written_rows.specs.Fits.{Fits, FitsAccount, FitsAuthorization, FitsChallenge, FitsListed, FitsMeta, FitsNonce, FitsOrder};
+ghost use Rattle.written_rows.specs.declared.fault.WriteFault.TheVariants.{Memory};
 
 use crate::fault::SaveFault;
+use desk_columns::{
+    AccountColumns, AuthzColumns, ChallColumns, MetaColumns, NonceColumns, OrderAuthzColumns,
+    OrderColumns,
+};
 use desk_model::{AccountRow, AuthorizationRow, ChallengeRow, Listed, Meta, Nonce, OrderRow};
 use desk_tables::{
     delete_nonce, upsert_account, upsert_authorization, upsert_challenge, upsert_listed,
     upsert_meta, upsert_nonce, upsert_order,
 };
-use sqlite::{Alter, Transaction};
+use sqlite::{Alter, Error, Transaction};
 use std::alloc::Global;
 use written_rows::{
-    account_columns, authorization_columns, challenge_columns, listed_columns, meta_columns,
-    nonce_columns, number_column, order_columns,
+    WriteFault, account_columns, authorization_columns, challenge_columns, listed_columns,
+    meta_columns, nonce_columns, number_column, order_columns,
 };
+
+// Columns of a row, and the statement that puts them.
+trait Upsert: Drop {
+    // What the statement makes of the database.
+    ghost Does: { Self → Database → Database → Type 0 };
+
+    // Runs the statement.
+    fn upsert<S: Alter>(&self, tx: &mut Transaction<'_, S>) -> Result<(), Error>
+        ensures same_reference { tx.new.conn.ghost_name ≡ tx.old.conn.ghost_name }
+        ensures ok { OnOk result (Advances (state S.Store tx.old.conn.now) (state S.Store tx.new.conn.now) (Does self.now)) }
+        ensures kept { KeepsLast (state S.Store tx.old.conn.now) (state S.Store tx.new.conn.now) }
+        ensures survives { Survives (state S.Store tx.old.conn.now) (state S.Store tx.new.conn.now) (λ _. ⊥) };
+}
+
+impl Upsert for MetaColumns {
+    ghost Does = { PutsColumns meta_layout meta_columns };
+
+    fn upsert<S: Alter>(&self, tx: &mut Transaction<'_, S>) -> Result<(), Error> {
+        upsert_meta(tx, self)
+    }
+}
+
+impl Upsert for NonceColumns {
+    ghost Does = { PutsColumns nonce_layout nonce_columns };
+
+    fn upsert<S: Alter>(&self, tx: &mut Transaction<'_, S>) -> Result<(), Error> {
+        upsert_nonce(tx, self)
+    }
+}
+
+impl Upsert for AccountColumns {
+    ghost Does = { PutsColumns account_layout account_columns };
+
+    fn upsert<S: Alter>(&self, tx: &mut Transaction<'_, S>) -> Result<(), Error> {
+        upsert_account(tx, self)
+    }
+}
+
+impl Upsert for OrderColumns {
+    ghost Does = { PutsColumns order_layout order_columns };
+
+    fn upsert<S: Alter>(&self, tx: &mut Transaction<'_, S>) -> Result<(), Error> {
+        upsert_order(tx, self)
+    }
+}
+
+impl Upsert for AuthzColumns {
+    ghost Does = { PutsColumns authorization_layout authorization_columns };
+
+    fn upsert<S: Alter>(&self, tx: &mut Transaction<'_, S>) -> Result<(), Error> {
+        upsert_authorization(tx, self)
+    }
+}
+
+impl Upsert for OrderAuthzColumns {
+    ghost Does = { PlacesColumns };
+
+    fn upsert<S: Alter>(&self, tx: &mut Transaction<'_, S>) -> Result<(), Error> {
+        upsert_listed(tx, self)
+    }
+}
+
+impl Upsert for ChallColumns {
+    ghost Does = { PutsColumns challenge_layout challenge_columns };
+
+    fn upsert<S: Alter>(&self, tx: &mut Transaction<'_, S>) -> Result<(), Error> {
+        upsert_challenge(tx, self)
+    }
+}
+
+// Puts the columns of a row, where they were made.
+fn put_columns<S: Alter, C: Upsert>(
+    tx: &mut Transaction<'_, S>,
+    columns: Result<C, WriteFault>,
+) -> Result<(), SaveFault>
+    ensures same_reference { tx.new.conn.ghost_name ≡ tx.old.conn.ghost_name }
+    ensures ok { OnOk result ((put : C) × (columns ≡ Ok put) × Advances (state S.Store tx.old.conn.now) (state S.Store tx.new.conn.now) (C.Does put)) }
+    ensures kept { KeepsLast (state S.Store tx.old.conn.now) (state S.Store tx.new.conn.now) }
+    ensures survives { Survives (state S.Store tx.old.conn.now) (state S.Store tx.new.conn.now) (λ _. ⊥) }
+    ensures fits { IfErr columns (λ why. why ≡ Memory) → IfErr result IsNotTooLarge }
+{
+    let columns = columns?;
+    let put = columns.upsert(tx);
+    drop(columns);
+    put.map_err(SaveFault::Statement)
+}
 
 /// Puts the row of `meta`.
 pub(crate) fn put_meta<S: Alter>(
@@ -33,10 +126,7 @@ pub(crate) fn put_meta<S: Alter>(
     ensures survives { Survives (state S.Store tx.old.conn.now) (state S.Store tx.new.conn.now) (λ _. ⊥) }
     ensures fits { FitsMeta row.now → IfErr result IsNotTooLarge }
 {
-    let columns = meta_columns(alloc, row)?;
-    let put = upsert_meta(tx, &columns);
-    drop(columns);
-    put.map_err(SaveFault::Statement)
+    put_columns(tx, meta_columns(alloc, row))
 }
 
 /// Puts a nonce.
@@ -51,10 +141,7 @@ pub(crate) fn put_nonce<S: Alter>(
     ensures survives { Survives (state S.Store tx.old.conn.now) (state S.Store tx.new.conn.now) (λ _. ⊥) }
     ensures fits { FitsNonce row.now → IfErr result IsNotTooLarge }
 {
-    let columns = nonce_columns(alloc, row)?;
-    let put = upsert_nonce(tx, &columns);
-    drop(columns);
-    put.map_err(SaveFault::Statement)
+    put_columns(tx, nonce_columns(alloc, row))
 }
 
 /// Puts an account.
@@ -69,10 +156,7 @@ pub(crate) fn put_account<S: Alter>(
     ensures survives { Survives (state S.Store tx.old.conn.now) (state S.Store tx.new.conn.now) (λ _. ⊥) }
     ensures fits { FitsAccount row.now → IfErr result IsNotTooLarge }
 {
-    let columns = account_columns(alloc, row)?;
-    let put = upsert_account(tx, &columns);
-    drop(columns);
-    put.map_err(SaveFault::Statement)
+    put_columns(tx, account_columns(alloc, row))
 }
 
 /// Puts an order, without what it lists.
@@ -87,10 +171,7 @@ pub(crate) fn put_order<S: Alter>(
     ensures survives { Survives (state S.Store tx.old.conn.now) (state S.Store tx.new.conn.now) (λ _. ⊥) }
     ensures fits { FitsOrder row.now → IfErr result IsNotTooLarge }
 {
-    let columns = order_columns(alloc, row)?;
-    let put = upsert_order(tx, &columns);
-    drop(columns);
-    put.map_err(SaveFault::Statement)
+    put_columns(tx, order_columns(alloc, row))
 }
 
 /// Puts an authorization, without its challenges.
@@ -105,10 +186,7 @@ pub(crate) fn put_authorization<S: Alter>(
     ensures survives { Survives (state S.Store tx.old.conn.now) (state S.Store tx.new.conn.now) (λ _. ⊥) }
     ensures fits { FitsAuthorization row.now → IfErr result IsNotTooLarge }
 {
-    let columns = authorization_columns(alloc, row)?;
-    let put = upsert_authorization(tx, &columns);
-    drop(columns);
-    put.map_err(SaveFault::Statement)
+    put_columns(tx, authorization_columns(alloc, row))
 }
 
 /// Puts what an order lists at a place.
@@ -123,8 +201,7 @@ pub(crate) fn put_listed<S: Alter>(
     ensures survives { Survives (state S.Store tx.old.conn.now) (state S.Store tx.new.conn.now) (λ _. ⊥) }
     ensures fits { FitsListed (record { owner = order; row = row.now }) → IfErr result IsNotTooLarge }
 {
-    let columns = listed_columns(order, row)?;
-    upsert_listed(tx, &columns).map_err(SaveFault::Statement)
+    put_columns(tx, listed_columns(order, row))
 }
 
 /// Puts a challenge of an authorization.
@@ -141,10 +218,7 @@ pub(crate) fn put_challenge<S: Alter>(
     ensures survives { Survives (state S.Store tx.old.conn.now) (state S.Store tx.new.conn.now) (λ _. ⊥) }
     ensures fits { FitsChallenge (record { owner = authorization; row = row.now }) → IfErr result IsNotTooLarge }
 {
-    let columns = challenge_columns(alloc, authorization, row)?;
-    let put = upsert_challenge(tx, &columns);
-    drop(columns);
-    put.map_err(SaveFault::Statement)
+    put_columns(tx, challenge_columns(alloc, authorization, row))
 }
 
 /// Removes the nonce of this serial, if there is one.

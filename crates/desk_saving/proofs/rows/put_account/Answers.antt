@@ -1,14 +1,10 @@
 use Rattle.sqlite.specs.Held.{state}
 use Rattle.desk_columns.specs.Columns.{account_columns}
-use Rattle.desk_saving.proofs.RowsInTurn.{puts_typed}
+use Rattle.desk_saving.proofs.RowsInTurn.{puts_written}
 use Rattle.desk_saving.proofs.rows.put_account.Goals as goal
 use Rattle.desk_tables.specs.Layouts.{account_layout}
 
 pub returns-clause-ok : goal.returns-clause-ok
 returns-clause-ok g c =
-    let written = c.in_ok-columns in
-    let put = c.upsert_account-put in
-    let old = state g.S.Store c.args.tx.now.conn.now in
-    let new = state g.S.Store put.new.tx.conn.now in
-    puts_typed account_layout account_columns written.columns c.args.row.now old new put.result c.map_err.result
-    c.map_err.ensures.variant written.ensures.columns put.ensures.ok
+    puts_written account_layout account_columns c.args.row.now (state g.S.Store c.args.tx.now.conn.now) (state g.S.Store c.put_columns.new.tx.conn.now)
+    c.account_columns.result c.put_columns.result c.account_columns.ensures.columns c.put_columns.ensures.ok

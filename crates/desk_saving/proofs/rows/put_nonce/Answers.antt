@@ -1,14 +1,10 @@
 use Rattle.sqlite.specs.Held.{state}
 use Rattle.desk_columns.specs.Columns.{nonce_columns}
-use Rattle.desk_saving.proofs.RowsInTurn.{puts_typed}
+use Rattle.desk_saving.proofs.RowsInTurn.{puts_written}
 use Rattle.desk_saving.proofs.rows.put_nonce.Goals as goal
 use Rattle.desk_tables.specs.Layouts.{nonce_layout}
 
 pub returns-clause-ok : goal.returns-clause-ok
 returns-clause-ok g c =
-    let written = c.in_ok-columns in
-    let put = c.upsert_nonce-put in
-    let old = state g.S.Store c.args.tx.now.conn.now in
-    let new = state g.S.Store put.new.tx.conn.now in
-    puts_typed nonce_layout nonce_columns written.columns c.args.row.now old new put.result c.map_err.result
-    c.map_err.ensures.variant written.ensures.columns put.ensures.ok
+    puts_written nonce_layout nonce_columns c.args.row.now (state g.S.Store c.args.tx.now.conn.now) (state g.S.Store c.put_columns.new.tx.conn.now)
+    c.nonce_columns.result c.put_columns.result c.nonce_columns.ensures.columns c.put_columns.ensures.ok
