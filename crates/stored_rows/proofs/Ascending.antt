@@ -1,5 +1,5 @@
 -- The test of ascending numbers, and rows put one after the other.
-use Rattle.std.proofs.Common.{◌≡◌, ℕ, ◌+◌, ◌≤◌, Bool, true, List, [], ◌∷◌, ◌++◌, refl, ap, ◌∙◌, arith}
+use Rattle.std.proofs.Common.{◌≡◌, ℕ, ◌+◌, ◌≤◌, ◌<◌, Bool, true, List, [], ◌∷◌, ◌++◌, length, drop, get_or, refl, sym, ap, ◌∙◌, arith}
 use Rattle.std.specs.Prelude.{◌&&◌, nat_le}
 use Rattle.std.specs.List.{list_all}
 use Rattle.desk_model.specs.Change.{put}
@@ -7,6 +7,7 @@ use Rattle.desk_model.specs.Kept.{EachOf}
 use Rattle.desk_laws.specs.Ordered.{Ascends}
 use Rattle.stored_rows.specs.Nesting.{ascends}
 use Rattle.std.proofs.lemmas.Bool.{and_parts, le-leb, leb-true}
+use Rattle.std.proofs.lemmas.List.{at_drop_more}
 use Rattle.desk_laws.proofs.RowLists.{put_past}
 
 -- numbers that pass the test ascend
@@ -44,3 +45,14 @@ put-ascending number n [] y zs h = refl
 put-ascending number n (x ∷ xs) y zs h =
     let above : number x + 1 ≤ number y = last-above number (number x + 1) xs y zs h.1 in
     put_past number y x xs (omega arith) ∙ ap (λ l. x ∷ l) (put-ascending number (number x + 1) xs y zs h.1)
+
+-- the test of one number more
+pub ascends-step : {X : Type 0} (number : X → ℕ) (last : ℕ) (xs : List X) (index : ℕ) (d : X) (n : ℕ) (whole : Bool) → index < length xs →
+    n ≡ number (get_or xs index d) → last < n → ascends number (last + 1) (drop index xs) ≡ whole →
+    ascends number (n + 1) (drop (index + 1) xs) ≡ whole
+ascends-step number last xs index d n whole more is above kept =
+    let passes : last + 1 ≤ n = omega (arith, above) in
+    ap (λ k. ascends number (k + 1) (drop (index + 1) xs)) is
+    ∙ ap (λ b. b && ascends number (number (get_or xs index d) + 1) (drop (index + 1) xs)) (sym (ap (nat_le (last + 1)) (sym is) ∙ le-leb (last + 1) n passes))
+    ∙ sym (at_drop_more (ascends number (last + 1)) xs index d more)
+    ∙ kept

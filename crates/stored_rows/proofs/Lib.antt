@@ -5,6 +5,7 @@ pub mod Nests
 pub mod OrderedRows
 pub mod Outcomes
 pub mod Pushed
+pub mod SliceLoops
 pub mod SortedFaults
 pub mod SortedLists
 pub mod SoundBooks

@@ -5,13 +5,14 @@ ghost use Rattle.desk_model.specs.Derived.{account_faults, authorization_faults,
 ghost use Rattle.desk_model.specs.Derived.{numbers_of, order_faults, sorted_challenges, status_faults, stored_statuses};
 ghost use Rattle.desk_model.specs.Entry.{History};
 ghost use Rattle.desk_model.specs.Legal.{Legal};
-ghost use Rattle.desk_model.specs.Tables.{picture};
-ghost use Rattle.desk_model.specs.declared.rows.ChallengeRow.{ChallengeRow as Row};
+ghost use Rattle.desk_model.specs.Tables.{Tables, picture};
+ghost use Rattle.desk_model.specs.declared.rows.ChallengeRow.{ChallengeRow as Challenge};
+ghost use Rattle.desk_model.specs.declared.rows.StatusFault.{StatusFault as Fault};
 ghost use Rattle.stored_rows.specs.FaultNumbers.{challenges_of, fault_number};
 ghost use Rattle.stored_rows.specs.RowFaults.{listed_fault};
 
 use crate::row_faults::{account_fault, authorization_fault, challenge_fault, order_fault};
-use desk_book::{Book, Table};
+use desk_book::{Book, Row, Table};
 use desk_model::{
     AccountRow, AuthorizationRow, AuthzStatus, ChallengeRow, Listed, OrderRow, StatusFault,
 };
@@ -36,13 +37,9 @@ pub fn check(alloc: Global, book: &Book) -> Result<Vec<StatusFault>, AllocError>
 fn push_faults(faults: &mut Vec<StatusFault>, alloc: Global, book: &Book) -> Result<(), AllocError>
     ensures { OnOk result (faults.new.items ≡ faults.old.items ++ status_faults book.now) }
 {
-    push_accounts(faults, book.accounts())?;
-    push_orders(faults, alloc, book)?;
-    push_authorizations(
-        faults,
-        book.meta().counters.clock.moment(),
-        book.authorizations(),
-    )?;
+    check_rows(faults, alloc, book, book.accounts())?;
+    check_rows(faults, alloc, book, book.orders())?;
+    check_rows(faults, alloc, book, book.authorizations())?;
     push_sorted_challenges(faults, alloc, book.authorizations())?;
     Ok(())
 }
@@ -57,24 +54,62 @@ fn push_fault(faults: &mut Vec<StatusFault>, found: Option<StatusFault>) -> Resu
     Ok(())
 }
 
-// ---- accounts
+// ---- the rows of a table
 
-fn push_account(faults: &mut Vec<StatusFault>, row: &AccountRow) -> Result<(), AllocError>
-    ensures { OnOk result (faults.new.items ≡ faults.old.items ++ account_faults row.now) }
-{
-    push_fault(faults, account_fault(row))
+// A row that stores a status.
+trait StoresStatus {
+    // The row's faults beside the others of a book.
+    ghost faults_of: { Tables → Self → List Fault };
+
+    // Puts the fault of the row, if it stores another status than its columns give.
+    fn check_status(
+        &self,
+        faults: &mut Vec<StatusFault>,
+        alloc: Global,
+        book: &Book,
+    ) -> Result<(), AllocError>
+        ensures { OnOk result (faults.new.items ≡ faults.old.items ++ faults_of book.now self.now) };
 }
 
-fn push_accounts(
+fn check_rows<R: Row + Drop + StoresStatus>(
     faults: &mut Vec<StatusFault>,
-    accounts: &Table<AccountRow>,
+    alloc: Global,
+    book: &Book,
+    rows: &Table<R>,
 ) -> Result<(), AllocError>
-    ensures { OnOk result (faults.new.items ≡ faults.old.items ++ flat_map account_faults accounts.now) }
+    ensures { OnOk result (faults.new.items ≡ faults.old.items ++ flat_map (R.faults_of book.now) rows.now) }
 {
-    for row in accounts.iter() {
-        push_account(faults, row)?;
+    for row in rows.iter() {
+        row.check_status(faults, alloc, book)?;
     }
     Ok(())
+}
+
+impl StoresStatus for AccountRow {
+    ghost faults_of = { λ _ row. account_faults row };
+
+    fn check_status(
+        &self,
+        faults: &mut Vec<StatusFault>,
+        _alloc: Global,
+        _book: &Book,
+    ) -> Result<(), AllocError> {
+        push_fault(faults, account_fault(self))
+    }
+}
+
+impl StoresStatus for AuthorizationRow {
+    ghost faults_of = { λ B row. authorization_faults B.meta.counters.clock row };
+
+    fn check_status(
+        &self,
+        faults: &mut Vec<StatusFault>,
+        _alloc: Global,
+        book: &Book,
+    ) -> Result<(), AllocError> {
+        let moment = book.meta().counters.clock.moment();
+        push_fault(faults, authorization_fault(moment, self))
+    }
 }
 
 // ---- orders
@@ -115,52 +150,19 @@ fn listed_statuses(
     Ok(statuses)
 }
 
-fn push_order(
-    faults: &mut Vec<StatusFault>,
-    alloc: Global,
-    book: &Book,
-    row: &OrderRow,
-) -> Result<(), AllocError>
-    ensures { OnOk result (faults.new.items ≡ faults.old.items ++ order_faults book.now.meta.counters.clock book.now.authorizations row.now) }
-{
-    let statuses = listed_statuses(alloc, book, row.listed.as_slice())?;
-    let found = order_fault(book.meta().counters.clock.moment(), row, &statuses);
-    push_fault(faults, found)
-}
+impl StoresStatus for OrderRow {
+    ghost faults_of = { λ B row. order_faults B.meta.counters.clock B.authorizations row };
 
-fn push_orders(faults: &mut Vec<StatusFault>, alloc: Global, book: &Book) -> Result<(), AllocError>
-    ensures { OnOk result (faults.new.items ≡ faults.old.items
-        ++ flat_map (order_faults book.now.meta.counters.clock book.now.authorizations) book.now.orders) }
-{
-    for row in book.orders().iter() {
-        push_order(faults, alloc, book, row)?;
+    fn check_status(
+        &self,
+        faults: &mut Vec<StatusFault>,
+        alloc: Global,
+        book: &Book,
+    ) -> Result<(), AllocError> {
+        let statuses = listed_statuses(alloc, book, self.listed.as_slice())?;
+        let found = order_fault(book.meta().counters.clock.moment(), self, &statuses);
+        push_fault(faults, found)
     }
-    Ok(())
-}
-
-// ---- authorizations
-
-fn push_authorization(
-    faults: &mut Vec<StatusFault>,
-    moment: u64,
-    row: &AuthorizationRow,
-) -> Result<(), AllocError>
-    ensures { OnOk result (faults.new.items ≡ faults.old.items ++ authorization_faults moment row.now) }
-{
-    push_fault(faults, authorization_fault(moment, row))
-}
-
-fn push_authorizations(
-    faults: &mut Vec<StatusFault>,
-    moment: u64,
-    authorizations: &Table<AuthorizationRow>,
-) -> Result<(), AllocError>
-    ensures { OnOk result (faults.new.items ≡ faults.old.items ++ flat_map (authorization_faults moment) authorizations.now) }
-{
-    for row in authorizations.iter() {
-        push_authorization(faults, moment, row)?;
-    }
-    Ok(())
 }
 
 // ---- challenges
@@ -207,7 +209,7 @@ fn fault_number(fault: &StatusFault) -> u64
 
 // Sorts faults of challenges by number, those of one number in the order in which they stand.
 fn sort_faults(faults: &mut Vec<StatusFault>) -> Result<(), AllocError>
-    ensures { OnOk result ((rows : List Row) → faults.old.items ≡ flat_map challenge_faults rows
+    ensures { OnOk result ((rows : List Challenge) → faults.old.items ≡ flat_map challenge_faults rows
         → faults.new.items ≡ flat_map challenge_faults (sorted_challenges rows)) }
 {
     faults.sort_by_key(|fault| fault_number(fault))

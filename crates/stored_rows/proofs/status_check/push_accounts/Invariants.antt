@@ -1,7 +1,0 @@
-use Rattle.std.proofs.Common.{◌≡◌, ◌++◌}
-use Rattle.std.specs.List.{flat_map}
-use Rattle.desk_model.specs.Derived.{account_faults}
-use Rattle.stored_rows.proofs.status_check.push_accounts.Given as goal
-
-abbrev pub invariant-loop-row : goal.invariant-loop-row
-invariant-loop-row l = l.faults.items ++ flat_map account_faults l.row-iterator ≡ l.fn.faults.items ++ flat_map account_faults l.accounts
