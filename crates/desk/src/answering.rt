@@ -4,8 +4,9 @@ use crate::fault::Fault;
 use batches::batch;
 use connections::{bind, serve_all};
 use desk_calls::Desk;
+use desk_loading::RowsAbove;
 use desk_storage::Storage;
-use file_tasks::{Tables, Task};
+use file_tasks::Task;
 use std::alloc::Global;
 use std::io::{Read, Write};
 
@@ -28,7 +29,10 @@ impl<'r, 'o, 'e, R: Read, W: Write, E: Write> AnswerLines<'r, 'o, 'e, R, W, E> {
 impl<'r, 'o, 'e, R: Read, W: Write, E: Write> Task for AnswerLines<'r, 'o, 'e, R, W, E> {
     type Fault = Fault;
 
-    fn run<K: Tables + Drop>(&mut self, store: K) -> Result<(K, Result<u8, Fault>), Fault> {
+    fn run<K: Storage + RowsAbove + Drop>(
+        &mut self,
+        store: K,
+    ) -> Result<(K, Result<u8, Fault>), Fault> {
         let mut desk = adopt(self.alloc, store)?;
         let status = self.answer(&mut desk);
         Ok((desk.close(), Ok(status)))
@@ -67,7 +71,10 @@ impl<'a, W: Write, E: Write> ServeConnections<'a, W, E> {
 impl<'a, W: Write, E: Write> Task for ServeConnections<'a, W, E> {
     type Fault = Fault;
 
-    fn run<K: Tables + Drop>(&mut self, store: K) -> Result<(K, Result<u8, Fault>), Fault> {
+    fn run<K: Storage + RowsAbove + Drop>(
+        &mut self,
+        store: K,
+    ) -> Result<(K, Result<u8, Fault>), Fault> {
         let mut desk = adopt(self.rt.alloc(), store)?;
         let outcome = match self.serve(&mut desk) {
             Ok(()) => Ok(0),

@@ -1,9 +1,11 @@
 //! Reports on the rows of a store.
 use crate::fault::Fault;
 use command_line::Listing;
+use desk_loading::RowsAbove;
 use desk_model::OrderStatus;
-use file_tasks::{Tables, Task};
-use reports::{Form, OrderFilter};
+use desk_storage::Storage;
+use file_tasks::Task;
+use reports::{Form, OrderFilter, list_faults, list_orders};
 use std::alloc::Global;
 use std::io::Write;
 
@@ -65,9 +67,12 @@ impl<'a, W: Write> ListOrders<'a, W> {
 impl<'a, W: Write> Task for ListOrders<'a, W> {
     type Fault = Fault;
 
-    fn run<K: Tables + Drop>(&mut self, store: K) -> Result<(K, Result<u8, Fault>), Fault> {
+    fn run<K: Storage + RowsAbove + Drop>(
+        &mut self,
+        store: K,
+    ) -> Result<(K, Result<u8, Fault>), Fault> {
         let mut store = store;
-        store.list_orders(self.alloc, self.out, self.form, self.filter)?;
+        list_orders(self.alloc, &mut store, self.out, self.form, self.filter)?;
         Ok((store, Ok(0)))
     }
 }
@@ -94,9 +99,12 @@ impl<'a, W: Write> CheckStatuses<'a, W> {
 impl<'a, W: Write> Task for CheckStatuses<'a, W> {
     type Fault = Fault;
 
-    fn run<K: Tables + Drop>(&mut self, store: K) -> Result<(K, Result<u8, Fault>), Fault> {
+    fn run<K: Storage + RowsAbove + Drop>(
+        &mut self,
+        store: K,
+    ) -> Result<(K, Result<u8, Fault>), Fault> {
         let mut store = store;
-        let found = store.list_faults(self.alloc, self.out, self.form)?;
+        let found = list_faults(self.alloc, &mut store, self.out, self.form)?;
         let status = if found { FOUND } else { 0 };
         Ok((store, Ok(status)))
     }

@@ -4,9 +4,10 @@ use crate::fault::Fault;
 use command_line::Target;
 use connections::moment;
 use desk_calls::Desk;
+use desk_loading::RowsAbove;
 use desk_model::{Ask, Body, Call, OfficeAsk, Reply, Sequence};
 use desk_storage::Storage;
-use file_tasks::{Tables, Task};
+use file_tasks::Task;
 use std::io::{self, Write};
 
 /// Revokes an authorization or an account, at the machine's clock.
@@ -62,7 +63,10 @@ impl<'a, W: Write> Revoke<'a, W> {
 impl<'a, W: Write> Task for Revoke<'a, W> {
     type Fault = Fault;
 
-    fn run<K: Tables + Drop>(&mut self, store: K) -> Result<(K, Result<u8, Fault>), Fault> {
+    fn run<K: Storage + RowsAbove + Drop>(
+        &mut self,
+        store: K,
+    ) -> Result<(K, Result<u8, Fault>), Fault> {
         let mut desk = adopt(self.rt.alloc(), store)?;
         self.revoke(&mut desk)?;
         match self.tell() {

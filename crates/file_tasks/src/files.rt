@@ -3,12 +3,12 @@ use desk_files::{close_from, make_from, open_from};
 use desk_model::{Clock, Policy};
 use desk_storage::StorageFault;
 use desk_store::{OpenFault, Store};
-use sqlite::{FileFrom, FileStore, Wary};
+use sqlite::{FileFrom, FileStore, Start};
 use std::fs;
 use std::io::ErrorKind;
 
-/// What the engine keeps of a file. It takes nothing for granted of bytes whose write was cut off.
-pub(crate) type DeskFile = FileStore<FileFrom<Wary>>;
+/// What the engine keeps of a file, by what it takes for granted of the bytes that it finds there.
+pub(crate) type DeskFile<S> = FileStore<FileFrom<S>>;
 
 // Whether there is a file with bytes at the path.
 fn holds_bytes(rt: &HostRuntime, path: &str) -> Result<bool, OpenFault> {
@@ -27,11 +27,16 @@ fn holds_bytes(rt: &HostRuntime, path: &str) -> Result<bool, OpenFault> {
 /// # Errors
 ///
 /// `NotADesk` where there is a file with bytes at the path, `Storage` where the file or its store failed.
-pub fn make_desk(rt: &HostRuntime, path: &str, policy: Policy) -> Result<(), OpenFault> {
+pub(crate) fn make<S: Start>(
+    rt: &HostRuntime,
+    path: &str,
+    start: S,
+    policy: Policy,
+) -> Result<(), OpenFault> {
     if holds_bytes(rt, path)? {
         return Err(OpenFault::NotADesk);
     }
-    match make_from(rt, path, Wary, policy, Clock::at(0)) {
+    match make_from(rt, path, start, policy, Clock::at(0)) {
         Ok(store) => close(store),
         Err(unmade) => Err(unmade.fault),
     }
@@ -43,11 +48,15 @@ pub fn make_desk(rt: &HostRuntime, path: &str, policy: Policy) -> Result<(), Ope
 ///
 /// `NotADesk` where the file is missing or empty, or holds no desk, `NewerFormat` where it holds one of a later format,
 /// `Storage` where the file or its store failed.
-pub(crate) fn open(rt: &HostRuntime, path: &str) -> Result<Store<DeskFile>, OpenFault> {
+pub(crate) fn open<S: Start>(
+    rt: &HostRuntime,
+    path: &str,
+    start: S,
+) -> Result<Store<DeskFile<S>>, OpenFault> {
     if !holds_bytes(rt, path)? {
         return Err(OpenFault::NotADesk);
     }
-    match open_from(rt, path, Wary) {
+    match open_from(rt, path, start) {
         Ok(store) => Ok(store),
         Err(unopened) => Err(unopened.fault),
     }
@@ -58,7 +67,7 @@ pub(crate) fn open(rt: &HostRuntime, path: &str) -> Result<Store<DeskFile>, Open
 /// # Errors
 ///
 /// `Storage` where the copy failed: the log then stands beside the file, and the next opening reads both.
-pub(crate) fn close(store: Store<DeskFile>) -> Result<(), OpenFault> {
+pub(crate) fn close<S: Start>(store: Store<DeskFile<S>>) -> Result<(), OpenFault> {
     match close_from(store) {
         Ok(_) => Ok(()),
         Err((fault, _)) => Err(fault),

@@ -5,6 +5,5 @@ mod files;
 mod over_file;
 mod tasks;
 
-pub use files::make_desk;
-pub use over_file::run_over_file;
-pub use tasks::{Tables, Task};
+pub use over_file::{make_desk, run_over_file};
+pub use tasks::Task;

@@ -1,34 +1,23 @@
 //! A task by the store of a file.
-use crate::files::{close, open};
-use crate::tasks::{Tables, Task};
+use crate::files::{close, make, open};
+use crate::tasks::Task;
+use desk_model::Policy;
 use desk_store::{OpenFault, Store};
-use reports::{Form, OrderFilter, ReportFault};
-use sqlite::Alter;
-use std::alloc::Global;
-use std::io::Write;
+use sqlite::{Alter, Start, Wary};
 
-impl<S: Alter> Tables for Store<S> {
-    fn list_orders<W: Write>(
-        &mut self,
-        alloc: Global,
-        out: &mut W,
-        form: Form,
-        filter: OrderFilter,
-    ) -> Result<(), ReportFault> {
-        reports::list_orders(alloc, self, out, form, filter)
-    }
-
-    fn list_faults<W: Write>(
-        &mut self,
-        alloc: Global,
-        out: &mut W,
-        form: Form,
-    ) -> Result<bool, ReportFault> {
-        reports::list_faults(alloc, self, out, form)
-    }
+/// Makes a desk with a policy, at moment 0, in a new file.
+///
+/// # Errors
+///
+/// `NotADesk` where there is a file with bytes at the path, `Storage` where the file or its store failed.
+pub fn make_desk(rt: &HostRuntime, path: &str, policy: Policy) -> Result<(), OpenFault> {
+    make(rt, path, Wary, policy)
 }
 
 /// Opens the desk of a file, does a task with its store, closes it, and gives the exit status.
+///
+/// The file is missing or empty, or holds no desk: `NotADesk`. It holds one of a later format: `NewerFormat`. Nothing is taken
+/// for granted of bytes whose write was cut off.
 ///
 /// # Errors
 ///
@@ -38,8 +27,21 @@ pub fn run_over_file<T: Task + Drop>(rt: &HostRuntime, file: &str, task: T) -> R
 where
     T::Fault: From<OpenFault>,
 {
+    run_from(rt, file, Wary, task)
+}
+
+// The same, for all bytes that the file may hold at the start.
+fn run_from<S: Start, T: Task + Drop>(
+    rt: &HostRuntime,
+    file: &str,
+    start: S,
+    task: T,
+) -> Result<u8, T::Fault>
+where
+    T::Fault: From<OpenFault>,
+{
     let mut task = task;
-    let (store, outcome) = run_over(open(rt, file)?, &mut task)?;
+    let (store, outcome) = run_over(open(rt, file, start)?, &mut task)?;
     let closed = close(store);
     match outcome {
         Ok(0) => match closed {
