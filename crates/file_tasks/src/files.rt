@@ -1,5 +1,5 @@
 //! The desk of the file at a path, and its log beside it.
-use desk_files::{close_from, make_from, open_from};
+use desk_files::{NotOpened, close_from, make_from, open_from};
 use desk_model::{Clock, Policy};
 use desk_storage::StorageFault;
 use desk_store::{OpenFault, Store};
@@ -36,9 +36,16 @@ pub(crate) fn make<S: Start>(
     if holds_bytes(rt, path)? {
         return Err(OpenFault::NotADesk);
     }
-    match make_from(rt, path, start, policy, Clock::at(0)) {
-        Ok(store) => close(store),
-        Err(unmade) => Err(unmade.fault),
+    close(told(make_from(rt, path, start, policy, Clock::at(0)))?)
+}
+
+// The store, or why there is none. The files are given up here alone, since a check pays for each place that drops them.
+fn told<S: Start>(
+    opened: Result<Store<DeskFile<S>>, NotOpened<DeskFile<S>, FileFrom<S>>>,
+) -> Result<Store<DeskFile<S>>, OpenFault> {
+    match opened {
+        Ok(store) => Ok(store),
+        Err(not_opened) => Err(not_opened.fault),
     }
 }
 
@@ -56,10 +63,7 @@ pub(crate) fn open<S: Start>(
     if !holds_bytes(rt, path)? {
         return Err(OpenFault::NotADesk);
     }
-    match open_from(rt, path, start) {
-        Ok(store) => Ok(store),
-        Err(unopened) => Err(unopened.fault),
-    }
+    told(open_from(rt, path, start))
 }
 
 /// Closes the file, after its log was copied into it.
