@@ -9,7 +9,7 @@ ghost use Rattle.desk_files.specs.Opening.{FailsToMake, LeavesAsFound, MakesFile
 ghost use Rattle.desk_store.specs.Making.{IsOfStorage};
 
 use crate::fault::refusal_fault;
-use crate::tables::{make_tables, open_tables};
+use crate::tables::{First, begin};
 use desk_model::{Clock, Policy};
 use desk_store::{OpenFault, Store};
 use sqlite::{Alter, Connection, FileFrom, FileStore, Leftover, Start};
@@ -52,6 +52,35 @@ fn connect<S: Start>(
     }
 }
 
+// Opens the desk that the files at a path hold, or makes one of these terms in them.
+fn begin_from<S: Start>(
+    rt: &HostRuntime,
+    path: &str,
+    start: S,
+    first: Option<First>,
+) -> Result<Store<FileStore<FileFrom<S>>>, NotOpened<FileStore<FileFrom<S>>, FileFrom<S>>>
+    ensures opened { first ≡ None → IfOk result (OpensFiles (image_at S.Start)) }
+    ensures made { IfSome first (λ it. IfOk result (MakesFiles it.policy it.at (image_at S.Start))) }
+    ensures unreached { IfErr result (λ un. un.conn ≡ None → un.refused ≡ None → IsOfStorage un.fault) }
+    ensures refused { IfErr result (λ un. IfSome un.refused (RefusesNoDatabase (image_at S.Start) un.fault)) }
+    ensures unopened { first ≡ None → IfErr result (λ un. IfSome un.conn (RefusesNoDesk (image_at S.Start) un.fault)) }
+    ensures left { first ≡ None → IfErr result (λ un. IfSome un.conn (LeavesAsFound (image_at S.Start))) }
+    ensures unmade { IfSome first (λ it. IfErr result (λ un. IfSome un.conn (FailsToMake it.policy it.at (image_at S.Start) un.fault))) }
+{
+    let conn = match connect(rt, path, start) {
+        Ok(conn) => conn,
+        Err(unconnected) => return Err(unconnected),
+    };
+    match begin(rt.alloc(), conn, first) {
+        Ok(store) => Ok(store),
+        Err(unopened) => Err(NotOpened {
+            fault: unopened.fault,
+            refused: None,
+            conn: Some(unopened.conn),
+        }),
+    }
+}
+
 /// Opens the desk that the files at a path hold, where `S` stands for their bytes. No clause ties these to the path.
 ///
 /// What a log holds that was not copied into the database file is read with it, so that a desk whose program was stopped is
@@ -73,18 +102,7 @@ pub fn open_from<S: Start>(
     ensures unopened { IfErr result (λ un. IfSome un.conn (RefusesNoDesk (image_at S.Start) un.fault)) }
     ensures left { IfErr result (λ un. IfSome un.conn (LeavesAsFound (image_at S.Start))) }
 {
-    let conn = match connect(rt, path, start) {
-        Ok(conn) => conn,
-        Err(unopened) => return Err(unopened),
-    };
-    match open_tables(rt.alloc(), conn) {
-        Ok(store) => Ok(store),
-        Err(unopened) => Err(NotOpened {
-            fault: unopened.fault,
-            refused: None,
-            conn: Some(unopened.conn),
-        }),
-    }
+    begin_from(rt, path, start, None)
 }
 
 /// Makes a desk with a policy at a moment in the files at a path, where `S` stands for their bytes.
@@ -108,16 +126,5 @@ pub fn make_from<S: Start>(
     ensures refused { IfErr result (λ un. IfSome un.refused (RefusesNoDatabase (image_at S.Start) un.fault)) }
     ensures unmade { IfErr result (λ un. IfSome un.conn (FailsToMake policy at (image_at S.Start) un.fault)) }
 {
-    let conn = match connect(rt, path, start) {
-        Ok(conn) => conn,
-        Err(unopened) => return Err(unopened),
-    };
-    match make_tables(rt.alloc(), conn, policy, at) {
-        Ok(store) => Ok(store),
-        Err(unmade) => Err(NotOpened {
-            fault: unmade.fault,
-            refused: None,
-            conn: Some(unmade.conn),
-        }),
-    }
+    begin_from(rt, path, start, Some(First { policy, at }))
 }

@@ -1,5 +1,5 @@
 //! Desks over a connection, and what a stop leaves where they are not opened or made.
-ghost use Rattle.std.specs.Prelude.{◌≡◌, ◌≤◌, false, None, IfErr, IfOk, IsTrue, MatchResult};
+ghost use Rattle.std.specs.Prelude.{◌≡◌, ◌≤◌, false, None, IfErr, IfOk, IfSome, IsTrue, MatchResult};
 ghost use Rattle.sqlite.specs.Held.{state};
 ghost use Rattle.sqlite.specs.State.{HasCleanDisk};
 ghost use Rattle.sqlite.specs.Tree.{Trees};
@@ -17,11 +17,8 @@ use desk_store::{Store, Unopened};
 use sqlite::{Alter, Connection};
 use std::alloc::Global;
 
-/// Opens the desk of a connection; `Store::open` says when not.
-pub(crate) fn open_tables<A: Alter>(
-    alloc: Global,
-    conn: Connection<A>,
-) -> Result<Store<A>, Unopened<A>>
+// Opens the desk of a connection; `Store::open` says when not.
+fn open_tables<A: Alter>(alloc: Global, conn: Connection<A>) -> Result<Store<A>, Unopened<A>>
     ensures honest { MatchResult result
         (λ store. doubt (state A.Store conn).is_clean ≤ doubt (state A.Store store.conn).is_clean)
         (λ un. doubt (state A.Store conn).is_clean ≤ doubt (state A.Store un.conn).is_clean) }
@@ -37,8 +34,8 @@ pub(crate) fn open_tables<A: Alter>(
     }
 }
 
-/// Makes a desk in the database of a connection; `Store::make` says when not.
-pub(crate) fn make_tables<A: Alter>(
+// Makes a desk in the database of a connection; `Store::make` says when not.
+fn make_tables<A: Alter>(
     alloc: Global,
     conn: Connection<A>,
     policy: Policy,
@@ -57,5 +54,40 @@ pub(crate) fn make_tables<A: Alter>(
     match Store::make(alloc, conn, policy, at) {
         Ok(store) => Ok(store),
         Err(unmade) => Err(unmade),
+    }
+}
+
+/// The terms of a desk that is made, and when it is.
+#[derive(Drop)]
+pub(crate) struct First {
+    pub(crate) policy: Policy,
+    pub(crate) at: Clock,
+}
+
+/// Opens the desk of a connection, or makes one of these terms in its database. It is one function for both, since a check pays
+/// for each call that names the engine's own type.
+pub(crate) fn begin<A: Alter>(
+    alloc: Global,
+    conn: Connection<A>,
+    first: Option<First>,
+) -> Result<Store<A>, Unopened<A>>
+    requires idle { IfSome first (λ _. conn.in_transaction ≡ false) }
+    ensures honest { MatchResult result
+        (λ store. doubt (state A.Store conn).is_clean ≤ doubt (state A.Store store.conn).is_clean)
+        (λ un. doubt (state A.Store conn).is_clean ≤ doubt (state A.Store un.conn).is_clean) }
+    ensures opened { first ≡ None → IfOk result (λ store. HasCleanDisk (state A.Store store.conn) → (T : Tables) → HasDesk (state A.Store conn) T
+        → Keeps (store_sight A.Store) store T) }
+    ensures unopened { first ≡ None → IfErr result (λ un. HasCleanDisk (state A.Store un.conn) → (T : Tables) → HasDesk (state A.Store conn) T → IsOfStorage un.fault) }
+    ensures left { first ≡ None → IfErr result (λ un. HasCleanDisk (state A.Store un.conn) → IsTrue (state A.Store conn).is_open → (trees : Trees)
+        → (state A.Store un.conn).may_leave trees → trees ≡ (state A.Store conn).committed.trees) }
+    ensures made { IfSome first (λ it. IfOk result (λ store. HasCleanDisk (state A.Store store.conn) → (state A.Store conn).now.schema ≡ no_schema
+        → (state A.Store conn).step_limit ≡ None → Keeps (store_sight A.Store) store (picture (first_history it.policy it.at)))) }
+    ensures unmade { IfSome first (λ it. IfErr result (λ un. HasCleanDisk (state A.Store un.conn) → (state A.Store conn).now.schema ≡ no_schema
+        → IsTrue (state A.Store conn).is_open → LeavesNewDesk it.policy it.at
+        (λ trees. trees ≡ (state A.Store conn).committed.trees) un.fault (state A.Store un.conn))) }
+{
+    match first {
+        None => open_tables(alloc, conn),
+        Some(First { policy, at }) => make_tables(alloc, conn, policy, at),
     }
 }

@@ -1,0 +1,56 @@
+use Rattle.std.proofs.Common.{◌≡◌, ◌∙◌, arith, subst, sym}
+use Rattle.sqlite.specs.Files.{IsEmpty, file_state}
+use Rattle.sqlite.specs.State.{HasCleanDisk}
+use Rattle.sqlite.specs.Tree.{Trees}
+use Rattle.sqlite.specs.WalFiles.{image_at}
+use Rattle.desk_openings.proofs.Finding.{keeps_within}
+use Rattle.desk_files.proofs.Opened.{Connects, desk_found, new_desk_left, nothing_found, trees_found}
+use Rattle.desk_files.proofs.Refused.{if_there}
+use Rattle.desk_files.proofs.opening.begin_from.Goals as goal
+
+pub returns-in-Ok-begin-clause-opened : goal.returns-in-Ok-begin-clause-opened
+returns-in-Ok-begin-clause-opened g c none clean files same T has =
+    let connected = c.in-Ok.ensures in
+    let opened = c.in-Ok-begin.ensures in
+    let connects : Connects (image_at g.S.Start) c.in-Ok.conn = record { fresh = connected.fresh; opened = connected.opened; found = connected.found } in
+    keeps_within _ _ c.in-Ok-begin.store T
+    (opened.opened none clean T (desk_found (image_at g.S.Start) c.in-Ok.conn connects (file_state c.in-Ok-begin.store.conn) opened.honest
+    clean files same T has))
+
+pub returns-in-Ok-begin-clause-made : goal.returns-in-Ok-begin-clause-made
+returns-in-Ok-begin-clause-made g c =
+    let connected = c.in-Ok.ensures in
+    let made = c.in-Ok-begin.ensures in
+    let connects : Connects (image_at g.S.Start) c.in-Ok.conn = record { fresh = connected.fresh; opened = connected.opened; found = connected.found } in
+    if_there c.args.first made.made (λ first it clean none.
+    let early : HasCleanDisk (file_state c.in-Ok.conn) = omega (arith, made.honest, clean) in
+    let nothing = nothing_found (image_at g.S.Start) c.in-Ok.conn connects early none in
+    keeps_within _ _ c.in-Ok-begin.store _ (it clean nothing.schema connects.fresh.unlimited))
+
+pub returns-in-Err-begin-clause-unopened : goal.returns-in-Err-begin-clause-unopened
+returns-in-Err-begin-clause-unopened g c none clean files same T has =
+    let connected = c.in-Ok.ensures in
+    let failed = c.in-Err-begin.ensures in
+    let connects : Connects (image_at g.S.Start) c.in-Ok.conn = record { fresh = connected.fresh; opened = connected.opened; found = connected.found } in
+    failed.unopened none clean T (desk_found (image_at g.S.Start) c.in-Ok.conn connects (file_state c.in-Err-begin.unopened.conn)
+    failed.honest clean files same T has)
+
+pub returns-in-Err-begin-clause-left : goal.returns-in-Err-begin-clause-left
+returns-in-Err-begin-clause-left g c none clean files same trees may =
+    let connected = c.in-Ok.ensures in
+    let failed = c.in-Err-begin.ensures in
+    let connects : Connects (image_at g.S.Start) c.in-Ok.conn = record { fresh = connected.fresh; opened = connected.opened; found = connected.found } in
+    let found = trees_found (image_at g.S.Start) c.in-Ok.conn connects (file_state c.in-Err-begin.unopened.conn) failed.honest clean files same in
+    failed.left none clean found.is_open trees may ∙ found.trees
+
+pub returns-in-Err-begin-clause-unmade : goal.returns-in-Err-begin-clause-unmade
+returns-in-Err-begin-clause-unmade g c =
+    let connected = c.in-Ok.ensures in
+    let failed = c.in-Err-begin.ensures in
+    let connects : Connects (image_at g.S.Start) c.in-Ok.conn = record { fresh = connected.fresh; opened = connected.opened; found = connected.found } in
+    if_there c.args.first failed.unmade (λ first it clean none.
+    let early : HasCleanDisk (file_state c.in-Ok.conn) = omega (arith, failed.honest, clean) in
+    let nothing = nothing_found (image_at g.S.Start) c.in-Ok.conn connects early none in
+    new_desk_left first.policy first.at (λ (trees : Trees). trees ≡ (file_state c.in-Ok.conn).committed.trees) IsEmpty c.in-Err-begin.unopened.fault
+    (file_state c.in-Err-begin.unopened.conn) (λ trees same. subst IsEmpty (sym same) nothing.empty)
+    (it clean nothing.schema nothing.opened.0.is_open))
