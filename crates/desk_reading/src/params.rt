@@ -4,7 +4,6 @@ ghost use Rattle.sqlite.specs.declared.types.Value.TheVariants.{Int, Text as Sql
 ghost use Rattle.sqlite.specs.Values.{bound};
 ghost use Rattle.desk_reading.specs.Bounded.{bounded};
 
-use desk_tables::values::int;
 use sqlite::types::ValueRef;
 
 // The number as SQL has it; one above 2^63 - 1, which no row of a desk has, becomes 2^63 - 1, which none has either.
@@ -22,8 +21,7 @@ fn bounded(number: u64) -> i64
 pub(crate) fn number_param<'a>(number: u64) -> [ValueRef<'a>; 1]
     ensures { bound result ≡ Int (pos (bounded number)) ∷ [] }
 {
-    let number = bounded(number);
-    [int(&number)]
+    [ValueRef::Int(bounded(number))]
 }
 
 /// One text.
@@ -37,6 +35,8 @@ pub(crate) fn text_param<'a>(text: &'a str) -> [ValueRef<'a>; 1]
 pub(crate) fn text_and_number<'a>(text: &'a str, number: u64) -> [ValueRef<'a>; 2]
     ensures { bound result ≡ SqlText text.now ∷ Int (pos (bounded number)) ∷ [] }
 {
-    let number = bounded(number);
-    [ValueRef::Text(text.as_bytes()), int(&number)]
+    [
+        ValueRef::Text(text.as_bytes()),
+        ValueRef::Int(bounded(number)),
+    ]
 }

@@ -1,11 +1,14 @@
 -- Calls inside a transaction, and what they leave behind a first one.
-use Rattle.std.proofs.Common.{◌≡◌, arith, ◌∙◌, Result, Ok, Err, OnOk}
+use Rattle.std.proofs.Common.{◌≡◌, arith, ◌∙◌, ℕ, List, Result, Ok, Err, OnOk, refl, ap}
 use Rattle.std.specs.Prelude.{is_ok}
+use Rattle.std.specs.Result.{result_and}
+use Rattle.sqlite.specs.Order.{Row}
+use Rattle.sqlite.specs.declared.error.Error.{Error}
 use Rattle.sqlite.proofs.StateLemmas.{survives_then}
 use Rattle.sqlite.specs.Effect.{Database}
 use Rattle.sqlite.specs.State.{State, Survives}
 use Rattle.desk_schema.proofs.AdvanceLemmas.{advances_then}
-use Rattle.desk_schema.specs.Advances.{Advances, KeepsLast}
+use Rattle.desk_schema.specs.Advances.{Advances, KeepsLast, Performs}
 
 -- the last commit is as it was before a call that advanced the transaction
 pub kept_behind : (a b c : State) (Does : Database → Database → Type 0) → Advances a b Does → Survives b c (λ _. ⊥) → KeepsLast b c → KeepsLast a c
@@ -29,3 +32,16 @@ pub done_as : {A B E F P Q : Type 0} (r : Result A E) (q : Result B F) → is_ok
 done_as (Ok x) (Ok y) same so did = so did
 done_as (Err e) (Ok y) same so did = cc
 done_as r (Err e) same so did = tt
+
+-- what follows of a statement, where it was run
+pub where_run : {P : Type 0} (text : List ℕ) (params : Row) (old new : State) (r : Result ℕ Error) → Performs text params old new r
+    → ((count : ℕ) → Performs text params old new (Ok count) → P)
+    → OnOk r P
+where_run text params old new (Ok count) ran so = so count ran
+where_run text params old new (Err e) ran so = tt
+
+-- the answer of a call is that of another without its value, and with a fault in the place of its error
+pub answered_as : {A B E F : Type 0} (r : Result A E) (u : B) (s : Result B E) (q : Result B F) → s ≡ result_and r (Ok u) → is_ok q ≡ is_ok s
+    → is_ok q ≡ is_ok r
+answered_as (Ok x) u s q is same = same ∙ ap is_ok is
+answered_as (Err e) u s q is same = same ∙ ap is_ok is

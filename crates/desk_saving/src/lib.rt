@@ -9,6 +9,8 @@ mod laws;
 mod making;
 mod rows;
 mod saving;
+mod upserts;
+mod values;
 
 pub use fault::SaveFault;
 pub use laws::{leading_changes_fit, left_tables_are_found};

@@ -1,101 +1,25 @@
 //! Rows, each put into its table by a statement.
 ghost use Rattle.std.specs.Prelude.{◌≡◌, IfErr, Ok, OnOk};
-ghost use Rattle.sqlite.specs.Effect.{Database};
 ghost use Rattle.sqlite.specs.State.{Survives};
 ghost use Rattle.sqlite.specs.Held.{state};
-ghost use Rattle.desk_columns.specs.Columns.{account_columns, authorization_columns, challenge_columns, meta_columns, nonce_columns, order_columns};
 ghost use Rattle.desk_schema.specs.Advances.{Advances, KeepsLast};
 ghost use Rattle.desk_saving.specs.Numbers.{IsNotTooLarge};
-ghost use Rattle.desk_tables.specs.Effects.{Places, PlacesColumns, Puts, PutsColumns, Removes};
+ghost use Rattle.desk_tables.specs.Effects.{Places, Puts, Removes};
 ghost use Rattle.desk_tables.specs.Layouts.{account_layout, authorization_layout, challenge_layout, meta_layout, nonce_layout, order_layout};
 ghost use Rattle.written_rows.specs.Fits.{Fits, FitsAccount, FitsAuthorization, FitsChallenge, FitsListed, FitsMeta, FitsNonce, FitsOrder};
 ghost use Rattle.written_rows.specs.declared.fault.WriteFault.TheVariants.{Memory};
 
 use crate::fault::SaveFault;
-use desk_columns::{
-    AccountColumns, AuthzColumns, ChallColumns, MetaColumns, NonceColumns, OrderAuthzColumns,
-    OrderColumns,
-};
+use crate::upserts::Upsert;
 use desk_model::{AccountRow, AuthorizationRow, ChallengeRow, Listed, Meta, Nonce, OrderRow};
-use desk_tables::{
-    delete_nonce, upsert_account, upsert_authorization, upsert_challenge, upsert_listed,
-    upsert_meta, upsert_nonce, upsert_order,
-};
-use sqlite::{Alter, Error, Transaction};
+use desk_schema::perform;
+use sqlite::types::ValueRef;
+use sqlite::{Alter, Transaction};
 use std::alloc::Global;
 use written_rows::{
     WriteFault, account_columns, authorization_columns, challenge_columns, listed_columns,
     meta_columns, nonce_columns, number_column, order_columns,
 };
-
-// Columns of a row, and the statement that puts them.
-trait Upsert: Drop {
-    // What the statement makes of the database.
-    ghost Does: { Self → Database → Database → Type 0 };
-
-    // Runs the statement.
-    fn upsert<S: Alter>(&self, tx: &mut Transaction<'_, S>) -> Result<(), Error>
-        ensures same_reference { tx.new.conn.ghost_name ≡ tx.old.conn.ghost_name }
-        ensures ok { OnOk result (Advances (state S.Store tx.old.conn.now) (state S.Store tx.new.conn.now) (Does self.now)) }
-        ensures kept { KeepsLast (state S.Store tx.old.conn.now) (state S.Store tx.new.conn.now) }
-        ensures survives { Survives (state S.Store tx.old.conn.now) (state S.Store tx.new.conn.now) (λ _. ⊥) };
-}
-
-impl Upsert for MetaColumns {
-    ghost Does = { PutsColumns meta_layout meta_columns };
-
-    fn upsert<S: Alter>(&self, tx: &mut Transaction<'_, S>) -> Result<(), Error> {
-        upsert_meta(tx, self)
-    }
-}
-
-impl Upsert for NonceColumns {
-    ghost Does = { PutsColumns nonce_layout nonce_columns };
-
-    fn upsert<S: Alter>(&self, tx: &mut Transaction<'_, S>) -> Result<(), Error> {
-        upsert_nonce(tx, self)
-    }
-}
-
-impl Upsert for AccountColumns {
-    ghost Does = { PutsColumns account_layout account_columns };
-
-    fn upsert<S: Alter>(&self, tx: &mut Transaction<'_, S>) -> Result<(), Error> {
-        upsert_account(tx, self)
-    }
-}
-
-impl Upsert for OrderColumns {
-    ghost Does = { PutsColumns order_layout order_columns };
-
-    fn upsert<S: Alter>(&self, tx: &mut Transaction<'_, S>) -> Result<(), Error> {
-        upsert_order(tx, self)
-    }
-}
-
-impl Upsert for AuthzColumns {
-    ghost Does = { PutsColumns authorization_layout authorization_columns };
-
-    fn upsert<S: Alter>(&self, tx: &mut Transaction<'_, S>) -> Result<(), Error> {
-        upsert_authorization(tx, self)
-    }
-}
-
-impl Upsert for OrderAuthzColumns {
-    ghost Does = { PlacesColumns };
-
-    fn upsert<S: Alter>(&self, tx: &mut Transaction<'_, S>) -> Result<(), Error> {
-        upsert_listed(tx, self)
-    }
-}
-
-impl Upsert for ChallColumns {
-    ghost Does = { PutsColumns challenge_layout challenge_columns };
-
-    fn upsert<S: Alter>(&self, tx: &mut Transaction<'_, S>) -> Result<(), Error> {
-        upsert_challenge(tx, self)
-    }
-}
 
 // Puts the columns of a row, where they were made.
 fn put_columns<S: Alter, C: Upsert>(
@@ -111,7 +35,7 @@ fn put_columns<S: Alter, C: Upsert>(
     let columns = columns?;
     let put = columns.upsert(tx);
     drop(columns);
-    put.map_err(SaveFault::Statement)
+    put.and(Ok(())).map_err(SaveFault::Statement)
 }
 
 /// Puts the row of `meta`.
@@ -233,5 +157,11 @@ pub(crate) fn remove_nonce<S: Alter>(
     ensures fits { Fits serial → IfErr result IsNotTooLarge }
 {
     let column = number_column(serial)?;
-    delete_nonce(tx, &column).map_err(SaveFault::Statement)
+    perform(
+        tx,
+        "DELETE FROM nonce WHERE serial = ?1",
+        &[ValueRef::Int(column)],
+    )
+    .and(Ok(()))
+    .map_err(SaveFault::Statement)
 }

@@ -1,5 +1,4 @@
 pub mod AccountUpsert
-pub mod Answered
 pub mod AuthorizationUpsert
 pub mod Casts
 pub mod ChallengeUpsert

@@ -1,12 +1,14 @@
-use Rattle.std.proofs.Common.{rules}
+use Rattle.std.proofs.Common.{refl, rules}
 use Rattle.sqlite.specs.Held.{state}
-use Rattle.desk_saving.proofs.Exits.{done_as}
+use Rattle.desk_saving.proofs.Exits.{answered_as, done_as, where_run}
 use Rattle.desk_saving.proofs.RowsInTurn.{removes_numbered}
 use Rattle.desk_saving.proofs.rows.remove_nonce.Goals as goal
+use Rattle.desk_tables.proofs.NonceRemoval.{advances_removal}
 
 pub returns-clause-ok : goal.returns-clause-ok
 returns-clause-ok g c =
     let old = state g.S.Store c.args.tx.now.conn.now in
-    let new = state g.S.Store c.delete_nonce.new.tx.conn.now in
-    done_as c.delete_nonce.result c.map_err.result c.map_err.ensures.variant (removes_numbered _ c.args.serial old new (search rules))
-    c.delete_nonce.ensures.ok
+    let new = state g.S.Store c.perform.new.tx.conn.now in
+    let ran = where_run _ _ old new c.perform.result c.perform.ensures.runs (advances_removal old new _ _ refl) in
+    let same = answered_as c.perform.result _ c.and.result c.map_err.result c.and.ensures c.map_err.ensures.variant in
+    done_as c.perform.result c.map_err.result same (removes_numbered _ c.args.serial old new (search rules)) ran

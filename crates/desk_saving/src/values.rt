@@ -1,5 +1,5 @@
 //! Columns as the parameters of statements.
-ghost use Rattle.std.specs.Prelude.{◌≡◌, [], ◌∷◌};
+ghost use Rattle.std.specs.Prelude.{◌≡◌};
 ghost use Rattle.sqlite.specs.declared.types.Value.TheVariants.{Int, Text as SqlText, Blob};
 ghost use Rattle.sqlite.specs.Values.{bound, bound_value};
 ghost use Rattle.sqlite_value.specs.Value.{owned};
@@ -14,28 +14,28 @@ use desk_model::{Sequence, Text};
 use sqlite::types::ValueRef;
 
 /// A number, as an INTEGER.
-pub fn int<'a>(number: &i64) -> ValueRef<'a>
+pub(crate) fn int<'a>(number: &i64) -> ValueRef<'a>
     ensures { bound_value (owned result) ≡ Int number.now }
 {
     ValueRef::Int(*number)
 }
 
 /// A text, as TEXT.
-pub fn text<'a>(text: &'a Text) -> ValueRef<'a>
+pub(crate) fn text<'a>(text: &'a Text) -> ValueRef<'a>
     ensures { bound_value (owned result) ≡ SqlText text.now }
 {
     ValueRef::Text(text.as_str().as_bytes())
 }
 
 /// Bytes, as a BLOB.
-pub fn blob<'a>(bytes: &'a Sequence<u8>) -> ValueRef<'a>
+pub(crate) fn blob<'a>(bytes: &'a Sequence<u8>) -> ValueRef<'a>
     ensures { bound_value (owned result) ≡ Blob bytes.now }
 {
     ValueRef::Blob(bytes.as_slice())
 }
 
 /// A number, or NULL.
-pub fn int_or_null<'a>(number: &Option<i64>) -> ValueRef<'a>
+pub(crate) fn int_or_null<'a>(number: &Option<i64>) -> ValueRef<'a>
     ensures { bound_value (owned result) ≡ int_or_null number.now }
 {
     match number {
@@ -45,7 +45,7 @@ pub fn int_or_null<'a>(number: &Option<i64>) -> ValueRef<'a>
 }
 
 /// A text, or NULL.
-pub fn text_or_null<'a>(text: &'a Option<Text>) -> ValueRef<'a>
+pub(crate) fn text_or_null<'a>(text: &'a Option<Text>) -> ValueRef<'a>
     ensures { bound_value (owned result) ≡ text_or_null text.now }
 {
     match text {
@@ -55,7 +55,7 @@ pub fn text_or_null<'a>(text: &'a Option<Text>) -> ValueRef<'a>
 }
 
 /// Bytes, or NULL.
-pub fn blob_or_null<'a>(bytes: &'a Option<Sequence<u8>>) -> ValueRef<'a>
+pub(crate) fn blob_or_null<'a>(bytes: &'a Option<Sequence<u8>>) -> ValueRef<'a>
     ensures { bound_value (owned result) ≡ blob_or_null bytes.now }
 {
     match bytes {
@@ -167,11 +167,4 @@ pub(crate) fn challenge_values<'a>(columns: &'a ChallColumns) -> [ValueRef<'a>; 
         text_or_null(&columns.outcome),
         text(&columns.status),
     ]
-}
-
-/// The parameters for the serial of a nonce.
-pub(crate) fn serial_values<'a>(serial: &i64) -> [ValueRef<'a>; 1]
-    ensures { bound result ≡ Int serial.now ∷ [] }
-{
-    [int(serial)]
 }

@@ -1,14 +1,13 @@
 use Rattle.desk_columns.specs.Columns.{challenge_columns}
+use Rattle.desk_saving.proofs.Exits.{where_run}
+use Rattle.desk_saving.proofs.upserts.ChallColumnsUpsert.upsert.Goals as goal
 use Rattle.desk_tables.specs.Images.{challenge_params}
 use Rattle.desk_tables.specs.Layouts.{challenge_layout}
 use Rattle.desk_tables.specs.Texts.{upsert_challenge}
-use Rattle.desk_tables.proofs.Answered.{while_answered}
 use Rattle.desk_tables.proofs.ChallengeUpsert.{challenge_upsert}
 use Rattle.desk_tables.proofs.UpsertStatement.{advances_by}
-use Rattle.desk_tables.proofs.statements.upsert_challenge.Goals as goal
 
 pub returns-clause-ok : goal.returns-clause-ok
 returns-clause-ok g c =
-    while_answered _ _ _ _ c.perform.result _ c.and.result c.and.ensures c.perform.ensures.runs
-    (advances_by challenge_layout challenge_columns challenge_params upsert_challenge challenge_upsert _ _ c.args.columns.now _
-    c.challenge_values-values.ensures)
+    where_run _ _ _ _ c.perform.result c.perform.ensures.runs
+    (advances_by challenge_layout challenge_columns challenge_params upsert_challenge challenge_upsert _ _ c.args.self.now _ c.challenge_values-values.ensures)

@@ -1,13 +1,13 @@
 use Rattle.desk_columns.specs.Columns.{nonce_columns}
+use Rattle.desk_saving.proofs.Exits.{where_run}
+use Rattle.desk_saving.proofs.upserts.NonceColumnsUpsert.upsert.Goals as goal
 use Rattle.desk_tables.specs.Images.{nonce_params}
 use Rattle.desk_tables.specs.Layouts.{nonce_layout}
 use Rattle.desk_tables.specs.Texts.{upsert_nonce}
-use Rattle.desk_tables.proofs.Answered.{while_answered}
 use Rattle.desk_tables.proofs.NonceUpsert.{nonce_upsert}
 use Rattle.desk_tables.proofs.UpsertStatement.{advances_by}
-use Rattle.desk_tables.proofs.statements.upsert_nonce.Goals as goal
 
 pub returns-clause-ok : goal.returns-clause-ok
 returns-clause-ok g c =
-    while_answered _ _ _ _ c.perform.result _ c.and.result c.and.ensures c.perform.ensures.runs
-    (advances_by nonce_layout nonce_columns nonce_params upsert_nonce nonce_upsert _ _ c.args.columns.now _ c.nonce_values-values.ensures)
+    where_run _ _ _ _ c.perform.result c.perform.ensures.runs
+    (advances_by nonce_layout nonce_columns nonce_params upsert_nonce nonce_upsert _ _ c.args.self.now _ c.nonce_values-values.ensures)
