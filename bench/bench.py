@@ -64,7 +64,7 @@ def made_at(order, orders):
 
 def definitions():
     """The statements that make the tables and indexes, as the program's own source has them."""
-    with open(os.path.join(TOP, "crates/desk_schema/src/definitions.rt"), encoding="utf-8") as source:
+    with open(os.path.join(TOP, "crates/desk_saving/src/definitions.rt"), encoding="utf-8") as source:
         return re.findall(r'"(CREATE [^"]+)"', source.read())
 
 

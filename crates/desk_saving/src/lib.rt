@@ -3,12 +3,14 @@
 
 mod changes;
 mod children;
+mod definitions;
 mod ending;
 mod fault;
 mod laws;
 mod making;
 mod rows;
 mod saving;
+mod statements;
 mod upserts;
 mod values;
 

@@ -8,11 +8,11 @@ ghost use Rattle.desk_saving.specs.Making.{MakesDesk};
 ghost use Rattle.desk_saving.specs.Numbers.{IsNotTooLarge};
 ghost use Rattle.written_rows.specs.Fits.{FitsMeta};
 
+use crate::definitions::define_all;
 use crate::ending::end;
 use crate::fault::SaveFault;
 use crate::rows::put_meta;
 use desk_model::Meta;
-use desk_schema::define_all;
 use sqlite::{Alter, Connection, Transaction};
 use std::alloc::Global;
 

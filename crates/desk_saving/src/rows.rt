@@ -10,9 +10,9 @@ ghost use Rattle.written_rows.specs.Fits.{Fits, FitsAccount, FitsAuthorization, 
 ghost use Rattle.written_rows.specs.declared.fault.WriteFault.TheVariants.{Memory};
 
 use crate::fault::SaveFault;
+use crate::statements::perform;
 use crate::upserts::Upsert;
 use desk_model::{AccountRow, AuthorizationRow, ChallengeRow, Listed, Meta, Nonce, OrderRow};
-use desk_schema::perform;
 use sqlite::types::ValueRef;
 use sqlite::{Alter, Transaction};
 use std::alloc::Global;

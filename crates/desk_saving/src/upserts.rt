@@ -8,6 +8,7 @@ ghost use Rattle.desk_schema.specs.Advances.{Advances, KeepsLast};
 ghost use Rattle.desk_tables.specs.Effects.{PlacesColumns, PutsColumns};
 ghost use Rattle.desk_tables.specs.Layouts.{account_layout, authorization_layout, challenge_layout, meta_layout, nonce_layout, order_layout};
 
+use crate::statements::perform;
 use crate::values::{
     account_values, authorization_values, challenge_values, listed_values, meta_values,
     nonce_values, order_values,
@@ -16,7 +17,6 @@ use desk_columns::{
     AccountColumns, AuthzColumns, ChallColumns, MetaColumns, NonceColumns, OrderAuthzColumns,
     OrderColumns,
 };
-use desk_schema::perform;
 use sqlite::{Alter, Error, Transaction};
 
 /// Columns of a row, and the statement that puts them in the place of the row with its key.

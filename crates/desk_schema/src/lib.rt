@@ -1,10 +1,6 @@
-//! The schema of a desk's file, format 1: its tables and indexes, and the statements that make them.
+//! The schema of a desk's file, format 1: its tables and indexes, and what the statements that make them do.
 #![tactic(auto)]
 
-mod definitions;
 mod names;
-mod statements;
 
-pub use definitions::define_all;
 pub use names::{has_indexes, uses_names};
-pub use statements::perform;

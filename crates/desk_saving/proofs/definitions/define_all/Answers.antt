@@ -3,7 +3,7 @@ use Rattle.sqlite.specs.Held.{state}
 use Rattle.sqlite.proofs.StateLemmas.{survives_then}
 use Rattle.desk_schema.specs.Advances.{Performs}
 use Rattle.desk_schema.proofs.Steps.{defines_more}
-use Rattle.desk_schema.proofs.definitions.define_all.Goals as goal
+use Rattle.desk_saving.proofs.definitions.define_all.Goals as goal
 
 pub loop-step-preserved : goal.loop-step-preserved
 loop-step-preserved g c =

@@ -3,7 +3,7 @@ use Rattle.sqlite.specs.State.{Survives}
 use Rattle.sqlite.specs.Held.{state}
 use Rattle.desk_schema.specs.Advances.{Advances}
 use Rattle.desk_schema.specs.Defined.{Defines}
-use Rattle.desk_schema.proofs.definitions.define_all.Given as goal
+use Rattle.desk_saving.proofs.definitions.define_all.Given as goal
 
 abbrev pub invariant-loop-step : goal.invariant-loop-step
 invariant-loop-step g l = record {

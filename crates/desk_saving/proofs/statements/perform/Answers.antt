@@ -1,5 +1,5 @@
 use Rattle.desk_schema.proofs.AdvanceLemmas.{declines_unless_answered, performs_keeps}
-use Rattle.desk_schema.proofs.statements.perform.Goals as goal
+use Rattle.desk_saving.proofs.statements.perform.Goals as goal
 
 pub returns-clause-err : goal.returns-clause-err
 returns-clause-err g c = declines_unless_answered _ _ _ _ _ c.execute.ensures.runs

@@ -14,7 +14,7 @@ use sqlite::{Alter, Error, Transaction};
 ///
 /// As `Transaction::execute`: where the statement is refused, the transaction goes on as it was; where memory or the disk
 /// fails, it is over.
-pub fn perform<S: Alter>(
+pub(crate) fn perform<S: Alter>(
     tx: &mut Transaction<'_, S>,
     text: &str,
     params: &[ValueRef<'_>],

@@ -48,7 +48,7 @@ fn definition(step: usize) -> &'static str
 /// # Errors
 ///
 /// The error of the statement that failed; the transaction then holds the objects made before it, or is over.
-pub fn define_all<S: Alter>(tx: &mut Transaction<'_, S>) -> Result<(), Error>
+pub(crate) fn define_all<S: Alter>(tx: &mut Transaction<'_, S>) -> Result<(), Error>
     ensures same_reference { tx.new.conn.ghost_name ≡ tx.old.conn.ghost_name }
     ensures ok { OnOk result (Advances (state S.Store tx.old.conn.now) (state S.Store tx.new.conn.now) (Defines 15)) }
     ensures kept { KeepsLast (state S.Store tx.old.conn.now) (state S.Store tx.new.conn.now) }
