@@ -1,5 +1,5 @@
 -- The routes of the desk, as a router keeps them.
-use Rattle.std.specs.Prelude.{[], Result, Ok, Err}
+use Rattle.std.specs.Prelude.{List, [], ◌∷◌, Result, Ok, Err}
 use Rattle.matchit.specs.Rows.{RowsOf}
 use Rattle.matchit.specs.Router.{RouteOf, route_from}
 use Rattle.matchit.specs.Route.{parse_route, Scan}
@@ -23,6 +23,11 @@ on_scan (Err e) r rows = rows
 -- the rows with one route more
 unfoldable pub add_route : RowsOf (RouteOf Route) → Route → RowsOf (RouteOf Route)
 add_route rows r = on_scan (parse_route (text_of r)) r rows
+
+-- the rows with these routes more, one after the other
+abbrev pub with_routes : RowsOf (RouteOf Route) → List Route → RowsOf (RouteOf Route)
+with_routes rows [] = rows
+with_routes rows (r ∷ rest) = with_routes (add_route rows r) rest
 
 -- the routes of the directory and of what is made (RFC 8555, 7.1)
 abbrev pub first_routes : RowsOf (RouteOf Route)

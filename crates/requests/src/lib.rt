@@ -2,6 +2,7 @@
 #![tactic(auto)]
 
 mod envelopes;
+mod jwk;
 mod lines;
 mod offices;
 mod request;

@@ -4,11 +4,11 @@ ghost use Rattle.requests.specs.Request.{IsAskIn, IsFailAsk, IsOfText, IsOfficeA
 ghost use Rattle.requests.specs.Request.{certify_ask, refused_request};
 ghost use Rattle.requests.specs.Routes.{IsResourceAt};
 
-use crate::envelopes::signed_in;
+use crate::envelopes::signed_ask_in;
 use crate::offices::finding;
 use crate::routes::{OfficeResource, Resource, has_index, methods_of, resource_at, serves};
 use desk_model::{Allow, Ask, OfficeAsk, Refusal, Reply, Sequence, Target};
-use json_values::order_problem;
+use json_values::{order_problem, value_of};
 use std::alloc::{AllocError, Global};
 
 /// What a request asks, or the refusal of one that is no call.
@@ -104,8 +104,8 @@ fn signed_ask(alloc: Global, target: Target, body: &[u8]) -> Result<Option<Ask>,
     let Ok(text) = str::from_utf8(body) else {
         return Ok(None);
     };
-    match signed_in(alloc, target, text)? {
-        Some(signed) => Ok(Some(Ask::Signed(signed))),
+    match value_of(alloc, text)? {
+        Some(envelope) => signed_ask_in(alloc, target, &envelope),
         None => Ok(None),
     }
 }

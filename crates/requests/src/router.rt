@@ -7,6 +7,27 @@ use crate::routes::{Route, text_of};
 use matchit::Router;
 use std::alloc::{AllocError, Global};
 
+// The routes of the desk.
+const ROUTES: [Route; 17] = [
+    Route::Directory,
+    Route::NewNonce,
+    Route::NewAccount,
+    Route::NewOrder,
+    Route::Account,
+    Route::Orders,
+    Route::Order,
+    Route::Finalize,
+    Route::Cert,
+    Route::Authz,
+    Route::Chall,
+    Route::Key,
+    Route::ChallengeWork,
+    Route::OrderWork,
+    Route::Report,
+    Route::Certify,
+    Route::FailOrder,
+];
+
 /// The route that the router finds for a path.
 ///
 /// # Errors
@@ -15,7 +36,8 @@ use std::alloc::{AllocError, Global};
 pub(crate) fn route_at(alloc: Global, path: &str) -> Result<Option<Route>, AllocError>
     ensures { IfOk result (λ o. o ≡ option_map value_of (first desk_routes path.now)) }
 {
-    let router = desk_router(alloc)?;
+    let mut router = Router::new(alloc);
+    add_all(&mut router)?;
     Ok(find(&router, path))
 }
 
@@ -29,37 +51,15 @@ fn find(router: &Router<Route>, path: &str) -> Option<Route>
     }
 }
 
-// The router of the desk.
-fn desk_router(alloc: Global) -> Result<Router<Route>, AllocError>
-    ensures { IfOk result (λ r. r ≡ desk_routes) }
-{
-    let mut router = Router::new(alloc);
-    add_all(&mut router)?;
-    Ok(router)
-}
-
 // Adds the routes of the desk to a router that has none.
 fn add_all(router: &mut Router<Route>) -> Result<(), AllocError>
     requires { router.old ≡ [] }
     ensures { OnOk result (router.new ≡ desk_routes) }
 {
-    add(router, Route::Directory)?;
-    add(router, Route::NewNonce)?;
-    add(router, Route::NewAccount)?;
-    add(router, Route::NewOrder)?;
-    add(router, Route::Account)?;
-    add(router, Route::Orders)?;
-    add(router, Route::Order)?;
-    add(router, Route::Finalize)?;
-    add(router, Route::Cert)?;
-    add(router, Route::Authz)?;
-    add(router, Route::Chall)?;
-    add(router, Route::Key)?;
-    add(router, Route::ChallengeWork)?;
-    add(router, Route::OrderWork)?;
-    add(router, Route::Report)?;
-    add(router, Route::Certify)?;
-    add(router, Route::FailOrder)
+    for route in ROUTES {
+        add(router, route)?;
+    }
+    Ok(())
 }
 
 // Adds a route.

@@ -1,7 +1,7 @@
 //! The resources of the desk: their paths, and the methods that they serve.
 ghost use Rattle.std.specs.Prelude.{◌≡◌, ◌≢◌, ◌++◌, ◌↔◌, ℕ, List, Some, IfOk, MatchOption, IsTrue, slice_index};
 ghost use Rattle.std.specs.Int.{IsInRange};
-ghost use Rattle.requests.specs.Routes.{HasNumber, IsNumberText, IsPathText, IsResourceAt, has_index, is_inside, is_numbered};
+ghost use Rattle.requests.specs.Routes.{HasNumber, IsNumberText, IsPathText, IsResourceAt, has_index, is_numbered};
 ghost use Rattle.requests.specs.Routes.{is_visible, is_visible_byte, methods_of, resource_of, serves, text_of};
 
 use crate::router::route_at;
@@ -213,21 +213,14 @@ pub(crate) fn serves(methods: Allow, method: &str) -> bool
 pub fn has_index(path: &str) -> bool
     ensures { result ≡ has_index path.now }
 {
-    path != "/directory" && !is_inside(path)
-}
-
-// Whether the path is for the validator and the signing office.
-fn is_inside(path: &str) -> bool
-    ensures { result ≡ is_inside path.now }
-{
-    path.starts_with("/office/")
+    path != "/directory" && !path.starts_with("/office/")
 }
 
 /// Whether each byte is a visible character of ASCII.
 pub fn is_visible(text: &str) -> bool
     ensures { result ≡ is_visible text.now }
 {
-    text.bytes().all(|b| is_visible_byte(b))
+    text.bytes().all(is_visible_byte)
 }
 
 // Whether the byte is a visible character of ASCII.

@@ -6,7 +6,7 @@ returns-in-Ok-line_of c =
     rw c.in-Ok-line_of.ensures
     (record {
       at = search rules;
-      digits = c.in-Some-text_of.digits.now;
+      digits = c.in-Some-Some-Some-Some-Some.digits.now;
       digits_there = search rules;
       random = search rules;
       method = search rules;
