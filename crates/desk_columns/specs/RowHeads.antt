@@ -1,9 +1,10 @@
 -- The parts of rows that are read first, over columns that are lent.
 use Rattle.std.specs.Prelude.{◌≡◌, ◌≢◌, Option, None, Some, pos}
 use Rattle.desk_model.specs.declared.rows.AccountRow.{AccountRow}
+use Rattle.desk_model.specs.declared.rows.AuthorizationRow.{AuthorizationRow}
 use Rattle.desk_model.specs.Document.{account_status_text, authorization_status_text, order_status_text}
-use Rattle.desk_columns.specs.Columns.{account_columns, account_end_columns, authorization_end_columns, wildcard_column}
-use Rattle.desk_columns.specs.Limits.{IfRecorded, IsAccountEnd, IsAuthorizationEnd, IsExpiry, IsMoment, IsNumber, IsStoredAccount}
+use Rattle.desk_columns.specs.Columns.{account_columns, account_end_columns, authorization_columns, authorization_end_columns, wildcard_column}
+use Rattle.desk_columns.specs.Limits.{IfRecorded, IsAccountEnd, IsAuthorizationEnd, IsExpiry, IsMoment, IsNumber, IsStoredAccount, IsStoredAuthorization}
 use Rattle.desk_columns.specs.declared.account.AccountHead.{AccountHead}
 use Rattle.desk_columns.specs.declared.authorization.AuthorizationHead.{AuthorizationHead}
 use Rattle.desk_columns.specs.declared.columns.AccountColumns.{AccountColumns}
@@ -40,3 +41,8 @@ pub record IsAuthorizationHead (columns : AuthzColumns) (head : AuthorizationHea
   pub expires : (columns.expires ≡ pos head.expires) × IsExpiry head.expires
   pub ended : ((columns.ended, columns.end_kind) ≡ authorization_end_columns head.ended) × IfRecorded IsAuthorizationEnd head.ended
   pub status : columns.status ≡ authorization_status_text head.status
+
+-- the head that was read, or none, where no authorization has the columns
+abbrev pub IsAuthorizationHeadRead : AuthzColumns → Option AuthorizationHead → Type 0
+IsAuthorizationHeadRead columns None = (row : AuthorizationRow) → IsStoredAuthorization row → columns ≢ authorization_columns row
+IsAuthorizationHeadRead columns (Some head) = IsAuthorizationHead columns head

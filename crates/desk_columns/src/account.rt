@@ -2,7 +2,7 @@
 ghost use Rattle.std.specs.Prelude.{◌≡◌, IfOk};
 ghost use Rattle.desk_columns.specs.Columns.{account_columns};
 ghost use Rattle.desk_columns.specs.Limits.{IsStoredAccount};
-ghost use Rattle.desk_columns.specs.Reading.{IsRead};
+ghost use Rattle.desk_columns.specs.Reading.{IsRead, Unlimited};
 ghost use Rattle.desk_columns.specs.RowHeads.{IsAccountHeadRead};
 ghost use Rattle.desk_columns.specs.Spelling.{contacts_text};
 ghost use Rattle.desk_columns.specs.declared.columns.AccountColumns.{AccountColumns as ColumnsOf};
@@ -24,36 +24,30 @@ struct AccountHead {
     status: AccountStatus,
 }
 
-// The account with these columns, or `None` where none in its limits has them.
-fn read_account(alloc: Global, columns: AccountColumns) -> Result<Option<AccountRow>, AllocError>
-    ensures { IfOk result (λ row. IsRead account_columns IsStoredAccount columns row) }
-{
-    let head = read_head(&columns);
-    match read_contacts(alloc, columns.contacts.as_str())? {
-        Some(contacts) => Ok(account_with(head, columns.jwk, contacts)),
-        None => Ok(None),
-    }
-}
-
-// The account of this head, with the key of this text and these contacts.
+// The account of this head, with the key of this text and the contacts that were read, or `None` where one of them is none.
 fn account_with(
     head: Option<AccountHead>,
     jwk: Text,
-    contacts: Sequence<Text>,
-) -> Option<AccountRow>
-    ensures { (columns : ColumnsOf) → IsAccountHeadRead columns head → columns.jwk ≡ jwk → columns.contacts ≡ contacts_text contacts
-        → IsRead account_columns IsStoredAccount columns result }
+    contacts: Result<Option<Sequence<Text>>, AllocError>,
+) -> Result<Option<AccountRow>, AllocError>
+    ensures { (columns : ColumnsOf) → IsAccountHeadRead columns head → columns.jwk ≡ jwk
+        → IfOk contacts (λ found. IsRead contacts_text Unlimited columns.contacts found)
+        → IfOk result (λ row. IsRead account_columns IsStoredAccount columns row) }
 {
-    let head = head?;
-    let key = Jwk::from_canonical(jwk.into_string())?;
-    Some(AccountRow {
-        number: head.number,
-        key,
-        contacts,
-        opened: head.opened,
-        ended: head.ended,
-        status: head.status,
-    })
+    let (Some(head), Some(contacts)) = (head, contacts?) else {
+        return Ok(None);
+    };
+    match Jwk::from_canonical(jwk.into_string()) {
+        Some(key) => Ok(Some(AccountRow {
+            number: head.number,
+            key,
+            contacts,
+            opened: head.opened,
+            ended: head.ended,
+            status: head.status,
+        })),
+        None => Ok(None),
+    }
 }
 
 // The parts of an account that own nothing, or `None` where no account has these columns.
@@ -76,6 +70,8 @@ impl Columns for AccountColumns {
     ghost IsStored = { IsStoredAccount };
 
     fn read(self, alloc: Global) -> Result<Option<AccountRow>, AllocError> {
-        read_account(alloc, self)
+        let head = read_head(&self);
+        let contacts = read_contacts(alloc, self.contacts.as_str());
+        account_with(head, self.jwk, contacts)
     }
 }

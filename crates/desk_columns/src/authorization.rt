@@ -1,16 +1,16 @@
 //! Rows of the table `authz`.
-ghost use Rattle.std.specs.Prelude.{◌≢◌, MatchOption};
-ghost use Rattle.desk_model.specs.declared.rows.AuthorizationRow.{AuthorizationRow as Row};
+ghost use Rattle.std.specs.Prelude.{◌≡◌};
 ghost use Rattle.desk_columns.specs.Columns.{authorization_columns};
 ghost use Rattle.desk_columns.specs.Limits.{IsStoredAuthorization};
 ghost use Rattle.desk_columns.specs.Reading.{IsRead};
-ghost use Rattle.desk_columns.specs.RowHeads.{IsAuthorizationHead};
+ghost use Rattle.desk_columns.specs.RowHeads.{IsAuthorizationHeadRead};
+ghost use Rattle.desk_columns.specs.declared.columns.AuthzColumns.{AuthzColumns as ColumnsOf};
 
 use crate::columns::AuthzColumns;
 use crate::facts::read_authorization_end;
 use crate::numbers::{read_expiry, read_moment, read_number, read_wildcard};
 use crate::table::Columns;
-use desk_model::{AuthorizationEnd, AuthorizationRow, AuthzStatus, DnsName, Sequence};
+use desk_model::{AuthorizationEnd, AuthorizationRow, AuthzStatus, DnsName, Sequence, Text};
 use std::alloc::{AllocError, Global};
 
 // What owns nothing.
@@ -25,12 +25,17 @@ struct AuthorizationHead {
     status: AuthzStatus,
 }
 
-// The authorization with these columns and no challenges, or `None` where none in its limits has them.
-fn read_authorization(alloc: Global, columns: AuthzColumns) -> Option<AuthorizationRow>
-    ensures { IsRead authorization_columns IsStoredAuthorization columns result }
+// The authorization of this head and name, with no challenges, or `None` where one of them is none.
+fn authorization_with(
+    alloc: Global,
+    head: Option<AuthorizationHead>,
+    name: Text,
+) -> Option<AuthorizationRow>
+    ensures { (columns : ColumnsOf) → IsAuthorizationHeadRead columns head → columns.name ≡ name
+        → IsRead authorization_columns IsStoredAuthorization columns result }
 {
-    let head = read_head(&columns)?;
-    let name = DnsName::new(columns.name, head.wildcard)?;
+    let head = head?;
+    let name = DnsName::new(name, head.wildcard)?;
     Some(AuthorizationRow {
         number: head.number,
         account: head.account,
@@ -45,9 +50,7 @@ fn read_authorization(alloc: Global, columns: AuthzColumns) -> Option<Authorizat
 
 // The parts of an authorization that own nothing, or `None` where none has these columns.
 fn read_head(columns: &AuthzColumns) -> Option<AuthorizationHead>
-    ensures { MatchOption result
-        ((row : Row) → IsStoredAuthorization row → columns.now ≢ authorization_columns row)
-        (λ head. IsAuthorizationHead columns.now head) }
+    ensures { IsAuthorizationHeadRead columns.now result }
 {
     Some(AuthorizationHead {
         number: read_number(columns.num)?,
@@ -68,6 +71,7 @@ impl Columns for AuthzColumns {
     ghost IsStored = { IsStoredAuthorization };
 
     fn read(self, alloc: Global) -> Result<Option<AuthorizationRow>, AllocError> {
-        Ok(read_authorization(alloc, self))
+        let head = read_head(&self);
+        Ok(authorization_with(alloc, head, self.name))
     }
 }

@@ -88,16 +88,17 @@ pub(crate) fn read_dated_problem(
 ) -> Result<Option<Option<DatedProblem>>, AllocError>
     ensures { IfOk result (λ failure. IsRead dated_problem_columns (IfRecorded IsDatedProblem) (failed, problem.now) failure) }
 {
-    let (date, problem) = match (failed, problem) {
-        (None, None) => return Ok(Some(None)),
-        (Some(failed), Some(problem)) => (
-            read_moment(failed),
-            read_problem(alloc, problem.as_str())?,
-        ),
-        _ => return Ok(None),
-    };
-    match (date, problem) {
-        (Some(date), Some(problem)) => Ok(Some(Some(DatedProblem { date, problem }))),
+    match (failed, problem) {
+        (None, None) => Ok(Some(None)),
+        (Some(failed), Some(problem)) => {
+            let Some(date) = read_moment(failed) else {
+                return Ok(None);
+            };
+            match read_problem(alloc, problem.as_str())? {
+                Some(problem) => Ok(Some(Some(DatedProblem { date, problem }))),
+                None => Ok(None),
+            }
+        }
         _ => Ok(None),
     }
 }

@@ -13,16 +13,16 @@ use desk_model::{Clock, Counters, Meta, Policy};
 use std::alloc::{AllocError, Global};
 
 // The row with these columns, or `None` where none in its limits has them.
-fn read_meta(alloc: Global, columns: MetaColumns) -> Result<Option<Meta>, AllocError>
-    ensures { IfOk result (λ row. IsRead meta_columns IsStoredMeta columns row) }
+fn read_meta(alloc: Global, columns: &MetaColumns) -> Result<Option<Meta>, AllocError>
+    ensures { IfOk result (λ row. IsRead meta_columns IsStoredMeta columns.now row) }
 {
-    if !is_of_format(&columns) {
+    if !is_of_format(columns) {
         return Ok(None);
     }
-    let Some(counters) = read_counters(&columns) else {
+    let Some(counters) = read_counters(columns) else {
         return Ok(None);
     };
-    let Some(policy) = read_policy(alloc, &columns)? else {
+    let Some(policy) = read_policy(alloc, columns)? else {
         return Ok(None);
     };
     Ok(Some(Meta { policy, counters }))
@@ -83,6 +83,6 @@ impl Columns for MetaColumns {
     ghost IsStored = { IsStoredMeta };
 
     fn read(self, alloc: Global) -> Result<Option<Meta>, AllocError> {
-        read_meta(alloc, self)
+        read_meta(alloc, &self)
     }
 }

@@ -1,5 +1,5 @@
 //! Rows of the table `ord`.
-ghost use Rattle.std.specs.Prelude.{◌≡◌, ◌≢◌, Option, Some, IfOk, MatchOption};
+ghost use Rattle.std.specs.Prelude.{◌≡◌, ◌≢◌, Option, Some, MatchOption};
 ghost use Rattle.desk_model.specs.declared.rows.DatedBytes.{DatedBytes as Bytes};
 ghost use Rattle.desk_model.specs.declared.rows.OrderRow.{OrderRow as Row};
 ghost use Rattle.desk_columns.specs.Columns.{dated_bytes_columns, dated_problem_columns, order_columns};
@@ -24,17 +24,8 @@ struct OrderHead {
     status: OrderStatus,
 }
 
-// The order with these columns and nothing listed, or `None` where none in its limits has them.
-fn read_order(alloc: Global, columns: OrderColumns) -> Result<Option<OrderRow>, AllocError>
-    ensures { IfOk result (λ row. IsRead order_columns IsStoredOrder columns row) }
-{
-    match read_dated_problem(alloc, columns.failed, &columns.problem)? {
-        Some(failed) => Ok(order_with(alloc, failed, columns)),
-        None => Ok(None),
-    }
-}
-
-// The order with these columns, which has failed so, if it has.
+// The order with these columns and nothing listed, which has failed so, if it has, or `None` where none in its limits has
+// them.
 fn order_with(
     alloc: Global,
     failed: Option<DatedProblem>,
@@ -117,6 +108,9 @@ impl Columns for OrderColumns {
     ghost IsStored = { IsStoredOrder };
 
     fn read(self, alloc: Global) -> Result<Option<OrderRow>, AllocError> {
-        read_order(alloc, self)
+        match read_dated_problem(alloc, self.failed, &self.problem)? {
+            Some(failed) => Ok(order_with(alloc, failed, self)),
+            None => Ok(None),
+        }
     }
 }

@@ -17,10 +17,7 @@ pub(crate) fn read_problem(alloc: Global, text: &str) -> Result<Option<OrderProb
     let Some(problem) = order_problem(alloc, text)? else {
         return Ok(None);
     };
-    if spells_problem(alloc, text, &problem)? {
-        return Ok(Some(problem));
-    }
-    Ok(None)
+    Ok(spells_problem(alloc, text, &problem)?.then_some(problem))
 }
 
 // Whether a problem is of a known type and a text is that of its object.
