@@ -91,10 +91,7 @@ pub(crate) fn nested_table_of<T: Row + Drop, P: Parent<T> + Drop>(
     let mut children = children.into_vec();
     sort_by_owner(&mut children);
     let rows = nest(alloc, parents, children)?;
-    if !is_ascending(&rows) {
-        return Err(RowsFault::NotABook);
-    }
-    if !have_ascending_children(&rows) {
+    if !is_ascending(&rows) || !have_ascending_children(&rows) {
         return Err(RowsFault::NotABook);
     }
     Ok(table_of_ascending(alloc, rows)?)

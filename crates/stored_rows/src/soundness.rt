@@ -1,5 +1,5 @@
 //! Whether a book's rows keep its counters, find what they refer to, and repeat nothing.
-ghost use Rattle.std.specs.Prelude.{◌≡◌, ◌==◌, ◌↔◌, nat_le, find, is_some, map, ◌++◌, IsTrue, IfOk, OnOk};
+ghost use Rattle.std.specs.Prelude.{ℕ, ◌≡◌, ◌==◌, ◌↔◌, nat_le, find, is_some, map, ◌++◌, IsTrue, IfOk, OnOk};
 ghost use Rattle.std.specs.List.{IsDistinct, list_all};
 ghost use Rattle.std.specs.Ordering.{eq_by_cmp};
 ghost use Rattle.desk_laws.specs.Distinct.{Distinct};
@@ -60,21 +60,35 @@ fn has_row<R: Row + Drop>(rows: &Table<R>, number: u64) -> bool
     rows.get(number).is_some()
 }
 
-fn have_authorizations_accounts(
-    authorizations: &Table<AuthorizationRow>,
-    accounts: &Table<AccountRow>,
-) -> bool
-    ensures { result ≡ list_all (λ row. is_some (find (λ account. account.number == row.account) accounts.now)) authorizations.now }
-{
-    authorizations
-        .iter()
-        .all(|row| has_row(accounts, row.account))
+// A row that belongs to an account.
+trait OfAccount {
+    ghost account: { Self → ℕ };
+
+    // The number of its account.
+    fn account(&self) -> u64
+        ensures { result ≡ account self.now };
 }
 
-fn have_orders_accounts(orders: &Table<OrderRow>, accounts: &Table<AccountRow>) -> bool
-    ensures { result ≡ list_all (λ row. is_some (find (λ account. account.number == row.account) accounts.now)) orders.now }
+impl OfAccount for AuthorizationRow {
+    ghost account = { λ row. row.account };
+
+    fn account(&self) -> u64 {
+        self.account
+    }
+}
+
+impl OfAccount for OrderRow {
+    ghost account = { λ row. row.account };
+
+    fn account(&self) -> u64 {
+        self.account
+    }
+}
+
+fn have_accounts<R: Row + Drop + OfAccount>(rows: &Table<R>, accounts: &Table<AccountRow>) -> bool
+    ensures { result ≡ list_all (λ row. is_some (find (λ account. account.number == R.account row) accounts.now)) rows.now }
 {
-    orders.iter().all(|row| has_row(accounts, row.account))
+    rows.iter().all(|row| has_row(accounts, row.account()))
 }
 
 fn are_found(listed: &[Listed], authorizations: &Table<AuthorizationRow>) -> bool
@@ -98,8 +112,8 @@ fn has_references(book: &Book) -> bool
     ensures { result ≡ have_references book.now }
 {
     let found = [
-        have_authorizations_accounts(book.authorizations(), book.accounts()),
-        have_orders_accounts(book.orders(), book.accounts()),
+        have_accounts(book.authorizations(), book.accounts()),
+        have_accounts(book.orders(), book.accounts()),
         are_all_found(book.orders(), book.authorizations()),
     ];
     all_hold(&found)

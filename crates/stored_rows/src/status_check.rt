@@ -118,7 +118,7 @@ impl StoresStatus for AuthorizationRow {
 fn stored_status(book: &Book, number: u64) -> Option<AuthzStatus>
     ensures { result ≡ option_map (λ a. a.status) (authorization_numbered number book.now.authorizations) }
 {
-    book.authorization(number).map(|row| row.status)
+    Some(book.authorization(number)?.status)
 }
 
 // Puts the stored status of the authorization of a number, if there is one.
@@ -167,17 +167,11 @@ impl StoresStatus for OrderRow {
 
 // ---- challenges
 
-fn push_challenge(faults: &mut Vec<StatusFault>, row: &ChallengeRow) -> Result<(), AllocError>
-    ensures { OnOk result (faults.new.items ≡ faults.old.items ++ challenge_faults row.now) }
-{
-    push_fault(faults, challenge_fault(row))
-}
-
 fn push_challenges(faults: &mut Vec<StatusFault>, rows: &[ChallengeRow]) -> Result<(), AllocError>
     ensures { OnOk result (faults.new.items ≡ faults.old.items ++ flat_map challenge_faults rows.now) }
 {
     for row in rows {
-        push_challenge(faults, row)?;
+        push_fault(faults, challenge_fault(row))?;
     }
     Ok(())
 }
@@ -212,20 +206,7 @@ fn sort_faults(faults: &mut Vec<StatusFault>) -> Result<(), AllocError>
     ensures { OnOk result ((rows : List Challenge) → faults.old.items ≡ flat_map challenge_faults rows
         → faults.new.items ≡ flat_map challenge_faults (sorted_challenges rows)) }
 {
-    faults.sort_by_key(|fault| fault_number(fault))
-}
-
-// The faults of challenges by number, those of one number in the order of their authorizations.
-fn challenges_by_number(
-    alloc: Global,
-    authorizations: &Table<AuthorizationRow>,
-) -> Result<Vec<StatusFault>, AllocError>
-    ensures { IfOk result (λ v. v.items ≡ flat_map challenge_faults (sorted_challenges (challenges_of authorizations.now))) }
-{
-    let mut faults = Vec::new(alloc);
-    push_all_challenges(&mut faults, authorizations)?;
-    sort_faults(&mut faults)?;
-    Ok(faults)
+    faults.sort_by_key(fault_number)
 }
 
 // Puts the faults of challenges by number, those of one number in the order of their authorizations.
@@ -237,6 +218,8 @@ fn push_sorted_challenges(
     ensures { OnOk result (faults.new.items ≡ faults.old.items
         ++ flat_map challenge_faults (sorted_challenges (challenges_of authorizations.now))) }
 {
-    let mut challenges = challenges_by_number(alloc, authorizations)?;
+    let mut challenges = Vec::new(alloc);
+    push_all_challenges(&mut challenges, authorizations)?;
+    sort_faults(&mut challenges)?;
     faults.append(&mut challenges)
 }

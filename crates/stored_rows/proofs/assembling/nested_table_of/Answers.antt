@@ -6,6 +6,8 @@ use Rattle.desk_laws.specs.Ordered.{Ascends}
 use Rattle.stored_rows.specs.Nesting.{ascends}
 use Rattle.stored_rows.proofs.Ascending.{Ascends-from_test, ascends-true, EachOf-from_test, list_all-true}
 use Rattle.stored_rows.proofs.Nests.{sorted-flat, nests-rows}
+use Rattle.stored_rows.proofs.assembling.nested_table_of.Goals.{then-not-is_ascending-via-then-not-is_ascending}
+use Rattle.stored_rows.proofs.assembling.nested_table_of.Goals.{then-not-is_ascending-via-else-not-is_ascending+then-not-have_ascending_children}
 use Rattle.stored_rows.proofs.assembling.nested_table_of.Goals as goal
 
 pub table_of_ascending-requires : goal.table_of_ascending-requires
@@ -33,26 +35,23 @@ returns-then-not-is_ascending g c = λ _ others nest.
     c.sort_by_number.ensures.sorted
     (subst (λ l. IsPermutation l c.sort_by_owner.new.rows.items) c.into_vec-children.ensures c.sort_by_owner.ensures.permutation)
     c.sort_by_owner.ensures.sorted nest in
-    let clash : true ≡ false =
-    sym (ascends-true (λ r. g.P.Row.number r) 1 others nest.ascends)
-    ∙ ap (λ l. ascends (λ r. g.P.Row.number r) 1 l) (sym (c.deref.ensures.value ∙ c.in_ok-rows.ensures.1 ∙ flat.0))
-    ∙ sym c.is_ascending.ensures ∙ c.if-not-is_ascending.true in
-    cc
-
-pub returns-then-not-have_ascending_children : goal.returns-then-not-have_ascending_children
-returns-then-not-have_ascending_children g c = λ _ others nest.
-    let flat = sorted-flat (λ r. g.P.Row.number r) g.P.Parent.children g.P.Parent.with_children (λ t. g.T.Row.number t) g.met.P.Parent.nests
-    c.args.parents c.sort_by_number.new.rows.items c.args.children c.sort_by_owner.new.rows.items others
-    (subst (λ l. IsPermutation l c.sort_by_number.new.rows.items) c.into_vec-parents.ensures c.sort_by_number.ensures.permutation)
-    c.sort_by_number.ensures.sorted
-    (subst (λ l. IsPermutation l c.sort_by_owner.new.rows.items) c.into_vec-children.ensures c.sort_by_owner.ensures.permutation)
-    c.sort_by_owner.ensures.sorted nest in
-    let clash : true ≡ false =
-    sym (list_all-true (λ p. ascends (λ t. g.T.Row.number t) 1 (g.P.Parent.children p)) (λ p. Ascends (λ t. g.T.Row.number t) 1 (g.P.Parent.children p))
-    (λ p. ascends-true (λ t. g.T.Row.number t) 1 (g.P.Parent.children p)) others nest.children_ascend)
-    ∙ ap (list_all (λ p. ascends (λ t. g.T.Row.number t) 1 (g.P.Parent.children p))) (sym (c.deref-2.ensures.value ∙ c.in_ok-rows.ensures.1 ∙ flat.0))
-    ∙ sym c.have_ascending_children.ensures ∙ c.if-not-have_ascending_children.true in
-    cc
+    elim c.then-not-is_ascending.branch [
+      | then-not-is_ascending-via-then-not-is_ascending w ↦
+          let clash : true ≡ false =
+          sym (ascends-true (λ r. g.P.Row.number r) 1 others nest.ascends)
+          ∙ ap (λ l. ascends (λ r. g.P.Row.number r) 1 l) (sym (c.deref.ensures.value ∙ c.in_ok-rows.ensures.1 ∙ flat.0))
+          ∙ sym c.is_ascending.ensures ∙ w.if-not-is_ascending.true in
+          cc
+      | then-not-is_ascending-via-else-not-is_ascending+then-not-have_ascending_children w ↦
+          let clash : true ≡ false =
+          sym (list_all-true (λ p. ascends (λ t. g.T.Row.number t) 1 (g.P.Parent.children p))
+          (λ p. Ascends (λ t. g.T.Row.number t) 1 (g.P.Parent.children p))
+          (λ p. ascends-true (λ t. g.T.Row.number t) 1 (g.P.Parent.children p)) others nest.children_ascend)
+          ∙ ap (list_all (λ p. ascends (λ t. g.T.Row.number t) 1 (g.P.Parent.children p)))
+          (sym (w.deref-else-not-is_ascending.ensures.value ∙ c.in_ok-rows.ensures.1 ∙ flat.0))
+          ∙ sym w.have_ascending_children.ensures ∙ w.if-not-have_ascending_children.true in
+          cc
+    ]
 
 pub returns : goal.returns
 returns g c =
@@ -60,7 +59,7 @@ returns g c =
     (ap (λ l. ascends (λ r. g.P.Row.number r) 1 l) (sym c.deref.ensures.value) ∙ sym c.is_ascending.ensures ∙ c.if-not-is_ascending.false) in
     let ups = EachOf-from_test (λ p. ascends (λ t. g.T.Row.number t) 1 (g.P.Parent.children p)) (λ p. Ascends (λ t. g.T.Row.number t) 1 (g.P.Parent.children p))
     (λ p. Ascends-from_test (λ t. g.T.Row.number t) 1 (g.P.Parent.children p)) c.in_ok-rows.rows.items
-    (ap (list_all (λ p. ascends (λ t. g.T.Row.number t) 1 (g.P.Parent.children p))) (sym c.deref-2.ensures.value)
+    (ap (list_all (λ p. ascends (λ t. g.T.Row.number t) 1 (g.P.Parent.children p))) (sym c.deref-else-not-is_ascending.ensures.value)
     ∙ sym c.have_ascending_children.ensures ∙ c.if-not-have_ascending_children.false) in
     rw c.in_ok-table_of_ascending.ensures
     (nests-rows (λ r. g.P.Row.number r) g.P.Parent.children g.P.Parent.with_children (λ t. g.T.Row.number t) g.met.P.Parent.nests
