@@ -1,51 +1,28 @@
--- Values that are gathered in a loop, by one more of them.
-use Rattle.std.proofs.Common.{◌≡◌, ◌<◌, ◌+◌, ℕ, Bool, true, false, cond, List, [], ◌∷◌, ◌++◌, map, filter, length, take, get_or}
-use Rattle.std.proofs.Common.{sym, ap, ◌∙◌, append-nil, append_assoc}
-use Rattle.std.proofs.lemmas.List.{map-append, take_more}
-use Rattle.std.proofs.lemmas.List.Elements.{filter_more}
+-- Values that are gathered in a loop, by what one more item shows.
+use Rattle.std.proofs.Common.{◌≡◌, Bool, true, false, cond, List, [], ◌∷◌, ◌++◌, map, filter, refl, sym, ap, ◌∙◌, append-nil, append_assoc}
+use Rattle.std.specs.List.{flat_map}
 
--- the next of some items is shown
-pub shown-next : {X Z : Type 0} (f : X → Z) (xs : List X) (index : ℕ) (d : X) (before after : List Z) →
-    index < length xs → after ≡ before ++ f (get_or xs index d) ∷ [] → before ≡ map f (take index xs) → after ≡ map f (take (index + 1) xs)
-shown-next f xs index d before after more pushed known =
-    pushed
-    ∙ ap (λ l. l ++ f (get_or xs index d) ∷ []) known
-    ∙ sym (ap (map f) (take_more xs index d more) ∙ map-append f (take index xs) (get_or xs index d ∷ []))
-
--- one that passes a test is shown
-pub shown-passing : {X Z : Type 0} (f : X → Z) (test : X → Bool) (x : X) (rest : List X) (before after whole : List Z) →
-    test x ≡ true → after ≡ before ++ f x ∷ [] → before ++ map f (filter test (x ∷ rest)) ≡ whole → after ++ map f (filter test rest) ≡ whole
-shown-passing f test x rest before after whole passes pushed known =
-    ap (λ l. l ++ map f (filter test rest)) pushed
-    ∙ append_assoc before (f x ∷ []) (map f (filter test rest))
-    ∙ sym (ap (λ b. before ++ map f (cond b (x ∷ filter test rest) (filter test rest))) passes)
+-- what the next item shows stands behind what the earlier ones show
+pub shown-next : {X Z : Type 0} (f : X → List Z) (x : X) (left rest : List X) (before after whole : List Z) →
+    left ≡ x ∷ rest → after ≡ before ++ f x → before ++ flat_map f left ≡ whole → after ++ flat_map f rest ≡ whole
+shown-next f x left rest before after whole next pushed known =
+    ap (λ l. l ++ flat_map f rest) pushed
+    ∙ append_assoc before (f x) (flat_map f rest)
+    ∙ sym (ap (λ l. before ++ flat_map f l) next)
     ∙ known
 
--- another one is left out
-pub shown-others : {X Z : Type 0} (f : X → Z) (test : X → Bool) (x : X) (rest : List X) (before whole : List Z) →
-    test x ≡ false → before ++ map f (filter test (x ∷ rest)) ≡ whole → before ++ map f (filter test rest) ≡ whole
-shown-others f test x rest before whole fails known =
-    sym (ap (λ b. before ++ map f (cond b (x ∷ filter test rest) (filter test rest))) fails) ∙ known
+-- where each item shows one value
+pub each-shows-one : {X Z : Type 0} (f : X → Z) (xs : List X) → flat_map (λ x. f x ∷ []) xs ≡ map f xs
+each-shows-one f [] = refl
+each-shows-one f (x ∷ xs) = ap (λ l. f x ∷ l) (each-shows-one f xs)
 
--- the next of some items is shown, if it passes a test
-pub shown-next-passing : {X Z : Type 0} (f : X → Z) (test : X → Bool) (xs : List X) (index : ℕ) (d : X) (start before after : List Z) →
-    index < length xs → test (get_or xs index d) ≡ true → after ≡ before ++ f (get_or xs index d) ∷ []
-    → before ≡ start ++ map f (filter test (take index xs)) → after ≡ start ++ map f (filter test (take (index + 1) xs))
-shown-next-passing f test xs index d start before after more passes pushed known =
-    pushed
-    ∙ ap (λ l. l ++ f (get_or xs index d) ∷ []) known
-    ∙ append_assoc start (map f (filter test (take index xs))) (f (get_or xs index d) ∷ [])
-    ∙ ap (λ l. start ++ l) (sym (ap (map f) (filter_more test xs index d more
-    ∙ ap (λ b. filter test (take index xs) ++ cond b (get_or xs index d ∷ []) []) passes)
-    ∙ map-append f (filter test (take index xs)) (get_or xs index d ∷ [])))
-
--- else it is left out
-pub shown-next-other : {X Z : Type 0} (f : X → Z) (test : X → Bool) (xs : List X) (index : ℕ) (d : X) (start before after : List Z) →
-    index < length xs → test (get_or xs index d) ≡ false → after ≡ before
-    → before ≡ start ++ map f (filter test (take index xs)) → after ≡ start ++ map f (filter test (take (index + 1) xs))
-shown-next-other f test xs index d start before after more fails same known =
-    same
-    ∙ known
-    ∙ ap (λ l. start ++ map f l) (sym (filter_more test xs index d more
-    ∙ ap (λ b. filter test (take index xs) ++ cond b (get_or xs index d ∷ []) []) fails
-    ∙ append-nil (filter test (take index xs))))
+-- where each that passes a test shows one
+pub passing-show-one : {X Z : Type 0} (f : X → Z) (test : X → Bool) (xs : List X) →
+    flat_map (λ x. cond (test x) (f x ∷ []) []) xs ≡ map f (filter test xs)
+passing-show-one f test [] = refl
+passing-show-one {X} f test (x ∷ xs) = by (test x) (passing-show-one f test xs)
+  where
+    by : (b : Bool) → flat_map (λ y. cond (test y) (f y ∷ []) []) xs ≡ map f (filter test xs) →
+        cond b (f x ∷ []) [] ++ flat_map (λ y. cond (test y) (f y ∷ []) []) xs ≡ map f (cond b (x ∷ filter test xs) (filter test xs))
+    by true ih = ap (λ l. f x ∷ l) ih
+    by false ih = ih

@@ -1,7 +1,7 @@
 -- What the documents of authorizations and challenges show.
 use Rattle.std.proofs.Common.{◌≡◌, ℕ, List, [], ◌∷◌, ◌++◌, map, filter, Bool, true, false, cond, Option, Some, None, refl, sym, ap, ◌∙◌}
 use Rattle.std.specs.Prelude.{is_some, codes, not, ◌||◌}
-use Rattle.std.specs.List.{list_any}
+use Rattle.std.specs.List.{flat_map, list_any}
 use Rattle.std.proofs.lemmas.Simd.{map-map}
 use Rattle.serde_json.specs.Data.{Data, string, boolean}
 use Rattle.desk_model.specs.Json.{members, list, when}
@@ -17,6 +17,8 @@ use Rattle.desk_model.specs.Document.{error_of, report_error, validated, validat
 use Rattle.desk_model.specs.Document.{challenge_document, identifier, or_all, shown_challenges}
 use Rattle.moments.specs.Capped.{capped}
 use Rattle.desk_replies.specs.Shown.{capped_report, capped_challenge, capped_authorization, with_members, HasDatedReport, HasMoments}
+use Rattle.desk_replies.specs.Shown.{shown_challenge}
+use Rattle.desk_replies.proofs.Gathered.{passing-show-one}
 use Rattle.desk_replies.proofs.ShownOrders.{capped-same}
 
 -- ---- moments that have a text are shown as they are
@@ -63,10 +65,17 @@ all-filtered [] = refl
 all-filtered (r ∷ rs) = ap (λ l. r ∷ l) (all-filtered rs)
 
 -- the rows that pass, if one does, else all, are filtered in one pass
-pub or_all-filtered : (p : ChallengeRow → Bool) (rows : List ChallengeRow) (b : Bool) → b ≡ list_any p rows →
+or_all-filtered : (p : ChallengeRow → Bool) (rows : List ChallengeRow) (b : Bool) → b ≡ list_any p rows →
     filter (λ r. not b || p r) rows ≡ or_all (filter p rows) rows
 or_all-filtered p rows true is = sym (or_all-any p rows rows (sym is))
 or_all-filtered p rows false is = all-filtered rows ∙ sym (ap (λ l. or_all l rows) (none-filtered p rows (sym is)))
+
+-- what the challenges show, each where it was reported, or where none was
+pub challenges-shown : (t : Terms) (rows : List ChallengeRow) (reported : Bool) → reported ≡ list_any (λ c. is_some c.reported) rows →
+    flat_map (shown_challenge t reported) rows ≡ map (λ c. challenge_document t (capped_challenge c)) (shown_challenges rows)
+challenges-shown t rows reported is =
+    passing-show-one (λ c. challenge_document t (capped_challenge c)) (λ c. not reported || is_some c.reported) rows
+    ∙ ap (map (λ c. challenge_document t (capped_challenge c))) (or_all-filtered (λ c. is_some c.reported) rows reported is)
 
 challenge_members-by : (o : Outcome) (date : ℕ) (s t k u : Data) →
     with_members (validated_by o (capped date))

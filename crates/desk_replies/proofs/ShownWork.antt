@@ -4,7 +4,7 @@ use Rattle.std.specs.List.{flat_map}
 use Rattle.std.specs.Option.{option_map}
 use Rattle.std.specs.Prelude.{codes}
 use Rattle.std.proofs.lemmas.Simd.{map-map}
-use Rattle.serde_json.specs.Data.{string, number, unsigned}
+use Rattle.serde_json.specs.Data.{Data, string, number, unsigned}
 use Rattle.desk_model.specs.Json.{document, list}
 use Rattle.desk_model.specs.Tokens.{base64url}
 use Rattle.desk_model.specs.Name.{Name}
@@ -12,11 +12,17 @@ use Rattle.desk_model.specs.Names.{shown_name}
 use Rattle.desk_model.specs.Tables.{Tables}
 use Rattle.desk_model.specs.Order.{is_processing}
 use Rattle.desk_model.specs.Effect.{swept, swept_authorization, swept_order}
+use Rattle.desk_model.specs.Derived.{authorization_numbered, numbers_of}
 use Rattle.desk_model.specs.Questions.{authorization_on}
 use Rattle.desk_model.specs.declared.rows.AuthorizationRow.{AuthorizationRow}
+use Rattle.desk_model.specs.declared.rows.Listed.{Listed}
 use Rattle.desk_model.specs.declared.rows.OrderRow.{OrderRow}
-use Rattle.desk_model.specs.Document.{and_row, rows_of, listed_rows, order_url, is_listed, bytes_of, work_of, order_work_document}
-use Rattle.desk_replies.specs.Shown.{work_at}
+use Rattle.desk_model.specs.Document.{and_row, rows_of, listed_rows, order_url, is_listed, bytes_of, work_document, work_of}
+use Rattle.desk_model.specs.Document.{order_work_document}
+use Rattle.desk_model.specs.Authorization.{is_pending}
+use Rattle.desk_model.specs.Legal.{is_processing_challenge}
+use Rattle.desk_replies.specs.Shown.{answered, listed_name, listed_order, order_work_at, work_at}
+use Rattle.desk_replies.proofs.Gathered.{passing-show-one}
 use Rattle.swept_rows.proofs.SweptRows.{swept_authorization-status, swept_order-status, swept_authorization_on}
 
 -- ---- names
@@ -37,6 +43,19 @@ swept-names m T [] = refl
 swept-names m T (n ∷ ns) =
     ap (λ o. map (λ (a : AuthorizationRow). a.name) (and_row o (rows_of (swept m T).authorizations ns))) (swept_authorization_on m T n)
     ∙ swept_row-name m (authorization_on T n) (rows_of (swept m T).authorizations ns) (rows_of T.authorizations ns) (swept-names m T ns)
+
+listed-name : (o : Option AuthorizationRow) (later : List Data) (rows : List AuthorizationRow) → later ≡ map (λ a. string (shown_name a.name)) rows →
+    listed_name o ++ later ≡ map (λ a. string (shown_name a.name)) (and_row o rows)
+listed-name None later rows ih = ih
+listed-name (Some a) later rows ih = ap (λ l. string (shown_name a.name) ∷ l) ih
+
+-- the names of the authorizations that these places list
+pub listed-names : (rows : List AuthorizationRow) (places : List Listed) →
+    flat_map (λ l. listed_name (authorization_numbered l.authorization rows)) places ≡ map (λ a. string (shown_name a.name)) (rows_of rows (numbers_of places))
+listed-names rows [] = refl
+listed-names rows (l ∷ ls) =
+    listed-name (authorization_numbered l.authorization rows) (flat_map (λ x. listed_name (authorization_numbered x.authorization rows)) ls)
+    (rows_of rows (numbers_of ls)) (listed-names rows ls)
 
 -- ---- lists of rows that were moved
 
@@ -59,13 +78,21 @@ flat_map-map f move g same (x ∷ xs) = ap (λ l. l ++ flat_map f (map move xs))
 
 -- the orders of an account
 pub orders-listed : (m account : ℕ) (T : Tables) →
-    map (λ o. string (order_url T.meta.policy o.number)) (filter (is_listed account) (swept m T).orders)
-    ≡ map (λ o. string (order_url T.meta.policy o.number)) (filter (λ o. is_listed account (swept_order m T.authorizations o)) T.orders)
+    map (λ o. string (order_url T.meta.policy o.number)) (filter (is_listed account) (swept m T).orders) ≡ flat_map (listed_order T m account) T.orders
 orders-listed m account T =
     map-filter-map (λ (o : OrderRow). string (order_url T.meta.policy o.number)) (is_listed account) (swept_order m T.authorizations)
     (λ o. string (order_url T.meta.policy o.number))
     (λ o. sym (ap (λ (r : OrderRow). string (order_url T.meta.policy r.number)) (swept_order-status m T.authorizations o)))
     T.orders
+    ∙ sym (passing-show-one (λ (o : OrderRow). string (order_url T.meta.policy o.number))
+    (λ o. is_listed account (swept_order m T.authorizations o)) T.orders)
+
+-- those of a pending authorization
+pub answered-waiting : (m : ℕ) (T : Tables) (a : AuthorizationRow) → is_pending (swept_authorization m a).status ≡ true →
+    flat_map (answered T a) a.challenges ≡ work_at m T a
+answered-waiting m T a pending =
+    passing-show-one (work_document T a) (λ c. is_processing_challenge c.status) a.challenges
+    ∙ sym (ap (λ b. cond b (map (work_document T a) (filter (λ c. is_processing_challenge c.status) a.challenges)) []) pending)
 
 -- the challenges that wait for the validator
 pub challenges-waiting : (m : ℕ) (T : Tables) → flat_map (work_of (swept m T)) (swept m T).authorizations ≡ flat_map (work_at m T) T.authorizations
@@ -92,7 +119,8 @@ order-waiting m T o =
 -- the orders that wait for the signing office
 pub orders-waiting : (m : ℕ) (T : Tables) →
     map (order_work_document (swept m T)) (filter (λ o. is_processing o.status) (swept m T).orders)
-    ≡ map (order_work_document T) (filter (λ o. is_processing (swept_order m T.authorizations o).status) T.orders)
+    ≡ flat_map (order_work_at m T) T.orders
 orders-waiting m T =
     map-filter-map (order_work_document (swept m T)) (λ o. is_processing o.status) (swept_order m T.authorizations) (order_work_document T)
     (order-waiting m T) T.orders
+    ∙ sym (passing-show-one (order_work_document T) (λ o. is_processing (swept_order m T.authorizations o).status) T.orders)

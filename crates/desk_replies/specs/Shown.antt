@@ -1,5 +1,5 @@
 -- What documents show, where their moments have a text, and members that are put one by one.
-use Rattle.std.specs.Prelude.{codes, ℕ, ◌≤◌, List, [], ◌∷◌, map, Option, Some, None, if◌then◌else◌}
+use Rattle.std.specs.Prelude.{codes, ℕ, ◌≤◌, Bool, not, ◌||◌, is_some, List, [], ◌∷◌, map, Option, Some, None, if◌then◌else◌}
 use Rattle.std.specs.List.{filter}
 use Rattle.serde_json.specs.Data.{Data, Members, number, put, string, unsigned}
 use Rattle.desk_model.specs.Limits.{last_end}
@@ -9,12 +9,13 @@ use Rattle.desk_model.specs.declared.rows.AuthorizationRow.{AuthorizationRow}
 use Rattle.desk_model.specs.declared.rows.OrderRow.{OrderRow}
 use Rattle.desk_model.specs.Tables.{Tables}
 use Rattle.desk_model.specs.Authorization.{is_pending}
+use Rattle.desk_model.specs.Order.{is_processing}
 use Rattle.desk_model.specs.Legal.{is_processing_challenge}
-use Rattle.desk_model.specs.Effect.{swept_authorization}
+use Rattle.desk_model.specs.Effect.{swept_authorization, swept_order}
 use Rattle.desk_model.specs.Kept.{EachOf}
 use Rattle.desk_model.specs.Document.{account_status_text, authorization_status_text, authorization_url, bytes_of, challenge_document}
-use Rattle.desk_model.specs.Document.{challenge_status_text, challenge_url, expected, finalize_url, identifier, kind_text, listed_rows}
-use Rattle.desk_model.specs.Document.{order_status_text, orders_url, shown_challenges, url, work_document}
+use Rattle.desk_model.specs.Document.{challenge_status_text, challenge_url, expected, finalize_url, identifier, is_listed, kind_text, listed_rows}
+use Rattle.desk_model.specs.Document.{order_status_text, order_url, order_work_document, orders_url, shown_challenges, url, work_document}
 use Rattle.desk_model.specs.Json.{list}
 use Rattle.desk_model.specs.Moment.{moment_text}
 use Rattle.desk_model.specs.Name.{Name}
@@ -106,7 +107,30 @@ order_members t names o =
     ∷ (codes "status", string (order_status_text o.status))
     ∷ []
 
+-- ---- what an item of a list shows
+
+-- a challenge is shown if it was reported, or if none was
+abbrev pub shown_challenge : Terms → (reported : Bool) → ChallengeRow → List Data
+shown_challenge t reported c = if not reported || is_some c.reported then challenge_document t (capped_challenge c) ∷ [] else []
+
+-- the URL of an order at a moment, where it is an account's and not invalid
+abbrev pub listed_order : Tables → (m account : ℕ) → OrderRow → List Data
+listed_order T m account o = if is_listed account (swept_order m T.authorizations o) then string (order_url T.meta.policy o.number) ∷ [] else []
+
+-- the name of a listed authorization, where there is one
+abbrev pub listed_name : Option AuthorizationRow → List Data
+listed_name None = []
+listed_name (Some a) = string (shown_name a.name) ∷ []
+
 -- ---- work
+
+-- a challenge that waits for the validator, if its authorization is pending
+abbrev pub answered : Tables → AuthorizationRow → ChallengeRow → List Data
+answered T a c = if is_processing_challenge c.status then work_document T a c ∷ [] else []
+
+-- an order that waits for the signing office at a moment
+abbrev pub order_work_at : ℕ → Tables → OrderRow → List Data
+order_work_at m T o = if is_processing (swept_order m T.authorizations o).status then order_work_document T o ∷ [] else []
 
 abbrev pub work_members : Tables → AuthorizationRow → ChallengeRow → List (List ℕ × Data)
 work_members T a c =

@@ -1,18 +1,20 @@
 //! The documents of authorizations and their challenges (RFC 8555, 7.1.4, 7.1.5, 8).
-ghost use Rattle.std.specs.Prelude.{◌≡◌, ◌||◌, map, not, codes, is_some, true, IfOk, OnOk};
+ghost use Rattle.std.specs.Prelude.{◌≡◌, codes, is_some, true, IfOk, OnOk};
 ghost use Rattle.std.specs.List.{list_any};
 ghost use Rattle.serde_json.specs.Data.{boolean};
 ghost use Rattle.serde_json.specs.View.{view, members_view};
 ghost use Rattle.desk_model.specs.Json.{when};
 ghost use Rattle.desk_model.specs.Document.{error_of, report_error, validated, validated_by, challenge_document};
-ghost use Rattle.desk_model.specs.Document.{shown_challenges, authorization_document};
+ghost use Rattle.desk_model.specs.Document.{authorization_document};
 ghost use Rattle.moments.specs.Capped.{capped};
-ghost use Rattle.desk_replies.specs.Shown.{authorization_members, capped_authorization, capped_challenge, capped_report, challenge_members, with_members};
+ghost use Rattle.desk_replies.specs.Shown.{authorization_members, capped_authorization, capped_challenge, capped_report, challenge_members};
+ghost use Rattle.desk_replies.specs.Shown.{shown_challenge, with_members};
 
 use crate::document_values::{
-    error_value, identifier_value, object_value, push_value, put_list, put_str, put_text,
-    put_value, text_value,
+    error_value, identifier_value, object_value, push_value, put_str, put_text, put_value,
+    text_value,
 };
+use crate::lists::{ListItem, put_each};
 use crate::urls::challenge_url;
 use desk_model::{AuthorizationRow, ChallengeRow, Outcome, Policy, Report};
 use moments::capped_moment_text;
@@ -108,29 +110,22 @@ fn is_reported(challenges: &[ChallengeRow]) -> bool
         .any(|challenge| challenge.reported.is_some())
 }
 
-// Whether a challenge is shown: the one that was reported, if one was, else each.
-fn is_shown(reported: bool, challenge: &ChallengeRow) -> bool
-    ensures { result ≡ (not reported || is_some challenge.now.reported) }
-{
-    !reported || challenge.reported.is_some()
-}
+// A challenge, which is shown if it was reported, or if none was.
+impl<'a> ListItem<(&'a Policy, bool)> for ChallengeRow {
+    ghost values = { λ by c. shown_challenge by.0.now by.1 c };
 
-// The values of the challenges that an authorization shows.
-fn shown_challenges(
-    alloc: Global,
-    policy: &Policy,
-    challenges: &[ChallengeRow],
-) -> Result<Vec<Value>, AllocError>
-    ensures { IfOk result (λ v. map (λ d. view d) v.items ≡ map (λ c. challenge_document policy.now (capped_challenge c)) (shown_challenges challenges.now)) }
-{
-    let reported = is_reported(challenges);
-    let mut values = Vec::new(alloc);
-    for challenge in challenges {
-        if is_shown(reported, challenge) {
-            push_value(&mut values, challenge_value(alloc, policy, challenge))?;
+    fn push_shown(
+        &self,
+        shown: &mut Vec<Value>,
+        alloc: Global,
+        by: &(&'a Policy, bool),
+    ) -> Result<(), AllocError> {
+        let (policy, reported) = *by;
+        if reported && self.reported.is_none() {
+            return Ok(());
         }
+        push_value(shown, challenge_value(alloc, policy, self))
     }
-    Ok(values)
 }
 
 // Adds that the authorization is for a wildcard name, where it is.
@@ -158,8 +153,9 @@ fn put_authorization(
     ensures { OnOk result (members_view members.new.entries ≡ with_members (when row.now.name.wildcard (codes "wildcard", boolean true))
         (with_members (authorization_members policy.now row.now) (members_view members.old.entries))) }
 {
-    let challenges = shown_challenges(alloc, policy, row.challenges.as_slice());
-    put_list(members, alloc, "challenges", challenges)?;
+    let challenges = row.challenges.as_slice();
+    let by = (policy, is_reported(challenges));
+    put_each(members, alloc, "challenges", challenges, &by)?;
     let expires = capped_moment_text(alloc, row.expires);
     put_text(members, alloc, "expires", expires)?;
     let identifier = identifier_value(alloc, row.name.base());

@@ -2,7 +2,7 @@
 ghost use Rattle.std.specs.Prelude.{ℕ, List, ◌≡◌, ◌∷◌, ◌++◌, [], map, string_bytes, IfOk, OnOk};
 ghost use Rattle.serde_json.specs.Data.{Data, Members, object, string};
 ghost use Rattle.serde_json.specs.View.{view, members_view};
-ghost use Rattle.desk_model.specs.Json.{document, list};
+ghost use Rattle.desk_model.specs.Json.{list};
 ghost use Rattle.desk_model.specs.Document.{identifier, error};
 ghost use Rattle.desk_replies.specs.Shown.{error_members, identifier_members, with_members};
 
@@ -84,20 +84,6 @@ fn put_error_members(
     put(members, alloc, "status", Value::from(status))?;
     let kind = type_text(alloc, kind);
     put_text(members, alloc, "type", kind)
-}
-
-/// An object whose one member is a list, if that could be made.
-pub(crate) fn listing_value(
-    alloc: Global,
-    name: &str,
-    items: Result<Vec<Value>, AllocError>,
-) -> Result<Value, AllocError>
-    ensures { (shown : List Data) → IfOk items (λ v. map (λ d. view d) v.items ≡ shown)
-        → IfOk result (λ v. view v ≡ document ((name.now, list shown) ∷ [])) }
-{
-    let mut members = Map::new(alloc);
-    let put = put_list(&mut members, alloc, name, items);
-    object_value(members, put)
 }
 
 /// Adds a value to a list, if it could be made.

@@ -6,6 +6,7 @@ mod document_values;
 mod documents;
 mod key_documents;
 mod list_replies;
+mod lists;
 mod object_replies;
 mod order_documents;
 mod replies;

@@ -1,21 +1,21 @@
 //! The documents of orders (RFC 8555, 7.1.3).
-ghost use Rattle.std.specs.Prelude.{ℕ, ◌≡◌, map, codes, is_some, IfOk, OnOk};
-ghost use Rattle.std.specs.List.{filter};
+ghost use Rattle.std.specs.Prelude.{ℕ, ◌≡◌, ◌∷◌, [], map, codes, is_some, IfOk, OnOk};
 ghost use Rattle.serde_json.specs.Data.{string};
 ghost use Rattle.serde_json.specs.View.{view, members_view};
-ghost use Rattle.desk_model.specs.Json.{list, when};
+ghost use Rattle.desk_model.specs.Json.{when};
 ghost use Rattle.desk_model.specs.Derived.{numbers_of};
 ghost use Rattle.desk_model.specs.Names.{shown_name};
 ghost use Rattle.desk_model.specs.Effect.{swept, swept_order};
 ghost use Rattle.desk_model.specs.Document.{order_error, identifier, certificate_url, authorization_url};
-ghost use Rattle.desk_model.specs.Document.{order_url, rows_of, listed_rows, is_listed};
+ghost use Rattle.desk_model.specs.Document.{rows_of, listed_rows, is_listed};
 ghost use Rattle.desk_model.specs.Document.{orders_document, order_with_names};
-ghost use Rattle.desk_replies.specs.Shown.{capped_order, order_members, with_members};
+ghost use Rattle.desk_replies.specs.Shown.{capped_order, listed_order, order_members, with_members};
 
 use crate::document_values::{
-    error_value, identifier_value, list_value, listing_value, object_value, push_text, push_value,
-    put_str, put_text, put_value,
+    error_value, identifier_value, object_value, push_text, push_value, put_str, put_text,
+    put_value,
 };
+use crate::lists::{ListItem, listing_value, put_each};
 use crate::urls::{authorization_url, certificate_url, finalize_url, order_url};
 use desk_book::{Book, Table};
 use desk_model::{AuthorizationRow, DatedProblem, DnsName, Listed, OrderRow, OrderStatus, Policy};
@@ -24,20 +24,18 @@ use serde_json::{Map, Value};
 use std::alloc::{AllocError, Global};
 use swept_rows::{At, order_status};
 
-// The URLs of the authorizations that are listed.
-fn authorization_urls(
-    alloc: Global,
-    policy: &Policy,
-    listed: &[Listed],
-) -> Result<Value, AllocError>
-    ensures { IfOk result (λ v. view v ≡ list (map (λ l. string (authorization_url policy.now l.authorization)) listed.now)) }
-{
-    let mut urls = Vec::new(alloc);
-    for place in listed {
-        let url = authorization_url(alloc, policy, place.authorization);
-        push_text(&mut urls, url)?;
+// The URL of a listed authorization.
+impl ListItem<Policy> for Listed {
+    ghost values = { λ t l. string (authorization_url t l.authorization) ∷ [] };
+
+    fn push_shown(
+        &self,
+        shown: &mut Vec<Value>,
+        alloc: Global,
+        by: &Policy,
+    ) -> Result<(), AllocError> {
+        push_text(shown, authorization_url(alloc, by, self.authorization))
     }
-    Ok(list_value(urls))
 }
 
 // The identifier of a name.
@@ -48,15 +46,18 @@ fn name_identifier(alloc: Global, name: &DnsName) -> Result<Value, AllocError>
     identifier_value(alloc, text.as_str())
 }
 
-// The identifiers of names.
-fn identifiers(alloc: Global, names: &[DnsName]) -> Result<Value, AllocError>
-    ensures { IfOk result (λ v. view v ≡ list (map (λ n. identifier (shown_name n)) names.now)) }
-{
-    let mut identifiers = Vec::new(alloc);
-    for name in names {
-        push_value(&mut identifiers, name_identifier(alloc, name))?;
+// The identifier of a name.
+impl ListItem<()> for DnsName {
+    ghost values = { λ u n. identifier (shown_name n) ∷ [] };
+
+    fn push_shown(
+        &self,
+        shown: &mut Vec<Value>,
+        alloc: Global,
+        _by: &(),
+    ) -> Result<(), AllocError> {
+        push_value(shown, name_identifier(alloc, self))
     }
-    Ok(list_value(identifiers))
 }
 
 // Adds the URL of the certificate, where there is one.
@@ -106,14 +107,13 @@ fn put_order(
         (with_members (when (is_some row.now.certified) (codes "certificate", string (certificate_url policy.now row.now.number)))
         (with_members (order_members policy.now names.now row.now) (members_view members.old.entries)))) }
 {
-    let urls = authorization_urls(alloc, policy, row.listed.as_slice());
-    put_value(members, alloc, "authorizations", urls)?;
+    let listed = row.listed.as_slice();
+    put_each(members, alloc, "authorizations", listed, policy)?;
     let expires = capped_moment_text(alloc, row.expires);
     put_text(members, alloc, "expires", expires)?;
     let finalize = finalize_url(alloc, policy, row.number);
     put_text(members, alloc, "finalize", finalize)?;
-    let identifiers = identifiers(alloc, names);
-    put_value(members, alloc, "identifiers", identifiers)?;
+    put_each(members, alloc, "identifiers", names, &())?;
     put_str(members, alloc, "status", row.status.as_str())?;
     put_certificate(members, alloc, policy, row)?;
     put_error(members, alloc, &row.failed)
@@ -177,25 +177,22 @@ fn is_listed_at(book: &Book, moment: u64, account: u64, row: &OrderRow) -> bool
     is_listed(account, row, order_status(book, moment, row))
 }
 
-// The URLs of the orders of an account that are not invalid at a moment.
-fn order_urls(
-    alloc: Global,
-    book: &Book,
-    moment: u64,
-    account: u64,
-) -> Result<Vec<Value>, AllocError>
-    ensures { IfOk result (λ v. map (λ d. view d) v.items
-        ≡ map (λ o. string (order_url book.now.meta.policy o.number))
-        (filter (λ o. is_listed account (swept_order moment book.now.authorizations o)) book.now.orders)) }
-{
-    let mut urls = Vec::new(alloc);
-    for row in book.orders().iter() {
-        if is_listed_at(book, moment, account, row) {
-            let url = order_url(alloc, &book.meta().policy, row.number);
-            push_text(&mut urls, url)?;
+// The URL of an order of an account that is not invalid at a moment.
+impl<'a> ListItem<(&'a Book, u64, u64)> for OrderRow {
+    ghost values = { λ by o. listed_order by.0.now by.1 by.2 o };
+
+    fn push_shown(
+        &self,
+        shown: &mut Vec<Value>,
+        alloc: Global,
+        by: &(&'a Book, u64, u64),
+    ) -> Result<(), AllocError> {
+        let (book, moment, account) = *by;
+        if !is_listed_at(book, moment, account, self) {
+            return Ok(());
         }
+        push_text(shown, order_url(alloc, &book.meta().policy, self.number))
     }
-    Ok(urls)
 }
 
 /// The document of an account's orders at a moment (RFC 8555, 7.1.2.1).
@@ -203,6 +200,6 @@ pub(crate) fn orders_value(alloc: Global, at: &At, account: u64) -> Result<Value
     ensures { IfOk result (λ v. view v ≡ orders_document at.now account) }
 {
     let (book, moment) = at.parts();
-    let urls = order_urls(alloc, book, moment, account);
-    listing_value(alloc, "orders", urls)
+    let by = (book, moment, account);
+    listing_value(alloc, "orders", book.orders(), &by)
 }

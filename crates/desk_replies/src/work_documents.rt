@@ -1,25 +1,16 @@
 //! The documents of what waits for the validator and for the signing office.
-ghost use Rattle.std.specs.Prelude.{◌≡◌, ◌++◌, map, string_bytes, IfOk, OnOk};
-ghost use Rattle.std.specs.List.{filter, flat_map};
-ghost use Rattle.serde_json.specs.Data.{string};
+ghost use Rattle.std.specs.Prelude.{◌≡◌, string_bytes, IfOk, OnOk};
 ghost use Rattle.serde_json.specs.View.{view, members_view};
-ghost use Rattle.desk_model.specs.Json.{list};
-ghost use Rattle.desk_model.specs.Names.{shown_name};
+ghost use Rattle.desk_model.specs.Derived.{authorization_numbered};
 ghost use Rattle.desk_model.specs.Tokens.{base64url};
-ghost use Rattle.desk_model.specs.Legal.{is_processing_challenge};
-ghost use Rattle.desk_model.specs.Order.{is_processing};
-ghost use Rattle.desk_model.specs.Effect.{swept_order};
-ghost use Rattle.desk_model.specs.Document.{expected, bytes_of, listed_rows, work_document, work_of, challenge_work};
-ghost use Rattle.desk_model.specs.Document.{order_work_document, order_work};
-ghost use Rattle.desk_replies.specs.Shown.{order_work_members, with_members, work_at, work_members};
+ghost use Rattle.desk_model.specs.Document.{expected, bytes_of, work_document, challenge_work, order_work_document, order_work};
+ghost use Rattle.desk_replies.specs.Shown.{answered, listed_name, order_work_at, order_work_members, with_members, work_at, work_members};
 
-use crate::document_values::{
-    list_value, listing_value, object_value, push_text, push_value, put_str, put_text, put_value,
-};
-use crate::order_documents::order_names;
+use crate::document_values::{object_value, push_text, push_value, put_str, put_text};
+use crate::lists::{ListItem, listing_value, push_each, put_each};
 use base64::engine::general_purpose::URL_SAFE_NO_PAD;
 use desk_book::Book;
-use desk_model::{AuthorizationRow, ChallengeRow, DatedBytes, DnsName, OrderRow};
+use desk_model::{AuthorizationRow, ChallengeRow, DatedBytes, Listed, OrderRow};
 use keys::expected_text;
 use serde_json::{Map, Value, put};
 use std::alloc::{AllocError, Global};
@@ -71,49 +62,40 @@ fn work_value(
     object_value(members, put)
 }
 
-// Adds the challenges of an authorization that were answered and not yet reported.
-fn push_answered(
-    work: &mut Vec<Value>,
-    alloc: Global,
-    book: &Book,
-    row: &AuthorizationRow,
-) -> Result<(), AllocError>
-    ensures { OnOk result (map (λ d. view d) work.new.items
-        ≡ map (λ d. view d) work.old.items ++ map (work_document book.now row.now) (filter (λ c. is_processing_challenge c.status) row.now.challenges)) }
-{
-    let challenges = row.challenges.as_slice();
-    for challenge in challenges {
-        if challenge.status.is_processing() {
-            push_value(work, work_value(alloc, book, row, challenge))?;
+// A challenge of an authorization that was answered and not yet reported.
+impl<'a> ListItem<(&'a Book, &'a AuthorizationRow)> for ChallengeRow {
+    ghost values = { λ by c. answered by.0.now by.1.now c };
+
+    fn push_shown(
+        &self,
+        shown: &mut Vec<Value>,
+        alloc: Global,
+        by: &(&'a Book, &'a AuthorizationRow),
+    ) -> Result<(), AllocError> {
+        if !self.status.is_processing() {
+            return Ok(());
         }
+        let (book, row) = *by;
+        push_value(shown, work_value(alloc, book, row, self))
     }
-    Ok(())
 }
 
-// Adds what waits for the validator of an authorization, where it is pending at a moment.
-fn push_pending(
-    work: &mut Vec<Value>,
-    alloc: Global,
-    book: &Book,
-    moment: u64,
-    row: &AuthorizationRow,
-) -> Result<(), AllocError>
-    ensures { OnOk result (map (λ d. view d) work.new.items ≡ map (λ d. view d) work.old.items ++ work_at moment book.now row.now) }
-{
-    if !authorization_status(moment, row).is_pending() {
-        return Ok(());
-    }
-    push_answered(work, alloc, book, row)
-}
+// What waits for the validator of an authorization, where it is pending at a moment.
+impl<'a> ListItem<(&'a Book, u64)> for AuthorizationRow {
+    ghost values = { λ by a. work_at by.1 by.0.now a };
 
-fn waiting_challenges(alloc: Global, book: &Book, moment: u64) -> Result<Vec<Value>, AllocError>
-    ensures { IfOk result (λ v. map (λ d. view d) v.items ≡ flat_map (work_at moment book.now) book.now.authorizations) }
-{
-    let mut work = Vec::new(alloc);
-    for row in book.authorizations().iter() {
-        push_pending(&mut work, alloc, book, moment, row)?;
+    fn push_shown(
+        &self,
+        shown: &mut Vec<Value>,
+        alloc: Global,
+        by: &(&'a Book, u64),
+    ) -> Result<(), AllocError> {
+        let (book, moment) = *by;
+        if !authorization_status(moment, self).is_pending() {
+            return Ok(());
+        }
+        push_each(shown, alloc, self.challenges.as_slice(), &(book, self))
     }
-    Ok(work)
 }
 
 /// The challenges that wait for the validator at a moment.
@@ -121,19 +103,24 @@ pub(crate) fn challenge_work_value(alloc: Global, at: &At) -> Result<Value, Allo
     ensures { IfOk result (λ v. view v ≡ challenge_work at.now) }
 {
     let (book, moment) = at.parts();
-    let challenges = waiting_challenges(alloc, book, moment);
-    listing_value(alloc, "challenges", challenges)
+    listing_value(alloc, "challenges", book.authorizations(), &(book, moment))
 }
 
-// The texts of names.
-fn name_values(alloc: Global, names: &[DnsName]) -> Result<Vec<Value>, AllocError>
-    ensures { IfOk result (λ v. map (λ d. view d) v.items ≡ map (λ n. string (shown_name n)) names.now) }
-{
-    let mut values = Vec::new(alloc);
-    for name in names {
-        push_text(&mut values, name.shown(alloc))?;
+// The name of a listed authorization.
+impl ListItem<Book> for Listed {
+    ghost values = { λ T l. listed_name (authorization_numbered l.authorization T.authorizations) };
+
+    fn push_shown(
+        &self,
+        shown: &mut Vec<Value>,
+        alloc: Global,
+        by: &Book,
+    ) -> Result<(), AllocError> {
+        let Some(row) = by.authorizations().get(self.authorization) else {
+            return Ok(());
+        };
+        push_text(shown, row.name.shown(alloc))
     }
-    Ok(values)
 }
 
 // The bytes of the CSR, none where there is none.
@@ -154,13 +141,6 @@ fn csr_text(alloc: Global, finalized: &Option<DatedBytes>) -> Result<String, All
     URL_SAFE_NO_PAD.encode(alloc, csr_bytes(finalized))
 }
 
-fn name_list(alloc: Global, book: &Book, row: &OrderRow) -> Result<Value, AllocError>
-    ensures { IfOk result (λ v. view v ≡ list (map (λ a. string (shown_name a.name)) (listed_rows book.now row.now))) }
-{
-    let names = order_names(alloc, book, row)?;
-    Ok(list_value(name_values(alloc, names.as_slice())?))
-}
-
 // Puts the members of an order that waits for the signing office.
 fn put_order(
     members: &mut Map<String, Value>,
@@ -172,8 +152,8 @@ fn put_order(
 {
     let csr = csr_text(alloc, &row.finalized);
     put_text(members, alloc, "csr", csr)?;
-    let names = name_list(alloc, book, row);
-    put_value(members, alloc, "names", names)?;
+    let listed = row.listed.as_slice();
+    put_each(members, alloc, "names", listed, book)?;
     put(members, alloc, "order", Value::from(row.number))
 }
 
@@ -186,17 +166,22 @@ fn order_value(alloc: Global, book: &Book, row: &OrderRow) -> Result<Value, Allo
     object_value(members, put)
 }
 
-fn waiting_orders(alloc: Global, book: &Book, moment: u64) -> Result<Vec<Value>, AllocError>
-    ensures { IfOk result (λ v. map (λ d. view d) v.items
-        ≡ map (order_work_document book.now) (filter (λ o. is_processing (swept_order moment book.now.authorizations o).status) book.now.orders)) }
-{
-    let mut work = Vec::new(alloc);
-    for row in book.orders().iter() {
-        if order_status(book, moment, row).is_processing() {
-            push_value(&mut work, order_value(alloc, book, row))?;
+// An order that waits for the signing office at a moment.
+impl<'a> ListItem<(&'a Book, u64)> for OrderRow {
+    ghost values = { λ by o. order_work_at by.1 by.0.now o };
+
+    fn push_shown(
+        &self,
+        shown: &mut Vec<Value>,
+        alloc: Global,
+        by: &(&'a Book, u64),
+    ) -> Result<(), AllocError> {
+        let (book, moment) = *by;
+        if !order_status(book, moment, self).is_processing() {
+            return Ok(());
         }
+        push_value(shown, order_value(alloc, book, self))
     }
-    Ok(work)
 }
 
 /// The orders that wait for the signing office at a moment.
@@ -204,6 +189,5 @@ pub(crate) fn order_work_value(alloc: Global, at: &At) -> Result<Value, AllocErr
     ensures { IfOk result (λ v. view v ≡ order_work at.now) }
 {
     let (book, moment) = at.parts();
-    let orders = waiting_orders(alloc, book, moment);
-    listing_value(alloc, "orders", orders)
+    listing_value(alloc, "orders", book.orders(), &(book, moment))
 }

@@ -4,6 +4,7 @@ use Rattle.serde_json.specs.Data.{string, boolean}
 use Rattle.serde_json.specs.View.{members_view}
 use Rattle.desk_replies.specs.Shown.{with_members}
 use Rattle.desk_replies.proofs.Results.{on_ok}
+use Rattle.desk_replies.proofs.ShownAuthorizations.{challenges-shown}
 use Rattle.desk_replies.proofs.ShownOrders.{and_put}
 use Rattle.desk_model.specs.Json.{list, when}
 use Rattle.desk_model.specs.Document.{challenge_document, identifier, shown_challenges}
@@ -22,7 +23,8 @@ returns c =
     (c.in_ok-put_value.ensures _ c.identifier_value-identifier.ensures
     ∙ ap (λ name. with_members ((codes "identifier", identifier name) ∷ []) (members_view c.put_text.new.members.entries)) c.base.ensures.base)
     (and_put _ _ _ _ (c.in_ok-put_text.ensures _ c.capped_moment_text-expires.ensures)
-    (c.in_ok-put_list.ensures _ c.shown_challenges-challenges.ensures
-    ∙ ap (λ rows. with_members ((codes "challenges", list (map (λ x. challenge_document c.args.policy.now (capped_challenge x)) (shown_challenges rows))) ∷ [])
-    (members_view c.args.members.now.entries)) c.as_slice.ensures)))))
+    (c.in_ok-put_each.ensures
+    ∙ ap (λ shown. with_members ((codes "challenges", list shown) ∷ []) (members_view c.args.members.now.entries))
+    (challenges-shown c.args.policy.now c.as_slice-challenges.result.now c.is_reported.result c.is_reported.ensures
+    ∙ ap (λ rows. map (λ x. challenge_document c.args.policy.now (capped_challenge x)) (shown_challenges rows)) c.as_slice-challenges.ensures))))))
     c.put_wildcard.ensures

@@ -1,7 +1,9 @@
 use Rattle.std.proofs.Common.{◌≡◌, ◌∙◌, ap, sym, subst, IfOk}
 use Rattle.std.specs.Prelude.{codes, ◌∷◌, []}
 use Rattle.desk_model.specs.Document.{order_work}
+use Rattle.std.specs.List.{flat_map}
 use Rattle.serde_json.specs.View.{view}
+use Rattle.desk_replies.specs.Shown.{order_work_at}
 use Rattle.desk_model.specs.Json.{document, list}
 use Rattle.desk_replies.proofs.ShownWork.{orders-waiting}
 use Rattle.desk_replies.proofs.work_documents.order_work_value.Goals as goal
@@ -9,6 +11,7 @@ use Rattle.desk_replies.proofs.work_documents.order_work_value.Goals as goal
 pub returns : goal.returns
 returns c =
     subst (λ d. IfOk c.listing_value.result (λ v. view v ≡ d))
-    (ap (λ work. document ((codes "orders", list work) ∷ [])) (sym (orders-waiting c.parts-moment.result.1 c.parts-moment.result.0.now))
+    (ap (λ rows. document ((codes "orders", list (flat_map (order_work_at c.parts-moment.result.1 c.parts-moment.result.0.now) rows)) ∷ [])) c.orders.ensures
+    ∙ ap (λ work. document ((codes "orders", list work) ∷ [])) (sym (orders-waiting c.parts-moment.result.1 c.parts-moment.result.0.now))
     ∙ ap order_work c.parts-moment.ensures)
-    (c.listing_value.ensures _ c.waiting_orders-orders.ensures)
+    c.listing_value.ensures
