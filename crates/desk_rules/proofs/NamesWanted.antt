@@ -1,11 +1,14 @@
 -- How many authorizations and tokens a new order asks for.
-use Rattle.std.proofs.Common.{◌≡◌, ℕ, ◌*◌, ◌≤◌, List, [], ◌∷◌, length, drop, Bool, true, false, cond, refl, arith}
+use Rattle.std.proofs.Common.{◌≡◌, ℕ, ◌*◌, ◌≤◌, List, [], ◌∷◌, ◌++◌, length, drop, Bool, true, false, cond, refl, arith}
+use Rattle.std.proofs.Common.{sym, ap, subst, ◌∙◌, append_assoc, length-drop}
 use Rattle.std.specs.Prelude.{sum_by}
 use Rattle.std.proofs.lemmas.List.Sums.{sum_by-cons}
 use Rattle.desk_model.specs.Authorization.{kinds_of}
 use Rattle.desk_model.specs.declared.objects.Kind.TheVariants.{Http01 as http_01, Dns01 as dns_01}
 use Rattle.desk_model.specs.Name.{Name}
-use Rattle.desk_model.specs.Rules.{wanted}
+use Rattle.desk_model.specs.declared.entry.Wanted.{Wanted}
+use Rattle.desk_model.specs.declared.entry.Wanted.TheVariants.{New as new}
+use Rattle.desk_model.specs.Rules.{pieces, wanted}
 use Rattle.desk_model.specs.Run.{count_tokens}
 use Rattle.desk_laws.proofs.Drawn.{length-pieces}
 
@@ -36,3 +39,38 @@ count_tokens-wanted (n ∷ ns) random =
       length-pieces (length (kinds_of n)) random,
       count_tokens-wanted ns (drop (16 * length (kinds_of n)) random),
     )
+
+-- there are bytes for the tokens of the next name
+pub next-tokens : (n : Name) (left ns : List Name) (random : List ℕ) (count : ℕ) → left ≡ n ∷ ns → count ≡ length (kinds_of n)
+    → 16 * count_tokens (wanted left random) ≤ length random → 16 * count ≤ length random
+next-tokens n left ns random count next counted enough =
+    subst (λ k. 16 * k ≤ length random) (sym counted)
+    (omega (
+      arith,
+      length-pieces (length (kinds_of n)) random,
+      subst (λ l. 16 * count_tokens (wanted l random) ≤ length random) next enough,
+    ))
+
+-- and behind them for those of the others
+pub next-enough : (n : Name) (left ns : List Name) (random rest : List ℕ) (count : ℕ) → left ≡ n ∷ ns → count ≡ length (kinds_of n)
+    → rest ≡ drop (16 * count) random → 16 * count_tokens (wanted left random) ≤ length random → 16 * count_tokens (wanted ns rest) ≤ length rest
+next-enough n left ns random rest count next counted cut enough =
+    subst (λ r. 16 * count_tokens (wanted ns r) ≤ length r) (sym (cut ∙ ap (λ k. drop (16 * k) random) counted))
+    (omega (
+      arith,
+      length-pieces (length (kinds_of n)) random,
+      length-drop (16 * length (kinds_of n)) random,
+      subst (λ l. 16 * count_tokens (wanted l random) ≤ length random) next enough,
+    ))
+
+-- the next name with its tokens
+pub wanted-next : (n : Name) (left ns : List Name) (random rest : List ℕ) (count : ℕ) (tokens : List (List ℕ)) (before after whole : List Wanted) →
+    left ≡ n ∷ ns → count ≡ length (kinds_of n) → rest ≡ drop (16 * count) random → tokens ≡ pieces (length (kinds_of n)) random
+    → after ≡ before ++ new n tokens ∷ [] → before ++ wanted left random ≡ whole → after ++ wanted ns rest ≡ whole
+wanted-next n left ns random rest count tokens before after whole next counted cut drawn pushed known =
+    ap (λ l. l ++ wanted ns rest) pushed
+    ∙ append_assoc before (new n tokens ∷ []) (wanted ns rest)
+    ∙ ap (λ ts. before ++ new n ts ∷ wanted ns rest) drawn
+    ∙ ap (λ r. before ++ new n (pieces (length (kinds_of n)) random) ∷ wanted ns r) (cut ∙ ap (λ k. drop (16 * k) random) counted)
+    ∙ sym (ap (λ l. before ++ wanted l random) next)
+    ∙ known

@@ -11,13 +11,14 @@ ghost use Rattle.desk_model.specs.Verdict.{given};
 use crate::accounts::unknown_key_verdict;
 use crate::fault::CoreFault;
 use crate::new_orders::new_order_verdict;
-use crate::payload::{Payload, new_order, object_in};
+use crate::payload::{Payload, new_order};
 use crate::targets::{
     account_target, authorization_target, certificate_target, challenge_target, finalize_target,
     new_account_target, order_target, orders_target,
 };
 use crate::verdicts::refused;
 use desk_model::{AccountRow, Jwk, Refusal, Signed, Target, Verdict};
+use json_values::value_of;
 use std::alloc::{AllocError, Global};
 use swept_rows::At;
 
@@ -139,7 +140,7 @@ pub fn judge_signed(
         return Ok(refused(alloc, Refusal::BadPublicKey));
     };
     let text = signed.payload.as_str();
-    let object = object_in(alloc, text)?;
-    let payload = Payload::new(text, &object);
+    let value = value_of(alloc, text)?;
+    let payload = Payload::new(text, &value);
     key_verdict(alloc, at, random, key, payload, signed.target)
 }

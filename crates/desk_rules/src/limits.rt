@@ -69,10 +69,10 @@ pub(crate) fn first_piece(random: &[u8]) -> [u8; 16]
     bytes
 }
 
-/// The random bytes behind the first 16.
-pub(crate) fn later_random(random: &[u8]) -> &[u8]
-    requires { 16 ≤ length random.now }
-    ensures { result.now ≡ drop 16 random.now }
+/// The random bytes behind so many pieces of 16.
+pub(crate) fn later_random(random: &[u8], pieces: usize) -> &[u8]
+    requires { 16 * pieces ≤ length random.now }
+    ensures { result.now ≡ drop (16 * pieces) random.now }
 {
-    &random[16..]
+    &random[16 * pieces..]
 }

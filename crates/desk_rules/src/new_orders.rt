@@ -74,7 +74,7 @@ fn push_tokens(tokens: &mut Vec<[u8; 16]>, kinds: &[Kind], random: &[u8]) -> Res
         return Ok(());
     };
     tokens.push(first_piece(random))?;
-    push_tokens(tokens, kinds, &random[16..])
+    push_tokens(tokens, kinds, later_random(random, 1))
 }
 
 // The tokens of a name, taken from the front of the random bytes.
@@ -97,7 +97,7 @@ fn wanted(alloc: Global, names: Vec<DnsName>, random: &[u8]) -> Result<Vec<Wante
     for name in names {
         let count = name.kinds().len();
         let tokens = Sequence::new(tokens_of(alloc, &name, rest)?);
-        rest = &rest[16 * count..];
+        rest = later_random(rest, count);
         found.push(Wanted::New { name, tokens })?;
     }
     Ok(found)
@@ -135,7 +135,7 @@ fn order_for(
     let count = count_tokens(names.as_slice());
     has_numbers(counters, names.len(), count)?;
     has_tokens(random, count)?;
-    let wanted = wanted(alloc, names, later_random(random))?;
+    let wanted = wanted(alloc, names, later_random(random, 1))?;
     Ok(Verdict::Orders(account, Sequence::new(wanted)))
 }
 

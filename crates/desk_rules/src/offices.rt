@@ -10,9 +10,8 @@ ghost use Rattle.desk_model.specs.declared.call.OfficeAsk.TheVariants.{KeyOf};
 use crate::challenge_rules::{expected, outcome_of, outcome_verdict};
 use crate::verdicts::refused;
 use desk_model::{
-    AccountRow, AuthorizationRow, AuthzStatus, Ending, Finding, LONGEST_CERTIFICATE, Listing, Move,
-    OfficeAsk, OrderProblem, OrderRow, OrderStatus, Refusal, Sequence, Shows, Verdict,
-    is_same_bytes,
+    AccountRow, AuthzStatus, Ending, Finding, LONGEST_CERTIFICATE, Listing, Move, OfficeAsk,
+    OrderProblem, OrderRow, Refusal, Sequence, Shows, Verdict, is_same_bytes,
 };
 use std::alloc::{AllocError, Global};
 use swept_rows::At;
@@ -49,16 +48,13 @@ fn has_certificate(row: &OrderRow, bytes: &[u8]) -> bool
 
 // The certificate of an order: the same again records nothing, another is refused where the order does not wait for
 // one.
-#[tactic(auto, unfolding(desk_model::specs::Verdict::check, desk_model::specs::Verdict::choose))]
-fn certify_verdict(
-    alloc: Global,
-    number: u64,
-    bytes: &Sequence<u8>,
-    row: &OrderRow,
-    status: OrderStatus,
-) -> Result<Verdict, AllocError>
-    ensures { IfOk result (λ v. v ≡ certify_verdict number bytes.now (record row.now { status = status })) }
+#[tactic(auto, unfolding(desk_model::specs::Verdict::check, desk_model::specs::Verdict::choose, desk_model::specs::Verdict::given))]
+fn certify(alloc: Global, at: &At, number: u64, bytes: &Sequence<u8>) -> Result<Verdict, AllocError>
+    ensures { IfOk result (λ v. v ≡ given (order_on at.now number) Refusal.NotFound (certify_verdict number bytes.now)) }
 {
+    let Some((row, status)) = at.order(number) else {
+        return Ok(refused(alloc, Refusal::NotFound));
+    };
     let certificate = bytes.as_slice();
     if certificate.is_empty() {
         return Ok(refused(alloc, Refusal::Malformed));
@@ -86,16 +82,18 @@ fn has_failed_for(row: &OrderRow, problem: &OrderProblem) -> bool
 }
 
 // Why an order fails: the same again records nothing, another is refused where the order waits for no certificate.
-#[tactic(auto, unfolding(desk_model::specs::Verdict::check, desk_model::specs::Verdict::choose))]
-fn fail_verdict(
+#[tactic(auto, unfolding(desk_model::specs::Verdict::check, desk_model::specs::Verdict::choose, desk_model::specs::Verdict::given))]
+fn fail_order(
     alloc: Global,
+    at: &At,
     number: u64,
     problem: &OrderProblem,
-    row: &OrderRow,
-    status: OrderStatus,
 ) -> Result<Verdict, AllocError>
-    ensures { IfOk result (λ v. v ≡ fail_verdict number problem.now (record row.now { status = status })) }
+    ensures { IfOk result (λ v. v ≡ given (order_on at.now number) Refusal.NotFound (fail_verdict number problem.now)) }
 {
+    let Some((row, status)) = at.order(number) else {
+        return Ok(refused(alloc, Refusal::NotFound));
+    };
     if !problem.is_allowed() {
         return Ok(refused(alloc, Refusal::Malformed));
     }
@@ -109,15 +107,13 @@ fn fail_verdict(
 }
 
 // The operator takes back an authorization; one that is revoked already stays as it is.
-#[tactic(auto, unfolding(desk_model::specs::Verdict::check, desk_model::specs::Verdict::choose))]
-fn revoke_authorization(
-    alloc: Global,
-    number: u64,
-    row: &AuthorizationRow,
-    status: AuthzStatus,
-) -> Verdict
-    ensures { result ≡ revoke_authorization number (record row.now { status = status }) }
+#[tactic(auto, unfolding(desk_model::specs::Verdict::check, desk_model::specs::Verdict::choose, desk_model::specs::Verdict::given))]
+fn revoke_authorization(alloc: Global, at: &At, number: u64) -> Verdict
+    ensures { result ≡ given (authorization_on at.now number) Refusal.NotFound (revoke_authorization number) }
 {
+    let Some((_row, status)) = at.authorization(number) else {
+        return refused(alloc, Refusal::NotFound);
+    };
     if is_revoked_status(status) {
         return Verdict::Answers(Shows::Authorization(number));
     }
@@ -144,10 +140,13 @@ fn is_revoked(row: &AccountRow) -> bool
 }
 
 // The operator ends an account; one that is revoked already stays as it is (RFC 8555, 7.1.6).
-#[tactic(auto, unfolding(desk_model::specs::Verdict::check, desk_model::specs::Verdict::choose))]
-fn revoke_account(alloc: Global, number: u64, row: &AccountRow) -> Verdict
-    ensures { result ≡ revoke_account number row.now }
+#[tactic(auto, unfolding(desk_model::specs::Verdict::check, desk_model::specs::Verdict::choose, desk_model::specs::Verdict::given))]
+fn revoke_account(alloc: Global, at: &At, number: u64) -> Verdict
+    ensures { result ≡ given (account_on at.now number) Refusal.NotFound (revoke_account number) }
 {
+    let Some(row) = at.account(number) else {
+        return refused(alloc, Refusal::NotFound);
+    };
     if is_revoked(row) {
         return Verdict::Answers(Shows::Account(number));
     }
@@ -155,55 +154,6 @@ fn revoke_account(alloc: Global, number: u64, row: &AccountRow) -> Verdict
         return refused(alloc, Refusal::Conflict);
     }
     Verdict::Moves(Move::AccountEnded(number, Ending::Revoked))
-}
-
-// A certificate for the order of a number.
-#[tactic(auto, unfolding(desk_model::specs::Verdict::given))]
-fn certify(alloc: Global, at: &At, number: u64, bytes: &Sequence<u8>) -> Result<Verdict, AllocError>
-    ensures { IfOk result (λ v. v ≡ given (order_on at.now number) Refusal.NotFound (certify_verdict number bytes.now)) }
-{
-    match at.order(number) {
-        Some((row, status)) => certify_verdict(alloc, number, bytes, row, status),
-        None => Ok(refused(alloc, Refusal::NotFound)),
-    }
-}
-
-// A problem of the order of a number.
-#[tactic(auto, unfolding(desk_model::specs::Verdict::given))]
-fn fail_order(
-    alloc: Global,
-    at: &At,
-    number: u64,
-    problem: &OrderProblem,
-) -> Result<Verdict, AllocError>
-    ensures { IfOk result (λ v. v ≡ given (order_on at.now number) Refusal.NotFound (fail_verdict number problem.now)) }
-{
-    match at.order(number) {
-        Some((row, status)) => fail_verdict(alloc, number, problem, row, status),
-        None => Ok(refused(alloc, Refusal::NotFound)),
-    }
-}
-
-// The operator takes back the authorization of a number.
-#[tactic(auto, unfolding(desk_model::specs::Verdict::given))]
-fn revoke_authorization_of(alloc: Global, at: &At, number: u64) -> Verdict
-    ensures { result ≡ given (authorization_on at.now number) Refusal.NotFound (revoke_authorization number) }
-{
-    match at.authorization(number) {
-        Some((row, status)) => revoke_authorization(alloc, number, row, status),
-        None => refused(alloc, Refusal::NotFound),
-    }
-}
-
-// The operator ends the account of a number.
-#[tactic(auto, unfolding(desk_model::specs::Verdict::given))]
-fn revoke_account_of(alloc: Global, at: &At, number: u64) -> Verdict
-    ensures { result ≡ given (account_on at.now number) Refusal.NotFound (revoke_account number) }
-{
-    match at.account(number) {
-        Some(row) => revoke_account(alloc, number, row),
-        None => refused(alloc, Refusal::NotFound),
-    }
 }
 
 // The key of the account of a number is asked for.
@@ -232,8 +182,8 @@ pub fn judge_office(alloc: Global, at: &At, ask: &OfficeAsk) -> Result<Verdict, 
         }
         OfficeAsk::Certify { order, bytes } => certify(alloc, at, *order, bytes),
         OfficeAsk::FailOrder { order, problem } => fail_order(alloc, at, *order, problem),
-        OfficeAsk::RevokeAuthz(number) => Ok(revoke_authorization_of(alloc, at, *number)),
-        OfficeAsk::RevokeAccount(number) => Ok(revoke_account_of(alloc, at, *number)),
+        OfficeAsk::RevokeAuthz(number) => Ok(revoke_authorization(alloc, at, *number)),
+        OfficeAsk::RevokeAccount(number) => Ok(revoke_account(alloc, at, *number)),
         OfficeAsk::ChallengeWork => Ok(Verdict::Answers(Shows::List(Listing::ChallengeWork))),
         OfficeAsk::OrderWork => Ok(Verdict::Answers(Shows::List(Listing::OrderWork))),
         OfficeAsk::KeyOf(number) => Ok(key_verdict(alloc, at, *number)),

@@ -6,11 +6,12 @@ ghost use Rattle.desk_model.specs.Payload.{is_deactivated_text, says_deactivated
 ghost use Rattle.desk_model.specs.Payload.{authorization_change, authorization_change_in, challenge_change, identifier_in};
 ghost use Rattle.desk_model.specs.Payload.{new_order, new_order_in, finalize};
 ghost use Rattle.serde_json.specs.Find.{get, as_bool, as_str};
+ghost use Rattle.serde_json.specs.Read.{read};
 
 use desk_model::{
     AccountChange, AuthorizationChange, ChallengeChange, Identifier, NewAccount, Sequence, Text,
 };
-use json_values::{text_of, texts_in, value_of};
+use json_values::{text_of, texts_in};
 use serde_json::Value;
 use std::alloc::{AllocError, Global};
 
@@ -22,29 +23,21 @@ pub(crate) struct Payload<'a> {
 }
 
 impl<'a> Payload<'a> {
-    /// A payload with the object that was read in its text.
-    pub(crate) fn new(text: &'a str, object: &'a Option<Value>) -> Payload<'a>
-        requires { option_map (λ v. view v) object.now ≡ object_in text.now }
+    /// A payload with the value that was read in its text, which may be another than an object.
+    #[tactic(auto, unfolding(desk_model::specs::Payload::object_in))]
+    pub(crate) fn new(text: &'a str, value: &'a Option<Value>) -> Payload<'a>
+        requires { option_map (λ v. view v) value.now ≡ read text.now }
         ensures text { result.text.now ≡ text.now }
         ensures object { option_map (λ v. view v.now) result.object ≡ object_in result.text.now }
     {
-        let object = object.as_ref();
-        Payload { text, object }
+        match value {
+            Some(value) if value.is_object() => Payload {
+                text,
+                object: Some(value),
+            },
+            _ => Payload { text, object: None },
+        }
     }
-}
-
-/// The object that a text holds, `None` where it holds no JSON, or something else.
-#[tactic(auto, unfolding(desk_model::specs::Payload::object_in))]
-pub(crate) fn object_in(alloc: Global, text: &str) -> Result<Option<Value>, AllocError>
-    ensures { IfOk result (λ o. option_map (λ v. view v) o ≡ object_in text.now) }
-{
-    let Some(value) = value_of(alloc, text)? else {
-        return Ok(None);
-    };
-    if value.is_object() {
-        return Ok(Some(value));
-    }
-    Ok(None)
 }
 
 // The texts of a member that may be left out, `None` where it is there in another form.
