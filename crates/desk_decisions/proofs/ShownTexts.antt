@@ -1,5 +1,5 @@
 -- The moments of rows that are found have texts.
-use Rattle.std.proofs.Common.{◌≡◌, ℕ, ◌≤◌, List, Option, Some, None, IfSome, Result, Ok, IfOk, OnOk, ◌∙◌, ap, refl, subst, sym}
+use Rattle.std.proofs.Common.{◌≡◌, ℕ, ◌≤◌, List, Option, Some, None, IfSome, Result, Ok, Err, IfOk, OnOk, ◌∙◌, ap, refl, subst, sym}
 use Rattle.std.specs.Prelude.{◌==◌, find, is_some, Bool}
 use Rattle.std.specs.Option.{option_map}
 use Rattle.desk_laws.proofs.Finds.{each_found}
@@ -40,6 +40,11 @@ ok_if P r x is h = subst (λ r. IfOk r P) is h
 -- and so does what holds where there is one
 pub ok_on : {X E P : Type 0} (r : Result X E) (x : X) → r ≡ Ok x → OnOk r P → P
 ok_on {X} {E} {P} r x is h = subst (λ r. OnOk r P) is h
+
+-- what follows of two things that hold of a value
+pub ok_both : {X E : Type 0} {P Q S : X → Type 0} (r : Result X E) → ((x : X) → P x → Q x → S x) → IfOk r P → IfOk r Q → IfOk r S
+ok_both (Ok x) f p q = f x p q
+ok_both (Err e) f p q = tt
 
 -- what is shown of one that is found is shown of what was looked for
 pub shown_found : {X : Type 0} (f : X → Reply) (P : X → Type 0) (found on : Option X) (r : Reply) → found ≡ on → IfSome on P

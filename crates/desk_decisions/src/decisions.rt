@@ -151,8 +151,7 @@ fn act_with_nonce(
         (verdict_reply true (effects m (swept m book.now) (entries_of verdict)) verdict)) }
 {
     let reply = act(alloc, book, recording, verdict)?;
-    let reply = with_nonce(alloc, book.meta().counters.nonces + 1, random, reply)?;
-    Ok(reply)
+    with_nonce(alloc, book.meta().counters.nonces + 1, random, reply)
 }
 
 // A signed request whose nonce was open: the nonce is spent and a fresh one issued, and the verdict is carried out.
@@ -215,8 +214,7 @@ fn spent(
 {
     has_room(book.meta().counters.nonces)?;
     let verdict = signed_verdict(alloc, book, moment, random, signed)?;
-    let outcome = passed(alloc, book, moment, random, serial, verdict)?;
-    Ok(outcome)
+    passed(alloc, book, moment, random, serial, verdict)
 }
 
 // A signed request (RFC 8555, 6.5): refused with a fresh nonce where its nonce is not open.
@@ -261,8 +259,7 @@ fn recorded(
 {
     let mut recording = Recording::begin(alloc, book, moment)?;
     let reply = act(alloc, book, &mut recording, verdict);
-    let outcome = outcome_of(book, recording, reply)?;
-    Ok(outcome)
+    outcome_of(book, recording, reply)
 }
 
 // A reply to a request that records nothing.
@@ -292,10 +289,7 @@ fn settled(alloc: Global, book: &Book, moment: u64, verdict: Verdict) -> Result<
             let reply = show(alloc, book, moment, shows)?;
             Ok(unrecorded(alloc, reply))
         }
-        verdict => {
-            let outcome = recorded(alloc, book, moment, verdict)?;
-            Ok(outcome)
-        }
+        verdict => recorded(alloc, book, moment, verdict),
     }
 }
 

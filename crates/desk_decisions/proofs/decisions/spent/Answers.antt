@@ -1,18 +1,28 @@
 use Rattle.std.proofs.Common.{◌<◌, subst}
-use Rattle.desk_model.specs.declared.rows.Meta.{Meta}
-use Rattle.desk_decisions.specs.Outcomes.{Passes}
-use Rattle.desk_decisions.proofs.decisions.spent.Goals as goal
+use Rattle.std.specs.Prelude.{MatchResult}
 use Rattle.desk_model.specs.Limits.{last_number}
+use Rattle.desk_model.specs.declared.rows.Meta.{Meta}
+use Rattle.desk_decisions.specs.Outcomes.{IsPassedFault, Passes}
+use Rattle.desk_decisions.proofs.Faults.{passed_fault, passed_or_fault}
+use Rattle.desk_decisions.proofs.decisions.spent.Goals as goal
+use Rattle.desk_decisions.proofs.decisions.spent.Goals.{After-passed}
+
+-- a number is left for the nonce
+nonces_left : (c : After-passed) → c.args.book.now.meta.counters.nonces < last_number
+nonces_left c = subst (λ (x : Meta). x.counters.nonces < last_number) c.meta.ensures c.in_ok-has_room.ensures
 
 pub returns : goal.returns
 returns c =
-    subst (λ v. Passes c.args.moment c.args.book.now c.args.random.now c.args.serial v c.in_ok-outcome.outcome.changes.items
-    c.in_ok-outcome.outcome.reply) c.in_ok-verdict.ensures.judged.0
-    (record {
-      recorded = c.in_ok-outcome.ensures.changes;
-      replies = c.in_ok-outcome.ensures.reply;
-      nonces = subst (λ (x : Meta). x.counters.nonces < last_number) c.meta.ensures c.in_ok-has_room.ensures;
+    subst (λ v. MatchResult c.passed.result (λ o. Passes c.args.moment c.args.book.now c.args.random.now c.args.serial v o.changes.items o.reply)
+    (IsPassedFault c.args.book.now c.args.random.now v)) c.in_ok-verdict.ensures.judged.0
+    (passed_or_fault c.passed.result
+    (λ o made answered enough. record {
+      recorded = made;
+      replies = answered;
+      nonces = nonces_left c;
       numbers = c.in_ok-verdict.ensures.judged.1;
       tokens = c.in_ok-verdict.ensures.judged.2;
-      bytes = c.in_ok-outcome.ensures.bytes;
+      bytes = enough;
     })
+    (passed_fault c.args.book.now c.args.random.now c.in_ok-verdict.verdict (nonces_left c) c.in_ok-verdict.ensures.judged.1)
+    c.passed.ensures.changes c.passed.ensures.reply c.passed.ensures.bytes c.passed.ensures.fault)
