@@ -11,7 +11,11 @@ use Rattle.desk_replies.proofs.work_documents.challenge_work_value.Goals as goal
 pub returns : goal.returns
 returns c =
     subst (λ d. IfOk c.listing_value.result (λ v. view v ≡ d))
-    (ap (λ rows. document ((codes "challenges", list (flat_map (work_at c.parts-moment.result.1 c.parts-moment.result.0.now) rows)) ∷ [])) c.authorizations.ensures
+    (ap (λ rows. document ((
+      codes "challenges",
+      list
+          (flat_map (work_at c.parts-moment.result.1 c.parts-moment.result.0.now) rows),
+    ) ∷ [])) c.authorizations.ensures
     ∙ ap (λ work. document ((codes "challenges", list work) ∷ [])) (sym (challenges-waiting c.parts-moment.result.1 c.parts-moment.result.0.now))
     ∙ ap challenge_work c.parts-moment.ensures)
     c.listing_value.ensures

@@ -21,5 +21,6 @@ returns c =
     (c.in_ok-put_each.ensures
     ∙ ap (λ shown. with_members ((codes "names", list shown) ∷ []) (members_view c.put_text.new.members.entries))
     (listed-names c.args.book.now.authorizations c.as_slice-listed.result.now
-    ∙ ap (λ places. map (λ a. string (shown_name a.name)) (rows_of c.args.book.now.authorizations (numbers_of places))) c.as_slice-listed.ensures)) (c.in_ok-put_text.ensures _ c.csr_text-csr.ensures)))
+    ∙ ap (λ places. map (λ a. string (shown_name a.name)) (rows_of c.args.book.now.authorizations (numbers_of places))) c.as_slice-listed.ensures))
+    (c.in_ok-put_text.ensures _ c.csr_text-csr.ensures)))
     c.put.ensures.ok
