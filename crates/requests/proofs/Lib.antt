@@ -4,7 +4,6 @@ pub mod Finding
 pub mod Resources
 pub mod Inserted
 pub mod Leads
-pub mod Members
 pub mod Places
 pub mod Seeking
 pub mod Spelled

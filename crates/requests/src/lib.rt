@@ -2,7 +2,6 @@
 #![tactic(auto)]
 
 mod envelopes;
-mod jwk;
 mod lines;
 mod offices;
 mod request;

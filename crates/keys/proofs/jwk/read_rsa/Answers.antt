@@ -2,8 +2,8 @@ use Rattle.std.proofs.Common.{sym}
 use Rattle.std.specs.Prelude.{codes}
 use Rattle.serde_json.specs.View.{view}
 use Rattle.desk_model.specs.Keys.{rsa}
-use Rattle.requests.proofs.Members.{is_number_of_member, text_of_key}
-use Rattle.requests.proofs.jwk.read_rsa.Goals as goal
+use Rattle.keys.proofs.Members.{is_number_of_member, text_of_key}
+use Rattle.keys.proofs.jwk.read_rsa.Goals as goal
 
 pub new-requires : goal.new-requires
 new-requires c =
