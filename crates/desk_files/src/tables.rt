@@ -77,7 +77,8 @@ pub(crate) fn begin<A: Alter>(
         (λ un. doubt (state A.Store conn).is_clean ≤ doubt (state A.Store un.conn).is_clean) }
     ensures opened { first ≡ None → IfOk result (λ store. HasCleanDisk (state A.Store store.conn) → (T : Tables) → HasDesk (state A.Store conn) T
         → Keeps (store_sight A.Store) store T) }
-    ensures unopened { first ≡ None → IfErr result (λ un. HasCleanDisk (state A.Store un.conn) → (T : Tables) → HasDesk (state A.Store conn) T → IsOfStorage un.fault) }
+    ensures unopened { first ≡ None → IfErr result (λ un. HasCleanDisk (state A.Store un.conn) → (T : Tables) → HasDesk (state A.Store conn) T
+        → IsOfStorage un.fault) }
     ensures left { first ≡ None → IfErr result (λ un. HasCleanDisk (state A.Store un.conn) → IsTrue (state A.Store conn).is_open → (trees : Trees)
         → (state A.Store un.conn).may_leave trees → trees ≡ (state A.Store conn).committed.trees) }
     ensures made { IfSome first (λ it. IfOk result (λ store. HasCleanDisk (state A.Store store.conn) → (state A.Store conn).now.schema ≡ no_schema
