@@ -1,11 +1,9 @@
-//! A desk with many orders: the rows that a call touches.
+//! A desk with many orders, made by requests: the rows that a call touches.
+use crate::worked_replies::new_desk;
 use desk_book::{Book, Row, Table};
-use desk_loading::touched_book;
-use desk_model::{
-    AccountRow, AccountStatus, Ask, AuthorizationRow, AuthzStatus, Call, ChallengeRow,
-    ChallengeStatus, Clock, Counters, DnsName, Jwk, Kind, Listed, Meta, OrderRow, OrderStatus,
-    Policy, Sequence, Signed, Target, Text,
-};
+use desk_calls::{Desk, Memory};
+use desk_model::{Ask, AuthorizationRow, Call, Jwk, Sequence, Signed, Target, Text};
+use desk_storage::Storage;
 use std::alloc::Global;
 use std::process::Abort;
 use std::test::Fail;
@@ -14,138 +12,66 @@ const KEY: &str = r#"{"crv":"P-256","kty":"EC","x":"AQ","y":"Ag"}"#;
 
 const ORDERS: u64 = 1000;
 
-// What was made, for which there was memory.
-fn made<T, E: Drop>(rt: &impl Abort, value: Result<T, E>) -> T {
-    value.ok().expect(rt, "memory")
+// A call at 0, with the random bytes of an order for one name.
+fn call(alloc: Global, ask: Ask) -> Result<Call, Fail> {
+    let mut random = Vec::new(alloc);
+    random.extend_from_slice(&[0u8; 48])?;
+    Ok(Call {
+        at: 0,
+        random: Sequence::new(random),
+        ask,
+    })
 }
 
-fn key(rt: &impl Abort, alloc: Global) -> Jwk {
-    let text = made(rt, String::from_str(alloc, KEY));
-    Jwk::from_canonical(text).expect(rt, "a key")
-}
-
-fn account(rt: &impl Abort, alloc: Global) -> AccountRow {
-    AccountRow {
-        number: 1,
-        key: key(rt, alloc),
-        contacts: Sequence::new(Vec::new(alloc)),
-        opened: 0,
-        ended: None,
-        status: AccountStatus::Valid,
-    }
-}
-
-fn challenge(number: u64, kind: Kind) -> ChallengeRow {
-    ChallengeRow {
-        number,
-        kind,
-        token: [0; 16],
-        answered: None,
-        reported: None,
-        status: ChallengeStatus::Pending,
-    }
-}
-
-fn name(rt: &impl Abort, alloc: Global) -> DnsName {
-    let base = Text::new(made(rt, String::from_str(alloc, "a.example")));
-    DnsName::new(base, false).expect(rt, "a name")
-}
-
-fn authorization(rt: &impl Abort, alloc: Global, number: u64) -> AuthorizationRow {
-    let mut challenges = Vec::new(alloc);
-    made(rt, challenges.push(challenge(number, Kind::Http01)));
-    let second = challenge(number.saturating_add(ORDERS), Kind::Dns01);
-    made(rt, challenges.push(second));
-    AuthorizationRow {
-        number,
-        account: 1,
-        name: name(rt, alloc),
-        made: 0,
-        expires: 2592000,
-        ended: None,
-        challenges: Sequence::new(challenges),
-        status: AuthzStatus::Pending,
-    }
-}
-
-fn order(rt: &impl Abort, alloc: Global, number: u64) -> OrderRow {
-    let mut listed = Vec::new(alloc);
-    let only = Listed {
-        place: 1,
-        authorization: number,
+// A request of the account.
+fn request(
+    rt: &impl Abort,
+    alloc: Global,
+    target: Target,
+    nonce: Option<Text>,
+    payload: String,
+) -> Result<Call, Fail> {
+    let key = Jwk::from_canonical(String::from_str(alloc, KEY)?);
+    let signed = Signed {
+        target,
+        key: Ok(key.expect(rt, "a key")),
+        nonce,
+        payload: Text::new(payload),
     };
-    made(rt, listed.push(only));
-    OrderRow {
-        number,
-        account: 1,
-        made: 0,
-        expires: 604800,
-        listed: Sequence::new(listed),
-        finalized: None,
-        certified: None,
-        failed: None,
-        status: OrderStatus::Pending,
-    }
+    call(alloc, Ask::Signed(signed))
 }
 
-fn meta(rt: &impl Abort, alloc: Global) -> Meta {
-    let policy = Policy::new(alloc, "https://ca.example", 3600, 604800, 2592000);
-    Meta {
-        policy: made(rt, policy).expect(rt, "a policy"),
-        counters: Counters {
-            clock: Clock::at(0),
-            nonces: 0,
-            accounts: 1,
-            orders: ORDERS,
-            authorizations: ORDERS,
-            challenges: 2000,
-        },
-    }
+// The nonce of the reply to a call.
+fn next_nonce(rt: &impl Abort, alloc: Global, desk: &mut Desk<Memory>, call: Call) -> Option<Text> {
+    let reply = desk.answer(alloc, &call).ok().expect(rt, "a reply");
+    drop(call);
+    reply.nonce
 }
 
-fn accounts(rt: &impl Abort, alloc: Global) -> Table<AccountRow> {
-    let mut accounts = Table::new(alloc);
-    made(rt, accounts.put(account(rt, alloc)));
-    accounts
+// A new account at a new desk, and the nonce of its next request.
+fn open_account(
+    rt: &impl Abort,
+    alloc: Global,
+    desk: &mut Desk<Memory>,
+) -> Result<Option<Text>, Fail> {
+    let asked = call(alloc, Ask::NewNonce { head: false })?;
+    let nonce = next_nonce(rt, alloc, desk, asked);
+    let payload = String::from_str(alloc, "{}")?;
+    let asked = request(rt, alloc, Target::NewAccount, nonce, payload)?;
+    Ok(next_nonce(rt, alloc, desk, asked))
 }
 
-fn authorizations(rt: &impl Abort, alloc: Global) -> Table<AuthorizationRow> {
-    let mut authorizations = Table::new(alloc);
+// The orders of one account, each for one name of its own.
+fn make_orders(rt: &impl Abort, alloc: Global, desk: &mut Desk<Memory>) -> Result<(), Fail> {
+    let mut nonce = open_account(rt, alloc, desk)?;
     for number in 1..ORDERS + 1 {
-        made(rt, authorizations.put(authorization(rt, alloc, number)));
+        let payload = format!(in alloc;
+            "{{\"identifiers\":[{{\"type\":\"dns\",\"value\":\"n{number}.example\"}}]}}"
+        )?;
+        let asked = request(rt, alloc, Target::NewOrder, nonce, payload)?;
+        nonce = next_nonce(rt, alloc, desk, asked);
     }
-    authorizations
-}
-
-fn orders(rt: &impl Abort, alloc: Global) -> Table<OrderRow> {
-    let mut orders = Table::new(alloc);
-    for number in 1..ORDERS + 1 {
-        made(rt, orders.put(order(rt, alloc, number)));
-    }
-    orders
-}
-
-// A desk of one account, which has many orders, each for one name.
-fn desk(rt: &impl Abort, alloc: Global) -> Book {
-    let meta = meta(rt, alloc);
-    let accounts = accounts(rt, alloc);
-    let authorizations = authorizations(rt, alloc);
-    let orders = orders(rt, alloc);
-    Book::of_tables(meta, Table::new(alloc), accounts, authorizations, orders)
-}
-
-// A request of the account to an order.
-fn post_order(rt: &impl Abort, alloc: Global, number: u64) -> Call {
-    Call {
-        at: 1,
-        random: Sequence::new(Vec::new(alloc)),
-        ask: Ask::Signed(Signed {
-            target: Target::Order(number),
-            key: Ok(key(rt, alloc)),
-            nonce: None,
-            payload: Text::new(String::new(alloc)),
-        }),
-    }
+    Ok(())
 }
 
 // How many challenges an authorization has, none where there is no authorization.
@@ -170,32 +96,19 @@ fn counts(book: &Book) -> [usize; 4] {
     ]
 }
 
-// How many a call touches.
-fn touched(alloc: Global, desk: &mut Book, call: &Call) -> Option<[usize; 4]> {
-    match touched_book(alloc, desk, call) {
-        Ok(part) => Some(counts(&part)),
-        Err(_) => None,
-    }
-}
-
-// How many a request to the first order touches.
-fn touched_by_request(rt: &impl Abort, alloc: Global, desk: &mut Book) -> Option<[usize; 4]> {
-    let call = post_order(rt, alloc, 1);
-    let touched = touched(alloc, desk, &call);
-    drop(call);
-    touched
-}
-
-// The same, of a new desk.
-fn touched_of_thousand(rt: &impl Abort, alloc: Global) -> Option<[usize; 4]> {
-    let mut desk = desk(rt, alloc);
-    let touched = touched_by_request(rt, alloc, &mut desk);
-    drop(desk);
-    touched
+// How many the desk has, and how many of them a request to its first order touches.
+fn counts_of_thousand(rt: &impl Abort, alloc: Global) -> Result<[[usize; 4]; 2], Fail> {
+    let mut desk = new_desk(rt, alloc)?;
+    make_orders(rt, alloc, &mut desk)?;
+    let asked = request(rt, alloc, Target::Order(1), None, String::new(alloc))?;
+    let mut store = desk.close();
+    let touched = store.load_part(alloc, &asked).ok().expect(rt, "rows");
+    Ok([counts(store.book()), counts(&touched)])
 }
 
 #[test]
 fn one_order_of_a_thousand_is_touched(rt: HostRuntime) -> Result<(), Fail> {
-    assert!(rt; touched_of_thousand(&rt, rt.alloc()) == Some([1, 1, 2, 1]));
+    let counts = counts_of_thousand(&rt, rt.alloc())?;
+    assert!(rt; counts == [[1000, 1000, 2, 1], [1, 1, 2, 1]]);
     Ok(())
 }
