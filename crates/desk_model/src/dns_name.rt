@@ -13,7 +13,7 @@ use std::alloc::{AllocError, Global};
 use std::marker::Model;
 
 /// A domain name as an order asks for it (RFC 8555, 7.1.3): a base name, and whether `*.` stands before it.
-#[derive(Drop, PartialEq, Eq, PartialOrd, Ord)]
+#[derive(Drop)]
 pub struct DnsName {
     base: Text,
     wildcard: bool,

@@ -10,7 +10,7 @@ use std::alloc::AllocError;
 use std::marker::Model;
 
 /// A key, which contracts see as its canonical text (RFC 7638, 3).
-#[derive(Drop, PartialEq, Eq, PartialOrd, Ord)]
+#[derive(Drop)]
 pub struct Jwk {
     canonical: Text,
 }
