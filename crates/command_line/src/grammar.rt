@@ -61,26 +61,19 @@ fn command<'a>(alloc: Global, word: &'static Word) -> Result<Command<'a>, AllocE
     Ok(command)
 }
 
-// The commands of all words.
-fn commands<'a>(alloc: Global) -> Result<Vec<Command<'a>>, AllocError> {
-    let mut commands = Vec::new(alloc);
-    for word in words() {
-        commands.push(command(alloc, word)?)?;
-    }
-    Ok(commands)
-}
-
 /// The program's words, each with its arguments and its help.
 ///
 /// # Errors
 ///
 /// Where a growth was refused.
 pub(crate) fn desk<'a>(alloc: Global) -> Result<Command<'a>, AllocError> {
-    let commands = commands(alloc)?;
-    Command::new(alloc, "desk")
+    let mut desk = Command::new(alloc, "desk")
         .about("The order desk of an ACME certificate authority (RFC 8555)")
         .after_help(help::DESK)
         .version(help::VERSION)
-        .subcommand_required(true)
-        .subcommands(commands)
+        .subcommand_required(true);
+    for word in words() {
+        desk = desk.subcommand(command(alloc, word)?)?;
+    }
+    Ok(desk)
 }
