@@ -222,17 +222,24 @@ impl Book {
 fn row_with_key<'a>(accounts: &'a Table<AccountRow>, key: &str) -> Option<&'a AccountRow>
     ensures { option_copied result ≡ find (λ a. bytes_eq a.key key.now) accounts.now }
 {
-    accounts.iter().find(|row| row.key.canonical() == key)
+    for row in accounts.iter() {
+        if row.key.canonical() == key {
+            return Some(row);
+        }
+    }
+    None
 }
 
 /// Whether a challenge is one of an authorization's.
 pub fn has_challenge(row: &AuthorizationRow, challenge: u64) -> bool
     ensures { result ≡ has_row challenge row.now }
 {
-    row.challenges
-        .as_slice()
-        .iter()
-        .any(|row| challenge == row.number)
+    for row in row.challenges.as_slice() {
+        if row.number == challenge {
+            return true;
+        }
+    }
+    false
 }
 
 fn row_with_challenge(
@@ -241,9 +248,12 @@ fn row_with_challenge(
 ) -> Option<&AuthorizationRow>
     ensures { option_copied result ≡ find (has_row challenge) authorizations.now }
 {
-    authorizations
-        .iter()
-        .find(|row| has_challenge(row, challenge))
+    for row in authorizations.iter() {
+        if has_challenge(row, challenge) {
+            return Some(row);
+        }
+    }
+    None
 }
 
 impl Clone for Book {

@@ -52,10 +52,7 @@ fn reported_status(report: Report, answered: Option<u64>) -> ChallengeStatus
 fn is_proved(row: &AuthorizationRow) -> bool
     ensures { result ≡ is_proved row.now }
 {
-    row.challenges
-        .as_slice()
-        .iter()
-        .any(|row| has_good_report(row))
+    row.challenges.as_slice().iter().any(has_good_report)
 }
 
 fn has_good_report(row: &ChallengeRow) -> bool
@@ -101,13 +98,23 @@ fn lasting_status(moment: u64, row: &AuthorizationRow) -> AuthzStatus
 fn any_over(statuses: &[AuthzStatus]) -> bool
     ensures { result ≡ list_any is_over statuses.now }
 {
-    statuses.iter().any(|status| status.is_over())
+    for status in statuses {
+        if status.is_over() {
+            return true;
+        }
+    }
+    false
 }
 
 fn all_valid(statuses: &[AuthzStatus]) -> bool
     ensures { result ≡ list_all is_valid statuses.now }
 {
-    statuses.iter().all(|status| status.is_valid())
+    for status in statuses {
+        if !status.is_valid() {
+            return false;
+        }
+    }
+    true
 }
 
 // Whether an order can lead to no certificate any more: it failed, is past its `expires`, or lost an authorization.
