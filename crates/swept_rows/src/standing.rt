@@ -33,8 +33,10 @@ pub fn order_status(book: &Book, moment: u64, row: &OrderRow) -> OrderStatus
 pub fn challenge_of(row: &AuthorizationRow, number: u64) -> Option<&ChallengeRow>
     ensures { option_copied result ≡ challenge_of number row.now }
 {
-    row.challenges
-        .as_slice()
-        .iter()
-        .find(|challenge| number == challenge.number)
+    for challenge in row.challenges.as_slice() {
+        if challenge.number == number {
+            return Some(challenge);
+        }
+    }
+    None
 }

@@ -30,7 +30,12 @@ fn is_overdue_number(moment: u64, rows: &Table<AuthorizationRow>, number: u64) -
 fn any_overdue(moment: u64, rows: &Table<AuthorizationRow>, listed: &[Listed]) -> bool
     ensures { result ≡ list_any (λ l. holds (is_overdue moment) (authorization_numbered l.authorization rows.now)) listed.now }
 {
-    listed.iter().any(|listed| is_overdue_number(moment, rows, listed.authorization))
+    for one in listed {
+        if is_overdue_number(moment, rows, one.authorization) {
+            return true;
+        }
+    }
+    false
 }
 
 fn lists_overdue(moment: u64, rows: &Table<AuthorizationRow>, row: &OrderRow) -> bool
