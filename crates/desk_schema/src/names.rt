@@ -43,7 +43,12 @@ fn uses(schema: &Schema, name: &str) -> bool
 fn uses_one(schema: &Schema, names: &[&str]) -> bool
     ensures { result ≡ list_any (λ name. is_used schema.now name.now) names.now }
 {
-    names.iter().any(|name| uses(schema, name))
+    for name in names {
+        if uses(schema, name) {
+            return true;
+        }
+    }
+    false
 }
 
 /// Whether a table, an index or a view has a name that a table or an index of a desk has, in any case of its ASCII letters.
@@ -64,7 +69,12 @@ fn has_index(schema: &Schema, name: &str) -> bool
 fn has_each(schema: &Schema, names: &[&str]) -> bool
     ensures { result ≡ list_all (λ name. is_some (index_named schema.now name.now)) names.now }
 {
-    names.iter().all(|name| has_index(schema, name))
+    for name in names {
+        if !has_index(schema, name) {
+            return false;
+        }
+    }
+    true
 }
 
 /// Whether there is an index of each name that an index of a desk has.

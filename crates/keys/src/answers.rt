@@ -62,9 +62,12 @@ pub fn dns_matches(records: &[Text], expected: &str) -> bool
 fn has_text(records: &[Text], expected: &str) -> bool
     ensures { result ≡ list_any (λ r. bytes_eq r expected.now) records.now }
 {
-    records
-        .iter()
-        .any(|text| is_same_text(text.as_str(), expected))
+    for text in records {
+        if is_same_text(text.as_str(), expected) {
+            return true;
+        }
+    }
+    false
 }
 
 // The bytes without the blanks at their end.
