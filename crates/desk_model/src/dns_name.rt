@@ -114,7 +114,7 @@ pub fn is_well_formed(name: &str) -> bool
 fn has_labels(name: &str) -> bool
     ensures { result ≡ list_all is_label (labels_of name.now) }
 {
-    name.split('.').all(|label| is_allowed_label(label))
+    name.split('.').all(is_allowed_label)
 }
 
 // Whether there are two parts or more.
@@ -155,11 +155,18 @@ fn is_label_len(len: usize) -> bool
     (1..=63).contains(&len)
 }
 
+// Whether a byte may stand in a label.
+fn is_label_byte(byte: u8) -> bool
+    ensures { result ≡ is_label_byte byte }
+{
+    byte.is_ascii_lowercase() || byte.is_ascii_digit() || byte == b'-'
+}
+
 // Whether each byte may stand in a label.
 fn has_label_bytes(label: &str) -> bool
     ensures { result ≡ list_all is_label_byte label.now }
 {
-    label.bytes().all(|b| b.is_ascii_lowercase() || b.is_ascii_digit() || b == b'-')
+    label.bytes().all(is_label_byte)
 }
 
 // Whether a hyphen stands at an end.

@@ -174,10 +174,16 @@ fn is_number_len(len: usize) -> bool
     (1..=4096).contains(&len)
 }
 
+// Whether a byte is a character of base64url.
+fn is_base64url_byte(byte: u8) -> bool
+    ensures { result ≡ is_base64url_byte byte }
+{
+    byte.is_ascii_alphanumeric() || byte == b'-' || byte == b'_'
+}
+
 /// Whether each character of a text is one of base64url (RFC 4648, 5).
 pub fn has_base64url_bytes(text: &str) -> bool
     ensures { result ≡ list_all is_base64url_byte text.now }
 {
-    text.bytes()
-        .all(|b| b.is_ascii_alphanumeric() || b == b'-' || b == b'_')
+    text.bytes().all(is_base64url_byte)
 }
