@@ -17,6 +17,7 @@ pub mod Readings
 pub mod Results
 pub mod Selecting
 pub mod ShownRows
+pub mod SpelledColumns
 pub mod StatusTests
 pub mod SureTexts
 pub mod TableFailures

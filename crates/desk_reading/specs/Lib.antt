@@ -4,6 +4,7 @@ pub mod Fitting
 pub mod Format
 pub mod Heads
 pub mod Held
+pub mod Readable
 pub mod Selecting
 pub mod Shown
 pub mod Spelled

@@ -3,6 +3,7 @@
 
 mod accounts;
 mod authorizations;
+mod cells;
 mod columns;
 mod fault;
 mod format;
@@ -11,11 +12,11 @@ mod nonces;
 mod orders;
 mod owned;
 mod params;
+mod parents;
 mod query;
 mod rows;
 mod stored;
 mod tables;
-mod values;
 
 pub use accounts::{account_above, accounts_numbered, accounts_with_key, all_accounts};
 pub use authorizations::{
