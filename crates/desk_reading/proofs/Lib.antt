@@ -14,10 +14,10 @@ pub mod LookUpRows
 pub mod NestLemmas
 pub mod ReadValues
 pub mod Readings
+pub mod ReadsChain
 pub mod Results
 pub mod Selecting
 pub mod ShownRows
-pub mod SpelledColumns
 pub mod StatusTests
 pub mod SureTexts
 pub mod TableFailures

@@ -3,7 +3,6 @@
 
 mod accounts;
 mod authorizations;
-mod cells;
 mod columns;
 mod fault;
 mod format;
@@ -17,6 +16,7 @@ mod query;
 mod rows;
 mod stored;
 mod tables;
+mod values;
 
 pub use accounts::{account_above, accounts_numbered, accounts_with_key, all_accounts};
 pub use authorizations::{
