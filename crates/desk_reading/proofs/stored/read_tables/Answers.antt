@@ -1,4 +1,3 @@
-use Rattle.sqlite.specs.Held.{state}
 use Rattle.desk_reading.specs.Fitting.{FitsAccount, FitsAuthorization, FitsChallenge, FitsListed, FitsMeta, FitsNonce, FitsOrder}
 use Rattle.desk_reading.specs.Spelled.{account_in, authorization_in, challenge_in, listed_in, meta_in, nonce_in, order_in}
 use Rattle.desk_reading.specs.Texts.{select_accounts, select_authorizations, select_challenges, select_listed, select_meta, select_nonces, select_orders}
