@@ -41,7 +41,9 @@ returns g c =
     c.then_read-orders.ensures.shown c.then_read-orders.ensures.fails c.then_read-orders.ensures.unchanged c.then_read-orders.ensures.asks in
     let listed = reads_more g.S.Store _ _ select_listed listed_in FitsListed old c.then_read-orders.new.conn c.then_read-listed.new.conn _ _ orders
     c.then_read-listed.ensures.shown c.then_read-listed.ensures.fails c.then_read-listed.ensures.unchanged c.then_read-listed.ensures.asks in
-    let authorizations = reads_more g.S.Store _ _ select_authorizations authorization_in FitsAuthorization old c.then_read-listed.new.conn c.then_read-authorizations.new.conn _ _ listed
-    c.then_read-authorizations.ensures.shown c.then_read-authorizations.ensures.fails c.then_read-authorizations.ensures.unchanged c.then_read-authorizations.ensures.asks in
+    let authorizations = reads_more g.S.Store _ _ select_authorizations authorization_in FitsAuthorization old c.then_read-listed.new.conn
+    c.then_read-authorizations.new.conn _ _ listed
+    c.then_read-authorizations.ensures.shown c.then_read-authorizations.ensures.fails c.then_read-authorizations.ensures.unchanged
+    c.then_read-authorizations.ensures.asks in
     reads_more g.S.Store _ _ select_challenges challenge_in FitsChallenge old c.then_read-authorizations.new.conn c.then_read.new.conn _ _ authorizations
     c.then_read.ensures.shown c.then_read.ensures.fails c.then_read.ensures.unchanged c.then_read.ensures.asks
