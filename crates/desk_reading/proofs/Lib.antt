@@ -14,6 +14,7 @@ pub mod LookUpRows
 pub mod NestLemmas
 pub mod ReadValues
 pub mod Readings
+pub mod ReadsChain
 pub mod Results
 pub mod Selecting
 pub mod ShownRows

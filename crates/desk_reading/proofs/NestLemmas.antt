@@ -36,29 +36,24 @@ each_front P [] x h = (tt, h.0)
 each_front P (y ∷ ys) x h = let rest = each_front P ys x h.1 in ((h.0, rest.0), rest.1)
 
 -- the rows so far are those whose bare rows were read
-abbrev pub AreFilled : {X K : Type 0} → (number : X → ℕ) (children : X → List K) (under : ℕ → List K) (bare : X → X) → List X → List X → Type 0
-AreFilled {X} number children under bare read rows =
-    (xs : List X) → EachOf (λ x. under (number x) ≡ children x) xs → read ≡ map bare xs → rows ≡ xs
+abbrev pub AreFilled : {X : Type 0} → (P : X → Type 0) (bare : X → X) → List X → List X → Type 0
+AreFilled {X} P bare read rows = (xs : List X) → EachOf P xs → read ≡ map bare xs → rows ≡ xs
 
 -- no row was filled yet
-pub filled_none : {X K : Type 0} (number : X → ℕ) (children : X → List K) (under : ℕ → List K) (bare : X → X) → AreFilled number children under bare [] []
-filled_none number children under bare [] own are = refl
-filled_none number children under bare (x ∷ xs) own are = absurd (cc are)
+pub filled_none : {X : Type 0} (P : X → Type 0) (bare : X → X) → AreFilled P bare [] []
+filled_none P bare [] own are = refl
+filled_none P bare (x ∷ xs) own are = absurd (cc are)
 
 -- one row more
-pub filled_more : {X K : Type 0} (number : X → ℕ) (children : X → List K) (under : ℕ → List K) (bare : X → X) (fill : X → List K → X)
-    → ((x : X) → number (bare x) ≡ number x) → ((x : X) → fill (bare x) (children x) ≡ x)
-    → (read rows new : List X) (head : X) (ks filled : List K) → AreFilled number children under bare read rows
-    → ks ≡ under (number head) → filled ≡ ks → new ≡ rows ++ fill head filled ∷ []
-    → AreFilled number children under bare (read ++ head ∷ []) new
-filled_more number children under bare fill kept same read rows new head ks filled before found with pushed xs own are =
+filled_more : {X : Type 0} (P : X → Type 0) (bare : X → X) (read rows new : List X) (head filled : X) → AreFilled P bare read rows
+    → ((x : X) → P x → head ≡ bare x → filled ≡ x) → new ≡ rows ++ filled ∷ []
+    → AreFilled P bare (read ++ head ∷ []) new
+filled_more P bare read rows new head filled before fill pushed xs own are =
     let it = ends_in bare read head xs are in
-    let parts = each_front (λ x. under (number x) ≡ children x) it.front it.last (subst (EachOf (λ x. under (number x) ≡ children x)) it.whole own) in
+    let parts = each_front P it.front it.last (subst (EachOf P) it.whole own) in
     let front : rows ≡ it.front = before it.front parts.0 it.fronts in
-    let children_are : filled ≡ children it.last = with ∙ found ∙ ap (λ h. under (number h)) it.lasts ∙ ap under (kept it.last) ∙ parts.1 in
     pushed
-    ∙ (λ i. front i ++ fill (it.lasts i) (children_are i) ∷ [])
-    ∙ ap (λ x. it.front ++ x ∷ []) (same it.last)
+    ∙ (λ i. front i ++ fill it.last parts.1 it.lasts i ∷ [])
     ∙ sym it.whole
 
 -- ---- row by row
@@ -83,16 +78,13 @@ pub left_next : {X : Type 0} (xs ys : List X) (i : ℕ) (d y : X) → i < length
 left_next xs ys i d y low size same = drop-set-lt (i + 1) xs i y (omega arith) ∙ (same_next xs ys i d low size same).1
 
 -- the next row is filled
-pub filled_next : {X K : Type 0} (number : X → ℕ) (children : X → List K) (under : ℕ → List K) (bare : X → X) (fill : X → List K → X)
-    → ((x : X) → number (bare x) ≡ number x) → ((x : X) → fill (bare x) (children x) ≡ x)
-    → (xs ys : List X) (i : ℕ) (d : X) (ks filled : List K) → i < length xs → length xs ≡ length ys → drop i xs ≡ drop i ys
-    → AreFilled number children under bare (take i ys) (take i xs)
-    → ks ≡ under (number (get_or xs i d)) → filled ≡ ks
-    → AreFilled number children under bare (take (i + 1) ys) (take (i + 1) (set xs i (fill (get_or xs i d) filled)))
-filled_next number children under bare fill kept same xs ys i d ks filled low size left before found with rows own are =
+pub filled_next : {X : Type 0} (P : X → Type 0) (bare : X → X) (xs ys : List X) (i : ℕ) (d filled : X)
+    → i < length xs → length xs ≡ length ys → drop i xs ≡ drop i ys → AreFilled P bare (take i ys) (take i xs)
+    → ((x : X) → P x → get_or xs i d ≡ bare x → filled ≡ x)
+    → AreFilled P bare (take (i + 1) ys) (take (i + 1) (set xs i filled))
+filled_next P bare xs ys i d filled low size left before fill rows own are =
     let here = (same_next xs ys i d low size left).0 in
-    filled_more number children under bare fill kept same (take i ys) (take i xs) _ (get_or xs i d) ks filled before found with
-    (take_more_set xs i (fill (get_or xs i d) filled) low) rows own
+    filled_more P bare (take i ys) (take i xs) _ (get_or xs i d) filled before fill (take_more_set xs i filled low) rows own
     (ap (λ x. take i ys ++ x ∷ []) here ∙ sym (take_more ys i d (omega (arith, low, size))) ∙ are)
 
 -- what is written over all items is all there is

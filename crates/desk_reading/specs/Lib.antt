@@ -1,9 +1,11 @@
+pub mod AllTables
 pub mod Bounded
 pub mod Failures
 pub mod Fitting
 pub mod Format
 pub mod Heads
 pub mod Held
+pub mod Reads
 pub mod Selecting
 pub mod Shown
 pub mod Spelled

@@ -1,88 +1,41 @@
 //! Authorizations that are looked up, each with its challenges.
-ghost use Rattle.std.specs.Prelude.{◌≡◌, List, map, IfOk, IsTrue, OnOk};
+ghost use Rattle.std.specs.Prelude.{◌≡◌, IfOk, OnOk};
 ghost use Rattle.sqlite.specs.State.{HasCleanDisk, IsUnchanged};
-ghost use Rattle.sqlite.specs.Values.{bound};
 ghost use Rattle.sqlite.specs.Held.{state};
-ghost use Rattle.desk_columns.specs.Flat.{challenge_rows, without_challenges};
-ghost use Rattle.desk_model.specs.Kept.{EachOf};
-ghost use Rattle.desk_model.specs.declared.rows.AuthorizationRow.{AuthorizationRow as Row};
+ghost use Rattle.desk_columns.specs.Flat.{without_challenges};
 ghost use Rattle.desk_parts.specs.Above.{authorizations_above, challenges_above, first_of};
 ghost use Rattle.desk_parts.specs.LookUps.{authorizations_numbered, authorizations_of, authorizations_past, owners_of};
 ghost use Rattle.desk_schema.specs.Stays.{Asks};
-ghost use Rattle.desk_reading.specs.Heads.{ShowsAuthorizations};
 ghost use Rattle.desk_reading.specs.Held.{ForHeld};
-ghost use Rattle.desk_reading.specs.Selecting.{IsQuery};
 ghost use Rattle.desk_reading.specs.StoredBook.{IsStoredBook};
-ghost use Rattle.desk_reading.specs.Under.{HasItsChallenges, rows_under};
+ghost use Rattle.desk_reading.specs.Under.{HasItsChallenges};
 
 use crate::fault::ReadFault;
-use crate::owned::{owners, without_owners};
+use crate::owned::owners;
 use crate::params::{number_param, text_and_number};
+use crate::parents::{Parent, find_owned, find_parents};
 use crate::rows::find_rows;
 use crate::tables::AUTHORIZATIONS;
 use desk_columns::{AuthzColumns, ChallColumns};
 use desk_model::{AuthorizationRow, AuthzStatus, ChallengeRow, Sequence};
-use sqlite::types::ValueRef;
 use sqlite::{Alter, Connection};
 use std::alloc::Global;
 
-// The challenges of the authorization of a number. It fails as `find_rows` does.
-fn challenges_under<S: Alter>(
-    alloc: Global,
-    conn: &mut Connection<S>,
-    authorization: u64,
-) -> Result<Vec<ChallengeRow>, ReadFault>
-    ensures found { ForHeld (state S.Store conn.old) (state S.Store conn.new) (λ T. IsStoredBook T
-        → IfOk result (λ rows. rows.items ≡ rows_under authorization (challenge_rows T.authorizations))) }
-    ensures unchanged { HasCleanDisk (state S.Store conn.new) → OnOk result (IsUnchanged (state S.Store conn.old) (state S.Store conn.new)) }
-    ensures asks { Asks (state S.Store conn.old) (state S.Store conn.new) }
-{
-    let params = number_param(authorization);
-    let rows = find_rows::<S, ChallColumns>(
-        alloc,
-        conn,
-        "SELECT num, authz, kind, token, answered, reported, outcome, status FROM chall WHERE authz = ?1 ORDER BY num",
-        &params,
-    )?;
-    without_owners(alloc, rows)
-}
+impl Parent for AuthorizationRow {
+    ghost bare = { without_challenges };
 
-// The authorizations, each with its challenges.
-fn nest_challenges<S: Alter>(
-    alloc: Global,
-    conn: &mut Connection<S>,
-    mut heads: Vec<AuthorizationRow>,
-) -> Result<Vec<AuthorizationRow>, ReadFault>
-    ensures found { ForHeld (state S.Store conn.old) (state S.Store conn.new) (λ T. IsStoredBook T → IsTrue (state S.Store conn.old).is_open
-        → (rows : List Row) → EachOf (HasItsChallenges T.authorizations) rows → heads.items ≡ map without_challenges rows
-        → IfOk result (λ found. found.items ≡ rows)) }
-    ensures unchanged { HasCleanDisk (state S.Store conn.new) → IsTrue (state S.Store conn.old).is_open
-        → OnOk result (IsUnchanged (state S.Store conn.old) (state S.Store conn.new)) }
-    ensures asks { Asks (state S.Store conn.old) (state S.Store conn.new) }
-{
-    for head in heads.iter_mut() {
-        let challenges = challenges_under(alloc, conn, head.number)?;
-        head.challenges = Sequence::new(challenges);
+    ghost HasItsOwn = { λ T. HasItsChallenges T.authorizations };
+
+    fn nest<S: Alter>(&mut self, alloc: Global, conn: &mut Connection<S>) -> Result<(), ReadFault> {
+        let challenges = find_owned::<S, ChallColumns, _>(
+            alloc,
+            conn,
+            "SELECT num, authz, kind, token, answered, reported, outcome, status FROM chall WHERE authz = ?1 ORDER BY num",
+            self.number,
+        )?;
+        self.challenges = Sequence::new(challenges);
+        Ok(())
     }
-    Ok(heads)
-}
-
-// The authorizations that a query shows, each with its challenges. It fails as `find_rows` does.
-fn find_authorizations<S: Alter>(
-    alloc: Global,
-    conn: &mut Connection<S>,
-    text: &str,
-    params: &[ValueRef<'_>],
-) -> Result<Vec<AuthorizationRow>, ReadFault>
-    requires { IsQuery text.now }
-    ensures found { ForHeld (state S.Store conn.old) (state S.Store conn.new) (λ T. IsStoredBook T → (rows : List Row)
-        → EachOf (HasItsChallenges T.authorizations) rows → ShowsAuthorizations S.Store text.now (bound params.now) conn.old rows
-        → IfOk result (λ found. found.items ≡ rows)) }
-    ensures unchanged { HasCleanDisk (state S.Store conn.new) → OnOk result (IsUnchanged (state S.Store conn.old) (state S.Store conn.new)) }
-    ensures asks { Asks (state S.Store conn.old) (state S.Store conn.new) }
-{
-    let heads = find_rows::<S, AuthzColumns>(alloc, conn, text, params)?;
-    nest_challenges(alloc, conn, heads)
 }
 
 /// All authorizations, by number.
@@ -98,7 +51,7 @@ pub fn all_authorizations<S: Alter>(
     ensures unchanged { HasCleanDisk (state S.Store conn.new) → OnOk result (IsUnchanged (state S.Store conn.old) (state S.Store conn.new)) }
     ensures asks { Asks (state S.Store conn.old) (state S.Store conn.new) }
 {
-    find_authorizations(alloc, conn, AUTHORIZATIONS, &[])
+    find_parents::<S, AuthzColumns, _>(alloc, conn, AUTHORIZATIONS, &[])
 }
 
 /// The authorizations of a number.
@@ -117,7 +70,7 @@ pub fn authorizations_numbered<S: Alter>(
     ensures asks { Asks (state S.Store conn.old) (state S.Store conn.new) }
 {
     let params = number_param(number);
-    find_authorizations(
+    find_parents::<S, AuthzColumns, _>(
         alloc,
         conn,
         "SELECT num, account, name, wildcard, made, expires, ended, end_kind, status FROM authz WHERE num = ?1 ORDER BY num",
@@ -141,7 +94,7 @@ pub fn authorizations_of<S: Alter>(
     ensures asks { Asks (state S.Store conn.old) (state S.Store conn.new) }
 {
     let params = number_param(account);
-    find_authorizations(
+    find_parents::<S, AuthzColumns, _>(
         alloc,
         conn,
         "SELECT num, account, name, wildcard, made, expires, ended, end_kind, status FROM authz WHERE account = ?1 ORDER BY num",
@@ -166,7 +119,7 @@ pub fn authorizations_past<S: Alter>(
     ensures asks { Asks (state S.Store conn.old) (state S.Store conn.new) }
 {
     let params = text_and_number(status.as_str(), moment);
-    find_authorizations(
+    find_parents::<S, AuthzColumns, _>(
         alloc,
         conn,
         "SELECT num, account, name, wildcard, made, expires, ended, end_kind, status FROM authz WHERE status = ?1 AND expires < ?2 ORDER BY num",
@@ -214,7 +167,7 @@ pub fn authorization_above<S: Alter>(
     ensures asks { Asks (state S.Store conn.old) (state S.Store conn.new) }
 {
     let params = number_param(number);
-    find_authorizations(
+    find_parents::<S, AuthzColumns, _>(
         alloc,
         conn,
         "SELECT num, account, name, wildcard, made, expires, ended, end_kind, status FROM authz WHERE num > ?1 ORDER BY num LIMIT 1",
@@ -237,12 +190,10 @@ pub fn challenge_above<S: Alter>(
     ensures unchanged { HasCleanDisk (state S.Store conn.new) → OnOk result (IsUnchanged (state S.Store conn.old) (state S.Store conn.new)) }
     ensures asks { Asks (state S.Store conn.old) (state S.Store conn.new) }
 {
-    let params = number_param(number);
-    let rows = find_rows::<S, ChallColumns>(
+    find_owned::<S, ChallColumns, _>(
         alloc,
         conn,
         "SELECT num, authz, kind, token, answered, reported, outcome, status FROM chall WHERE num > ?1 ORDER BY num LIMIT 1",
-        &params,
-    )?;
-    without_owners(alloc, rows)
+        number,
+    )
 }

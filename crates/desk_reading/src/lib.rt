@@ -11,6 +11,7 @@ mod nonces;
 mod orders;
 mod owned;
 mod params;
+mod parents;
 mod query;
 mod rows;
 mod stored;

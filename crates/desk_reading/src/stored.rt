@@ -6,15 +6,52 @@ ghost use Rattle.desk_schema.specs.Failing.{IsFailure};
 ghost use Rattle.desk_schema.specs.Stays.{Asks};
 ghost use Rattle.desk_reading.specs.Failures.{HasTexts, MayRead};
 ghost use Rattle.desk_reading.specs.Held.{ForHeld};
+ghost use Rattle.desk_reading.specs.AllTables.{AreAllShown, AreReadable};
+ghost use Rattle.desk_reading.specs.Reads.{Reads};
 ghost use Rattle.desk_reading.specs.Shown.{AreColumnsOf, AreShown};
 
 use crate::query::read_query;
 use crate::tables::{
-    ACCOUNTS, AUTHORIZATIONS, CHALLENGES, LISTED, META, NONCES, ORDERS, two_tables,
+    ACCOUNTS, AUTHORIZATIONS, CHALLENGES, LISTED, META, NONCES, ORDERS, then_read,
 };
-use desk_columns::StoredRows;
+use desk_columns::{
+    AccountColumns, AuthzColumns, ChallColumns, MetaColumns, NonceColumns, OrderAuthzColumns,
+    OrderColumns, StoredRows,
+};
+use desk_model::Sequence;
 use sqlite::{Alter, Connection, Error};
 use std::alloc::Global;
+
+// The tables in the order in which they are read: `meta`, `nonce`, `account`, `ord` ..
+type UpToOrders = (
+    (
+        (Sequence<MetaColumns>, Sequence<NonceColumns>),
+        Sequence<AccountColumns>,
+    ),
+    Sequence<OrderColumns>,
+);
+
+// .. and `ord_authz`, `authz`, `chall`.
+type AllTables = (
+    (
+        (UpToOrders, Sequence<OrderAuthzColumns>),
+        Sequence<AuthzColumns>,
+    ),
+    Sequence<ChallColumns>,
+);
+
+// The columns of all tables.
+fn read_tables<S: Alter>(alloc: Global, conn: &mut Connection<S>) -> Result<AllTables, Error>
+    ensures { Reads S.Store conn.old conn.new (AreAllShown S.Store conn.old) (AreReadable S.Store conn.old) result }
+{
+    let metas = read_query(alloc, conn, META, &[]);
+    let nonces = then_read(metas, alloc, conn, NONCES);
+    let accounts = then_read(nonces, alloc, conn, ACCOUNTS);
+    let orders = then_read(accounts, alloc, conn, ORDERS);
+    let listed = then_read(orders, alloc, conn, LISTED);
+    let authorizations = then_read(listed, alloc, conn, AUTHORIZATIONS);
+    then_read(authorizations, alloc, conn, CHALLENGES)
+}
 
 /// The rows of all tables, as `stored_rows::from_rows` takes them.
 ///
@@ -28,13 +65,9 @@ pub fn load_stored<S: Alter>(alloc: Global, conn: &mut Connection<S>) -> Result<
     ensures unchanged { HasCleanDisk (state S.Store conn.new) → OnOk result (IsUnchanged (state S.Store conn.old) (state S.Store conn.new)) }
     ensures asks { Asks (state S.Store conn.old) (state S.Store conn.new) }
 {
-    let meta_and_nonces = two_tables(alloc, conn, META, NONCES)?;
-    let accounts = read_query(alloc, conn, ACCOUNTS, &[])?;
-    let orders_and_listed = two_tables(alloc, conn, ORDERS, LISTED)?;
-    let authorizations_and_challenges = two_tables(alloc, conn, AUTHORIZATIONS, CHALLENGES)?;
-    let (metas, nonces) = meta_and_nonces;
-    let (orders, order_authzs) = orders_and_listed;
-    let (authzs, challs) = authorizations_and_challenges;
+    let ((((((metas, nonces), accounts), orders), order_authzs), authzs), challs) = read_tables(
+        alloc, conn,
+    )?;
     Ok(StoredRows {
         metas,
         nonces,

@@ -1,5 +1,5 @@
-//! Whole tables: the statements that read them, and the columns of two of them.
-ghost use Rattle.std.specs.Prelude.{IfErr, IfOk, OnOk};
+//! Whole tables: the statements that read them, and the columns of one after the others.
+ghost use Rattle.std.specs.Prelude.{◌≡◌, IfErr, IfOk, Ok, OnOk};
 ghost use Rattle.sqlite.specs.State.{HasCleanDisk, IsUnchanged};
 ghost use Rattle.sqlite.specs.Held.{state};
 ghost use Rattle.desk_schema.specs.Failing.{IsFailure};
@@ -40,26 +40,26 @@ pub(crate) const LISTED: &str = "SELECT ord, place, authz FROM ord_authz ORDER B
 pub(crate) const CHALLENGES: &str =
     "SELECT num, authz, kind, token, answered, reported, outcome, status FROM chall ORDER BY num";
 
-/// The columns of two tables, of which the second is read after the first.
+/// The columns of a table, which is read after what was read earlier, and only if that did not fail.
 ///
 /// # Errors
 ///
 /// The engine's; the connection is as it was, or what was not committed is undone.
-pub(crate) fn two_tables<S: Alter, A: Selected, B: Selected>(
+pub(crate) fn then_read<S: Alter, A: Drop, C: Selected>(
+    earlier: Result<A, Error>,
     alloc: Global,
     conn: &mut Connection<S>,
-    first: &str,
-    second: &str,
-) -> Result<(Sequence<A>, Sequence<B>), Error>
-    requires { IsQuery first.now × IsQuery second.now }
+    text: &str,
+) -> Result<(A, Sequence<C>), Error>
+    requires { IsQuery text.now }
     ensures shown { HasCleanDisk (state S.Store conn.new) → IfOk result
-        (λ pair. IsShown S.Store first.now A.spelled conn.old pair.0 × IsShown S.Store second.now B.spelled conn.old pair.1) }
-    ensures fails { HasCleanDisk (state S.Store conn.new) → MayRead (state S.Store conn.old) → IsReadable S.Store conn.old first.now A.Fits
-        → IsReadable S.Store conn.old second.now B.Fits → IfErr result IsFailure }
+        (λ both. (earlier ≡ Ok both.0) × IsShown S.Store text.now C.spelled conn.old both.1) }
+    ensures fails { HasCleanDisk (state S.Store conn.new) → IfErr earlier IsFailure
+        → OnOk earlier (MayRead (state S.Store conn.old) × IsReadable S.Store conn.old text.now C.Fits) → IfErr result IsFailure }
     ensures unchanged { HasCleanDisk (state S.Store conn.new) → OnOk result (IsUnchanged (state S.Store conn.old) (state S.Store conn.new)) }
     ensures asks { Asks (state S.Store conn.old) (state S.Store conn.new) }
 {
-    let of_first = read_query(alloc, conn, first, &[])?;
-    let of_second = read_query(alloc, conn, second, &[])?;
-    Ok((of_first, of_second))
+    let found = earlier?;
+    let columns = read_query(alloc, conn, text, &[])?;
+    Ok((found, columns))
 }

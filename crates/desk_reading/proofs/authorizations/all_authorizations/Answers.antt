@@ -12,12 +12,12 @@ use Rattle.desk_reading.proofs.UnderLemmas.{authorizations_have}
 use Rattle.desk_reading.proofs.WholeTables.{authorizations_read}
 use Rattle.desk_reading.proofs.authorizations.all_authorizations.Goals as goal
 
-pub find_authorizations-requires : goal.find_authorizations-requires
-find_authorizations-requires g c = authorizations_reading.selecting
+pub find_parents-requires : goal.find_parents-requires
+find_parents-requires g c = authorizations_reading.selecting
 
 pub returns-clause-found : goal.returns-clause-found
 returns-clause-found g c clean T has book =
-    c.find_authorizations.ensures.found clean T has book T.authorizations (authorizations_have 0 T.authorizations has.rising.authorizations)
+    c.find_parents.ensures.found clean T has book T.authorizations (authorizations_have 0 T.authorizations has.rising.authorizations)
     (λ new shown heads h kept spells.
     rows_back authorization_columns IsStoredAuthorization authorizations-apart (map authorization_in shown) (map without_challenges T.authorizations) heads
     book.stored.authorizations

@@ -6,12 +6,12 @@ use Rattle.desk_reading.proofs.Lists.{each-first}
 use Rattle.desk_reading.proofs.UnderLemmas.{authorizations_have}
 use Rattle.desk_reading.proofs.authorizations.authorization_above.Goals as goal
 
-pub find_authorizations-requires : goal.find_authorizations-requires
-find_authorizations-requires g c = authorization_above_reading.selecting
+pub find_parents-requires : goal.find_parents-requires
+find_parents-requires g c = authorization_above_reading.selecting
 
 pub returns-clause-found : goal.returns-clause-found
 returns-clause-found g c clean T has book =
-    c.find_authorizations.ensures.found clean T has book (first_of (authorizations_above T c.args.number))
+    c.find_parents.ensures.found clean T has book (first_of (authorizations_above T c.args.number))
     (each-first _ _ (each-filter _ _ T.authorizations (authorizations_have 0 T.authorizations has.rising.authorizations)))
     (λ new shown heads h kept spells.
     authorization_above_found (state g.S.Store c.args.conn.now) (state g.S.Store new) T shown _ has book c.args.number

@@ -6,12 +6,12 @@ use Rattle.desk_reading.proofs.LookUpRows.{orders_of_found}
 use Rattle.desk_reading.proofs.UnderLemmas.{orders_have}
 use Rattle.desk_reading.proofs.orders.orders_of.Goals as goal
 
-pub find_orders-requires : goal.find_orders-requires
-find_orders-requires g c = orders_of_reading.selecting
+pub find_parents-requires : goal.find_parents-requires
+find_parents-requires g c = orders_of_reading.selecting
 
 pub returns-clause-found : goal.returns-clause-found
 returns-clause-found g c clean T has book =
-    c.find_orders.ensures.found clean T has book (orders_of T c.args.account)
+    c.find_parents.ensures.found clean T has book (orders_of T c.args.account)
     (each-filter _ _ T.orders (orders_have 0 T.orders has.rising.orders))
     (λ new shown heads h kept spells.
     orders_of_found (state g.S.Store c.args.conn.now) (state g.S.Store new) T shown _ has book heads kept spells c.args.account

@@ -1,0 +1,69 @@
+-- Tables that are read one after the other.
+use Rattle.std.proofs.Common.{◌≡◌, ℕ, List, [], map, Result, Ok, Err, refl, sym, subst, arith, ◌∙◌}
+use Rattle.std.specs.Prelude.{IfErr, IfOk, OnOk}
+use Rattle.sqlite.specs.Held.{Held, state}
+use Rattle.sqlite.specs.Order.{Row}
+use Rattle.sqlite.specs.State.{HasCleanDisk, IsUnchanged, Shown}
+use Rattle.sqlite.specs.Store.{Ghosts}
+use Rattle.sqlite.specs.declared.error.Error.{Error}
+use Rattle.sqlite.proofs.Callers.{unchanged_then}
+use Rattle.desk_schema.specs.Failing.{IsFailure}
+use Rattle.desk_schema.specs.Stays.{Asks}
+use Rattle.desk_schema.proofs.StaysLemmas.{asks_then}
+use Rattle.desk_reading.specs.Failures.{FailsToRead, IsReadable, MayRead}
+use Rattle.desk_reading.specs.Reads.{Reads}
+use Rattle.desk_reading.specs.Shown.{IsShown}
+use Rattle.desk_reading.proofs.Failing.{may_read_still}
+use Rattle.desk_reading.proofs.Results.{fails_then, read_then}
+use Rattle.desk_reading.proofs.ShownRows.{shown_now, shown_still}
+
+module _ {S : Type 0} (g : Ghosts S) where
+  -- the first table
+  pub reads_first : {C : Type 0} (text : List ℕ) (spelled : Row → C) (Fits : Row → Type 0) (first now : Held S) (read : Result (List C) Error)
+      → (HasCleanDisk (state g now) → IfOk read (λ all. (rows : List Row) × Shown text [] (state g first) (state g now) rows × (all ≡ map spelled rows)))
+      → (HasCleanDisk (state g now) → IfErr read (FailsToRead text [] (state g first) (state g now) Fits))
+      → (HasCleanDisk (state g now) → OnOk read (IsUnchanged (state g first) (state g now))) → Asks (state g first) (state g now)
+      → Reads g first now (IsShown g text spelled first) (IsReadable g first text Fits) read
+  reads_first text spelled Fits first now read shown fails same asks = record {
+    shown = λ clean. read_then read (shown clean) (λ all it. shown_now g text spelled first now it.0 all it.1 it.2);
+    fails = λ clean may readable. fails_then read (fails clean) (λ e h. readable first now e refl may h);
+    unchanged = same;
+    asks = asks;
+  }
+
+  -- a table after those
+  pub reads_more : {A C : Type 0} (P : A → Type 0) (Readable : Type 0) (text : List ℕ) (spelled : Row → C) (Fits : Row → Type 0) (first mid now : Held S)
+      (earlier : Result A Error) (read : Result (A × List C) Error)
+      → Reads g first mid P Readable earlier
+      → (HasCleanDisk (state g now) → IfOk read (λ both. (earlier ≡ Ok both.0) × IsShown g text spelled mid both.1))
+      → (HasCleanDisk (state g now) → IfErr earlier IsFailure → OnOk earlier (MayRead (state g mid) × IsReadable g mid text Fits) → IfErr read IsFailure)
+      → (HasCleanDisk (state g now) → OnOk read (IsUnchanged (state g mid) (state g now))) → Asks (state g mid) (state g now)
+      → Reads g first now (λ both. P both.0 × IsShown g text spelled first both.1) (Readable × IsReadable g first text Fits) read
+  reads_more {A} {C} P Readable text spelled Fits first mid now earlier read before shown fails same asks = record {
+    shown = λ clean. read_then read (shown clean) (λ both it. (
+      subst (λ r. IfOk r P) it.0 (before.shown (honest clean)),
+      shown_still g text spelled first mid both.1 (subst (λ r. OnOk r (IsUnchanged (state g first) (state g mid))) it.0
+          (before.unchanged (honest clean))).0.now_is it.1,
+    ));
+    fails = λ clean may readable. fails clean (before.fails (honest clean) may readable.0)
+        (read_on earlier (before.unchanged (honest clean)) may readable.1);
+    unchanged = λ clean. both_unchanged read (shown clean) (before.unchanged (honest clean)) (same clean);
+    asks = asks_then (state g first) (state g mid) (state g now) before.asks asks;
+  }
+    where
+      honest : HasCleanDisk (state g now) → HasCleanDisk (state g mid)
+      honest clean = omega (arith, clean, asks.survives.clean)
+
+      read_on : (r : Result A Error) → OnOk r (IsUnchanged (state g first) (state g mid)) → MayRead (state g first) → IsReadable g first text Fits
+          → OnOk r (MayRead (state g mid) × IsReadable g mid text Fits)
+      read_on (Ok a) still may readable =
+          (may_read_still (state g first) (state g mid) still before.asks may, λ one two e is. readable one two e (is ∙ still.0.now_is))
+      read_on (Err e) still may readable = tt
+
+      both_unchanged : (r : Result (A × List C) Error) → IfOk r (λ both. (earlier ≡ Ok both.0) × IsShown g text spelled mid both.1)
+          → OnOk earlier (IsUnchanged (state g first) (state g mid)) → OnOk r (IsUnchanged (state g mid) (state g now))
+          → OnOk r (IsUnchanged (state g first) (state g now))
+      both_unchanged (Ok both) it was is =
+          unchanged_then (state g first) (state g mid) (state g now)
+          (subst (λ r. OnOk r (IsUnchanged (state g first) (state g mid))) it.0 was) is
+      both_unchanged (Err e) it was is = tt
