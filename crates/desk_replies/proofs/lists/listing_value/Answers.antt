@@ -1,5 +1,6 @@
 use Rattle.std.proofs.Common.{◌∷◌, [], ap}
 use Rattle.std.specs.List.{flat_map}
+use Rattle.serde_json.specs.Data.{object}
 use Rattle.serde_json.specs.View.{members_view}
 use Rattle.desk_model.specs.Json.{list}
 use Rattle.desk_replies.proofs.Results.{on_ok}
@@ -10,6 +11,6 @@ pub returns : goal.returns
 returns g c =
     c.object_value.ensures _
     (on_ok c.put_list-put.result (λ put.
-    and_puts ((c.args.name.now, list (flat_map (g.R.ListItem.values c.args.by.now) c.args.rows.now)) ∷ []) _ _ _
-    (put _ c.shown_rows-shown.ensures) (ap members_view c.new-members.ensures.empty))
+    ap object (and_puts ((c.args.name.now, list (flat_map (g.R.ListItem.values c.args.by.now) c.args.rows.now)) ∷ []) _ _ _
+    (put _ c.shown_rows-shown.ensures) (ap members_view c.new-members.ensures.empty)))
     c.put_list-put.ensures)

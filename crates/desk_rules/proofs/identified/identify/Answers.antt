@@ -16,7 +16,8 @@ loop-identifier-preserved c =
           (subst (λ read. MatchResult read (λ name. fault_of c.identifier-item.result ≡ None)
           (λ why. fault_of c.identifier-item.result ≡ Some why)) w.in-Ok.is c.in_ok-name.ensures.faulty)
           (subst (λ read. IfOk read (λ name. name_of c.identifier-item.result.value ≡ Some name)) w.in-Ok.is c.in_ok-name.ensures.named)
-          (ap (λ v. v.items) w.faulty-is) (λ before known. ap (λ v. v.items) w.names-is ∙ w.in_ok-keep_name-in-Ok.ensures before known) c.loop-identifier.invariant
+          (ap (λ v. v.items) w.faulty-is) (λ before known. ap (λ v. v.items) w.names-is ∙ w.in_ok-keep_name-in-Ok.ensures before known)
+          c.loop-identifier.invariant
       | in-Err+in_ok-subproblem-in-Err+in_ok-push-in-Err w ↦
           faulty-next c.args.identifiers.now c.loop-identifier.identifier-index c.identifier-item.result w.in-Err.refusal
           w.in_ok-subproblem-in-Err.field-0 c.loop-identifier.faulty.items _ c.loop-identifier.names.items _
