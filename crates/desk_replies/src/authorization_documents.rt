@@ -12,7 +12,7 @@ ghost use Rattle.desk_replies.specs.Shown.{shown_challenge, with_members};
 
 use crate::document_values::{
     ShowsObject, error_value, identifier_value, push_value, put_str, put_text, put_value,
-    shown_object, text_value,
+    shown_object,
 };
 use crate::lists::{ListItem, put_each};
 use crate::urls::numbered_url;
@@ -48,8 +48,8 @@ fn put_date(
     if !report.outcome.is_good() {
         return Ok(());
     }
-    let date = capped_moment_text(alloc, report.date)?;
-    put(members, alloc, "validated", text_value(date))
+    let date = capped_moment_text(alloc, report.date);
+    put_text(members, alloc, "validated", date)
 }
 
 // Adds what the report on a challenge showed, if there is one.
@@ -78,13 +78,14 @@ impl ShowsObject<Policy> for ChallengeRow {
         alloc: Global,
         by: &Policy,
     ) -> Result<(), AllocError> {
-        put_str(members, alloc, "status", self.status.as_str())?;
-        let token = keys::token_text(alloc, self.token);
-        put_text(members, alloc, "token", token)?;
-        put_str(members, alloc, "type", self.kind.as_str())?;
-        let url = numbered_url(alloc, by, "/chall/", self.number);
-        put_text(members, alloc, "url", url)?;
-        put_report(members, alloc, self.reported)
+        let status = put_str(members, alloc, "status", self.status.as_str());
+        let text = keys::token_text(alloc, self.token);
+        let token = put_text(members, alloc, "token", text);
+        let kind = put_str(members, alloc, "type", self.kind.as_str());
+        let path = numbered_url(alloc, by, "/chall/", self.number);
+        let url = put_text(members, alloc, "url", path);
+        let report = put_report(members, alloc, self.reported);
+        status.and(token).and(kind).and(url).and(report)
     }
 }
 
@@ -145,12 +146,13 @@ impl ShowsObject<Policy> for AuthorizationRow {
     ) -> Result<(), AllocError> {
         let challenges = self.challenges.as_slice();
         let told = (by, is_reported(challenges));
-        put_each(members, alloc, "challenges", challenges, &told)?;
-        let expires = capped_moment_text(alloc, self.expires);
-        put_text(members, alloc, "expires", expires)?;
-        let identifier = identifier_value(alloc, self.name.base());
-        put_value(members, alloc, "identifier", identifier)?;
-        put_str(members, alloc, "status", self.status.as_str())?;
-        put_wildcard(members, alloc, self.name.is_wildcard())
+        let shown = put_each(members, alloc, "challenges", challenges, &told);
+        let end = capped_moment_text(alloc, self.expires);
+        let expires = put_text(members, alloc, "expires", end);
+        let name = identifier_value(alloc, self.name.base());
+        let identifier = put_value(members, alloc, "identifier", name);
+        let status = put_str(members, alloc, "status", self.status.as_str());
+        let wildcard = put_wildcard(members, alloc, self.name.is_wildcard());
+        shown.and(expires).and(identifier).and(status).and(wildcard)
     }
 }

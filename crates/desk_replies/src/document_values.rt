@@ -108,10 +108,10 @@ fn put_error_members(
 ) -> Result<(), AllocError>
     ensures { OnOk result (members_view members.new.entries ≡ with_members (error_members kind.now detail.now status) (members_view members.old.entries)) }
 {
-    put_str(members, alloc, "detail", detail)?;
-    put(members, alloc, "status", Value::from(status))?;
-    let kind = type_text(alloc, kind);
-    put_text(members, alloc, "type", kind)
+    let text = put_str(members, alloc, "detail", detail);
+    let number = put(members, alloc, "status", Value::from(status));
+    let kind = put_text(members, alloc, "type", type_text(alloc, kind));
+    text.and(number).and(kind)
 }
 
 /// Adds a value to a list, if it could be made.
@@ -147,7 +147,7 @@ pub(crate) fn put_str(
 ) -> Result<(), AllocError>
     ensures { OnOk result (members_view members.new.entries ≡ with_members ((name.now, string text.now) ∷ []) (members_view members.old.entries)) }
 {
-    put(members, alloc, name, Value::try_from_str(alloc, text)?)
+    put_value(members, alloc, name, Value::try_from_str(alloc, text))
 }
 
 /// Puts a text among members, if it could be made.

@@ -18,12 +18,15 @@ impl ShowsObject<()> for Policy {
         alloc: Global,
         _by: &(),
     ) -> Result<(), AllocError> {
-        let account = url(alloc, self, "/new-account");
-        put_text(members, alloc, "newAccount", account)?;
-        let nonce = url(alloc, self, "/new-nonce");
-        put_text(members, alloc, "newNonce", nonce)?;
-        let order = url(alloc, self, "/new-order");
-        put_text(members, alloc, "newOrder", order)
+        let account = put_text(
+            members,
+            alloc,
+            "newAccount",
+            url(alloc, self, "/new-account"),
+        );
+        let nonce = put_text(members, alloc, "newNonce", url(alloc, self, "/new-nonce"));
+        let order = put_text(members, alloc, "newOrder", url(alloc, self, "/new-order"));
+        account.and(nonce).and(order)
     }
 }
 
@@ -37,10 +40,11 @@ impl ShowsObject<Policy> for AccountRow {
         alloc: Global,
         by: &Policy,
     ) -> Result<(), AllocError> {
-        let contacts = text_list(alloc, self.contacts.as_slice());
-        put_value(members, alloc, "contact", contacts)?;
-        let orders = url_below(alloc, by, "/account/", self.number, "/orders");
-        put_text(members, alloc, "orders", orders)?;
-        put_str(members, alloc, "status", self.status.as_str())
+        let texts = text_list(alloc, self.contacts.as_slice());
+        let contact = put_value(members, alloc, "contact", texts);
+        let url = url_below(alloc, by, "/account/", self.number, "/orders");
+        let orders = put_text(members, alloc, "orders", url);
+        let status = put_str(members, alloc, "status", self.status.as_str());
+        contact.and(orders).and(status)
     }
 }

@@ -102,15 +102,21 @@ impl<'a> ShowsObject<(&'a Policy, &'a [DnsName])> for OrderRow {
     ) -> Result<(), AllocError> {
         let (policy, names) = *by;
         let listed = self.listed.as_slice();
-        put_each(members, alloc, "authorizations", listed, policy)?;
-        let expires = capped_moment_text(alloc, self.expires);
-        put_text(members, alloc, "expires", expires)?;
-        let finalize = url_below(alloc, policy, "/order/", self.number, "/finalize");
-        put_text(members, alloc, "finalize", finalize)?;
-        put_each(members, alloc, "identifiers", names, &())?;
-        put_str(members, alloc, "status", self.status.as_str())?;
-        put_certificate(members, alloc, policy, self)?;
-        put_error(members, alloc, &self.failed)
+        let authorizations = put_each(members, alloc, "authorizations", listed, policy);
+        let end = capped_moment_text(alloc, self.expires);
+        let expires = put_text(members, alloc, "expires", end);
+        let url = url_below(alloc, policy, "/order/", self.number, "/finalize");
+        let finalize = put_text(members, alloc, "finalize", url);
+        let identifiers = put_each(members, alloc, "identifiers", names, &());
+        let status = put_str(members, alloc, "status", self.status.as_str());
+        let certificate = put_certificate(members, alloc, policy, self);
+        let error = put_error(members, alloc, &self.failed);
+        let dated = authorizations.and(expires).and(finalize);
+        dated
+            .and(identifiers)
+            .and(status)
+            .and(certificate)
+            .and(error)
     }
 }
 

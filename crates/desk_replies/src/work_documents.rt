@@ -26,14 +26,14 @@ impl<'a> ShowsObject<(&'a Book, &'a AuthorizationRow)> for ChallengeRow {
         by: &(&'a Book, &'a AuthorizationRow),
     ) -> Result<(), AllocError> {
         let (book, row) = *by;
-        let number = Value::from(self.number);
-        put(members, alloc, "challenge", number)?;
-        let expected = expected_text(alloc, self.kind, self.token, book.answer_key(row));
-        put_text(members, alloc, "expected", expected)?;
-        put_str(members, alloc, "name", row.name.base())?;
-        let token = keys::token_text(alloc, self.token);
-        put_text(members, alloc, "token", token)?;
-        put_str(members, alloc, "type", self.kind.as_str())
+        let challenge = put(members, alloc, "challenge", Value::from(self.number));
+        let answer = expected_text(alloc, self.kind, self.token, book.answer_key(row));
+        let expected = put_text(members, alloc, "expected", answer);
+        let name = put_str(members, alloc, "name", row.name.base());
+        let text = keys::token_text(alloc, self.token);
+        let token = put_text(members, alloc, "token", text);
+        let kind = put_str(members, alloc, "type", self.kind.as_str());
+        challenge.and(expected).and(name).and(token).and(kind)
     }
 }
 
@@ -113,11 +113,11 @@ impl ShowsObject<Book> for OrderRow {
         alloc: Global,
         by: &Book,
     ) -> Result<(), AllocError> {
-        let csr = csr_text(alloc, &self.finalized);
-        put_text(members, alloc, "csr", csr)?;
-        let listed = self.listed.as_slice();
-        put_each(members, alloc, "names", listed, by)?;
-        put(members, alloc, "order", Value::from(self.number))
+        let text = csr_text(alloc, &self.finalized);
+        let csr = put_text(members, alloc, "csr", text);
+        let names = put_each(members, alloc, "names", self.listed.as_slice(), by);
+        let order = put(members, alloc, "order", Value::from(self.number));
+        csr.and(names).and(order)
     }
 }
 

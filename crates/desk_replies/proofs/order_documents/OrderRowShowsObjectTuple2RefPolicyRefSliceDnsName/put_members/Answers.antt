@@ -8,29 +8,37 @@ use Rattle.desk_model.specs.Document.{authorization_url, certificate_url, identi
 use Rattle.desk_replies.specs.Shown.{order_members, with_members}
 use Rattle.desk_replies.proofs.Results.{on_ok}
 use Rattle.desk_replies.proofs.Gathered.{each-shows-one}
-use Rattle.desk_replies.proofs.ShownOrders.{and_put, order_members-put}
+use Rattle.desk_replies.proofs.ShownOrders.{member_then, members_then, order_members-put}
 use Rattle.desk_replies.proofs.order_documents.OrderRowShowsObjectTuple2RefPolicyRefSliceDnsName.put_members.Goals as goal
 
 pub returns : goal.returns
 returns c =
-    on_ok c.put_error.result (λ put none. ap object (
+    on_ok c.and-5.result (λ put none. ap object (
     put
-    ∙ ap (with_members (order_error c.args.self.now.failed)) (c.in_ok-put_certificate.ensures
-    ∙ ap (with_members (when (is_some c.args.self.now.certified) (codes "certificate", string (certificate_url c.args.by.now.0.now c.args.self.now.number))))
-    (and_put _ _ _ _
-    (c.in_ok-put_str.ensures ∙ ap (λ text. with_members ((codes "status", string text) ∷ []) (members_view c.put_each-2.new.members.entries)) c.as_str.ensures)
-    (and_put _ _ _ _
-    (c.in_ok-put_each-2.ensures
-    ∙ ap (λ shown. with_members ((codes "identifiers", list shown) ∷ []) (members_view c.put_text-2.new.members.entries))
-    (each-shows-one (λ n. identifier (shown_name n)) c.args.by.now.1.now))
-    (and_put _ _ _ _ (c.in_ok-put_text-2.ensures _ c.url_below-finalize.ensures)
-    (and_put _ _ _ _ (c.in_ok-put_text.ensures _ c.capped_moment_text-expires.ensures)
-    (c.in_ok-put_each.ensures
-    ∙ ap (λ shown. with_members ((codes "authorizations", list shown) ∷ []) (members_view c.args.members.now.entries))
-    (each-shows-one (λ l. string (authorization_url c.args.by.now.0.now l.authorization)) c.as_slice-listed.result.now
-    ∙ ap (map (λ l. string (authorization_url c.args.by.now.0.now l.authorization))) c.as_slice-listed.ensures)))))))
     ∙ ap (λ ms. with_members (order_error c.args.self.now.failed) (with_members
     (when (is_some c.args.self.now.certified) (codes "certificate", string (certificate_url c.args.by.now.0.now c.args.self.now.number)))
     (with_members (order_members c.args.by.now.0.now c.args.by.now.1.now c.args.self.now) ms))) none
     ∙ order_members-put c.args.by.now.0.now c.args.by.now.1.now c.args.self.now))
-    c.put_error.ensures
+    (members_then c.and-4.result c.put_error-error.result c.and-5.result c.and-5.ensures (with_members (order_error c.args.self.now.failed)) _ _ _
+    (members_then c.and-3.result c.put_certificate-certificate.result c.and-4.result c.and-4.ensures
+    (with_members (when (is_some c.args.self.now.certified) (codes "certificate", string (certificate_url c.args.by.now.0.now c.args.self.now.number)))) _ _ _
+    (member_then c.and-2.result c.put_str-status.result c.and-3.result c.and-3.ensures _ _ _ _
+    (member_then c.and-dated.result c.put_each-identifiers.result c.and-2.result c.and-2.ensures _ _ _ _
+    (member_then c.and.result c.put_text-finalize.result c.and-dated.result c.and-dated.ensures _ _ _ _
+    (member_then c.put_each-authorizations.result c.put_text-expires.result c.and.result c.and.ensures _ _ _ _
+    (on_ok c.put_each-authorizations.result (λ put. put
+    ∙ ap (λ shown. with_members ((codes "authorizations", list shown) ∷ []) (members_view c.args.members.now.entries))
+    (each-shows-one (λ l. string (authorization_url c.args.by.now.0.now l.authorization)) c.as_slice-listed.result.now
+    ∙ ap (map (λ l. string (authorization_url c.args.by.now.0.now l.authorization))) c.as_slice-listed.ensures))
+    c.put_each-authorizations.ensures)
+    (on_ok c.put_text-expires.result (λ put. put _ c.capped_moment_text-end.ensures) c.put_text-expires.ensures))
+    (on_ok c.put_text-finalize.result (λ put. put _ c.url_below-url.ensures) c.put_text-finalize.ensures))
+    (on_ok c.put_each-identifiers.result (λ put. put
+    ∙ ap (λ shown. with_members ((codes "identifiers", list shown) ∷ []) (members_view c.put_text-finalize.new.members.entries))
+    (each-shows-one (λ n. identifier (shown_name n)) c.args.by.now.1.now))
+    c.put_each-identifiers.ensures))
+    (on_ok c.put_str-status.result (λ put. put
+    ∙ ap (λ text. with_members ((codes "status", string text) ∷ []) (members_view c.put_each-identifiers.new.members.entries)) c.as_str.ensures)
+    c.put_str-status.ensures))
+    c.put_certificate-certificate.ensures)
+    c.put_error-error.ensures)
