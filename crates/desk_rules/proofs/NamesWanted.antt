@@ -1,8 +1,8 @@
 -- How many authorizations and tokens a new order asks for.
-use Rattle.std.proofs.Common.{◌≡◌, ℕ, ◌+◌, ◌*◌, ◌<◌, ◌≤◌, List, [], ◌∷◌, ◌++◌, length, drop, get_or, Bool, true, false, cond, refl, arith}
+use Rattle.std.proofs.Common.{◌≡◌, ℕ, zero, suc, ◌+◌, ◌*◌, ◌<◌, ◌≤◌, List, [], ◌∷◌, ◌++◌, length, take, drop, get_or, Bool, true, false, cond, refl, arith}
 use Rattle.std.proofs.Common.{sym, ap, subst, ◌∙◌, append_assoc, length-drop}
 use Rattle.std.specs.Prelude.{sum_by}
-use Rattle.std.proofs.lemmas.List.{at_drop_more}
+use Rattle.std.proofs.lemmas.List.{at_drop_more, drop-drop}
 use Rattle.std.proofs.lemmas.List.Sums.{sum_by-cons}
 use Rattle.desk_model.specs.Authorization.{kinds_of}
 use Rattle.desk_model.specs.declared.objects.Kind.TheVariants.{Http01 as http_01, Dns01 as dns_01}
@@ -58,6 +58,17 @@ count_tokens-wanted (n ∷ ns) random =
       length-pieces (length (kinds_of n)) random,
       count_tokens-wanted ns (drop (16 * length (kinds_of n)) random),
     )
+
+-- the first pieces, and one more
+pub pieces-last : (k : ℕ) (random : List ℕ) → pieces (suc k) random ≡ pieces k random ++ take 16 (drop (16 * k) random) ∷ []
+pieces-last zero random = refl
+pieces-last (suc k) random =
+    ap (λ (ps : List (List ℕ)). take 16 random ∷ ps)
+    (pieces-last k (drop 16 random)
+    ∙ ap (λ r. pieces k (drop 16 random) ++ take 16 r ∷ []) (drop-drop (16 * k) 16 random ∙ ap (λ n. drop n random) behind))
+  where
+    behind : 16 + 16 * k ≡ 16 * suc k
+    behind = omega arith
 
 -- there are bytes for the tokens of the next name
 pub next-tokens : (n : Name) (left ns : List Name) (random : List ℕ) (count : ℕ) → left ≡ n ∷ ns → count ≡ length (kinds_of n)

@@ -1,5 +1,5 @@
 //! The rules on new orders (RFC 8555, 7.4).
-ghost use Rattle.std.specs.Prelude.{◌≡◌, ◌+◌, ◌*◌, ◌<◌, ◌≤◌, ◌⊎◌, ◌++◌, length, drop, sum_by, IfOk, MatchResult, OnOk};
+ghost use Rattle.std.specs.Prelude.{◌≡◌, ◌+◌, ◌*◌, ◌<◌, ◌≤◌, ◌⊎◌, length, drop, sum_by, IfOk, MatchResult};
 ghost use Rattle.desk_rules.specs.Needs.{NumbersLeft, BytesLeft, IsNeedFault};
 ghost use Rattle.desk_model.specs.Authorization.{kinds_of};
 ghost use Rattle.desk_model.specs.Limits.{last_number};
@@ -11,9 +11,7 @@ use crate::fault::CoreFault;
 use crate::identified::{Identified, identify};
 use crate::limits::{first_piece, has_room, has_room_for, has_tokens, later_random};
 use crate::verdicts::refused;
-use desk_model::{
-    Counters, DnsName, Identifier, Kind, MOST_NAMES, Refusal, Sequence, Verdict, Wanted,
-};
+use desk_model::{Counters, DnsName, Identifier, MOST_NAMES, Refusal, Sequence, Verdict, Wanted};
 use std::alloc::{AllocError, Global};
 use swept_rows::At;
 
@@ -28,25 +26,15 @@ fn count_tokens(names: &[DnsName]) -> usize
     count
 }
 
-// Puts a token for each of these challenges, taken from the front of the random bytes, at the end of a list.
-fn push_tokens(tokens: &mut Vec<[u8; 16]>, kinds: &[Kind], random: &[u8]) -> Result<(), AllocError>
-    requires { 16 * length kinds.now ≤ length random.now }
-    ensures { OnOk result (tokens.new.items ≡ tokens.old.items ++ pieces (length kinds.now) random.now) }
-{
-    let Some((_kind, kinds)) = kinds.split_first() else {
-        return Ok(());
-    };
-    tokens.push(first_piece(random))?;
-    push_tokens(tokens, kinds, later_random(random, 1))
-}
-
-// The tokens of a name, taken from the front of the random bytes.
+// The tokens of a name, one for each of its challenges, taken from the front of the random bytes.
 fn tokens_of(alloc: Global, name: &DnsName, random: &[u8]) -> Result<Vec<[u8; 16]>, AllocError>
     requires { 16 * length (kinds_of name.now) ≤ length random.now }
     ensures { IfOk result (λ v. v.items ≡ pieces (length (kinds_of name.now)) random.now) }
 {
     let mut tokens = Vec::new(alloc);
-    push_tokens(&mut tokens, name.kinds(), random)?;
+    for place in 0..name.kinds().len() {
+        tokens.push(first_piece(later_random(random, place)))?;
+    }
     Ok(tokens)
 }
 

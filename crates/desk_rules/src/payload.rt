@@ -61,7 +61,7 @@ fn optional_bool(member: Option<&Value>) -> Option<Option<bool>>
     ensures { result ≡ optional as_bool (option_map (λ v. view v.now) member.entry) }
 {
     match member {
-        Some(value) => value.as_bool().map(Some),
+        Some(value) => Some(Some(value.as_bool()?)),
         None => Some(None),
     }
 }
@@ -74,10 +74,10 @@ pub(crate) fn new_account(alloc: Global, payload: Payload) -> Result<Option<NewA
     let Some(value) = payload.object else {
         return Ok(None);
     };
-    let Some(contacts) = optional_texts(alloc, value.get("contact"))? else {
+    let Some(only_existing) = optional_bool(value.get("onlyReturnExisting")) else {
         return Ok(None);
     };
-    let Some(only_existing) = optional_bool(value.get("onlyReturnExisting")) else {
+    let Some(contacts) = optional_texts(alloc, value.get("contact"))? else {
         return Ok(None);
     };
     let contacts = match contacts {
@@ -194,7 +194,10 @@ pub(crate) fn new_order(
     if value.get("notBefore").is_some() || value.get("notAfter").is_some() {
         return Ok(None);
     }
-    match value.get("identifiers").and_then(Value::as_array) {
+    let Some(listed) = value.get("identifiers") else {
+        return Ok(None);
+    };
+    match listed.as_array() {
         Some(items) => identifiers(alloc, items.as_slice()),
         None => Ok(None),
     }
