@@ -1,4 +1,5 @@
-use Rattle.std.proofs.Common.{sym, ap, ◌∙◌}
+use Rattle.std.proofs.Common.{◌≡◌, rules, true, sym, ap, ◌∙◌}
+use Rattle.desk_model.specs.Authorization.{is_good}
 use Rattle.serde_json.specs.View.{members_view}
 use Rattle.moments.specs.Capped.{capped}
 use Rattle.desk_replies.specs.Shown.{with_members}
@@ -8,7 +9,8 @@ use Rattle.desk_replies.proofs.authorization_documents.put_date.Goals as goal
 
 pub returns : goal.returns
 returns c =
+    let good : is_good c.args.report.outcome ≡ true = search rules in
     on_ok c.put_text.result (λ put. put _ c.capped_moment_text-date.ensures
     ∙ sym (ap (λ ms. with_members ms (members_view c.args.members.now.entries))
-    (validated-good c.args.report.outcome (capped c.args.report.date) (sym c.is_good.ensures ∙ c.if-not-is_good.false))))
+    (validated-good c.args.report.outcome (capped c.args.report.date) good)))
     c.put_text.ensures
