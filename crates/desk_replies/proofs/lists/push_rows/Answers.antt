@@ -1,7 +1,7 @@
 use Rattle.std.proofs.Common.{map}
 use Rattle.serde_json.specs.View.{view}
 use Rattle.desk_replies.proofs.Gathered.{shown-next}
-use Rattle.desk_replies.proofs.lists.shown_rows.Goals as goal
+use Rattle.desk_replies.proofs.lists.push_rows.Goals as goal
 
 pub loop-row-preserved : goal.loop-row-preserved
 loop-row-preserved g c =
