@@ -1,5 +1,5 @@
 //! The documents of orders (RFC 8555, 7.1.3).
-ghost use Rattle.std.specs.Prelude.{ℕ, ◌≡◌, ◌∷◌, [], map, codes, is_some, IfOk, OnOk};
+ghost use Rattle.std.specs.Prelude.{ℕ, ◌≡◌, ◌++◌, ◌∷◌, [], map, codes, is_some, IfOk, OnOk};
 ghost use Rattle.serde_json.specs.Data.{string};
 ghost use Rattle.serde_json.specs.View.{members_view};
 ghost use Rattle.desk_model.specs.Json.{when};
@@ -120,21 +120,20 @@ impl<'a> ShowsObject<(&'a Policy, &'a [DnsName])> for OrderRow {
     }
 }
 
-// The names of the authorizations that these places list.
-fn listed_names(
-    alloc: Global,
+// Adds the names of the authorizations that these places list.
+fn push_names(
+    names: &mut Vec<DnsName>,
     rows: &Table<AuthorizationRow>,
     listed: &[Listed],
-) -> Result<Vec<DnsName>, AllocError>
-    ensures { IfOk result (λ v. v.items ≡ map (λ a. a.name) (rows_of rows.now (numbers_of listed.now))) }
+) -> Result<(), AllocError>
+    ensures { OnOk result (names.new.items ≡ names.old.items ++ map (λ a. a.name) (rows_of rows.now (numbers_of listed.now))) }
 {
-    let mut names = Vec::new(alloc);
     for place in listed {
         if let Some(row) = rows.get(place.authorization) {
             names.push(row.name.clone()?)?;
         }
     }
-    Ok(names)
+    Ok(())
 }
 
 /// The names of the authorizations that an order lists, in their places; the passing of time moves none of them.
@@ -146,7 +145,8 @@ pub fn order_names(alloc: Global, book: &Book, row: &OrderRow) -> Result<Vec<Dns
     ensures stored { IfOk result (λ v. v.items ≡ map (λ a. a.name) (listed_rows book.now row.now)) }
     ensures swept { IfOk result (λ v. (moment : ℕ) → v.items ≡ map (λ a. a.name) (listed_rows (swept moment book.now) row.now)) }
 {
-    listed_names(alloc, book.authorizations(), row.listed.as_slice())
+    let mut names = Vec::new(alloc);
+    push_names(&mut names, book.authorizations(), row.listed.as_slice()).and(Ok(names))
 }
 
 // Whether an order of a book is an account's and not invalid at a moment.
