@@ -73,18 +73,32 @@ fn keep_name(names: &mut Vec<DnsName>, name: DnsName) -> Result<(), AllocError>
     Ok(())
 }
 
+// Reads identifiers, each once, into what was read before.
+fn read_each(
+    alloc: Global,
+    identifiers: &[Identifier],
+    read: &mut Identified,
+) -> Result<(), AllocError>
+    ensures { OnOk result (read.old.names.items ≡ [] → read.old.faulty.items ≡ [] → (read.new.faulty.items ≡ subproblems identifiers.now)
+        × (read.new.faulty.items ≡ [] → read.new.names.items ≡ kept (names_in identifiers.now))) }
+{
+    for identifier in identifiers {
+        match name_in(alloc, identifier)? {
+            Ok(name) => keep_name(&mut read.names, name)?,
+            Err(refusal) => read.faulty.push(subproblem(identifier, refusal)?)?,
+        }
+    }
+    Ok(())
+}
+
 /// Reads identifiers, each once; the names are those of all where none is faulty.
 pub(crate) fn identify(alloc: Global, identifiers: &[Identifier]) -> Result<Identified, AllocError>
     ensures faulty { IfOk result (λ read. read.faulty.items ≡ subproblems identifiers.now) }
     ensures named { IfOk result (λ read. read.faulty.items ≡ [] → read.names.items ≡ kept (names_in identifiers.now)) }
 {
-    let mut names = Vec::new(alloc);
-    let mut faulty = Vec::new(alloc);
-    for identifier in identifiers {
-        match name_in(alloc, identifier)? {
-            Ok(name) => keep_name(&mut names, name)?,
-            Err(refusal) => faulty.push(subproblem(identifier, refusal)?)?,
-        }
-    }
-    Ok(Identified { names, faulty })
+    let mut read = Identified {
+        names: Vec::new(alloc),
+        faulty: Vec::new(alloc),
+    };
+    read_each(alloc, identifiers, &mut read).and(Ok(read))
 }
