@@ -1,5 +1,5 @@
 -- Which faults come, and when.
-use Rattle.std.proofs.Common.{◌≡◌, ℕ, ◌<◌, ◌≤◌, List, length, arith, subst, Result, Ok, Err, IfOk}
+use Rattle.std.proofs.Common.{◌≡◌, ℕ, ◌<◌, ◌≤◌, List, arith, subst, Result, Ok, Err, IfOk}
 use Rattle.std.specs.Prelude.{IfErr, MatchResult, ◌↔◌}
 use Rattle.desk_model.specs.Limits.{last_moment, last_number}
 use Rattle.desk_model.specs.Tables.{Tables}
@@ -20,6 +20,11 @@ passed_fault B random v nonces numbers fault.Memory short = tt
 passed_fault B random v nonces numbers fault.ShortRandom short = (nonces, numbers, omega (arith, short))
 passed_fault B random v nonces numbers fault.Full short = absurd short
 passed_fault B random v nonces numbers fault.Moment short = absurd short
+
+-- what follows where it ended in a fault
+pub fault_so : {X E : Type 0} {F G : E → Type 0} (r : Result X E) → ((e : E) → F e → G e) → IfErr r F → IfErr r G
+fault_so (Ok x) fails f = tt
+fault_so (Err e) fails f = fails e f
 
 -- what follows of a result, whichever way it ended
 pub passed_or_fault : {X E : Type 0} {P Q R S : X → Type 0} {F G : E → Type 0} (r : Result X E) → ((x : X) → P x → Q x → R x → S x)

@@ -2,6 +2,7 @@
 use Rattle.std.proofs.Common.{◌≡◌, ℕ, ◌≤◌, List, Option, Some, None, IfSome, Result, Ok, Err, IfOk, OnOk, ◌∙◌, ap, refl, subst, sym}
 use Rattle.std.specs.Prelude.{◌==◌, find, is_some, Bool}
 use Rattle.std.specs.Option.{option_map}
+use Rattle.std.specs.Result.{result_and}
 use Rattle.desk_laws.proofs.Finds.{each_found}
 use Rattle.desk_model.specs.Kept.{EachOf}
 use Rattle.desk_model.specs.Limits.{last_end}
@@ -40,6 +41,16 @@ ok_if P r x is h = subst (λ r. IfOk r P) is h
 -- and so does what holds where there is one
 pub ok_on : {X E P : Type 0} (r : Result X E) (x : X) → r ≡ Ok x → OnOk r P → P
 ok_on {X} {E} {P} r x is h = subst (λ r. OnOk r P) is h
+
+-- where the second of two steps ended well, what holds of the first holds
+pub and_first : {T X E P : Type 0} (a : Result T E) (b r : Result X E) (x : X) → r ≡ result_and a b → r ≡ Ok x → OnOk a P → P
+and_first (Ok t) b r x is so h = h
+and_first (Err e) b r x is so h = cc (is, so)
+
+-- and the second is the result
+pub and_second : {T X E : Type 0} (a : Result T E) (b r : Result X E) (x : X) → r ≡ result_and a b → r ≡ Ok x → b ≡ Ok x
+and_second (Ok t) b r x is so = sym is ∙ so
+and_second (Err e) b r x is so = cc (is, so)
 
 -- what follows of two things that hold of a value
 pub ok_both : {X E : Type 0} {P Q S : X → Type 0} (r : Result X E) → ((x : X) → P x → Q x → S x) → IfOk r P → IfOk r Q → IfOk r S

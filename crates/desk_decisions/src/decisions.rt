@@ -54,24 +54,39 @@ fn fresh_random(book: &Book, random: &[u8]) -> Result<[u8; 16], CoreFault>
     first_random(random)
 }
 
-// What a call records that issues a nonce and nothing else, with the random bytes of the nonce.
+// What a recording gives in the end, with the reply; where there is no reply, its error.
+fn outcome_of(
+    book: &Book,
+    recording: Recording,
+    reply: Result<Reply, AllocError>,
+) -> Result<Outcome, CoreFault>
+    ensures changes { IfOk result (λ o. (m : ℕ) (e : EntryOf) (es : List EntryOf)
+        → IsRecorded m book.now (e ∷ es) recording.changes.items recording.counters → o.changes.items ≡ recorded_changes m book.now (e ∷ es)) }
+    ensures reply { IfOk result (λ o. reply ≡ Ok o.reply) }
+    ensures fault { IfErr result (λ e. e ≡ Memory) }
+{
+    let reply = reply?;
+    let changes = recording.finish(&book.meta().policy)?;
+    Ok(Outcome { changes, reply })
+}
+
+// Issues a nonce with these random bytes and nothing else, with a reply, if that could be made.
 fn issue(
     alloc: Global,
     book: &Book,
     moment: u64,
-    random: &[u8],
-) -> Result<(Vec<Change>, [u8; 16]), CoreFault>
-    requires { moment ≤ last_moment }
-    ensures changes { IfOk result (λ r. r.0.items ≡ recorded_changes moment book.now (issued_entry (take 16 random.now) ∷ [])) }
-    ensures bytes { IfOk result (λ r. r.1 ≡ take 16 random.now) }
-    ensures room { IfOk result (λ _. (book.now.meta.counters.nonces < last_number) × (16 ≤ length random.now)) }
-    ensures fault { IfErr result (λ e. IsIssueFault book.now random.now e) }
+    random: [u8; 16],
+    reply: Result<Reply, AllocError>,
+) -> Result<Outcome, CoreFault>
+    requires moment { moment ≤ last_moment }
+    requires nonces { book.now.meta.counters.nonces < last_number }
+    ensures changes { IfOk result (λ o. o.changes.items ≡ recorded_changes moment book.now (issued_entry random ∷ [])) }
+    ensures reply { IfOk result (λ o. reply ≡ Ok o.reply) }
+    ensures fault { IfErr result (λ e. e ≡ Memory) }
 {
-    let bytes = fresh_random(book, random)?;
     let mut recording = Recording::begin(alloc, book, moment)?;
-    recording.issue(bytes)?;
-    let changes = recording.finish(&book.meta().policy)?;
-    Ok((changes, bytes))
+    let issued = recording.issue(random);
+    outcome_of(book, recording, issued.and(reply))
 }
 
 // Issues a nonce and nothing else, with this reply.
@@ -88,25 +103,10 @@ fn issued(
     ensures room { IfOk result (λ _. (book.now.meta.counters.nonces < last_number) × (16 ≤ length random.now)) }
     ensures fault { IfErr result (λ e. IsIssueFault book.now random.now e) }
 {
-    let (changes, bytes) = issue(alloc, book, moment, random)?;
-    let last = book.meta().counters.nonces;
-    let reply = with_nonce(alloc, last + 1, bytes, reply)?;
-    Ok(Outcome { changes, reply })
-}
-
-// What a recording gives in the end, with the reply; where there is no reply, its error.
-fn outcome_of(
-    book: &Book,
-    recording: Recording,
-    reply: Result<Reply, AllocError>,
-) -> Result<Outcome, AllocError>
-    ensures changes { IfOk result (λ o. (m : ℕ) (e : EntryOf) (es : List EntryOf)
-        → IsRecorded m book.now (e ∷ es) recording.changes.items recording.counters → o.changes.items ≡ recorded_changes m book.now (e ∷ es)) }
-    ensures reply { IfOk result (λ o. reply ≡ Ok o.reply) }
-{
-    let reply = reply?;
-    let changes = recording.finish(&book.meta().policy)?;
-    Ok(Outcome { changes, reply })
+    let bytes = fresh_random(book, random)?;
+    let serial = book.meta().counters.nonces + 1;
+    let reply = with_nonce(alloc, serial, bytes, reply);
+    issue(alloc, book, moment, bytes, reply)
 }
 
 // Begins what a signed request records: its nonce is spent, and one is issued, whose random bytes it gives.
@@ -176,8 +176,7 @@ fn passed(
 {
     let (mut recording, bytes) = begin_signed(alloc, book, moment, serial, random)?;
     let reply = act_with_nonce(alloc, book, &mut recording, verdict, bytes);
-    let outcome = outcome_of(book, recording, reply)?;
-    Ok(outcome)
+    outcome_of(book, recording, reply)
 }
 
 // The verdict on a signed request at a moment.
@@ -242,12 +241,7 @@ fn signed(
 }
 
 // A request without a nonce that records an entry.
-fn recorded(
-    alloc: Global,
-    book: &Book,
-    moment: u64,
-    verdict: Verdict,
-) -> Result<Outcome, AllocError>
+fn recorded(alloc: Global, book: &Book, moment: u64, verdict: Verdict) -> Result<Outcome, CoreFault>
     requires moment { moment ≤ last_moment }
     requires numbers { NumbersLeft book.now.meta.counters verdict }
     requires there { NamesRows (swept moment book.now) verdict }
@@ -256,6 +250,7 @@ fn recorded(
     ensures reply { IfOk result (λ o. IsOrdered book.now → (e : EntryOf) (es : List EntryOf) → entries_of verdict ≡ e ∷ es
         → HasTexts (effects moment (swept moment book.now) (entries_of verdict))
         → o.reply ≡ verdict_reply false (effects moment (swept moment book.now) (entries_of verdict)) verdict) }
+    ensures fault { IfErr result (λ e. e ≡ Memory) }
 {
     let mut recording = Recording::begin(alloc, book, moment)?;
     let reply = act(alloc, book, &mut recording, verdict);
@@ -274,11 +269,12 @@ fn unrecorded(alloc: Global, reply: Reply) -> Outcome
 }
 
 // A request without a nonce, by the verdict on it.
-fn settled(alloc: Global, book: &Book, moment: u64, verdict: Verdict) -> Result<Outcome, AllocError>
+fn settled(alloc: Global, book: &Book, moment: u64, verdict: Verdict) -> Result<Outcome, CoreFault>
     requires moment { moment ≤ last_moment }
     requires numbers { NumbersLeft book.now.meta.counters verdict }
     requires there { NamesRows (swept moment book.now) verdict }
-    ensures { IfOk result (λ o. Settles moment book.now verdict o.changes.items o.reply) }
+    ensures settles { IfOk result (λ o. Settles moment book.now verdict o.changes.items o.reply) }
+    ensures fault { IfErr result (λ e. e ≡ Memory) }
 {
     match verdict {
         Verdict::Refused {
@@ -314,8 +310,7 @@ fn office(alloc: Global, book: &Book, moment: u64, ask: &OfficeAsk) -> Result<Ou
         (λ e. e ≡ Memory) }
 {
     let verdict = office_verdict(alloc, book, moment, ask)?;
-    let outcome = settled(alloc, book, moment, verdict)?;
-    Ok(outcome)
+    settled(alloc, book, moment, verdict)
 }
 
 // The answer to an ask.

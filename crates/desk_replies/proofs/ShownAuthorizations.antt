@@ -5,6 +5,7 @@ use Rattle.std.specs.List.{flat_map, list_any}
 use Rattle.std.proofs.lemmas.Simd.{map-map}
 use Rattle.serde_json.specs.Data.{Data, string, boolean}
 use Rattle.desk_model.specs.Json.{members, list, when}
+use Rattle.desk_model.specs.Authorization.{is_good}
 use Rattle.desk_model.specs.Terms.{Terms}
 use Rattle.desk_model.specs.Moment.{moment_text}
 use Rattle.desk_model.specs.Kept.{EachOf}
@@ -76,6 +77,13 @@ pub challenges-shown : (t : Terms) (rows : List ChallengeRow) (reported : Bool) 
 challenges-shown t rows reported is =
     passing-show-one (λ c. challenge_document t (capped_challenge c)) (λ c. not reported || is_some c.reported) rows
     ∙ ap (map (λ c. challenge_document t (capped_challenge c))) (or_all-filtered (λ c. is_some c.reported) rows reported is)
+
+-- when a good report was made
+pub validated-good : (o : Outcome) (date : ℕ) → is_good o ≡ true → validated_by o date ≡ (codes "validated", string (moment_text date)) ∷ []
+validated-good Good date good = refl
+validated-good IncorrectResponse date good = cc good
+validated-good Connection date good = cc good
+validated-good Dns date good = cc good
 
 challenge_members-by : (o : Outcome) (date : ℕ) (s t k u : Data) →
     with_members (validated_by o (capped date))

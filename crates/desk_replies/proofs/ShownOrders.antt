@@ -1,5 +1,6 @@
 -- What the documents of orders show.
-use Rattle.std.proofs.Common.{◌≡◌, ℕ, ◌≤◌, List, [], ◌∷◌, ◌++◌, map, Option, Some, None, refl, sym, ap, ◌∙◌, arith}
+use Rattle.std.proofs.Common.{◌≡◌, ℕ, ◌≤◌, List, [], ◌∷◌, ◌++◌, map, Option, Some, None, Result, OnOk, refl, sym, ap, ◌∙◌, arith}
+use Rattle.std.specs.Result.{result_and}
 use Rattle.std.specs.Prelude.{is_some, codes}
 use Rattle.std.proofs.lemmas.Simd.{map-map}
 use Rattle.serde_json.specs.Data.{Data, Members, string}
@@ -17,6 +18,7 @@ use Rattle.desk_model.specs.Document.{order_error, order_status_text, identifier
 use Rattle.desk_model.specs.Document.{certificate_url, listed_rows, order_document, order_with_names}
 use Rattle.moments.specs.Capped.{capped}
 use Rattle.desk_replies.specs.Shown.{capped_order, with_members}
+use Rattle.desk_replies.proofs.Results.{and_on}
 
 -- a moment that has a text is shown as it is
 pub capped-same : (m : ℕ) → m ≤ last_end → capped m ≡ m
@@ -30,6 +32,16 @@ and_put member before now known put earlier = put ∙ ap (with_members (member �
 -- members put onto known ones
 pub and_puts : (ms : List (List ℕ × Data)) (before now known : Members) → now ≡ with_members ms before → before ≡ known → now ≡ with_members ms known
 and_puts ms before now known put earlier = put ∙ ap (with_members ms) earlier
+
+-- a member that is put behind earlier ones, where both were put
+pub member_then : {T U E : Type 0} (a : Result T E) (b r : Result U E) → r ≡ result_and a b → (member : List ℕ × Data) (before now known : Members) →
+    OnOk a (before ≡ known) → OnOk b (now ≡ with_members (member ∷ []) before) → OnOk r (now ≡ with_members (member ∷ []) known)
+member_then a b r is member before now known earlier put = and_on a b r is (λ e p. and_put member before now known p e) earlier put
+
+-- and several
+pub members_then : {T U E : Type 0} (a : Result T E) (b r : Result U E) → r ≡ result_and a b → (f : Members → Members) (before now known : Members) →
+    OnOk a (before ≡ known) → OnOk b (now ≡ f before) → OnOk r (now ≡ f known)
+members_then a b r is f before now known earlier put = and_on a b r is (λ e p. p ∙ ap f e) earlier put
 
 -- the certificate and the error of an order stand in the order of names
 order_members-by : (certified : Option DatedBytes) (failed : Option DatedProblem) (a x f i s c : Data) →

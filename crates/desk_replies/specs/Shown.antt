@@ -1,5 +1,5 @@
 -- What documents show, where their moments have a text, and members that are put one by one.
-use Rattle.std.specs.Prelude.{codes, ℕ, ◌≤◌, Bool, not, ◌||◌, is_some, List, [], ◌∷◌, map, Option, Some, None, if◌then◌else◌}
+use Rattle.std.specs.Prelude.{codes, ℕ, ◌≤◌, Bool, not, ◌||◌, is_some, List, [], ◌∷◌, ◌++◌, decimal, map, Option, Some, None, if◌then◌else◌}
 use Rattle.std.specs.List.{filter}
 use Rattle.serde_json.specs.Data.{Data, Members, number, put, string, unsigned}
 use Rattle.desk_model.specs.Limits.{last_end}
@@ -50,6 +50,12 @@ HasDatedReport (Some r) = r.date ≤ last_end
 pub record HasMoments (a : AuthorizationRow) : Type 0 where
   pub ends : a.expires ≤ last_end
   pub reports : EachOf (λ c. HasDatedReport c.reported) a.challenges
+
+-- ---- URLs
+
+-- that of the object of a number, behind the path of its kind
+abbrev pub numbered_url : Terms → (path : List ℕ) → ℕ → List ℕ
+numbered_url t path n = t.base ++ (path ++ decimal n)
 
 -- ---- members
 

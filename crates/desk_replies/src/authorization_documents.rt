@@ -1,21 +1,21 @@
 //! The documents of authorizations and their challenges (RFC 8555, 7.1.4, 7.1.5, 8).
-ghost use Rattle.std.specs.Prelude.{◌≡◌, codes, is_some, true, IfOk, OnOk};
+ghost use Rattle.std.specs.Prelude.{◌≡◌, codes, is_some, true, OnOk};
 ghost use Rattle.std.specs.List.{list_any};
 ghost use Rattle.serde_json.specs.Data.{boolean};
-ghost use Rattle.serde_json.specs.View.{view, members_view};
+ghost use Rattle.serde_json.specs.View.{members_view};
 ghost use Rattle.desk_model.specs.Json.{when};
 ghost use Rattle.desk_model.specs.Document.{error_of, report_error, validated, validated_by, challenge_document};
 ghost use Rattle.desk_model.specs.Document.{authorization_document};
 ghost use Rattle.moments.specs.Capped.{capped};
-ghost use Rattle.desk_replies.specs.Shown.{authorization_members, capped_authorization, capped_challenge, capped_report, challenge_members};
+ghost use Rattle.desk_replies.specs.Shown.{capped_authorization, capped_challenge, capped_report};
 ghost use Rattle.desk_replies.specs.Shown.{shown_challenge, with_members};
 
 use crate::document_values::{
-    error_value, identifier_value, object_value, push_value, put_str, put_text, put_value,
-    text_value,
+    ShowsObject, error_value, identifier_value, push_value, put_str, put_text, put_value,
+    shown_object,
 };
 use crate::lists::{ListItem, put_each};
-use crate::urls::challenge_url;
+use crate::urls::numbered_url;
 use desk_model::{AuthorizationRow, ChallengeRow, Outcome, Policy, Report};
 use moments::capped_moment_text;
 use serde_json::{Map, Value, put};
@@ -48,8 +48,8 @@ fn put_date(
     if !report.outcome.is_good() {
         return Ok(());
     }
-    let date = capped_moment_text(alloc, report.date)?;
-    put(members, alloc, "validated", text_value(date))
+    let date = capped_moment_text(alloc, report.date);
+    put_text(members, alloc, "validated", date)
 }
 
 // Adds what the report on a challenge showed, if there is one.
@@ -68,46 +68,37 @@ fn put_report(
     put_date(members, alloc, report)
 }
 
-// Puts the members of a challenge.
-fn put_challenge(
-    members: &mut Map<String, Value>,
-    alloc: Global,
-    policy: &Policy,
-    row: &ChallengeRow,
-) -> Result<(), AllocError>
-    ensures { OnOk result (members_view members.new.entries
-        ≡ with_members (validated (capped_report row.now.reported)) (with_members (error_of row.now.reported)
-        (with_members (challenge_members policy.now row.now) (members_view members.old.entries)))) }
-{
-    put_str(members, alloc, "status", row.status.as_str())?;
-    let token = keys::token_text(alloc, row.token);
-    put_text(members, alloc, "token", token)?;
-    put_str(members, alloc, "type", row.kind.as_str())?;
-    let url = challenge_url(alloc, policy, row.number);
-    put_text(members, alloc, "url", url)?;
-    put_report(members, alloc, row.reported)
-}
+// A challenge (RFC 8555, 8).
+impl ShowsObject<Policy> for ChallengeRow {
+    ghost document = { λ t c. challenge_document t (capped_challenge c) };
 
-/// The document of a challenge (RFC 8555, 8).
-pub(crate) fn challenge_value(
-    alloc: Global,
-    policy: &Policy,
-    row: &ChallengeRow,
-) -> Result<Value, AllocError>
-    ensures { IfOk result (λ v. view v ≡ challenge_document policy.now (capped_challenge row.now)) }
-{
-    let mut members = Map::new(alloc);
-    let put = put_challenge(&mut members, alloc, policy, row);
-    object_value(members, put)
+    fn put_members(
+        &self,
+        members: &mut Map<String, Value>,
+        alloc: Global,
+        by: &Policy,
+    ) -> Result<(), AllocError> {
+        let status = put_str(members, alloc, "status", self.status.as_str());
+        let text = keys::token_text(alloc, self.token);
+        let token = put_text(members, alloc, "token", text);
+        let kind = put_str(members, alloc, "type", self.kind.as_str());
+        let path = numbered_url(alloc, by, "/chall/", self.number);
+        let url = put_text(members, alloc, "url", path);
+        let report = put_report(members, alloc, self.reported);
+        status.and(token).and(kind).and(url).and(report)
+    }
 }
 
 // Whether one of the challenges was reported.
 fn is_reported(challenges: &[ChallengeRow]) -> bool
     ensures { result ≡ list_any (λ c. is_some c.reported) challenges.now }
 {
-    challenges
-        .iter()
-        .any(|challenge| challenge.reported.is_some())
+    for challenge in challenges {
+        if challenge.reported.is_some() {
+            return true;
+        }
+    }
+    false
 }
 
 // A challenge, which is shown if it was reported, or if none was.
@@ -124,7 +115,7 @@ impl<'a> ListItem<(&'a Policy, bool)> for ChallengeRow {
         if reported && self.reported.is_none() {
             return Ok(());
         }
-        push_value(shown, challenge_value(alloc, policy, self))
+        push_value(shown, shown_object(alloc, self, policy))
     }
 }
 
@@ -143,36 +134,25 @@ fn put_wildcard(
     put(members, alloc, "wildcard", Value::Bool(true))
 }
 
-// Puts the members of an authorization.
-fn put_authorization(
-    members: &mut Map<String, Value>,
-    alloc: Global,
-    policy: &Policy,
-    row: &AuthorizationRow,
-) -> Result<(), AllocError>
-    ensures { OnOk result (members_view members.new.entries ≡ with_members (when row.now.name.wildcard (codes "wildcard", boolean true))
-        (with_members (authorization_members policy.now row.now) (members_view members.old.entries))) }
-{
-    let challenges = row.challenges.as_slice();
-    let by = (policy, is_reported(challenges));
-    put_each(members, alloc, "challenges", challenges, &by)?;
-    let expires = capped_moment_text(alloc, row.expires);
-    put_text(members, alloc, "expires", expires)?;
-    let identifier = identifier_value(alloc, row.name.base());
-    put_value(members, alloc, "identifier", identifier)?;
-    put_str(members, alloc, "status", row.status.as_str())?;
-    put_wildcard(members, alloc, row.name.is_wildcard())
-}
+// An authorization (RFC 8555, 7.1.4).
+impl ShowsObject<Policy> for AuthorizationRow {
+    ghost document = { λ t a. authorization_document t (capped_authorization a) };
 
-/// The document of an authorization (RFC 8555, 7.1.4).
-pub(crate) fn authorization_value(
-    alloc: Global,
-    policy: &Policy,
-    row: &AuthorizationRow,
-) -> Result<Value, AllocError>
-    ensures { IfOk result (λ v. view v ≡ authorization_document policy.now (capped_authorization row.now)) }
-{
-    let mut members = Map::new(alloc);
-    let put = put_authorization(&mut members, alloc, policy, row);
-    object_value(members, put)
+    fn put_members(
+        &self,
+        members: &mut Map<String, Value>,
+        alloc: Global,
+        by: &Policy,
+    ) -> Result<(), AllocError> {
+        let challenges = self.challenges.as_slice();
+        let told = (by, is_reported(challenges));
+        let shown = put_each(members, alloc, "challenges", challenges, &told);
+        let end = capped_moment_text(alloc, self.expires);
+        let expires = put_text(members, alloc, "expires", end);
+        let name = identifier_value(alloc, self.name.base());
+        let identifier = put_value(members, alloc, "identifier", name);
+        let status = put_str(members, alloc, "status", self.status.as_str());
+        let wildcard = put_wildcard(members, alloc, self.name.is_wildcard());
+        shown.and(expires).and(identifier).and(status).and(wildcard)
+    }
 }

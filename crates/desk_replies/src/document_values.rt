@@ -1,6 +1,6 @@
-//! The values that several documents hold: lists, moments, identifiers and errors (RFC 8555, 6.7, 7.1).
+//! Objects by their members, and the values that several documents hold: lists, identifiers and errors (RFC 8555, 6.7, 7.1).
 ghost use Rattle.std.specs.Prelude.{ℕ, List, ◌≡◌, ◌∷◌, ◌++◌, [], map, string_bytes, IfOk, OnOk};
-ghost use Rattle.serde_json.specs.Data.{Data, Members, object, string};
+ghost use Rattle.serde_json.specs.Data.{Data, no_members, object, string};
 ghost use Rattle.serde_json.specs.View.{view, members_view};
 ghost use Rattle.desk_model.specs.Json.{list};
 ghost use Rattle.desk_model.specs.Document.{identifier, error};
@@ -25,12 +25,40 @@ pub(crate) fn list_value(items: Vec<Value>) -> Value
     Value::Array(items)
 }
 
+/// What a JSON object shows, by what else it is told.
+pub(crate) trait ShowsObject<C> {
+    // The object.
+    ghost document: { C → Self → Data };
+
+    /// Puts its members, one by one.
+    fn put_members(
+        &self,
+        members: &mut Map<String, Value>,
+        alloc: Global,
+        by: &C,
+    ) -> Result<(), AllocError>
+        ensures { OnOk result (members_view members.old.entries ≡ no_members → object (members_view members.new.entries) ≡ document by.now self.now) };
+}
+
+/// The object that something shows.
+pub(crate) fn shown_object<C, T: ShowsObject<C>>(
+    alloc: Global,
+    shown: &T,
+    by: &C,
+) -> Result<Value, AllocError>
+    ensures { IfOk result (λ v. view v ≡ T.document by.now shown.now) }
+{
+    let mut members = Map::new(alloc);
+    let put = shown.put_members(&mut members, alloc, by);
+    object_value(members, put)
+}
+
 /// An object with these members, if they could be put.
 pub(crate) fn object_value(
     members: Map<String, Value>,
     put: Result<(), AllocError>,
 ) -> Result<Value, AllocError>
-    ensures { (shown : Members) → OnOk put (members_view members.entries ≡ shown) → IfOk result (λ v. view v ≡ object shown) }
+    ensures { (shown : Data) → OnOk put (object (members_view members.entries) ≡ shown) → IfOk result (λ v. view v ≡ shown) }
 {
     put.and(Ok(Value::Object(members)))
 }
@@ -80,10 +108,10 @@ fn put_error_members(
 ) -> Result<(), AllocError>
     ensures { OnOk result (members_view members.new.entries ≡ with_members (error_members kind.now detail.now status) (members_view members.old.entries)) }
 {
-    put_str(members, alloc, "detail", detail)?;
-    put(members, alloc, "status", Value::from(status))?;
-    let kind = type_text(alloc, kind);
-    put_text(members, alloc, "type", kind)
+    let text = put_str(members, alloc, "detail", detail);
+    let number = put(members, alloc, "status", Value::from(status));
+    let kind = put_text(members, alloc, "type", type_text(alloc, kind));
+    text.and(number).and(kind)
 }
 
 /// Adds a value to a list, if it could be made.
@@ -119,7 +147,7 @@ pub(crate) fn put_str(
 ) -> Result<(), AllocError>
     ensures { OnOk result (members_view members.new.entries ≡ with_members ((name.now, string text.now) ∷ []) (members_view members.old.entries)) }
 {
-    put(members, alloc, name, Value::try_from_str(alloc, text)?)
+    put_value(members, alloc, name, Value::try_from_str(alloc, text))
 }
 
 /// Puts a text among members, if it could be made.

@@ -1,11 +1,11 @@
 //! The documents of keys (RFC 7638, 3).
 ghost use Rattle.std.specs.Prelude.{◌≡◌, ◌==◌, map, IfOk, OnOk};
 ghost use Rattle.std.specs.List.{slice_split};
-ghost use Rattle.serde_json.specs.View.{view, members_view};
+ghost use Rattle.serde_json.specs.View.{members_view};
 ghost use Rattle.desk_model.specs.Document.{key_members, key_document};
 ghost use Rattle.desk_replies.specs.Shown.{with_members};
 
-use crate::document_values::{object_value, put_str};
+use crate::document_values::{ShowsObject, put_str};
 use desk_model::Jwk;
 use serde_json::{Map, Value};
 use std::alloc::{AllocError, Global};
@@ -18,7 +18,7 @@ fn parts_of(alloc: Global, text: &str) -> Result<Vec<&str>, AllocError>
 }
 
 // Adds the members of a canonical key text, whose names and values are every second of its parts.
-fn put_members(
+fn put_parts(
     members: &mut Map<String, Value>,
     alloc: Global,
     parts: &[&str],
@@ -28,26 +28,23 @@ fn put_members(
     match parts {
         [_, name, _, value, rest @ ..] => {
             put_str(members, alloc, name, value)?;
-            put_members(members, alloc, rest)
+            put_parts(members, alloc, rest)
         }
         _ => Ok(()),
     }
 }
 
-// Adds the members of a canonical key text.
-fn put_key(members: &mut Map<String, Value>, alloc: Global, text: &str) -> Result<(), AllocError>
-    ensures { OnOk result (members_view members.new.entries
-        ≡ with_members (key_members (slice_split (λ c. c == 34) text.now)) (members_view members.old.entries)) }
-{
-    let parts = parts_of(alloc, text)?;
-    put_members(members, alloc, parts.as_slice())
-}
+// A key: the object that its canonical text spells.
+impl ShowsObject<()> for Jwk {
+    ghost document = { λ u key. key_document key };
 
-/// The document of a key: the object that its canonical text spells.
-pub(crate) fn key_value(alloc: Global, key: &Jwk) -> Result<Value, AllocError>
-    ensures { IfOk result (λ v. view v ≡ key_document key.now) }
-{
-    let mut members = Map::new(alloc);
-    let put = put_key(&mut members, alloc, key.canonical());
-    object_value(members, put)
+    fn put_members(
+        &self,
+        members: &mut Map<String, Value>,
+        alloc: Global,
+        _by: &(),
+    ) -> Result<(), AllocError> {
+        let parts = parts_of(alloc, self.canonical())?;
+        put_parts(members, alloc, parts.as_slice())
+    }
 }

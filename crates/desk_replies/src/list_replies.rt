@@ -2,10 +2,9 @@
 ghost use Rattle.std.specs.Prelude.{◌≡◌, IfOk};
 ghost use Rattle.desk_model.specs.Shown.{list_reply};
 
-use crate::documents::directory_value;
+use crate::document_values::shown_object;
+use crate::lists::listing_value;
 use crate::object_replies::json_reply;
-use crate::order_documents::orders_value;
-use crate::work_documents::{challenge_work_value, order_work_value};
 use desk_model::{Listing, Reply};
 use std::alloc::{AllocError, Global};
 use swept_rows::At;
@@ -18,10 +17,22 @@ use swept_rows::At;
 pub fn list_reply(alloc: Global, at: &At, listing: Listing) -> Result<Reply, AllocError>
     ensures { IfOk result (λ r. r ≡ list_reply at.now listing) }
 {
+    let (book, moment) = at.parts();
     match listing {
-        Listing::Directory => json_reply(alloc, directory_value(alloc, at.policy())),
-        Listing::Orders(number) => json_reply(alloc, orders_value(alloc, at, number)),
-        Listing::ChallengeWork => json_reply(alloc, challenge_work_value(alloc, at)),
-        Listing::OrderWork => json_reply(alloc, order_work_value(alloc, at)),
+        Listing::Directory => json_reply(alloc, shown_object(alloc, at.policy(), &())),
+        Listing::Orders(number) => {
+            let by = (book, moment, number);
+            let orders = listing_value(alloc, "orders", book.orders(), &by);
+            json_reply(alloc, orders)
+        }
+        Listing::ChallengeWork => {
+            let by = (book, moment);
+            let work = listing_value(alloc, "challenges", book.authorizations(), &by);
+            json_reply(alloc, work)
+        }
+        Listing::OrderWork => {
+            let waiting = listing_value(alloc, "orders", book.orders(), &(book, moment));
+            json_reply(alloc, waiting)
+        }
     }
 }

@@ -52,19 +52,19 @@ pub(crate) fn put_each<C, T: ListItem<C>>(
     put_list(members, alloc, name, pushed.and(Ok(shown)))
 }
 
-// What the rows of a table show.
-fn shown_rows<C, R: Row + Drop + ListItem<C>>(
+// Adds what the rows of a table show to a list.
+fn push_rows<C, R: Row + Drop + ListItem<C>>(
+    shown: &mut Vec<Value>,
     alloc: Global,
     rows: &Table<R>,
     by: &C,
-) -> Result<Vec<Value>, AllocError>
-    ensures { IfOk result (λ v. map (λ d. view d) v.items ≡ flat_map (R.values by.now) rows.now) }
+) -> Result<(), AllocError>
+    ensures { OnOk result (map (λ d. view d) shown.new.items ≡ map (λ d. view d) shown.old.items ++ flat_map (R.values by.now) rows.now) }
 {
-    let mut shown = Vec::new(alloc);
     for row in rows.iter() {
-        row.push_shown(&mut shown, alloc, by)?;
+        row.push_shown(shown, alloc, by)?;
     }
-    Ok(shown)
+    Ok(())
 }
 
 /// An object whose one member is a list of what the rows of a table show.
@@ -76,8 +76,9 @@ pub(crate) fn listing_value<C, R: Row + Drop + ListItem<C>>(
 ) -> Result<Value, AllocError>
     ensures { IfOk result (λ v. view v ≡ document ((name.now, list (flat_map (R.values by.now) rows.now)) ∷ [])) }
 {
-    let shown = shown_rows(alloc, rows, by);
+    let mut shown = Vec::new(alloc);
+    let pushed = push_rows(&mut shown, alloc, rows, by);
     let mut members = Map::new(alloc);
-    let put = put_list(&mut members, alloc, name, shown);
+    let put = put_list(&mut members, alloc, name, pushed.and(Ok(shown)));
     object_value(members, put)
 }

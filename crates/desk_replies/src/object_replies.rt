@@ -10,11 +10,8 @@ ghost use Rattle.desk_model.specs.Shown.{located_account, located_order, ok, ord
 ghost use Rattle.desk_model.specs.Tables.{Tables};
 ghost use Rattle.desk_replies.specs.Shown.{HasDatedReport, HasMoments};
 
-use crate::authorization_documents::{authorization_value, challenge_value};
-use crate::documents::account_value;
-use crate::key_documents::key_value;
-use crate::order_documents::order_value;
-use crate::urls::{account_url, authorization_url, order_url};
+use crate::document_values::shown_object;
+use crate::urls::numbered_url;
 use desk_model::{
     AccountRow, AuthorizationRow, Body, ChallengeRow, DatedBytes, DnsName, Document, OrderRow,
     Policy, Reply, Text,
@@ -82,7 +79,8 @@ fn located_reply(
 pub fn account_reply(alloc: Global, policy: &Policy, row: &AccountRow) -> Result<Reply, AllocError>
     ensures { IfOk result (λ r. (T : Tables) → T.meta.policy ≡ policy.now → r ≡ account_reply 200 T row.now) }
 {
-    json_reply(alloc, account_value(alloc, policy, row))
+    let account = shown_object(alloc, row, policy);
+    json_reply(alloc, account)
 }
 
 /// The reply with an account and its Location (RFC 8555, 7.3).
@@ -98,8 +96,9 @@ pub fn located_account(
 ) -> Result<Reply, AllocError>
     ensures { IfOk result (λ r. (T : Tables) → T.meta.policy ≡ policy.now → r ≡ located_account status T row.now) }
 {
-    let url = account_url(alloc, policy, row.number);
-    located_reply(alloc, status, url, account_value(alloc, policy, row))
+    let url = numbered_url(alloc, policy, "/account/", row.number);
+    let account = shown_object(alloc, row, policy);
+    located_reply(alloc, status, url, account)
 }
 
 /// The reply with an order whose authorizations have these names (RFC 8555, 7.1.3).
@@ -116,7 +115,8 @@ pub fn order_reply(
     ensures { IfOk result (λ r. (T : Tables) → T.meta.policy ≡ policy.now → map (λ a. a.name) (listed_rows T row.now) ≡ names.now
         → row.now.expires ≤ last_end → r ≡ order_reply 200 T row.now) }
 {
-    json_reply(alloc, order_value(alloc, policy, row, names))
+    let order = shown_object(alloc, row, &(policy, names));
+    json_reply(alloc, order)
 }
 
 /// The reply with an order and its Location (RFC 8555, 7.4).
@@ -134,8 +134,9 @@ pub fn located_order(
     ensures { IfOk result (λ r. (T : Tables) → T.meta.policy ≡ policy.now → map (λ a. a.name) (listed_rows T row.now) ≡ names.now
         → row.now.expires ≤ last_end → r ≡ located_order status T row.now) }
 {
-    let url = order_url(alloc, policy, row.number);
-    located_reply(alloc, status, url, order_value(alloc, policy, row, names))
+    let url = numbered_url(alloc, policy, "/order/", row.number);
+    let order = shown_object(alloc, row, &(policy, names));
+    located_reply(alloc, status, url, order)
 }
 
 /// The reply with a certificate (RFC 8555, 7.4.2).
@@ -168,7 +169,8 @@ pub fn authorization_reply(
 ) -> Result<Reply, AllocError>
     ensures { IfOk result (λ r. (T : Tables) → T.meta.policy ≡ policy.now → HasMoments row.now → r ≡ authorization_reply T row.now) }
 {
-    json_reply(alloc, authorization_value(alloc, policy, row))
+    let authorization = shown_object(alloc, row, policy);
+    json_reply(alloc, authorization)
 }
 
 /// The reply with a challenge (RFC 8555, 8).
@@ -183,7 +185,8 @@ pub fn challenge_reply(
 ) -> Result<Reply, AllocError>
     ensures { IfOk result (λ r. (T : Tables) → T.meta.policy ≡ policy.now → HasDatedReport row.now.reported → r ≡ challenge_reply T row.now) }
 {
-    json_reply(alloc, challenge_value(alloc, policy, row))
+    let challenge = shown_object(alloc, row, policy);
+    json_reply(alloc, challenge)
 }
 
 /// The reply with a challenge to its client, which names the authorization of this number (RFC 8555, 7.5.1).
@@ -200,7 +203,7 @@ pub fn client_challenge_reply(
     ensures { IfOk result (λ r. (T : Tables) → T.meta.policy ≡ policy.now → HasDatedReport row.now.reported
         → r ≡ below (authorization_url T.meta.policy authorization) (challenge_reply T row.now)) }
 {
-    let up = authorization_url(alloc, policy, authorization)?;
+    let up = numbered_url(alloc, policy, "/authz/", authorization)?;
     let reply = challenge_reply(alloc, policy, row)?;
     Ok(Reply {
         up: Some(Text::new(up)),
@@ -216,5 +219,6 @@ pub fn client_challenge_reply(
 pub fn key_reply(alloc: Global, row: &AccountRow) -> Result<Reply, AllocError>
     ensures { IfOk result (λ r. r ≡ ok 200 (key_document row.now.key)) }
 {
-    json_reply(alloc, key_value(alloc, &row.key))
+    let key = shown_object(alloc, &row.key, &());
+    json_reply(alloc, key)
 }

@@ -1,28 +1,27 @@
 //! The documents of orders (RFC 8555, 7.1.3).
-ghost use Rattle.std.specs.Prelude.{ℕ, ◌≡◌, ◌∷◌, [], map, codes, is_some, IfOk, OnOk};
+ghost use Rattle.std.specs.Prelude.{ℕ, ◌≡◌, ◌++◌, ◌∷◌, [], map, codes, is_some, IfOk, OnOk};
 ghost use Rattle.serde_json.specs.Data.{string};
-ghost use Rattle.serde_json.specs.View.{view, members_view};
+ghost use Rattle.serde_json.specs.View.{members_view};
 ghost use Rattle.desk_model.specs.Json.{when};
 ghost use Rattle.desk_model.specs.Derived.{numbers_of};
 ghost use Rattle.desk_model.specs.Names.{shown_name};
 ghost use Rattle.desk_model.specs.Effect.{swept, swept_order};
 ghost use Rattle.desk_model.specs.Document.{order_error, identifier, certificate_url, authorization_url};
 ghost use Rattle.desk_model.specs.Document.{rows_of, listed_rows, is_listed};
-ghost use Rattle.desk_model.specs.Document.{orders_document, order_with_names};
-ghost use Rattle.desk_replies.specs.Shown.{capped_order, listed_order, order_members, with_members};
+ghost use Rattle.desk_model.specs.Document.{order_with_names};
+ghost use Rattle.desk_replies.specs.Shown.{capped_order, listed_order, with_members};
 
 use crate::document_values::{
-    error_value, identifier_value, object_value, push_text, push_value, put_str, put_text,
-    put_value,
+    ShowsObject, error_value, identifier_value, push_text, push_value, put_str, put_text, put_value,
 };
-use crate::lists::{ListItem, listing_value, put_each};
-use crate::urls::{authorization_url, certificate_url, finalize_url, order_url};
+use crate::lists::{ListItem, put_each};
+use crate::urls::{numbered_url, url_below};
 use desk_book::{Book, Table};
 use desk_model::{AuthorizationRow, DatedProblem, DnsName, Listed, OrderRow, OrderStatus, Policy};
 use moments::capped_moment_text;
 use serde_json::{Map, Value};
 use std::alloc::{AllocError, Global};
-use swept_rows::{At, order_status};
+use swept_rows::order_status;
 
 // The URL of a listed authorization.
 impl ListItem<Policy> for Listed {
@@ -34,16 +33,11 @@ impl ListItem<Policy> for Listed {
         alloc: Global,
         by: &Policy,
     ) -> Result<(), AllocError> {
-        push_text(shown, authorization_url(alloc, by, self.authorization))
+        push_text(
+            shown,
+            numbered_url(alloc, by, "/authz/", self.authorization),
+        )
     }
-}
-
-// The identifier of a name.
-fn name_identifier(alloc: Global, name: &DnsName) -> Result<Value, AllocError>
-    ensures { IfOk result (λ v. view v ≡ identifier (shown_name name.now)) }
-{
-    let text = name.shown(alloc)?;
-    identifier_value(alloc, text.as_str())
 }
 
 // The identifier of a name.
@@ -56,7 +50,8 @@ impl ListItem<()> for DnsName {
         alloc: Global,
         _by: &(),
     ) -> Result<(), AllocError> {
-        push_value(shown, name_identifier(alloc, self))
+        let text = self.shown(alloc)?;
+        push_value(shown, identifier_value(alloc, text.as_str()))
     }
 }
 
@@ -74,7 +69,7 @@ fn put_certificate(
     let Some(_certified) = &row.certified else {
         return Ok(());
     };
-    let url = certificate_url(alloc, policy, row.number);
+    let url = numbered_url(alloc, policy, "/cert/", row.number);
     put_text(members, alloc, "certificate", url)
 }
 
@@ -95,60 +90,50 @@ fn put_error(
     put_value(members, alloc, "error", error)
 }
 
-// Puts the members of an order.
-fn put_order(
-    members: &mut Map<String, Value>,
-    alloc: Global,
-    policy: &Policy,
-    row: &OrderRow,
-    names: &[DnsName],
-) -> Result<(), AllocError>
-    ensures { OnOk result (members_view members.new.entries ≡ with_members (order_error row.now.failed)
-        (with_members (when (is_some row.now.certified) (codes "certificate", string (certificate_url policy.now row.now.number)))
-        (with_members (order_members policy.now names.now row.now) (members_view members.old.entries)))) }
-{
-    let listed = row.listed.as_slice();
-    put_each(members, alloc, "authorizations", listed, policy)?;
-    let expires = capped_moment_text(alloc, row.expires);
-    put_text(members, alloc, "expires", expires)?;
-    let finalize = finalize_url(alloc, policy, row.number);
-    put_text(members, alloc, "finalize", finalize)?;
-    put_each(members, alloc, "identifiers", names, &())?;
-    put_str(members, alloc, "status", row.status.as_str())?;
-    put_certificate(members, alloc, policy, row)?;
-    put_error(members, alloc, &row.failed)
+// An order (RFC 8555, 7.1.3), told the names of the authorizations that it lists, in their places.
+impl<'a> ShowsObject<(&'a Policy, &'a [DnsName])> for OrderRow {
+    ghost document = { λ by o. order_with_names by.0.now by.1.now (capped_order o) };
+
+    fn put_members(
+        &self,
+        members: &mut Map<String, Value>,
+        alloc: Global,
+        by: &(&'a Policy, &'a [DnsName]),
+    ) -> Result<(), AllocError> {
+        let (policy, names) = *by;
+        let listed = self.listed.as_slice();
+        let authorizations = put_each(members, alloc, "authorizations", listed, policy);
+        let end = capped_moment_text(alloc, self.expires);
+        let expires = put_text(members, alloc, "expires", end);
+        let url = url_below(alloc, policy, "/order/", self.number, "/finalize");
+        let finalize = put_text(members, alloc, "finalize", url);
+        let identifiers = put_each(members, alloc, "identifiers", names, &());
+        let status = put_str(members, alloc, "status", self.status.as_str());
+        let certificate = put_certificate(members, alloc, policy, self);
+        let error = put_error(members, alloc, &self.failed);
+        let dated = authorizations.and(expires).and(finalize);
+        dated
+            .and(identifiers)
+            .and(status)
+            .and(certificate)
+            .and(error)
+    }
 }
 
-/// The document of an order (RFC 8555, 7.1.3); the names are those of the authorizations that it lists, in their
-/// places.
-pub(crate) fn order_value(
-    alloc: Global,
-    policy: &Policy,
-    row: &OrderRow,
-    names: &[DnsName],
-) -> Result<Value, AllocError>
-    ensures { IfOk result (λ v. view v ≡ order_with_names policy.now names.now (capped_order row.now)) }
-{
-    let mut members = Map::new(alloc);
-    let put = put_order(&mut members, alloc, policy, row, names);
-    object_value(members, put)
-}
-
-// The names of the authorizations that these places list.
-fn listed_names(
-    alloc: Global,
+// Adds the names of the authorizations that these places list.
+fn push_names(
+    names: &mut Vec<DnsName>,
     rows: &Table<AuthorizationRow>,
     listed: &[Listed],
-) -> Result<Vec<DnsName>, AllocError>
-    ensures { IfOk result (λ v. v.items ≡ map (λ a. a.name) (rows_of rows.now (numbers_of listed.now))) }
+) -> Result<(), AllocError>
+    ensures { OnOk result (names.new.items ≡ names.old.items ++ map (λ a. a.name) (rows_of rows.now (numbers_of listed.now))) }
 {
-    let mut names = Vec::new(alloc);
     for place in listed {
         if let Some(row) = rows.get(place.authorization) {
             names.push(row.name.clone()?)?;
         }
     }
-    Ok(names)
+    Ok(())
 }
 
 /// The names of the authorizations that an order lists, in their places; the passing of time moves none of them.
@@ -160,21 +145,15 @@ pub fn order_names(alloc: Global, book: &Book, row: &OrderRow) -> Result<Vec<Dns
     ensures stored { IfOk result (λ v. v.items ≡ map (λ a. a.name) (listed_rows book.now row.now)) }
     ensures swept { IfOk result (λ v. (moment : ℕ) → v.items ≡ map (λ a. a.name) (listed_rows (swept moment book.now) row.now)) }
 {
-    listed_names(alloc, book.authorizations(), row.listed.as_slice())
-}
-
-// Whether an order with this status is an account's and not invalid.
-fn is_listed(account: u64, row: &OrderRow, status: OrderStatus) -> bool
-    ensures { result ≡ is_listed account (record row.now { status = status }) }
-{
-    row.account == account && !matches!(status, OrderStatus::Invalid)
+    let mut names = Vec::new(alloc);
+    push_names(&mut names, book.authorizations(), row.listed.as_slice()).and(Ok(names))
 }
 
 // Whether an order of a book is an account's and not invalid at a moment.
 fn is_listed_at(book: &Book, moment: u64, account: u64, row: &OrderRow) -> bool
     ensures { result ≡ is_listed account (swept_order moment book.now.authorizations row.now) }
 {
-    is_listed(account, row, order_status(book, moment, row))
+    row.account == account && !matches!(order_status(book, moment, row), OrderStatus::Invalid)
 }
 
 // The URL of an order of an account that is not invalid at a moment.
@@ -191,15 +170,9 @@ impl<'a> ListItem<(&'a Book, u64, u64)> for OrderRow {
         if !is_listed_at(book, moment, account, self) {
             return Ok(());
         }
-        push_text(shown, order_url(alloc, &book.meta().policy, self.number))
+        push_text(
+            shown,
+            numbered_url(alloc, &book.meta().policy, "/order/", self.number),
+        )
     }
-}
-
-/// The document of an account's orders at a moment (RFC 8555, 7.1.2.1).
-pub(crate) fn orders_value(alloc: Global, at: &At, account: u64) -> Result<Value, AllocError>
-    ensures { IfOk result (λ v. view v ≡ orders_document at.now account) }
-{
-    let (book, moment) = at.parts();
-    let by = (book, moment, account);
-    listing_value(alloc, "orders", book.orders(), &by)
 }

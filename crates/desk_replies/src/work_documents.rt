@@ -1,65 +1,40 @@
 //! The documents of what waits for the validator and for the signing office.
-ghost use Rattle.std.specs.Prelude.{◌≡◌, string_bytes, IfOk, OnOk};
-ghost use Rattle.serde_json.specs.View.{view, members_view};
+ghost use Rattle.std.specs.Prelude.{◌≡◌, string_bytes, IfOk};
 ghost use Rattle.desk_model.specs.Derived.{authorization_numbered};
 ghost use Rattle.desk_model.specs.Tokens.{base64url};
-ghost use Rattle.desk_model.specs.Document.{expected, bytes_of, work_document, challenge_work, order_work_document, order_work};
-ghost use Rattle.desk_replies.specs.Shown.{answered, listed_name, order_work_at, order_work_members, with_members, work_at, work_members};
+ghost use Rattle.desk_model.specs.Document.{bytes_of, order_work_document, work_document};
+ghost use Rattle.desk_replies.specs.Shown.{answered, listed_name, order_work_at, work_at};
 
-use crate::document_values::{object_value, push_text, push_value, put_str, put_text};
-use crate::lists::{ListItem, listing_value, push_each, put_each};
+use crate::document_values::{ShowsObject, push_text, push_value, put_str, put_text, shown_object};
+use crate::lists::{ListItem, push_each, put_each};
 use base64::engine::general_purpose::URL_SAFE_NO_PAD;
 use desk_book::Book;
 use desk_model::{AuthorizationRow, ChallengeRow, DatedBytes, Listed, OrderRow};
 use keys::expected_text;
 use serde_json::{Map, Value, put};
 use std::alloc::{AllocError, Global};
-use swept_rows::{At, authorization_status, order_status};
+use swept_rows::{authorization_status, order_status};
 
-// What the validator has to find for a challenge (RFC 8555, 8.3, 8.4).
-fn expected(
-    alloc: Global,
-    book: &Book,
-    row: &AuthorizationRow,
-    challenge: &ChallengeRow,
-) -> Result<String, AllocError>
-    ensures { IfOk result (λ t. string_bytes t ≡ expected book.now row.now challenge.now) }
-{
-    expected_text(alloc, challenge.kind, challenge.token, book.answer_key(row))
-}
+// A challenge that waits for the validator, told its authorization: with what has to be found (RFC 8555, 8.3, 8.4).
+impl<'a> ShowsObject<(&'a Book, &'a AuthorizationRow)> for ChallengeRow {
+    ghost document = { λ by c. work_document by.0.now by.1.now c };
 
-// Puts the members of a challenge that waits for the validator.
-fn put_work(
-    members: &mut Map<String, Value>,
-    alloc: Global,
-    book: &Book,
-    row: &AuthorizationRow,
-    challenge: &ChallengeRow,
-) -> Result<(), AllocError>
-    ensures { OnOk result (members_view members.new.entries ≡ with_members (work_members book.now row.now challenge.now) (members_view members.old.entries)) }
-{
-    let number = Value::from(challenge.number);
-    put(members, alloc, "challenge", number)?;
-    let expected = expected(alloc, book, row, challenge);
-    put_text(members, alloc, "expected", expected)?;
-    put_str(members, alloc, "name", row.name.base())?;
-    let token = keys::token_text(alloc, challenge.token);
-    put_text(members, alloc, "token", token)?;
-    put_str(members, alloc, "type", challenge.kind.as_str())
-}
-
-// A challenge that waits for the validator.
-fn work_value(
-    alloc: Global,
-    book: &Book,
-    row: &AuthorizationRow,
-    challenge: &ChallengeRow,
-) -> Result<Value, AllocError>
-    ensures { IfOk result (λ v. view v ≡ work_document book.now row.now challenge.now) }
-{
-    let mut members = Map::new(alloc);
-    let put = put_work(&mut members, alloc, book, row, challenge);
-    object_value(members, put)
+    fn put_members(
+        &self,
+        members: &mut Map<String, Value>,
+        alloc: Global,
+        by: &(&'a Book, &'a AuthorizationRow),
+    ) -> Result<(), AllocError> {
+        let (book, row) = *by;
+        let challenge = put(members, alloc, "challenge", Value::from(self.number));
+        let answer = expected_text(alloc, self.kind, self.token, book.answer_key(row));
+        let expected = put_text(members, alloc, "expected", answer);
+        let name = put_str(members, alloc, "name", row.name.base());
+        let text = keys::token_text(alloc, self.token);
+        let token = put_text(members, alloc, "token", text);
+        let kind = put_str(members, alloc, "type", self.kind.as_str());
+        challenge.and(expected).and(name).and(token).and(kind)
+    }
 }
 
 // A challenge of an authorization that was answered and not yet reported.
@@ -75,8 +50,7 @@ impl<'a> ListItem<(&'a Book, &'a AuthorizationRow)> for ChallengeRow {
         if !self.status.is_processing() {
             return Ok(());
         }
-        let (book, row) = *by;
-        push_value(shown, work_value(alloc, book, row, self))
+        push_value(shown, shown_object(alloc, self, by))
     }
 }
 
@@ -98,14 +72,6 @@ impl<'a> ListItem<(&'a Book, u64)> for AuthorizationRow {
     }
 }
 
-/// The challenges that wait for the validator at a moment.
-pub(crate) fn challenge_work_value(alloc: Global, at: &At) -> Result<Value, AllocError>
-    ensures { IfOk result (λ v. view v ≡ challenge_work at.now) }
-{
-    let (book, moment) = at.parts();
-    listing_value(alloc, "challenges", book.authorizations(), &(book, moment))
-}
-
 // The name of a listed authorization.
 impl ListItem<Book> for Listed {
     ghost values = { λ T l. listed_name (authorization_numbered l.authorization T.authorizations) };
@@ -123,47 +89,36 @@ impl ListItem<Book> for Listed {
     }
 }
 
-// The bytes of the CSR, none where there is none.
-fn csr_bytes(finalized: &Option<DatedBytes>) -> &[u8]
-    ensures { result.now ≡ bytes_of finalized.now }
-{
-    match finalized {
-        Some(finalized) => finalized.bytes.as_slice(),
-        None => &[],
-    }
-}
-
-// The bytes of the CSR in base64url.
+// The bytes of the CSR in base64url, none where there is none.
 #[tactic(auto, unfolding(desk_model::specs::Tokens::base64url))]
 fn csr_text(alloc: Global, finalized: &Option<DatedBytes>) -> Result<String, AllocError>
     ensures { IfOk result (λ t. string_bytes t ≡ base64url (bytes_of finalized.now)) }
 {
-    URL_SAFE_NO_PAD.encode(alloc, csr_bytes(finalized))
-}
-
-// Puts the members of an order that waits for the signing office.
-fn put_order(
-    members: &mut Map<String, Value>,
-    alloc: Global,
-    book: &Book,
-    row: &OrderRow,
-) -> Result<(), AllocError>
-    ensures { OnOk result (members_view members.new.entries ≡ with_members (order_work_members book.now row.now) (members_view members.old.entries)) }
-{
-    let csr = csr_text(alloc, &row.finalized);
-    put_text(members, alloc, "csr", csr)?;
-    let listed = row.listed.as_slice();
-    put_each(members, alloc, "names", listed, book)?;
-    put(members, alloc, "order", Value::from(row.number))
+    match finalized {
+        Some(finalized) => URL_SAFE_NO_PAD.encode(alloc, finalized.bytes.as_slice()),
+        None => {
+            let none: &[u8] = &[];
+            URL_SAFE_NO_PAD.encode(alloc, none)
+        }
+    }
 }
 
 // An order that waits for the signing office.
-fn order_value(alloc: Global, book: &Book, row: &OrderRow) -> Result<Value, AllocError>
-    ensures { IfOk result (λ v. view v ≡ order_work_document book.now row.now) }
-{
-    let mut members = Map::new(alloc);
-    let put = put_order(&mut members, alloc, book, row);
-    object_value(members, put)
+impl ShowsObject<Book> for OrderRow {
+    ghost document = { order_work_document };
+
+    fn put_members(
+        &self,
+        members: &mut Map<String, Value>,
+        alloc: Global,
+        by: &Book,
+    ) -> Result<(), AllocError> {
+        let text = csr_text(alloc, &self.finalized);
+        let csr = put_text(members, alloc, "csr", text);
+        let names = put_each(members, alloc, "names", self.listed.as_slice(), by);
+        let order = put(members, alloc, "order", Value::from(self.number));
+        csr.and(names).and(order)
+    }
 }
 
 // An order that waits for the signing office at a moment.
@@ -180,14 +135,6 @@ impl<'a> ListItem<(&'a Book, u64)> for OrderRow {
         if !order_status(book, moment, self).is_processing() {
             return Ok(());
         }
-        push_value(shown, order_value(alloc, book, self))
+        push_value(shown, shown_object(alloc, self, book))
     }
-}
-
-/// The orders that wait for the signing office at a moment.
-pub(crate) fn order_work_value(alloc: Global, at: &At) -> Result<Value, AllocError>
-    ensures { IfOk result (λ v. view v ≡ order_work at.now) }
-{
-    let (book, moment) = at.parts();
-    listing_value(alloc, "orders", book.orders(), &(book, moment))
 }

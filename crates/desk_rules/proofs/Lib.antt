@@ -1,7 +1,10 @@
+pub mod ContactTests
 pub mod KeyVerdicts
 pub mod Looking
 pub mod NamesKept
 pub mod NamesRead
 pub mod NamesWanted
+pub mod OpenNonces
 pub mod OrderNeeds
+pub mod Reports
 pub mod Sparing

@@ -3,7 +3,6 @@ ghost use Rattle.std.specs.Prelude.{◌≡◌, ℕ, List, MatchResult, option_ma
 ghost use Rattle.serde_json.specs.View.{view};
 ghost use Rattle.desk_model.specs.Payload.{object_in};
 ghost use Rattle.desk_rules.specs.Needs.{NumbersLeft, BytesLeft, IsNeedFault};
-ghost use Rattle.desk_model.specs.declared.payload.AccountChange.TheVariants.{Update};
 ghost use Rattle.desk_model.specs.Rules.{account_verdict, open_account, unknown_key_verdict};
 
 use crate::contacts::contacts_refusal;
@@ -11,9 +10,7 @@ use crate::fault::CoreFault;
 use crate::limits::has_room;
 use crate::payload::{Payload, new_account};
 use crate::verdicts::refused;
-use desk_model::{
-    AccountChange, Ending, Jwk, Move, NewAccount, Refusal, Sequence, Shows, Target, Text, Verdict,
-};
+use desk_model::{AccountChange, Ending, Jwk, Move, NewAccount, Refusal, Shows, Target, Verdict};
 use std::alloc::Global;
 use swept_rows::At;
 
@@ -57,7 +54,9 @@ fn open_account(alloc: Global, at: &At, key: &Jwk, asked: NewAccount) -> Result<
     Ok(Verdict::Opens(key.clone()?, asked.contacts))
 }
 
-/// A request to an account by its own holder (RFC 8555, 7.3.2, 7.3.6).
+/// A request to an account by its own holder: new contacts take the place of the old, unless one of them is refused
+/// (RFC 8555, 7.3.2, 7.3.6).
+#[tactic(auto, unfolding(desk_model::specs::Verdict::unless_fault))]
 pub(crate) fn account_verdict(alloc: Global, number: u64, change: AccountChange) -> Verdict
     ensures { result ≡ account_verdict number change }
 {
@@ -68,17 +67,9 @@ pub(crate) fn account_verdict(alloc: Global, number: u64, change: AccountChange)
         AccountChange::Deactivate => {
             Verdict::Moves(Move::AccountEnded(number, Ending::Deactivated))
         }
-        AccountChange::Update(Some(contacts)) => contacts_verdict(alloc, number, contacts),
-    }
-}
-
-// The contacts of an account are replaced, unless one of the new ones is refused.
-#[tactic(auto, unfolding(desk_model::specs::Verdict::unless_fault))]
-fn contacts_verdict(alloc: Global, number: u64, contacts: Sequence<Text>) -> Verdict
-    ensures { result ≡ account_verdict number (Update (Some contacts)) }
-{
-    match contacts_refusal(contacts.as_slice()) {
-        Some(refusal) => refused(alloc, refusal),
-        None => Verdict::Moves(Move::ContactsChanged(number, contacts)),
+        AccountChange::Update(Some(contacts)) => match contacts_refusal(contacts.as_slice()) {
+            Some(refusal) => refused(alloc, refusal),
+            None => Verdict::Moves(Move::ContactsChanged(number, contacts)),
+        },
     }
 }

@@ -1,6 +1,5 @@
 //! The rules on challenges (RFC 8555, 7.5.1, 8).
-ghost use Rattle.std.specs.Prelude.{◌≡◌, IfOk, Some, string_bytes};
-ghost use Rattle.desk_model.specs.Document.{expected};
+ghost use Rattle.std.specs.Prelude.{◌≡◌, Some};
 ghost use Rattle.desk_model.specs.Lookup.{holds};
 ghost use Rattle.desk_model.specs.Questions.{challenge_of};
 ghost use Rattle.desk_model.specs.Rules.{challenge_verdict, outcome_of, outcome_verdict, same_outcome, judged};
@@ -10,9 +9,8 @@ use desk_model::{
     AuthorizationRow, AuthzStatus, ChallengeChange, ChallengeRow, FetchError, Finding, Kind, Move,
     Outcome, Refusal, Shows, Verdict,
 };
-use keys::{dns_matches, expected_text, http_matches};
-use std::alloc::{AllocError, Global};
-use swept_rows::At;
+use keys::{dns_matches, http_matches};
+use std::alloc::Global;
 
 /// A request to a challenge: an answer that comes when nothing is pending changes nothing (RFC 8555, 7.5.1).
 #[tactic(auto, unfolding(desk_model::specs::Verdict::choose))]
@@ -35,19 +33,7 @@ pub(crate) fn challenge_verdict(
     }
 }
 
-/// What the validator has to find for a challenge of a book, under the key of the account.
-pub(crate) fn expected(
-    alloc: Global,
-    at: &At,
-    row: &AuthorizationRow,
-    challenge: &ChallengeRow,
-) -> Result<String, AllocError>
-    ensures { IfOk result (λ t. string_bytes t ≡ expected at.now row.now challenge.now) }
-{
-    let (book, _) = at.parts();
-    expected_text(alloc, challenge.kind, challenge.token, book.answer_key(row))
-}
-
+// What a body or records show, that are those to be found or are not.
 fn judged(matching: bool) -> Outcome
     ensures { result ≡ judged matching }
 {
@@ -75,18 +61,12 @@ pub(crate) fn outcome_of(kind: Kind, expected: &str, finding: &Finding) -> Optio
     }
 }
 
-fn is_same_outcome(outcome: Outcome, other: Outcome) -> bool
-    ensures { result ≡ same_outcome outcome other }
-{
-    outcome == other
-}
-
 // Whether a report with this outcome stands on a challenge.
 fn has_outcome(challenge: &ChallengeRow, outcome: Outcome) -> bool
     ensures { result ≡ holds (λ r. same_outcome r.outcome outcome) challenge.now.reported }
 {
     match challenge.reported {
-        Some(report) => is_same_outcome(report.outcome, outcome),
+        Some(report) => report.outcome == outcome,
         None => false,
     }
 }

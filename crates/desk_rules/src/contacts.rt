@@ -1,7 +1,7 @@
 //! The contacts of accounts (RFC 8555, 7.3).
-ghost use Rattle.std.specs.Prelude.{◌≡◌, ◌==◌, ◌||◌, ◌<◌, length, map, codes, bytes_eq, position, IfSome};
+ghost use Rattle.std.specs.Prelude.{◌≡◌, ◌==◌, ◌||◌, ◌<◌, length, position, IfSome};
 ghost use Rattle.std.specs.List.{list_any};
-ghost use Rattle.desk_model.specs.Contact.{lowered, parts_fault, contact_fault, first_fault, contacts_fault};
+ghost use Rattle.desk_model.specs.Contact.{parts_fault, contact_fault, contacts_fault};
 
 use desk_model::{LONGEST_CONTACT, MOST_CONTACTS, Refusal, Text};
 
@@ -12,12 +12,6 @@ pub(crate) fn contacts_refusal(contacts: &[Text]) -> Option<Refusal>
     if contacts.len() > MOST_CONTACTS {
         return Some(Refusal::InvalidContact);
     }
-    first_refusal(contacts)
-}
-
-fn first_refusal(contacts: &[Text]) -> Option<Refusal>
-    ensures { result ≡ first_fault contacts.now }
-{
     for contact in contacts {
         if let Some(refusal) = contact_refusal(contact.as_str().as_bytes()) {
             return Some(refusal);
@@ -48,7 +42,7 @@ fn colon_of(contact: &[u8]) -> Option<usize>
 fn parts_refusal(scheme: &[u8], address: &[u8]) -> Option<Refusal>
     ensures { result ≡ parts_fault scheme.now address.now }
 {
-    if !is_mailto(scheme) {
+    if !scheme.eq_ignore_ascii_case(b"mailto") {
         return Some(Refusal::UnsupportedContact);
     }
     if address.is_empty() || has_many_or_fields(address) {
@@ -57,16 +51,9 @@ fn parts_refusal(scheme: &[u8], address: &[u8]) -> Option<Refusal>
     None
 }
 
-// Whether a scheme is mailto, in any case.
-fn is_mailto(scheme: &[u8]) -> bool
-    ensures { result ≡ bytes_eq (map lowered scheme.now) (codes "mailto") }
-{
-    scheme.eq_ignore_ascii_case(b"mailto")
-}
-
 // Whether an address holds a header field or a second address, which RFC 8555 does not allow.
 fn has_many_or_fields(address: &[u8]) -> bool
     ensures { result ≡ list_any (λ b. (b == 63) || (b == 44)) address.now }
 {
-    address.iter().any(|byte| matches!(*byte, b'?' | b','))
+    address.contains(&b'?') || address.contains(&b',')
 }

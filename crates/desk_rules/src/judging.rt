@@ -1,11 +1,10 @@
 //! Verdicts on signed requests (RFC 8555, 6).
-ghost use Rattle.std.specs.Prelude.{◌≡◌, drop, IfOk, MatchResult, option_map};
+ghost use Rattle.std.specs.Prelude.{◌≡◌, drop, MatchResult, option_map};
 ghost use Rattle.serde_json.specs.View.{view};
-ghost use Rattle.desk_rules.specs.declared.fault.CoreFault.TheVariants.{Memory};
 ghost use Rattle.desk_rules.specs.Needs.{NumbersLeft, BytesLeft, IsNeedFault};
 ghost use Rattle.desk_model.specs.Payload.{new_order, object_in};
 ghost use Rattle.desk_model.specs.Questions.{account_with_key};
-ghost use Rattle.desk_model.specs.Rules.{holder_verdict, key_verdict, new_order_verdict, signed_verdict, target_verdict};
+ghost use Rattle.desk_model.specs.Rules.{key_verdict, new_order_verdict, signed_verdict, target_verdict};
 ghost use Rattle.desk_model.specs.Verdict.{given};
 
 use crate::accounts::unknown_key_verdict;
@@ -17,9 +16,9 @@ use crate::targets::{
     new_account_target, order_target, orders_target,
 };
 use crate::verdicts::refused;
-use desk_model::{AccountRow, Jwk, Refusal, Signed, Target, Verdict};
+use desk_model::{Jwk, Refusal, Signed, Target, Verdict};
 use json_values::value_of;
-use std::alloc::{AllocError, Global};
+use std::alloc::Global;
 use swept_rows::At;
 
 // A request for a new order (RFC 8555, 7.4).
@@ -44,13 +43,6 @@ fn new_order_target(
     }
 }
 
-// A verdict that needs memory alone.
-fn if_made(verdict: Result<Verdict, AllocError>) -> Result<Verdict, CoreFault>
-    ensures { (asked : Verdict) → IfOk verdict (λ v. v ≡ asked) → MatchResult result (λ v. v ≡ asked) (λ e. e ≡ Memory) }
-{
-    Ok(verdict?)
-}
-
 // A request of the holder of a valid account, by its target (RFC 8555, 7.3 to 7.5).
 fn target_verdict(
     alloc: Global,
@@ -66,40 +58,19 @@ fn target_verdict(
         (λ e. IsNeedFault at.now.meta.counters random.now asked e) }
 {
     match target {
-        Target::NewAccount => if_made(new_account_target(alloc, sender, payload)),
+        Target::NewAccount => new_account_target(alloc, sender, payload),
         Target::NewOrder => new_order_target(alloc, at, random, sender, payload),
-        Target::Account(number) => if_made(account_target(alloc, sender, number, payload)),
+        Target::Account(number) => account_target(alloc, sender, number, payload),
         Target::Orders(number) => Ok(orders_target(alloc, sender, number, payload.text)),
         Target::Order(number) => Ok(order_target(alloc, at, sender, number, payload.text)),
-        Target::Finalize(number) => if_made(finalize_target(alloc, at, sender, number, payload)),
+        Target::Finalize(number) => finalize_target(alloc, at, sender, number, payload),
         Target::Cert(number) => Ok(certificate_target(alloc, at, sender, number, payload.text)),
         Target::Authz(number) => Ok(authorization_target(alloc, at, sender, number, payload)),
         Target::Chall(number) => Ok(challenge_target(alloc, at, sender, number, payload)),
     }
 }
 
-// A request of the holder of an account, which has to be valid (RFC 8555, 6.2).
-#[tactic(auto, unfolding(desk_model::specs::Verdict::check))]
-fn holder_verdict(
-    alloc: Global,
-    at: &At,
-    random: &[u8],
-    row: &AccountRow,
-    payload: Payload,
-    target: Target,
-) -> Result<Verdict, CoreFault>
-    requires { option_map (λ v. view v.now) payload.object ≡ object_in payload.text.now }
-    ensures { let asked = holder_verdict at.now (drop 16 random.now) payload.entry.text.now target row.now in
-        MatchResult result (λ v. (v ≡ asked) × NumbersLeft at.now.meta.counters v × BytesLeft random.now v)
-        (λ e. IsNeedFault at.now.meta.counters random.now asked e) }
-{
-    if !row.status.is_valid() {
-        return Ok(refused(alloc, Refusal::Unauthorized));
-    }
-    target_verdict(alloc, at, random, row.number, payload, target)
-}
-
-// A request that is signed with an accepted key, by the account that has it.
+// A request that is signed with an accepted key, by the account that has it, which has to be valid (RFC 8555, 6.2).
 fn key_verdict(
     alloc: Global,
     at: &At,
@@ -113,10 +84,13 @@ fn key_verdict(
         MatchResult result (λ v. (v ≡ asked) × NumbersLeft at.now.meta.counters v × BytesLeft random.now v)
         (λ e. IsNeedFault at.now.meta.counters random.now asked e) }
 {
-    match at.account_with_key(key.canonical()) {
-        Some(row) => holder_verdict(alloc, at, random, row, payload, target),
-        None => unknown_key_verdict(alloc, at, key, payload, target),
+    let Some(row) = at.account_with_key(key.canonical()) else {
+        return unknown_key_verdict(alloc, at, key, payload, target);
+    };
+    if !row.status.is_valid() {
+        return Ok(refused(alloc, Refusal::Unauthorized));
     }
+    target_verdict(alloc, at, random, row.number, payload, target)
 }
 
 /// The verdict on a signed request that has passed the test of its nonce, by the tables of a book at a moment. The

@@ -1,11 +1,9 @@
 //! The rules on new orders (RFC 8555, 7.4).
-ghost use Rattle.std.specs.Prelude.{◌≡◌, ◌+◌, ◌*◌, ◌<◌, ◌≤◌, ◌⊎◌, ◌++◌, bytes_eq, length, drop, sum_by, IfOk, MatchResult, OnOk};
-ghost use Rattle.std.specs.List.{list_any};
+ghost use Rattle.std.specs.Prelude.{◌≡◌, ◌+◌, ◌*◌, ◌<◌, ◌≤◌, ◌⊎◌, length, drop, sum_by, IfOk, MatchResult};
 ghost use Rattle.desk_rules.specs.Needs.{NumbersLeft, BytesLeft, IsNeedFault};
 ghost use Rattle.desk_model.specs.Authorization.{kinds_of};
 ghost use Rattle.desk_model.specs.Limits.{last_number};
-ghost use Rattle.desk_model.specs.Name.{same_bool, same_name};
-ghost use Rattle.desk_model.specs.Rules.{kept, new_order_verdict, pieces, wanted};
+ghost use Rattle.desk_model.specs.Rules.{new_order_verdict, pieces, wanted};
 ghost use Rattle.desk_model.specs.Run.{count_tokens};
 ghost use Rattle.desk_model.specs.declared.verdict.Verdict.TheVariants.{Orders as orders};
 
@@ -13,77 +11,30 @@ use crate::fault::CoreFault;
 use crate::identified::{Identified, identify};
 use crate::limits::{first_piece, has_room, has_room_for, has_tokens, later_random};
 use crate::verdicts::refused;
-use desk_model::{
-    Counters, DnsName, Identifier, Kind, MOST_NAMES, Refusal, Sequence, Verdict, Wanted,
-};
+use desk_model::{Counters, DnsName, Identifier, MOST_NAMES, Refusal, Sequence, Verdict, Wanted};
 use std::alloc::{AllocError, Global};
 use swept_rows::At;
-
-fn is_same_mark(wildcard: bool, other: bool) -> bool
-    ensures { result ≡ same_bool wildcard other }
-{
-    wildcard == other
-}
-
-fn is_same_base(name: &DnsName, other: &DnsName) -> bool
-    ensures { result ≡ bytes_eq name.now.base other.now.base }
-{
-    name.base() == other.base()
-}
-
-// Whether two names are the same.
-fn is_same_name(name: &DnsName, other: &DnsName) -> bool
-    ensures { result ≡ same_name name.now other.now }
-{
-    is_same_base(name, other) && is_same_mark(name.is_wildcard(), other.is_wildcard())
-}
-
-// Whether a name is among those that were kept.
-fn has_name(names: &[DnsName], name: &DnsName) -> bool
-    ensures { result ≡ list_any (λ other. same_name other name.now) names.now }
-{
-    names.iter().any(|other| is_same_name(other, name))
-}
-
-// The names, those that are equal in their first place.
-fn kept(alloc: Global, names: Vec<DnsName>) -> Result<Vec<DnsName>, AllocError>
-    ensures { IfOk result (λ v. v.items ≡ kept names.items) }
-{
-    let mut found = Vec::new(alloc);
-    for name in names {
-        if !has_name(found.as_slice(), &name) {
-            found.push(name)?;
-        }
-    }
-    Ok(found)
-}
 
 // How many tokens some names get, one for each of their challenges.
 fn count_tokens(names: &[DnsName]) -> usize
     ensures { result ≡ sum_by (λ n. length (kinds_of n)) names.now }
 {
-    names.iter().map(|name| name.kinds().len()).sum()
+    let mut count = 0;
+    for name in names {
+        count += name.kinds().len();
+    }
+    count
 }
 
-// Puts a token for each of these challenges, taken from the front of the random bytes, at the end of a list.
-fn push_tokens(tokens: &mut Vec<[u8; 16]>, kinds: &[Kind], random: &[u8]) -> Result<(), AllocError>
-    requires { 16 * length kinds.now ≤ length random.now }
-    ensures { OnOk result (tokens.new.items ≡ tokens.old.items ++ pieces (length kinds.now) random.now) }
-{
-    let Some((_kind, kinds)) = kinds.split_first() else {
-        return Ok(());
-    };
-    tokens.push(first_piece(random))?;
-    push_tokens(tokens, kinds, later_random(random, 1))
-}
-
-// The tokens of a name, taken from the front of the random bytes.
+// The tokens of a name, one for each of its challenges, taken from the front of the random bytes.
 fn tokens_of(alloc: Global, name: &DnsName, random: &[u8]) -> Result<Vec<[u8; 16]>, AllocError>
     requires { 16 * length (kinds_of name.now) ≤ length random.now }
     ensures { IfOk result (λ v. v.items ≡ pieces (length (kinds_of name.now)) random.now) }
 {
     let mut tokens = Vec::new(alloc);
-    push_tokens(&mut tokens, name.kinds(), random)?;
+    for place in 0..name.kinds().len() {
+        tokens.push(first_piece(later_random(random, place)))?;
+    }
     Ok(tokens)
 }
 
@@ -162,5 +113,5 @@ pub(crate) fn new_order_verdict(
             subproblems: Sequence::new(faulty),
         });
     }
-    order_for(alloc, at, random, account, kept(alloc, names)?)
+    order_for(alloc, at, random, account, names)
 }

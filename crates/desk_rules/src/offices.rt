@@ -2,17 +2,17 @@
 ghost use Rattle.std.specs.Prelude.{◌≡◌, ◌&&◌, IfOk, bytes_eq};
 ghost use Rattle.desk_model.specs.Lookup.{holds};
 ghost use Rattle.desk_model.specs.Questions.{account_on, authorization_on, order_on};
-ghost use Rattle.desk_model.specs.Rules.{certify_verdict, fail_verdict, is_revoked, is_revoked_status, office_verdict};
+ghost use Rattle.desk_model.specs.Rules.{certify_verdict, fail_verdict, is_revoked, office_verdict};
 ghost use Rattle.desk_model.specs.Rules.{report_verdict, revoke_account, revoke_authorization, same_problem};
 ghost use Rattle.desk_model.specs.Verdict.{given};
-ghost use Rattle.desk_model.specs.declared.call.OfficeAsk.TheVariants.{KeyOf};
 
-use crate::challenge_rules::{expected, outcome_of, outcome_verdict};
+use crate::challenge_rules::{outcome_of, outcome_verdict};
 use crate::verdicts::refused;
 use desk_model::{
     AccountRow, AuthzStatus, Ending, Finding, LONGEST_CERTIFICATE, Listing, Move, OfficeAsk,
     OrderProblem, OrderRow, Refusal, Sequence, Shows, Verdict, is_same_bytes,
 };
+use keys::expected_text;
 use std::alloc::{AllocError, Global};
 use swept_rows::At;
 
@@ -29,7 +29,9 @@ fn report_verdict(
     let Some((row, status, challenge)) = at.challenge(number) else {
         return Ok(refused(alloc, Refusal::NotFound));
     };
-    let wanted = expected(alloc, at, row, challenge)?;
+    let (book, _moment) = at.parts();
+    let key = book.answer_key(row);
+    let wanted = expected_text(alloc, challenge.kind, challenge.token, key)?;
     match outcome_of(challenge.kind, wanted.as_str(), finding) {
         Some(outcome) => Ok(outcome_verdict(alloc, number, status, challenge, outcome)),
         None => Ok(refused(alloc, Refusal::Malformed)),
@@ -114,19 +116,13 @@ fn revoke_authorization(alloc: Global, at: &At, number: u64) -> Verdict
     let Some((_row, status)) = at.authorization(number) else {
         return refused(alloc, Refusal::NotFound);
     };
-    if is_revoked_status(status) {
+    if matches!(status, AuthzStatus::Revoked) {
         return Verdict::Answers(Shows::Authorization(number));
     }
     if !status.is_live() {
         return refused(alloc, Refusal::Conflict);
     }
     Verdict::Moves(Move::AuthorizationEnded(number, Ending::Revoked))
-}
-
-fn is_revoked_status(status: AuthzStatus) -> bool
-    ensures { result ≡ is_revoked_status status }
-{
-    matches!(status, AuthzStatus::Revoked)
 }
 
 // Whether an account was revoked.
@@ -156,22 +152,12 @@ fn revoke_account(alloc: Global, at: &At, number: u64) -> Verdict
     Verdict::Moves(Move::AccountEnded(number, Ending::Revoked))
 }
 
-// The key of the account of a number is asked for.
-#[tactic(auto, unfolding(desk_model::specs::Verdict::given))]
-fn key_verdict(alloc: Global, at: &At, number: u64) -> Verdict
-    ensures { result ≡ office_verdict at.now (KeyOf number) }
-{
-    if at.account(number).is_none() {
-        return refused(alloc, Refusal::NotFound);
-    }
-    Verdict::Answers(Shows::Key(number))
-}
-
 /// The verdict on what carries no nonce, by the tables of a book at a moment.
 ///
 /// # Errors
 ///
 /// Where there is no memory for what is recorded or compared.
+#[tactic(auto, unfolding(desk_model::specs::Verdict::given))]
 pub fn judge_office(alloc: Global, at: &At, ask: &OfficeAsk) -> Result<Verdict, AllocError>
     ensures { IfOk result (λ v. v ≡ office_verdict at.now ask.now) }
 {
@@ -186,6 +172,9 @@ pub fn judge_office(alloc: Global, at: &At, ask: &OfficeAsk) -> Result<Verdict, 
         OfficeAsk::RevokeAccount(number) => Ok(revoke_account(alloc, at, *number)),
         OfficeAsk::ChallengeWork => Ok(Verdict::Answers(Shows::List(Listing::ChallengeWork))),
         OfficeAsk::OrderWork => Ok(Verdict::Answers(Shows::List(Listing::OrderWork))),
-        OfficeAsk::KeyOf(number) => Ok(key_verdict(alloc, at, *number)),
+        OfficeAsk::KeyOf(number) => match at.account(*number) {
+            Some(_) => Ok(Verdict::Answers(Shows::Key(*number))),
+            None => Ok(refused(alloc, Refusal::NotFound)),
+        },
     }
 }

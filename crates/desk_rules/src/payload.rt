@@ -1,10 +1,10 @@
 //! The payloads of signed requests: JSON texts in the forms that the routes read.
 ghost use Rattle.std.specs.Prelude.{◌≡◌, Some, Option, option_map, option_and_then, IfOk};
 ghost use Rattle.serde_json.specs.View.{view, items_view};
-ghost use Rattle.desk_model.specs.Payload.{object_in, each_in, texts_in, optional, new_account, new_account_in};
-ghost use Rattle.desk_model.specs.Payload.{is_deactivated_text, says_deactivated, account_change, account_change_in};
-ghost use Rattle.desk_model.specs.Payload.{authorization_change, authorization_change_in, challenge_change, identifier_in};
-ghost use Rattle.desk_model.specs.Payload.{new_order, new_order_in, finalize};
+ghost use Rattle.desk_model.specs.Payload.{object_in, each_in, texts_in, optional, new_account};
+ghost use Rattle.desk_model.specs.Payload.{says_deactivated, account_change};
+ghost use Rattle.desk_model.specs.Payload.{authorization_change, challenge_change, identifier_in};
+ghost use Rattle.desk_model.specs.Payload.{new_order, finalize};
 ghost use Rattle.serde_json.specs.Find.{get, as_bool, as_str};
 ghost use Rattle.serde_json.specs.Read.{read};
 
@@ -61,18 +61,23 @@ fn optional_bool(member: Option<&Value>) -> Option<Option<bool>>
     ensures { result ≡ optional as_bool (option_map (λ v. view v.now) member.entry) }
 {
     match member {
-        Some(value) => value.as_bool().map(Some),
+        Some(value) => Some(Some(value.as_bool()?)),
         None => Some(None),
     }
 }
 
-fn new_account_in(alloc: Global, value: &Value) -> Result<Option<NewAccount>, AllocError>
-    ensures { IfOk result (λ o. o ≡ new_account_in (view value.now)) }
+/// What a newAccount payload asks, `None` where it has another form (RFC 8555, 7.3).
+pub(crate) fn new_account(alloc: Global, payload: Payload) -> Result<Option<NewAccount>, AllocError>
+    requires { option_map (λ v. view v.now) payload.object ≡ object_in payload.text.now }
+    ensures { IfOk result (λ o. o ≡ new_account payload.entry.text.now) }
 {
-    let Some(contacts) = optional_texts(alloc, value.get("contact"))? else {
+    let Some(value) = payload.object else {
         return Ok(None);
     };
     let Some(only_existing) = optional_bool(value.get("onlyReturnExisting")) else {
+        return Ok(None);
+    };
+    let Some(contacts) = optional_texts(alloc, value.get("contact"))? else {
         return Ok(None);
     };
     let contacts = match contacts {
@@ -85,41 +90,13 @@ fn new_account_in(alloc: Global, value: &Value) -> Result<Option<NewAccount>, Al
     }))
 }
 
-/// What a newAccount payload asks, `None` where it has another form (RFC 8555, 7.3).
-pub(crate) fn new_account(alloc: Global, payload: Payload) -> Result<Option<NewAccount>, AllocError>
-    requires { option_map (λ v. view v.now) payload.object ≡ object_in payload.text.now }
-    ensures { IfOk result (λ o. o ≡ new_account payload.entry.text.now) }
-{
-    match payload.object {
-        Some(value) => new_account_in(alloc, value),
-        None => Ok(None),
-    }
-}
-
-fn is_deactivated_text(text: Option<&str>) -> bool
-    ensures { result ≡ is_deactivated_text (option_map (λ s. s.now) text.entry) }
-{
-    match text {
-        Some(text) => text == "deactivated",
-        None => false,
-    }
-}
-
+// Whether an object says that what it is sent to is to be deactivated.
 fn says_deactivated(value: &Value) -> bool
     ensures { result ≡ says_deactivated (view value.now) }
 {
-    is_deactivated_text(value.get("status").and_then(Value::as_str))
-}
-
-fn account_change_in(alloc: Global, value: &Value) -> Result<Option<AccountChange>, AllocError>
-    ensures { IfOk result (λ o. o ≡ account_change_in (view value.now)) }
-{
-    if says_deactivated(value) {
-        return Ok(Some(AccountChange::Deactivate));
-    }
-    match optional_texts(alloc, value.get("contact"))? {
-        Some(contacts) => Ok(Some(AccountChange::Update(contacts))),
-        None => Ok(None),
+    match text_of(value, "status") {
+        Some(text) => text == "deactivated",
+        None => false,
     }
 }
 
@@ -134,19 +111,15 @@ pub(crate) fn account_change(
     if payload.text.is_empty() {
         return Ok(Some(AccountChange::Read));
     }
-    match payload.object {
-        Some(value) => account_change_in(alloc, value),
-        None => Ok(None),
-    }
-}
-
-fn authorization_change_in(value: &Value) -> Option<AuthorizationChange>
-    ensures { result ≡ authorization_change_in (view value.now) }
-{
+    let Some(value) = payload.object else {
+        return Ok(None);
+    };
     if says_deactivated(value) {
-        Some(AuthorizationChange::Deactivate)
-    } else {
-        None
+        return Ok(Some(AccountChange::Deactivate));
+    }
+    match optional_texts(alloc, value.get("contact"))? {
+        Some(contacts) => Ok(Some(AccountChange::Update(contacts))),
+        None => Ok(None),
     }
 }
 
@@ -158,7 +131,10 @@ pub(crate) fn authorization_change(payload: Payload) -> Option<AuthorizationChan
     if payload.text.is_empty() {
         return Some(AuthorizationChange::Read);
     }
-    authorization_change_in(payload.object?)
+    if says_deactivated(payload.object?) {
+        return Some(AuthorizationChange::Deactivate);
+    }
+    None
 }
 
 /// What a request to a challenge asks, `None` where the payload has another form (RFC 8555, 7.5.1).
@@ -204,18 +180,6 @@ fn identifiers(alloc: Global, items: &[Value]) -> Result<Option<Vec<Identifier>>
     Ok(Some(found))
 }
 
-fn new_order_in(alloc: Global, value: &Value) -> Result<Option<Vec<Identifier>>, AllocError>
-    ensures { IfOk result (λ o. option_map (λ v. v.items) o ≡ new_order_in (view value.now)) }
-{
-    if value.get("notBefore").is_some() || value.get("notAfter").is_some() {
-        return Ok(None);
-    }
-    match value.get("identifiers").and_then(Value::as_array) {
-        Some(items) => identifiers(alloc, items.as_slice()),
-        None => Ok(None),
-    }
-}
-
 /// The identifiers that a newOrder payload asks for, `None` where it has another form (RFC 8555, 7.4).
 pub(crate) fn new_order(
     alloc: Global,
@@ -224,8 +188,17 @@ pub(crate) fn new_order(
     requires { option_map (λ v. view v.now) payload.object ≡ object_in payload.text.now }
     ensures { IfOk result (λ o. option_map (λ v. v.items) o ≡ new_order payload.entry.text.now) }
 {
-    match payload.object {
-        Some(value) => new_order_in(alloc, value),
+    let Some(value) = payload.object else {
+        return Ok(None);
+    };
+    if value.get("notBefore").is_some() || value.get("notAfter").is_some() {
+        return Ok(None);
+    }
+    let Some(listed) = value.get("identifiers") else {
+        return Ok(None);
+    };
+    match listed.as_array() {
+        Some(items) => identifiers(alloc, items.as_slice()),
         None => Ok(None),
     }
 }

@@ -1,5 +1,5 @@
 //! Signed requests, by their targets (RFC 8555, 6.2, 6.3).
-ghost use Rattle.std.specs.Prelude.{◌≡◌, ◌==◌, IfOk, option_map};
+ghost use Rattle.std.specs.Prelude.{◌≡◌, ◌==◌, MatchResult, option_map};
 ghost use Rattle.serde_json.specs.View.{view};
 ghost use Rattle.desk_model.specs.Payload.{account_change, authorization_change, challenge_change, finalize, new_account, object_in};
 ghost use Rattle.desk_model.specs.Questions.{authorization_on, order_on, owner_on};
@@ -8,11 +8,13 @@ ghost use Rattle.desk_model.specs.Verdict.{check, given};
 ghost use Rattle.desk_model.specs.declared.verdict.Verdict.TheVariants.{Answers as answers};
 ghost use Rattle.desk_model.specs.declared.verdict.Shows.TheVariants as show;
 ghost use Rattle.desk_model.specs.declared.verdict.Listing.TheVariants as list;
+ghost use Rattle.desk_rules.specs.declared.fault.CoreFault.TheVariants.{Memory};
 
 use crate::accounts::account_verdict;
 use crate::authorization_rules::authorization_verdict;
 use crate::challenge_rules::challenge_verdict;
-use crate::order_rules::{certificate_verdict, finalize_verdict};
+use crate::fault::CoreFault;
+use crate::order_rules::finalize_verdict;
 use crate::payload::{
     Payload, account_change, authorization_change, challenge_change, finalize, new_account,
 };
@@ -21,15 +23,8 @@ use desk_model::{
     AccountStatus, AuthorizationRow, AuthzStatus, Listing, OrderRow, OrderStatus, Refusal, Shows,
     Signed, Target, Verdict,
 };
-use std::alloc::{AllocError, Global};
+use std::alloc::Global;
 use swept_rows::At;
-
-// Whether a payload is that of a route that only reads (RFC 8555, 6.3).
-fn is_nothing(payload: &str) -> bool
-    ensures { result ≡ nothing payload.now }
-{
-    payload.is_empty()
-}
 
 // The order of a number with its status at a moment, where it is the sender's own.
 fn own_order<'a>(at: &'a At, sender: u64, number: u64) -> Option<(&'a OrderRow, OrderStatus)>
@@ -71,9 +66,10 @@ pub(crate) fn new_account_target(
     alloc: Global,
     sender: u64,
     payload: Payload,
-) -> Result<Verdict, AllocError>
+) -> Result<Verdict, CoreFault>
     requires { option_map (λ v. view v.now) payload.object ≡ object_in payload.text.now }
-    ensures { IfOk result (λ v. v ≡ given (new_account payload.entry.text.now) Refusal.Malformed (λ asked. answers (show.KnownAccount sender))) }
+    ensures { MatchResult result
+        (λ v. v ≡ given (new_account payload.entry.text.now) Refusal.Malformed (λ asked. answers (show.KnownAccount sender))) (λ e. e ≡ Memory) }
 {
     match new_account(alloc, payload)? {
         Some(_) => Ok(Verdict::Answers(Shows::KnownAccount(sender))),
@@ -88,10 +84,11 @@ pub(crate) fn account_target(
     sender: u64,
     number: u64,
     payload: Payload,
-) -> Result<Verdict, AllocError>
+) -> Result<Verdict, CoreFault>
     requires { option_map (λ v. view v.now) payload.object ≡ object_in payload.text.now }
-    ensures { IfOk result (λ v. v ≡ check (number == sender) Refusal.NotFound
-        (given (account_change payload.entry.text.now) Refusal.Malformed (account_verdict sender))) }
+    ensures { MatchResult result
+        (λ v. v ≡ check (number == sender) Refusal.NotFound (given (account_change payload.entry.text.now) Refusal.Malformed (account_verdict sender)))
+        (λ e. e ≡ Memory) }
 {
     if number != sender {
         return Ok(refused(alloc, Refusal::NotFound));
@@ -110,7 +107,7 @@ pub(crate) fn orders_target(alloc: Global, sender: u64, number: u64, payload: &s
     if number != sender {
         return refused(alloc, Refusal::NotFound);
     }
-    if !is_nothing(payload) {
+    if !payload.is_empty() {
         return refused(alloc, Refusal::Malformed);
     }
     Verdict::Answers(Shows::List(Listing::Orders(sender)))
@@ -132,7 +129,7 @@ pub(crate) fn order_target(
     if own_order(at, sender, number).is_none() {
         return refused(alloc, Refusal::NotFound);
     }
-    if !is_nothing(payload) {
+    if !payload.is_empty() {
         return refused(alloc, Refusal::Malformed);
     }
     Verdict::Answers(Shows::Order(number))
@@ -146,10 +143,12 @@ pub(crate) fn finalize_target(
     sender: u64,
     number: u64,
     payload: Payload,
-) -> Result<Verdict, AllocError>
+) -> Result<Verdict, CoreFault>
     requires { option_map (λ v. view v.now) payload.object ≡ object_in payload.text.now }
-    ensures { IfOk result (λ v. v ≡ given (own (λ o. o.account) sender (order_on at.now number)) Refusal.NotFound
-        (λ o. given (finalize payload.entry.text.now) Refusal.Malformed (finalize_verdict number o))) }
+    ensures { MatchResult result
+        (λ v. v ≡ given (own (λ o. o.account) sender (order_on at.now number)) Refusal.NotFound
+        (λ o. given (finalize payload.entry.text.now) Refusal.Malformed (finalize_verdict number o)))
+        (λ e. e ≡ Memory) }
 {
     let Some((_row, status)) = own_order(at, sender, number) else {
         return Ok(refused(alloc, Refusal::NotFound));
@@ -160,7 +159,7 @@ pub(crate) fn finalize_target(
     }
 }
 
-/// A request for the certificate of an order.
+/// A request for the certificate of an order (RFC 8555, 7.4.2).
 #[tactic(auto, unfolding(desk_model::specs::Verdict::check, desk_model::specs::Verdict::given))]
 pub(crate) fn certificate_target(
     alloc: Global,
@@ -176,10 +175,13 @@ pub(crate) fn certificate_target(
     let Some((row, _status)) = own_order(at, sender, number) else {
         return refused(alloc, Refusal::NotFound);
     };
-    if !is_nothing(payload) {
+    if !payload.is_empty() {
         return refused(alloc, Refusal::Malformed);
     }
-    certificate_verdict(alloc, number, row)
+    if row.certified.is_none() {
+        return refused(alloc, Refusal::NotFound);
+    }
+    Verdict::Answers(Shows::Certificate(number))
 }
 
 /// A request to an authorization.

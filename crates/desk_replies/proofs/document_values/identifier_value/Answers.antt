@@ -1,4 +1,5 @@
 use Rattle.std.proofs.Common.{ap}
+use Rattle.serde_json.specs.Data.{object}
 use Rattle.serde_json.specs.View.{members_view}
 use Rattle.desk_replies.specs.Shown.{identifier_members}
 use Rattle.desk_replies.proofs.Results.{on_ok}
@@ -9,5 +10,5 @@ pub returns : goal.returns
 returns c =
     c.object_value.ensures _
     (on_ok c.put_identifier-put.result (λ put.
-    and_puts (identifier_members c.args.value.now) _ _ _ put (ap members_view c.new-members.ensures.empty))
+    ap object (and_puts (identifier_members c.args.value.now) _ _ _ put (ap members_view c.new-members.ensures.empty)))
     c.put_identifier-put.ensures)

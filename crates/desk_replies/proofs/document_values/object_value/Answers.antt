@@ -1,5 +1,4 @@
-use Rattle.std.proofs.Common.{ap, ◌≡◌, ◌∙◌}
-use Rattle.serde_json.specs.Data.{object}
+use Rattle.std.proofs.Common.{◌≡◌, ◌∙◌}
 use Rattle.serde_json.specs.View.{view}
 use Rattle.serde_json.proofs.Views.{view-Object}
 use Rattle.desk_replies.proofs.Results.{and_so}
@@ -8,4 +7,4 @@ use Rattle.desk_replies.proofs.document_values.object_value.Goals as goal
 pub returns : goal.returns
 returns c =
     λ shown put.
-    and_so (λ v. view v ≡ object shown) c.args.put _ c.and.result c.and.ensures (λ are. view-Object c.args.members ∙ ap object are) put
+    and_so (λ v. view v ≡ shown) c.args.put _ c.and.result c.and.ensures (λ are. view-Object c.args.members ∙ are) put

@@ -3,14 +3,15 @@ use Rattle.std.specs.Prelude.{codes, ◌∷◌, []}
 use Rattle.serde_json.specs.View.{members_view}
 use Rattle.desk_replies.specs.Shown.{with_members}
 use Rattle.desk_replies.proofs.Results.{on_ok}
-use Rattle.desk_replies.proofs.ShownOrders.{and_put}
+use Rattle.desk_replies.proofs.ShownOrders.{member_then}
 use Rattle.desk_replies.proofs.document_values.put_error_members.Goals as goal
 
 pub returns : goal.returns
 returns c =
-    on_ok c.put_text.result (λ put.
-    and_put _ _ _ _ (put _ c.type_text-kind.ensures)
-    (and_put _ _ _ _
-    (c.in_ok-put.ensures.ok ∙ ap (λ shown. with_members ((codes "status", shown) ∷ []) (members_view c.put_str.new.members.entries)) c.from.ensures)
-    c.in_ok-put_str.ensures))
-    c.put_text.ensures
+    member_then c.and.result c.put_text-kind.result c.and-2.result c.and-2.ensures _ _ _ _
+    (member_then c.put_str-text.result c.put-number.result c.and.result c.and.ensures _ _ _ _
+    c.put_str-text.ensures
+    (on_ok c.put-number.result (λ put. put
+    ∙ ap (λ shown. with_members ((codes "status", shown) ∷ []) (members_view c.put_str-text.new.members.entries)) c.from.ensures)
+    c.put-number.ensures.ok))
+    (on_ok c.put_text-kind.result (λ put. put _ c.type_text.ensures) c.put_text-kind.ensures)

@@ -1,4 +1,4 @@
-use Rattle.std.proofs.Common.{◌++◌, ◌∷◌, add-one, ap, arith, drop-cons, map, ◌∙◌}
+use Rattle.std.proofs.Common.{◌++◌, add-one, ap, arith, drop-cons, map, ◌∙◌}
 use Rattle.serde_json.specs.View.{view}
 use Rattle.desk_replies.proofs.Gathered.{shown-next}
 use Rattle.desk_replies.proofs.lists.push_each.Goals as goal

@@ -6,9 +6,9 @@ use Rattle.desk_replies.proofs.Results.{ok_so}
 use Rattle.desk_replies.proofs.object_replies.account_reply.Goals as goal
 
 pub json_reply-requires : goal.json_reply-requires
-json_reply-requires c = plain_value c.account_value.result _ (account_plain c.args.policy.now c.args.row.now) c.account_value.ensures
+json_reply-requires c = plain_value c.shown_object-account.result _ (account_plain c.args.policy.now c.args.row.now) c.shown_object-account.ensures
 
 pub returns : goal.returns
 returns c =
     ok_so c.json_reply.result (λ r is T same. is ∙ ap (ok 200) (ap (λ t. account_document t c.args.row.now) (sym same)))
-    (c.json_reply.ensures _ c.account_value.ensures)
+    (c.json_reply.ensures _ c.shown_object-account.ensures)

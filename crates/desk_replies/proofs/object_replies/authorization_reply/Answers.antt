@@ -9,8 +9,8 @@ use Rattle.desk_replies.proofs.object_replies.authorization_reply.Goals as goal
 
 pub json_reply-requires : goal.json_reply-requires
 json_reply-requires c =
-    plain_value c.authorization_value.result _ (authorization_plain c.args.policy.now (capped_authorization c.args.row.now))
-    c.authorization_value.ensures
+    plain_value c.shown_object-authorization.result _ (authorization_plain c.args.policy.now (capped_authorization c.args.row.now))
+    c.shown_object-authorization.ensures
 
 pub returns : goal.returns
 returns c =
@@ -18,4 +18,4 @@ returns c =
     (λ r is T same dated. is
     ∙ ap (ok 200) (ap (authorization_document c.args.policy.now) (capped_authorization-same c.args.row.now dated)
     ∙ ap (λ t. authorization_document t c.args.row.now) (sym same)))
-    (c.json_reply.ensures _ c.authorization_value.ensures)
+    (c.json_reply.ensures _ c.shown_object-authorization.ensures)

@@ -8,7 +8,9 @@ use Rattle.desk_replies.proofs.Results.{ok_so}
 use Rattle.desk_replies.proofs.object_replies.challenge_reply.Goals as goal
 
 pub json_reply-requires : goal.json_reply-requires
-json_reply-requires c = plain_value c.challenge_value.result _ (challenge_plain c.args.policy.now (capped_challenge c.args.row.now)) c.challenge_value.ensures
+json_reply-requires c =
+    plain_value c.shown_object-challenge.result _ (challenge_plain c.args.policy.now (capped_challenge c.args.row.now))
+    c.shown_object-challenge.ensures
 
 pub returns : goal.returns
 returns c =
@@ -16,4 +18,4 @@ returns c =
     (λ r is T same dated. is
     ∙ ap (ok 200) (ap (challenge_document c.args.policy.now) (capped_challenge-same c.args.row.now dated)
     ∙ ap (λ t. challenge_document t c.args.row.now) (sym same)))
-    (c.json_reply.ensures _ c.challenge_value.ensures)
+    (c.json_reply.ensures _ c.shown_object-challenge.ensures)

@@ -9,7 +9,7 @@ use Rattle.desk_replies.proofs.object_replies.located_order.Goals as goal
 
 pub located_reply-requires : goal.located_reply-requires
 located_reply-requires c =
-    plain_value c.order_value.result _ (order_plain c.args.policy.now c.args.names.now (capped_order c.args.row.now)) c.order_value.ensures
+    plain_value c.shown_object-order.result _ (order_plain c.args.policy.now c.args.names.now (capped_order c.args.row.now)) c.shown_object-order.ensures
 
 pub returns : goal.returns
 returns c =
@@ -18,4 +18,4 @@ returns c =
     ∙ ap (λ d. at (order_url c.args.policy.now c.args.row.now.number) (ok c.args.status d))
     (order_with_names-is T c.args.policy.now c.args.names.now c.args.row.now same named ends)
     ∙ ap (λ t. at (order_url t c.args.row.now.number) (ok c.args.status (order_document T c.args.row.now))) (sym same))
-    (c.located_reply.ensures _ _ c.order_url-url.ensures c.order_value.ensures)
+    (c.located_reply.ensures _ _ c.numbered_url-url.ensures c.shown_object-order.ensures)

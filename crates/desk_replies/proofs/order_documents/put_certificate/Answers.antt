@@ -11,6 +11,6 @@ use Rattle.desk_replies.proofs.order_documents.put_certificate.Goals as goal
 pub returns : goal.returns
 returns c =
     on_ok c.put_text.result
-    (λ put. put _ c.certificate_url-url.ensures
+    (λ put. put _ c.numbered_url-url.ensures
     ∙ sym (ap (λ o. with_members (when (is_some o) (codes "certificate", string (certificate_url c.args.policy.now c.args.row.now.number)))
     (members_view c.args.members.now.entries)) c.in-Some.is)) c.put_text.ensures

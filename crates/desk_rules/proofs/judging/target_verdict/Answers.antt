@@ -8,13 +8,13 @@ use Rattle.desk_rules.proofs.judging.target_verdict.Goals as goal
 pub returns-in-NewAccount : goal.returns-in-NewAccount
 returns-in-NewAccount c =
     target-made c.args.at.now.meta.counters c.args.at.now c.args.random.now c.args.sender c.args.payload.text.now c.args.target
-    to.NewAccount c.if_made.result c.in-NewAccount.is (c.if_made.ensures _ c.new_account_target.ensures)
+    to.NewAccount c.new_account_target.result c.in-NewAccount.is c.new_account_target.ensures
     (new_account_target-spares c.args.at.now (drop 16 c.args.random.now) c.args.sender c.args.payload.text.now)
 
 pub returns-in-Account : goal.returns-in-Account
 returns-in-Account c =
     target-made c.args.at.now.meta.counters c.args.at.now c.args.random.now c.args.sender c.args.payload.text.now c.args.target
-    (to.Account c.in-Account.number) c.if_made-in-Account.result c.in-Account.is (c.if_made-in-Account.ensures _ c.account_target.ensures)
+    (to.Account c.in-Account.number) c.account_target.result c.in-Account.is c.account_target.ensures
     (account_target-spares c.args.at.now (drop 16 c.args.random.now) c.args.sender c.args.payload.text.now c.in-Account.number)
 
 pub returns-in-Orders : goal.returns-in-Orders
@@ -32,7 +32,7 @@ returns-in-Order c =
 pub returns-in-Finalize : goal.returns-in-Finalize
 returns-in-Finalize c =
     target-made c.args.at.now.meta.counters c.args.at.now c.args.random.now c.args.sender c.args.payload.text.now c.args.target
-    (to.Finalize c.in-Finalize.number) c.if_made-in-Finalize.result c.in-Finalize.is (c.if_made-in-Finalize.ensures _ c.finalize_target.ensures)
+    (to.Finalize c.in-Finalize.number) c.finalize_target.result c.in-Finalize.is c.finalize_target.ensures
     (finalize_target-spares c.args.at.now (drop 16 c.args.random.now) c.args.sender c.args.payload.text.now c.in-Finalize.number)
 
 pub returns-in-Cert : goal.returns-in-Cert

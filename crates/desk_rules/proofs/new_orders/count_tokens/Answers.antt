@@ -1,9 +1,13 @@
-use Rattle.std.proofs.Common.{◌<◌, ◌^◌, rules, arith}
-use Rattle.std.proofs.iter.runs.Sources.{sums}
-use Rattle.desk_rules.proofs.NamesWanted.{count_kinds, count_kinds-le}
+use Rattle.std.proofs.Common.{◌+◌, ◌<◌, ◌^◌, length, ap, arith, rules}
+use Rattle.desk_rules.proofs.NamesWanted.{count-fits}
 use Rattle.desk_rules.proofs.new_orders.count_tokens.Goals as goal
 
-pub sum-requires-clause-fits : goal.sum-requires-clause-fits
-sum-requires-clause-fits c =
-    let fits : count_kinds c.args.names.now < 2 ^ 64 = omega (arith, count_kinds-le c.args.names.now) in
-    search (rules, sums, fits)
+pub overflow_add-count : goal.overflow_add-count
+overflow_add-count c =
+    let fits : c.loop-name.count + length c.kinds.result.now < 2 ^ 64 =
+    omega (
+      arith,
+      count-fits c.args.names.now c.loop-name.name-index c.name-item.result c.loop-name.count c.loop-name-test.true c.name-item.is c.loop-name.invariant,
+      ap length c.kinds.ensures,
+    ) in
+    search (rules, fits)

@@ -1,0 +1,23 @@
+-- What the validator found, by its challenge.
+use Rattle.std.proofs.Common.{◌≡◌, ℕ, List, Some, sym, ap, ◌∙◌}
+use Rattle.desk_model.specs.Document.{expected}
+use Rattle.desk_model.specs.Questions.{challenge_of, owner_on}
+use Rattle.desk_model.specs.Rules.{finding_verdict, outcome_of, outcome_verdict, report_verdict}
+use Rattle.desk_model.specs.Tables.{Tables}
+use Rattle.desk_model.specs.Verdict.{given}
+use Rattle.desk_model.specs.declared.call.Finding.{Finding}
+use Rattle.desk_model.specs.declared.entry.Outcome.{Outcome}
+use Rattle.desk_model.specs.declared.refusal.Refusal.TheVariants as refusal
+use Rattle.desk_model.specs.declared.rows.AuthorizationRow.{AuthorizationRow}
+use Rattle.desk_model.specs.declared.rows.ChallengeRow.{ChallengeRow}
+
+-- a report on a challenge that is there, which shows an outcome
+pub report-by : (T : Tables) (n : ℕ) (finding : Finding) (a : AuthorizationRow) (c : ChallengeRow) (text : List ℕ) (o : Outcome) →
+    owner_on T n ≡ Some a → challenge_of n a ≡ Some c → text ≡ expected T a c → outcome_of c.kind text finding ≡ Some o →
+    report_verdict T n finding ≡ outcome_verdict n a.status c o
+unfolding given
+report-by T n finding a c text o owner there wanted shown =
+    ap (λ x. given x refusal.NotFound (λ row. given (challenge_of n row) refusal.NotFound (finding_verdict T n finding row))) owner
+    ∙ ap (λ x. given x refusal.NotFound (finding_verdict T n finding a)) there
+    ∙ ap (λ t. given (outcome_of c.kind t finding) refusal.Malformed (outcome_verdict n a.status c)) (sym wanted)
+    ∙ ap (λ x. given x refusal.Malformed (outcome_verdict n a.status c)) shown
