@@ -13,10 +13,12 @@ ghost use Rattle.desk_model.specs.declared.rows.Change.TheVariants.{PutAccount, 
 ghost use Rattle.desk_changes.specs.Moved.{accounts_moved, authorizations_moved, moved_one, orders_moved, rows_after};
 ghost use Rattle.desk_changes.specs.Moved.{standing_rows, stated_authorization, stated_order, row_of, touched_one};
 
-use crate::differing::{account_differs, authorization_differs, order_differs};
-use crate::noted::{noted_account, noted_authorization, noted_order};
-use crate::touched::{touches_account, touches_authorization, touches_order};
-use desk_book::{Book, Row, Table, derived_authorization, derived_order, has_challenge};
+use crate::differing::{challenges_differ, is_gained, same_texts};
+use crate::noted::{account_end_by, end_after, note_contacts, note_dates, noted_challenges};
+use crate::touched::{touches_authorization, touches_order};
+use desk_book::{
+    Book, Row, Table, derived_account, derived_authorization, derived_order, has_challenge,
+};
 use desk_model::{AccountRow, AuthorizationRow, AuthzStatus, Change, Listed, Move, OrderRow};
 use std::alloc::{AllocError, Global};
 use swept_rows::{authorization_status, order_status};
@@ -25,7 +27,12 @@ use swept_rows::{authorization_status, order_status};
 fn row_numbered<R: Row>(rows: &[R], number: u64) -> Option<&R>
     ensures { option_copied result ≡ find (λ row. R.number row == number) rows.now }
 {
-    rows.iter().find(|row| row.number() == number)
+    for row in rows {
+        if row.number() == number {
+            return Some(row);
+        }
+    }
+    None
 }
 
 /// The rows that a move touches, as it leaves them.
@@ -58,9 +65,12 @@ impl MovedRows {
     pub fn owner(&self, challenge: u64) -> Option<&AuthorizationRow>
         ensures { option_copied result ≡ find (has_row challenge) self.now.authorizations.items }
     {
-        self.authorizations
-            .iter()
-            .find(|row| has_challenge(row, challenge))
+        for row in &self.authorizations {
+            if has_challenge(row, challenge) {
+                return Some(row);
+            }
+        }
+        None
     }
 
     /// The order of a number.
@@ -125,25 +135,46 @@ trait Movable: Row {
     fn is_touched(&self, book: &Book, moved: &Move) -> bool
         ensures { (m : ℕ) → result ≡ touched (entry_of moved.now) m book.now (standing m book.now self.now) };
 
-    /// The row at a moment.
-    fn at_moment(&self, book: &Book, moment: u64) -> Result<Self, AllocError>
-        ensures { IfOk result (λ r. r ≡ standing moment book.now self.now) };
+    /// Brings the row to a moment.
+    fn stand(&mut self, book: &Book, moment: u64)
+        ensures { self.new ≡ standing moment book.now self.old };
 
-    /// The row as a move leaves it.
-    fn restated(
-        &self,
+    /// Notes a move in the row, with the status that it then ought to have.
+    fn note(
+        &mut self,
         alloc: Global,
         book: &Book,
         moved: &Move,
         after: &[AuthorizationRow],
         moment: u64,
-    ) -> Result<Self, AllocError>
+    ) -> Result<(), AllocError>
         requires { Knows (entry_of moved.now) moment book.now after.now }
-        ensures { IfOk result (λ r. r ≡ stated (entry_of moved.now) moment book.now self.now) };
+        ensures { OnOk result (self.new ≡ stated (entry_of moved.now) moment book.now self.old) };
 
-    /// Puts the row as it is after a move, where it differs from this one.
-    fn put_where_differs(&self, changes: &mut Vec<Change>, after: &Self) -> Result<(), AllocError>
-        ensures { OnOk result (changes.new.items ≡ changes.old.items ++ map puts (cond (differs self.now after.now) (after.now ∷ []) [])) };
+    /// Whether the row after a step differs from this one.
+    fn differs(&self, after: &Self) -> bool
+        ensures { result ≡ differs self.now after.now };
+
+    /// The change that puts the row.
+    fn put(self) -> Change
+        ensures { result ≡ puts self };
+}
+
+// Puts the row in which a move was noted, where it differs from the one before it.
+fn put_noted<R: Movable + Drop>(
+    changes: &mut Vec<Change>,
+    before: &R,
+    after: &R,
+    noted: Result<(), AllocError>,
+) -> Result<(), AllocError>
+    ensures { OnOk result (IsOkAnd noted (λ _. changes.new.items ≡ changes.old.items
+        ++ map R.puts (cond (R.differs before.now after.now) (after.now ∷ []) []))) }
+{
+    noted?;
+    if !before.differs(after) {
+        return Ok(());
+    }
+    push_change(changes, after.clone()?.put())
 }
 
 // A row that a move touches, as it leaves it, with the change that this makes.
@@ -162,8 +193,9 @@ fn restate_row<R: Movable + Drop>(
         (R.stated (entry_of moved.now) moment book.now standing.now ∷ []) [])) }
     ensures row { IfOk result (λ r. r ≡ R.stated (entry_of moved.now) moment book.now standing.now) }
 {
-    let next = standing.restated(alloc, book, moved, after, moment)?;
-    standing.put_where_differs(changes, &next).and(Ok(next))
+    let mut next = standing.clone()?;
+    let noted = next.note(alloc, book, moved, after, moment);
+    put_noted(changes, standing, &next, noted).and(Ok(next))
 }
 
 // The row as a move leaves it, if it touches it, with the change that this makes.
@@ -186,7 +218,8 @@ fn move_row<R: Movable + Drop>(
     if !row.is_touched(book, moved) {
         return Ok(None);
     }
-    let standing = row.at_moment(book, moment)?;
+    let mut standing = row.clone()?;
+    standing.stand(book, moment);
     let next = restate_row(changes, alloc, book, moved, after, moment, &standing);
     drop(standing);
     Ok(Some(next?))
@@ -233,33 +266,37 @@ impl Movable for AccountRow {
     ghost Knows = { λ e m B after. ⊤ };
 
     fn is_touched(&self, _book: &Book, moved: &Move) -> bool {
-        touches_account(moved, self)
+        match moved {
+            Move::ContactsChanged(number, _) => *number == self.number,
+            Move::AccountEnded(number, _) => *number == self.number,
+            _ => false,
+        }
     }
 
-    fn at_moment(&self, _book: &Book, _moment: u64) -> Result<AccountRow, AllocError> {
-        self.clone()
-    }
+    fn stand(&mut self, _book: &Book, _moment: u64) {}
 
-    fn restated(
-        &self,
+    fn note(
+        &mut self,
         _alloc: Global,
         _book: &Book,
         moved: &Move,
         _after: &[AuthorizationRow],
         moment: u64,
-    ) -> Result<AccountRow, AllocError> {
-        noted_account(moved, moment, self)
+    ) -> Result<(), AllocError> {
+        note_contacts(self, moved)?;
+        self.ended = self.ended.or(account_end_by(moved, moment, self.number));
+        self.status = derived_account(self);
+        Ok(())
     }
 
-    fn put_where_differs(
-        &self,
-        changes: &mut Vec<Change>,
-        after: &AccountRow,
-    ) -> Result<(), AllocError> {
-        if account_differs(self, after) {
-            push_change(changes, Change::PutAccount(after.clone()?))?;
-        }
-        Ok(())
+    fn differs(&self, after: &AccountRow) -> bool {
+        !same_texts(self.contacts.as_slice(), after.contacts.as_slice())
+            || is_gained(&self.ended, &after.ended)
+            || self.status != after.status
+    }
+
+    fn put(self) -> Change {
+        Change::PutAccount(self)
     }
 }
 
@@ -297,34 +334,33 @@ impl Movable for AuthorizationRow {
         touches_authorization(moved, self)
     }
 
-    fn at_moment(&self, _book: &Book, moment: u64) -> Result<AuthorizationRow, AllocError> {
-        let mut standing = self.clone()?;
-        standing.status = authorization_status(moment, self);
-        Ok(standing)
+    fn stand(&mut self, _book: &Book, moment: u64) {
+        self.status = authorization_status(moment, self);
     }
 
-    fn restated(
-        &self,
+    fn note(
+        &mut self,
         alloc: Global,
         _book: &Book,
         moved: &Move,
         _after: &[AuthorizationRow],
         moment: u64,
-    ) -> Result<AuthorizationRow, AllocError> {
-        let mut stated = noted_authorization(alloc, moved, moment, self)?;
-        stated.status = derived_authorization(moment, &stated);
-        Ok(stated)
+    ) -> Result<(), AllocError> {
+        let challenges = noted_challenges(alloc, moved, moment, self.challenges.as_slice())?;
+        self.ended = end_after(moved, moment, self);
+        self.challenges = challenges;
+        self.status = derived_authorization(moment, self);
+        Ok(())
     }
 
-    fn put_where_differs(
-        &self,
-        changes: &mut Vec<Change>,
-        after: &AuthorizationRow,
-    ) -> Result<(), AllocError> {
-        if authorization_differs(self, after) {
-            push_change(changes, Change::PutAuthorization(after.clone()?))?;
-        }
-        Ok(())
+    fn differs(&self, after: &AuthorizationRow) -> bool {
+        is_gained(&self.ended, &after.ended)
+            || self.status != after.status
+            || challenges_differ(self.challenges.as_slice(), after.challenges.as_slice())
+    }
+
+    fn put(self) -> Change {
+        Change::PutAuthorization(self)
     }
 }
 
@@ -409,35 +445,33 @@ impl Movable for OrderRow {
         touches_order(moved, book, self)
     }
 
-    fn at_moment(&self, book: &Book, moment: u64) -> Result<OrderRow, AllocError> {
-        let mut standing = self.clone()?;
-        standing.status = order_status(book, moment, self);
-        Ok(standing)
+    fn stand(&mut self, book: &Book, moment: u64) {
+        self.status = order_status(book, moment, self);
     }
 
-    fn restated(
-        &self,
+    fn note(
+        &mut self,
         alloc: Global,
         book: &Book,
         moved: &Move,
         after: &[AuthorizationRow],
         moment: u64,
-    ) -> Result<OrderRow, AllocError> {
+    ) -> Result<(), AllocError> {
         let statuses = statuses_after(alloc, book, moved, after, moment, self.listed.as_slice())?;
-        let mut stated = noted_order(moved, moment, self)?;
-        stated.status = derived_order(moment, &stated, &statuses);
-        Ok(stated)
+        note_dates(self, moved, moment)?;
+        self.status = derived_order(moment, self, &statuses);
+        Ok(())
     }
 
-    fn put_where_differs(
-        &self,
-        changes: &mut Vec<Change>,
-        after: &OrderRow,
-    ) -> Result<(), AllocError> {
-        if order_differs(self, after) {
-            push_change(changes, Change::PutOrder(after.clone()?))?;
-        }
-        Ok(())
+    fn differs(&self, after: &OrderRow) -> bool {
+        is_gained(&self.finalized, &after.finalized)
+            || is_gained(&self.certified, &after.certified)
+            || is_gained(&self.failed, &after.failed)
+            || self.status != after.status
+    }
+
+    fn put(self) -> Change {
+        Change::PutOrder(self)
     }
 }
 

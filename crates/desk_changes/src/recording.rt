@@ -127,15 +127,6 @@ impl Recording {
             → IsRecorded m B es self.old.changes.items self.old.counters
             → IsRecorded m B (es ++ opened key contacts ∷ []) self.new.changes.items self.new.counters) }
     {
-        self.push_account(key, contacts)
-    }
-
-    fn push_account(&mut self, key: Jwk, contacts: Sequence<Text>) -> Result<AccountRow, AllocError>
-        requires { self.old.counters.accounts < last_number }
-        ensures changes { OnOk result (self.new.changes.items ≡ self.old.changes.items ++ PutAccount (next_account self.old.counters key contacts) ∷ []) }
-        ensures counters { OnOk result (self.new.counters ≡ record self.old.counters { accounts = self.old.counters.accounts + 1 }) }
-        ensures account { IfOk result (λ r. r ≡ next_account self.old.counters key contacts) }
-    {
         self.counters.accounts += 1;
         let row = AccountRow {
             number: self.counters.accounts,

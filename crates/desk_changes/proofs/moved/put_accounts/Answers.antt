@@ -9,7 +9,8 @@ use Rattle.desk_changes.proofs.moved.put_accounts.Goals as goal
 pub returns-clause-changes : goal.returns-clause-changes
 returns-clause-changes c =
     subst (λ rows. OnOk c.put_moved.result (c.put_moved.new.changes.items ≡ c.args.changes.now.items
-    ++ map PutAccount (moved_rows (touches_account (entry_of c.args.moved.now)) account_differs (noted_account (entry_of c.args.moved.now) c.args.moment) rows)))
+    ++ map PutAccount (moved_rows (touches_account (entry_of c.args.moved.now)) account_differs
+    (noted_account (entry_of c.args.moved.now) c.args.moment) rows)))
     (map-id _ ∙ c.accounts.ensures) c.put_moved.ensures.changes
 
 pub returns-clause-rows : goal.returns-clause-rows
