@@ -203,7 +203,7 @@ impl Recording {
         let rows = self.make_rows(alloc, policy, account, wanted)?;
         let order = self.next_order(alloc, policy, account, &rows)?;
         self.counters.orders += 1;
-        self.push_made(rows, &order).and(Ok(order))
+        put_made(&mut self.changes, rows, &order).and(Ok(order))
     }
 
     // The authorizations of the next order, which are counted.
@@ -229,15 +229,6 @@ impl Recording {
         self.counters.authorizations += rows.len() as u64;
         self.counters.challenges = next - 1;
         Ok(rows)
-    }
-
-    // Records the rows of a new order.
-    fn push_made(&mut self, rows: Vec<AuthorizationRow>, order: &OrderRow) -> Result<(), AllocError>
-        ensures changes { OnOk result (self.new.changes.items ≡ self.old.changes.items ++ (map PutAuthorization rows.items ++ PutOrder order.now ∷ [])) }
-        ensures counters { OnOk result (self.new.counters ≡ self.old.counters) }
-    {
-        put_made(&mut self.changes, rows)?;
-        self.push(Change::PutOrder(order.clone()?))
     }
 
     // What the authorizations of the next order have in common.
@@ -283,12 +274,16 @@ impl Recording {
     }
 }
 
-// Puts these authorizations.
-fn put_made(changes: &mut Vec<Change>, rows: Vec<AuthorizationRow>) -> Result<(), AllocError>
-    ensures { OnOk result (changes.new.items ≡ changes.old.items ++ map PutAuthorization rows.items) }
+// Puts the authorizations of a new order, and the order.
+fn put_made(
+    changes: &mut Vec<Change>,
+    rows: Vec<AuthorizationRow>,
+    order: &OrderRow,
+) -> Result<(), AllocError>
+    ensures { OnOk result (changes.new.items ≡ changes.old.items ++ (map PutAuthorization rows.items ++ PutOrder order.now ∷ [])) }
 {
     for row in rows {
         push_change(changes, Change::PutAuthorization(row))?;
     }
-    Ok(())
+    push_change(changes, Change::PutOrder(order.clone()?))
 }
