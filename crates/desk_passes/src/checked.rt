@@ -141,8 +141,6 @@ pub(crate) fn check_after<S: RowsAbove>(
         FaultKind::Authorization => {
             check_first(source.authorization_above(alloc, above), moment, above)
         }
-        FaultKind::Challenge => {
-            check_first(source.challenge_above(alloc, above), moment, above)
-        }
+        FaultKind::Challenge => { check_first(source.challenge_above(alloc, above), moment, above) }
     }
 }

@@ -97,10 +97,7 @@ fn book_in_order(alloc: Global, rows: FlatRows) -> Result<Book, RowsFault>
         (λ fault. fault ≡ NotABook → (T : Tables) → AreInOrder T → AreReordered rows (flat T) → ⊥) }
 {
     let meta = only_row(rows.metas);
-    let numbered = both(
-        table_of(alloc, rows.nonces),
-        table_of(alloc, rows.accounts),
-    );
+    let numbered = both(table_of(alloc, rows.nonces), table_of(alloc, rows.accounts));
     let nested = both(
         nested_table_of(alloc, rows.authorizations, rows.challenges),
         nested_table_of(alloc, rows.orders, rows.listed),
