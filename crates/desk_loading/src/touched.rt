@@ -1,5 +1,5 @@
 //! The book of the rows that a call touches.
-ghost use Rattle.std.specs.Prelude.{◌≡◌, [], IfOk};
+ghost use Rattle.std.specs.Prelude.{◌≡◌, IfOk};
 ghost use Rattle.desk_laws.specs.Ordered.{IsOrdered};
 ghost use Rattle.desk_laws.specs.Placing.{puts};
 ghost use Rattle.desk_loading.specs.Finding.{AreNone, AreRowsOf, Finds};
