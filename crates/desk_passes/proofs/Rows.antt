@@ -77,3 +77,10 @@ pub first_at : {V X F : Type 0} (items : V → List X) (vs : V) (r : Result (Opt
     IfOk r (λ o. (xs : List X) → items vs ≡ first_of xs → IsFirst o xs) → r ≡ Ok row → items vs ≡ first_of all →
     IsFirst row all
 first_at {X = X} items vs r row all told was is = IfOk-at_ok (λ o. (xs : List X) → items vs ≡ first_of xs → IsFirst o xs) was told all is
+
+-- what was made of what was found, where there was no fault
+pub made_when_found : {V A F : Type 0} (P : A → Type 0) (Q Z : V → Type 0) (found : Result V F) (r : Result A F) →
+    IfOk found Z → IfErr found (λ why. r ≡ Err why) → IfOk found Q → ((v : V) → Z v → Q v → IfOk r P) →
+    IfOk r P
+made_when_found P Q Z (Ok v) r told passed looked so = so v told looked
+made_when_found P Q Z (Err why) r told passed looked so = subst (λ q. IfOk q P) (sym passed) tt
