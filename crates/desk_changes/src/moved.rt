@@ -10,7 +10,8 @@ ghost use Rattle.desk_model.specs.declared.entry.Entry.{Entry};
 ghost use Rattle.desk_model.specs.declared.rows.AuthorizationRow.{AuthorizationRow as AuthorizationOf};
 ghost use Rattle.desk_model.specs.declared.rows.Change.{Change as ChangeOf};
 ghost use Rattle.desk_model.specs.declared.rows.Change.TheVariants.{PutAccount, PutAuthorization, PutOrder};
-ghost use Rattle.desk_changes.specs.Moved.{accounts_moved, authorizations_moved, moved_one, orders_moved, rows_after};
+ghost use Rattle.desk_changes.specs.Moved.{AreMoved, accounts_moved, authorizations_moved, moved_one, orders_moved, rows_after};
+ghost use Rattle.desk_changes.specs.Recorded.{book_moves};
 ghost use Rattle.desk_changes.specs.Moved.{standing_rows, stated_authorization, stated_order, row_of, touched_one};
 
 use crate::differing::{challenges_differ, is_gained, same_texts};
@@ -225,29 +226,29 @@ fn move_row<R: Movable + Drop>(
     Ok(Some(next?))
 }
 
-// Puts the rows of a table that a move changes, and gives those that it touches.
+// Puts the rows of a table that a move changes, and adds those that it touches to the rows.
 fn put_moved<R: Movable + Drop>(
     changes: &mut Vec<Change>,
     alloc: Global,
+    rows: &mut Vec<R>,
     table: &Table<R>,
     book: &Book,
     moved: &Move,
     after: &[AuthorizationRow],
     moment: u64,
-) -> Result<Vec<R>, AllocError>
+) -> Result<(), AllocError>
     requires { R.Knows (entry_of moved.now) moment book.now after.now }
     ensures changes { OnOk result (changes.new.items ≡ changes.old.items
         ++ map R.puts (moved_rows (R.touched (entry_of moved.now) moment book.now) R.differs
         (R.stated (entry_of moved.now) moment book.now) (map (R.standing moment book.now) table.now))) }
-    ensures rows { IfOk result (λ v. v.items ≡ map (R.stated (entry_of moved.now) moment book.now)
+    ensures rows { OnOk result (rows.new.items ≡ rows.old.items ++ map (R.stated (entry_of moved.now) moment book.now)
         (filter (R.touched (entry_of moved.now) moment book.now) (map (R.standing moment book.now) table.now))) }
 {
-    let mut rows = Vec::new(alloc);
     for row in table.iter() {
         let next = move_row(changes, alloc, book, moved, after, moment, row);
-        push_moved(&mut rows, next)?;
+        push_moved(rows, next)?;
     }
-    Ok(rows)
+    Ok(())
 }
 
 // ---- accounts
@@ -300,19 +301,29 @@ impl Movable for AccountRow {
     }
 }
 
-/// Puts the accounts that a move changes, and gives those that it touches.
-pub(crate) fn put_accounts(
+// Puts the accounts that a move changes, and adds those that it touches.
+fn put_accounts(
     changes: &mut Vec<Change>,
     alloc: Global,
+    rows: &mut Vec<AccountRow>,
     book: &Book,
     moved: &Move,
     moment: u64,
-) -> Result<Vec<AccountRow>, AllocError>
+) -> Result<(), AllocError>
     ensures changes { OnOk result (changes.new.items ≡ changes.old.items
         ++ map PutAccount (moved_rows (touches_account (entry_of moved.now)) account_differs (noted_account (entry_of moved.now) moment) book.now.accounts)) }
-    ensures rows { IfOk result (λ v. v.items ≡ accounts_moved (entry_of moved.now) moment book.now.accounts) }
+    ensures rows { OnOk result (rows.new.items ≡ rows.old.items ++ accounts_moved (entry_of moved.now) moment book.now.accounts) }
 {
-    put_moved(changes, alloc, book.accounts(), book, moved, &[], moment)
+    put_moved(
+        changes,
+        alloc,
+        rows,
+        book.accounts(),
+        book,
+        moved,
+        &[],
+        moment,
+    )
 }
 
 // ---- authorizations
@@ -364,22 +375,24 @@ impl Movable for AuthorizationRow {
     }
 }
 
-/// Puts the authorizations that a move changes, and gives those that it touches.
-pub(crate) fn put_authorizations(
+// Puts the authorizations that a move changes, and adds those that it touches.
+fn put_authorizations(
     changes: &mut Vec<Change>,
     alloc: Global,
+    rows: &mut Vec<AuthorizationRow>,
     book: &Book,
     moved: &Move,
     moment: u64,
-) -> Result<Vec<AuthorizationRow>, AllocError>
+) -> Result<(), AllocError>
     ensures changes { OnOk result (changes.new.items ≡ changes.old.items
         ++ map PutAuthorization (moved_rows (touches_authorization (entry_of moved.now)) authorization_differs
         (stated_authorization (entry_of moved.now) moment) (standing_rows moment book.now.authorizations))) }
-    ensures rows { IfOk result (λ v. v.items ≡ authorizations_moved (entry_of moved.now) moment book.now.authorizations) }
+    ensures rows { OnOk result (rows.new.items ≡ rows.old.items ++ authorizations_moved (entry_of moved.now) moment book.now.authorizations) }
 {
     put_moved(
         changes,
         alloc,
+        rows,
         book.authorizations(),
         book,
         moved,
@@ -475,20 +488,68 @@ impl Movable for OrderRow {
     }
 }
 
-/// Puts the orders that a move changes, by the authorizations that it touches, and gives those that it touches.
-pub(crate) fn put_orders(
+// Puts the orders that a move changes, by the authorizations that it touches, and adds those that it touches.
+fn put_orders(
     changes: &mut Vec<Change>,
     alloc: Global,
+    rows: &mut Vec<OrderRow>,
     book: &Book,
     moved: &Move,
     after: &[AuthorizationRow],
     moment: u64,
-) -> Result<Vec<OrderRow>, AllocError>
+) -> Result<(), AllocError>
     requires { after.now ≡ authorizations_moved (entry_of moved.now) moment book.now.authorizations }
     ensures changes { OnOk result (changes.new.items ≡ changes.old.items
         ++ map PutOrder (moved_rows (touches_order (entry_of moved.now) (standing_rows moment book.now.authorizations)) order_differs
         (stated_order (entry_of moved.now) moment book.now.authorizations) (map (swept_order moment book.now.authorizations) book.now.orders))) }
-    ensures rows { IfOk result (λ v. v.items ≡ orders_moved (entry_of moved.now) moment book.now.authorizations book.now.orders) }
+    ensures rows { OnOk result (rows.new.items ≡ rows.old.items ++ orders_moved (entry_of moved.now) moment book.now.authorizations book.now.orders) }
 {
-    put_moved(changes, alloc, book.orders(), book, moved, after, moment)
+    put_moved(
+        changes,
+        alloc,
+        rows,
+        book.orders(),
+        book,
+        moved,
+        after,
+        moment,
+    )
+}
+
+// ---- all of them
+
+/// Puts the rows that a move changes, and adds those that it touches to rows that were none.
+pub(crate) fn put_rows(
+    changes: &mut Vec<Change>,
+    alloc: Global,
+    rows: &mut MovedRows,
+    book: &Book,
+    moved: &Move,
+    moment: u64,
+) -> Result<(), AllocError>
+    requires accounts { rows.old.accounts.items ≡ [] }
+    requires authorizations { rows.old.authorizations.items ≡ [] }
+    requires orders { rows.old.orders.items ≡ [] }
+    ensures changes { OnOk result (changes.new.items ≡ changes.old.items ++ book_moves moment book.now (entry_of moved.now)) }
+    ensures rows { OnOk result (AreMoved moment book.now (entry_of moved.now) rows.new.accounts.items rows.new.authorizations.items
+        rows.new.orders.items) }
+{
+    put_accounts(changes, alloc, &mut rows.accounts, book, moved, moment)?;
+    put_authorizations(
+        changes,
+        alloc,
+        &mut rows.authorizations,
+        book,
+        moved,
+        moment,
+    )?;
+    put_orders(
+        changes,
+        alloc,
+        &mut rows.orders,
+        book,
+        moved,
+        &rows.authorizations,
+        moment,
+    )
 }

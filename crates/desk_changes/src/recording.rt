@@ -16,7 +16,7 @@ ghost use Rattle.desk_model.specs.declared.rows.Change.TheVariants.{PutMeta, Put
 ghost use Rattle.desk_model.specs.declared.status.AccountStatus.TheVariants as account;
 
 use crate::making::{Making, push_authorizations, push_places, statuses_of};
-use crate::moved::{MovedRows, push_change, put_accounts, put_authorizations, put_orders};
+use crate::moved::{MovedRows, push_change, put_rows};
 use desk_book::{Book, derived_order};
 use desk_model::{
     AccountRow, AccountStatus, AuthorizationRow, Change, Clock, Counters, Jwk, Meta, Move, Nonce,
@@ -159,21 +159,12 @@ impl Recording {
             → IsRecorded m book.now (es ++ entry_of moved.now ∷ []) self.new.changes.items self.new.counters) }
     {
         let moment = self.counters.clock.moment();
-        let accounts = put_accounts(&mut self.changes, alloc, book, moved, moment)?;
-        let authorizations = put_authorizations(&mut self.changes, alloc, book, moved, moment)?;
-        let orders = put_orders(
-            &mut self.changes,
-            alloc,
-            book,
-            moved,
-            &authorizations,
-            moment,
-        )?;
-        Ok(MovedRows {
-            accounts,
-            authorizations,
-            orders,
-        })
+        let mut rows = MovedRows {
+            accounts: Vec::new(alloc),
+            authorizations: Vec::new(alloc),
+            orders: Vec::new(alloc),
+        };
+        put_rows(&mut self.changes, alloc, &mut rows, book, moved, moment).and(Ok(rows))
     }
 
     /// Makes the next order of an account, with an authorization for each of these names, and gives its row.

@@ -1,5 +1,5 @@
 use mathlib.Core.List.{map-id}
-use Rattle.std.proofs.Common.{OnOk, IfOk, ◌≡◌, ◌++◌, ◌∙◌, map, filter, subst}
+use Rattle.std.proofs.Common.{OnOk, ◌≡◌, ◌++◌, ◌∙◌, map, filter, subst}
 use Rattle.desk_model.specs.Entry.{entry_of}
 use Rattle.desk_model.specs.Change.{account_differs, moved_rows}
 use Rattle.desk_model.specs.Effect.{noted_account, touches_account}
@@ -15,6 +15,6 @@ returns-clause-changes c =
 
 pub returns-clause-rows : goal.returns-clause-rows
 returns-clause-rows c =
-    subst (λ rows. IfOk c.put_moved.result (λ v. v.items
-    ≡ map (noted_account (entry_of c.args.moved.now) c.args.moment) (filter (touches_account (entry_of c.args.moved.now)) rows)))
+    subst (λ rows. OnOk c.put_moved.result (c.put_moved.new.rows.items ≡ c.args.rows.now.items
+    ++ map (noted_account (entry_of c.args.moved.now) c.args.moment) (filter (touches_account (entry_of c.args.moved.now)) rows)))
     (map-id _ ∙ c.accounts.ensures) c.put_moved.ensures.rows
