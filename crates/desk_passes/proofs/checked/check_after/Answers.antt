@@ -1,7 +1,5 @@
 use Rattle.std.proofs.Common.{IfOk, subst, sym}
-use Rattle.std.specs.List.{flat_map}
 use Rattle.desk_loading.proofs.Readings.{reads_found}
-use Rattle.desk_model.specs.declared.rows.AuthorizationRow.{AuthorizationRow}
 use Rattle.desk_passes.specs.Left.{faults_above}
 use Rattle.desk_passes.specs.Stepping.{Steps}
 use Rattle.desk_passes.proofs.Rows.{made_when_found}
@@ -29,15 +27,3 @@ returns-in-Authorization-clause-steps g c honest T holds h =
     (made_when_found _ _ _ c.authorization_above.result c.check_first-in-Authorization.result
     c.check_first-in-Authorization.ensures.steps c.check_first-in-Authorization.ensures.fails
     (c.authorization_above.ensures.found honest T holds) (λ rows told are. told T.authorizations 1 h.tables.authorizations.0 are))
-
-pub returns-in-Challenge-clause-reads : goal.returns-in-Challenge-clause-reads
-returns-in-Challenge-clause-reads g c = reads_found _ c.check_first-in-Challenge.result c.challenge_above.ensures.reads c.check_first-in-Challenge.ensures.fails
-
-pub returns-in-Challenge-clause-steps : goal.returns-in-Challenge-clause-steps
-returns-in-Challenge-clause-steps g c honest T holds h =
-    subst (λ kind. IfOk c.check_first-in-Challenge.result (λ checked. Steps checked (faults_above T kind c.args.moment) c.args.above))
-    (sym c.in-Challenge.is)
-    (made_when_found _ _ _ c.challenge_above.result c.check_first-in-Challenge.result
-    c.check_first-in-Challenge.ensures.steps c.check_first-in-Challenge.ensures.fails
-    (c.challenge_above.ensures.found honest T holds)
-    (λ rows told are. told (flat_map (λ (r : AuthorizationRow). r.challenges) T.authorizations) 1 h.challenges are))
