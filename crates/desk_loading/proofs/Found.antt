@@ -6,16 +6,12 @@ use Rattle.std.proofs.lemmas.Result.{on_ok_weaker}
 use Rattle.desk_laws.specs.Placing.{puts}
 use Rattle.desk_loading.specs.Finding.{Finds}
 use Rattle.desk_loading.proofs.Gathered.{put_if_found}
-use Rattle.desk_loading.proofs.Readings.{reads_failing, reads_found, reads_standing, reads_then, stands_here, stands_read}
+use Rattle.desk_loading.proofs.Readings.{reads_failing, reads_found, reads_then, stands_read}
 use Rattle.desk_model.specs.Tables.{Tables}
 use Rattle.desk_storage.specs.Sight.{ForTables, Reads, Sight}
 use Rattle.desk_storage.specs.declared.fault.StorageFault.{StorageFault}
 
 module _ {S C : Type 0} {v : Sight S C} where
-  -- nothing was looked up
-  pub finds_here : {A : Type 0} {s : S} {a : A} {P : Tables → Type 0} → ((T : Tables) → P T) → Finds v s s (Ok a) P
-  finds_here {A} {s} {a} so = record { reads = reads_standing (Ok a) stands_here; found = λ honest T held. so T }
-
   -- what follows from what was found
   pub finds_so : {A : Type 0} {old new : S} {P Q : Tables → Type 0} (r : Result A StorageFault) → Finds v old new r P → ((T : Tables) → P T → Q T) →
       Finds v old new r Q
