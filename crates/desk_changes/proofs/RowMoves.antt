@@ -221,3 +221,41 @@ statuses-step rows ls index d o before after whole more is pushed kept =
     one : (found : Option AuthorizationRow) (rest : List AuthzStatus) → row_of (option_map (λ r. r.status) found) ++ rest ≡ and_status found rest
     one None rest = refl
     one (Some r) rest = refl
+
+-- a search that passes a row over
+pub passed_over : {X : Type 0} (p : X → Bool) (xs : List X) (index : ℕ) (d : X) (whole : Option X) → index < length xs → p (get_or xs index d) ≡ false →
+    find p (drop index xs) ≡ whole →
+    find p (drop (index + 1) xs) ≡ whole
+passed_over p xs index d whole more fails so_far =
+    ap (λ b. cond b (Some (get_or xs index d)) (find p (drop (index + 1) xs))) (sym fails) ∙ sym (at_drop_more (find p) xs index d more) ∙ so_far
+
+-- one that finds it
+pub found_here : {X : Type 0} (p : X → Bool) (xs : List X) (index : ℕ) (d : X) (whole : Option X) → index < length xs → p (get_or xs index d) ≡ true →
+    find p (drop index xs) ≡ whole →
+    Some (get_or xs index d) ≡ whole
+found_here p xs index d whole more passes so_far =
+    ap (λ b. cond b (Some (get_or xs index d)) (find p (drop (index + 1) xs))) (sym passes) ∙ sym (at_drop_more (find p) xs index d more) ∙ so_far
+
+-- and one that ends
+pub found_nowhere : {X : Type 0} (p : X → Bool) (xs : List X) (index : ℕ) (whole : Option X) → length xs ≤ index → find p (drop index xs) ≡ whole → None ≡ whole
+found_nowhere p xs index whole all so_far = sym (at_drop_all (find p) xs index all) ∙ so_far
+
+-- what an order lists, by one place more, which is not touched
+pub untouched_place : (test : AuthorizationRow → Bool) (rows : List AuthorizationRow) (ls : List Listed) (index : ℕ) (d : Listed) →
+    index < length ls → holds test (authorization_numbered (get_or ls index d).authorization rows) ≡ false →
+    lists_one test rows (numbers_of (drop index ls)) ≡ lists_one test rows (numbers_of ls) →
+    lists_one test rows (numbers_of (drop (index + 1) ls)) ≡ lists_one test rows (numbers_of ls)
+untouched_place test rows ls index d more fails so_far =
+    ap (λ b. b || lists_one test rows (numbers_of (drop (index + 1) ls))) (sym fails)
+    ∙ sym (at_drop_more (λ l. lists_one test rows (numbers_of l)) ls index d more)
+    ∙ so_far
+
+-- and one that is
+pub touched_place : (test : AuthorizationRow → Bool) (rows : List AuthorizationRow) (ls : List Listed) (index : ℕ) (d : Listed) →
+    index < length ls → holds test (authorization_numbered (get_or ls index d).authorization rows) ≡ true →
+    lists_one test rows (numbers_of (drop index ls)) ≡ lists_one test rows (numbers_of ls) →
+    true ≡ lists_one test rows (numbers_of ls)
+touched_place test rows ls index d more touches so_far =
+    ap (λ b. b || lists_one test rows (numbers_of (drop (index + 1) ls))) (sym touches)
+    ∙ sym (at_drop_more (λ l. lists_one test rows (numbers_of l)) ls index d more)
+    ∙ so_far

@@ -10,13 +10,16 @@ ghost use Rattle.desk_model.specs.declared.entry.Entry.{Entry};
 ghost use Rattle.desk_model.specs.declared.rows.AuthorizationRow.{AuthorizationRow as AuthorizationOf};
 ghost use Rattle.desk_model.specs.declared.rows.Change.{Change as ChangeOf};
 ghost use Rattle.desk_model.specs.declared.rows.Change.TheVariants.{PutAccount, PutAuthorization, PutOrder};
-ghost use Rattle.desk_changes.specs.Moved.{accounts_moved, authorizations_moved, moved_one, orders_moved, rows_after};
+ghost use Rattle.desk_changes.specs.Moved.{AreMoved, accounts_moved, authorizations_moved, moved_one, orders_moved, rows_after};
+ghost use Rattle.desk_changes.specs.Recorded.{book_moves};
 ghost use Rattle.desk_changes.specs.Moved.{standing_rows, stated_authorization, stated_order, row_of, touched_one};
 
-use crate::differing::{account_differs, authorization_differs, order_differs};
-use crate::noted::{noted_account, noted_authorization, noted_order};
-use crate::touched::{touches_account, touches_authorization, touches_order};
-use desk_book::{Book, Row, Table, derived_authorization, derived_order, has_challenge};
+use crate::differing::{challenges_differ, is_gained, same_texts};
+use crate::noted::{account_end_by, end_after, note_contacts, note_dates, noted_challenges};
+use crate::touched::{touches_authorization, touches_order};
+use desk_book::{
+    Book, Row, Table, derived_account, derived_authorization, derived_order, has_challenge,
+};
 use desk_model::{AccountRow, AuthorizationRow, AuthzStatus, Change, Listed, Move, OrderRow};
 use std::alloc::{AllocError, Global};
 use swept_rows::{authorization_status, order_status};
@@ -25,7 +28,12 @@ use swept_rows::{authorization_status, order_status};
 fn row_numbered<R: Row>(rows: &[R], number: u64) -> Option<&R>
     ensures { option_copied result ≡ find (λ row. R.number row == number) rows.now }
 {
-    rows.iter().find(|row| row.number() == number)
+    for row in rows {
+        if row.number() == number {
+            return Some(row);
+        }
+    }
+    None
 }
 
 /// The rows that a move touches, as it leaves them.
@@ -58,9 +66,12 @@ impl MovedRows {
     pub fn owner(&self, challenge: u64) -> Option<&AuthorizationRow>
         ensures { option_copied result ≡ find (has_row challenge) self.now.authorizations.items }
     {
-        self.authorizations
-            .iter()
-            .find(|row| has_challenge(row, challenge))
+        for row in &self.authorizations {
+            if has_challenge(row, challenge) {
+                return Some(row);
+            }
+        }
+        None
     }
 
     /// The order of a number.
@@ -125,25 +136,46 @@ trait Movable: Row {
     fn is_touched(&self, book: &Book, moved: &Move) -> bool
         ensures { (m : ℕ) → result ≡ touched (entry_of moved.now) m book.now (standing m book.now self.now) };
 
-    /// The row at a moment.
-    fn at_moment(&self, book: &Book, moment: u64) -> Result<Self, AllocError>
-        ensures { IfOk result (λ r. r ≡ standing moment book.now self.now) };
+    /// Brings the row to a moment.
+    fn stand(&mut self, book: &Book, moment: u64)
+        ensures { self.new ≡ standing moment book.now self.old };
 
-    /// The row as a move leaves it.
-    fn restated(
-        &self,
+    /// Notes a move in the row, with the status that it then ought to have.
+    fn note(
+        &mut self,
         alloc: Global,
         book: &Book,
         moved: &Move,
         after: &[AuthorizationRow],
         moment: u64,
-    ) -> Result<Self, AllocError>
+    ) -> Result<(), AllocError>
         requires { Knows (entry_of moved.now) moment book.now after.now }
-        ensures { IfOk result (λ r. r ≡ stated (entry_of moved.now) moment book.now self.now) };
+        ensures { OnOk result (self.new ≡ stated (entry_of moved.now) moment book.now self.old) };
 
-    /// Puts the row as it is after a move, where it differs from this one.
-    fn put_where_differs(&self, changes: &mut Vec<Change>, after: &Self) -> Result<(), AllocError>
-        ensures { OnOk result (changes.new.items ≡ changes.old.items ++ map puts (cond (differs self.now after.now) (after.now ∷ []) [])) };
+    /// Whether the row after a step differs from this one.
+    fn differs(&self, after: &Self) -> bool
+        ensures { result ≡ differs self.now after.now };
+
+    /// The change that puts the row.
+    fn put(self) -> Change
+        ensures { result ≡ puts self };
+}
+
+// Puts the row in which a move was noted, where it differs from the one before it.
+fn put_noted<R: Movable + Drop>(
+    changes: &mut Vec<Change>,
+    before: &R,
+    after: &R,
+    noted: Result<(), AllocError>,
+) -> Result<(), AllocError>
+    ensures { OnOk result (IsOkAnd noted (λ _. changes.new.items ≡ changes.old.items
+        ++ map R.puts (cond (R.differs before.now after.now) (after.now ∷ []) []))) }
+{
+    noted?;
+    if !before.differs(after) {
+        return Ok(());
+    }
+    push_change(changes, after.clone()?.put())
 }
 
 // A row that a move touches, as it leaves it, with the change that this makes.
@@ -162,8 +194,9 @@ fn restate_row<R: Movable + Drop>(
         (R.stated (entry_of moved.now) moment book.now standing.now ∷ []) [])) }
     ensures row { IfOk result (λ r. r ≡ R.stated (entry_of moved.now) moment book.now standing.now) }
 {
-    let next = standing.restated(alloc, book, moved, after, moment)?;
-    standing.put_where_differs(changes, &next).and(Ok(next))
+    let mut next = standing.clone()?;
+    let noted = next.note(alloc, book, moved, after, moment);
+    put_noted(changes, standing, &next, noted).and(Ok(next))
 }
 
 // The row as a move leaves it, if it touches it, with the change that this makes.
@@ -186,35 +219,36 @@ fn move_row<R: Movable + Drop>(
     if !row.is_touched(book, moved) {
         return Ok(None);
     }
-    let standing = row.at_moment(book, moment)?;
+    let mut standing = row.clone()?;
+    standing.stand(book, moment);
     let next = restate_row(changes, alloc, book, moved, after, moment, &standing);
     drop(standing);
     Ok(Some(next?))
 }
 
-// Puts the rows of a table that a move changes, and gives those that it touches.
+// Puts the rows of a table that a move changes, and adds those that it touches to the rows.
 fn put_moved<R: Movable + Drop>(
     changes: &mut Vec<Change>,
     alloc: Global,
+    rows: &mut Vec<R>,
     table: &Table<R>,
     book: &Book,
     moved: &Move,
     after: &[AuthorizationRow],
     moment: u64,
-) -> Result<Vec<R>, AllocError>
+) -> Result<(), AllocError>
     requires { R.Knows (entry_of moved.now) moment book.now after.now }
     ensures changes { OnOk result (changes.new.items ≡ changes.old.items
         ++ map R.puts (moved_rows (R.touched (entry_of moved.now) moment book.now) R.differs
         (R.stated (entry_of moved.now) moment book.now) (map (R.standing moment book.now) table.now))) }
-    ensures rows { IfOk result (λ v. v.items ≡ map (R.stated (entry_of moved.now) moment book.now)
+    ensures rows { OnOk result (rows.new.items ≡ rows.old.items ++ map (R.stated (entry_of moved.now) moment book.now)
         (filter (R.touched (entry_of moved.now) moment book.now) (map (R.standing moment book.now) table.now))) }
 {
-    let mut rows = Vec::new(alloc);
     for row in table.iter() {
         let next = move_row(changes, alloc, book, moved, after, moment, row);
-        push_moved(&mut rows, next)?;
+        push_moved(rows, next)?;
     }
-    Ok(rows)
+    Ok(())
 }
 
 // ---- accounts
@@ -233,49 +267,63 @@ impl Movable for AccountRow {
     ghost Knows = { λ e m B after. ⊤ };
 
     fn is_touched(&self, _book: &Book, moved: &Move) -> bool {
-        touches_account(moved, self)
+        match moved {
+            Move::ContactsChanged(number, _) => *number == self.number,
+            Move::AccountEnded(number, _) => *number == self.number,
+            _ => false,
+        }
     }
 
-    fn at_moment(&self, _book: &Book, _moment: u64) -> Result<AccountRow, AllocError> {
-        self.clone()
-    }
+    fn stand(&mut self, _book: &Book, _moment: u64) {}
 
-    fn restated(
-        &self,
+    fn note(
+        &mut self,
         _alloc: Global,
         _book: &Book,
         moved: &Move,
         _after: &[AuthorizationRow],
         moment: u64,
-    ) -> Result<AccountRow, AllocError> {
-        noted_account(moved, moment, self)
+    ) -> Result<(), AllocError> {
+        note_contacts(self, moved)?;
+        self.ended = self.ended.or(account_end_by(moved, moment, self.number));
+        self.status = derived_account(self);
+        Ok(())
     }
 
-    fn put_where_differs(
-        &self,
-        changes: &mut Vec<Change>,
-        after: &AccountRow,
-    ) -> Result<(), AllocError> {
-        if account_differs(self, after) {
-            push_change(changes, Change::PutAccount(after.clone()?))?;
-        }
-        Ok(())
+    fn differs(&self, after: &AccountRow) -> bool {
+        !same_texts(self.contacts.as_slice(), after.contacts.as_slice())
+            || is_gained(&self.ended, &after.ended)
+            || self.status != after.status
+    }
+
+    fn put(self) -> Change {
+        Change::PutAccount(self)
     }
 }
 
-/// Puts the accounts that a move changes, and gives those that it touches.
-pub(crate) fn put_accounts(
+// Puts the accounts that a move changes, and adds those that it touches.
+fn put_accounts(
     changes: &mut Vec<Change>,
     alloc: Global,
+    rows: &mut Vec<AccountRow>,
     book: &Book,
     moved: &Move,
     moment: u64,
-) -> Result<Vec<AccountRow>, AllocError>
+) -> Result<(), AllocError>
     ensures changes { OnOk result (changes.new.items ≡ changes.old.items
         ++ map PutAccount (moved_rows (touches_account (entry_of moved.now)) account_differs (noted_account (entry_of moved.now) moment) book.now.accounts)) }
-    ensures rows { IfOk result (λ v. v.items ≡ accounts_moved (entry_of moved.now) moment book.now.accounts) }
+    ensures rows { OnOk result (rows.new.items ≡ rows.old.items ++ accounts_moved (entry_of moved.now) moment book.now.accounts) }
 {
-    put_moved(changes, alloc, book.accounts(), book, moved, &[], moment)
+    put_moved(
+        changes,
+        alloc,
+        rows,
+        book.accounts(),
+        book,
+        moved,
+        &[],
+        moment,
+    )
 }
 
 // ---- authorizations
@@ -297,53 +345,54 @@ impl Movable for AuthorizationRow {
         touches_authorization(moved, self)
     }
 
-    fn at_moment(&self, _book: &Book, moment: u64) -> Result<AuthorizationRow, AllocError> {
-        let mut standing = self.clone()?;
-        standing.status = authorization_status(moment, self);
-        Ok(standing)
+    fn stand(&mut self, _book: &Book, moment: u64) {
+        self.status = authorization_status(moment, self);
     }
 
-    fn restated(
-        &self,
+    fn note(
+        &mut self,
         alloc: Global,
         _book: &Book,
         moved: &Move,
         _after: &[AuthorizationRow],
         moment: u64,
-    ) -> Result<AuthorizationRow, AllocError> {
-        let mut stated = noted_authorization(alloc, moved, moment, self)?;
-        stated.status = derived_authorization(moment, &stated);
-        Ok(stated)
+    ) -> Result<(), AllocError> {
+        let challenges = noted_challenges(alloc, moved, moment, self.challenges.as_slice())?;
+        self.ended = end_after(moved, moment, self);
+        self.challenges = challenges;
+        self.status = derived_authorization(moment, self);
+        Ok(())
     }
 
-    fn put_where_differs(
-        &self,
-        changes: &mut Vec<Change>,
-        after: &AuthorizationRow,
-    ) -> Result<(), AllocError> {
-        if authorization_differs(self, after) {
-            push_change(changes, Change::PutAuthorization(after.clone()?))?;
-        }
-        Ok(())
+    fn differs(&self, after: &AuthorizationRow) -> bool {
+        is_gained(&self.ended, &after.ended)
+            || self.status != after.status
+            || challenges_differ(self.challenges.as_slice(), after.challenges.as_slice())
+    }
+
+    fn put(self) -> Change {
+        Change::PutAuthorization(self)
     }
 }
 
-/// Puts the authorizations that a move changes, and gives those that it touches.
-pub(crate) fn put_authorizations(
+// Puts the authorizations that a move changes, and adds those that it touches.
+fn put_authorizations(
     changes: &mut Vec<Change>,
     alloc: Global,
+    rows: &mut Vec<AuthorizationRow>,
     book: &Book,
     moved: &Move,
     moment: u64,
-) -> Result<Vec<AuthorizationRow>, AllocError>
+) -> Result<(), AllocError>
     ensures changes { OnOk result (changes.new.items ≡ changes.old.items
         ++ map PutAuthorization (moved_rows (touches_authorization (entry_of moved.now)) authorization_differs
         (stated_authorization (entry_of moved.now) moment) (standing_rows moment book.now.authorizations))) }
-    ensures rows { IfOk result (λ v. v.items ≡ authorizations_moved (entry_of moved.now) moment book.now.authorizations) }
+    ensures rows { OnOk result (rows.new.items ≡ rows.old.items ++ authorizations_moved (entry_of moved.now) moment book.now.authorizations) }
 {
     put_moved(
         changes,
         alloc,
+        rows,
         book.authorizations(),
         book,
         moved,
@@ -409,52 +458,98 @@ impl Movable for OrderRow {
         touches_order(moved, book, self)
     }
 
-    fn at_moment(&self, book: &Book, moment: u64) -> Result<OrderRow, AllocError> {
-        let mut standing = self.clone()?;
-        standing.status = order_status(book, moment, self);
-        Ok(standing)
+    fn stand(&mut self, book: &Book, moment: u64) {
+        self.status = order_status(book, moment, self);
     }
 
-    fn restated(
-        &self,
+    fn note(
+        &mut self,
         alloc: Global,
         book: &Book,
         moved: &Move,
         after: &[AuthorizationRow],
         moment: u64,
-    ) -> Result<OrderRow, AllocError> {
+    ) -> Result<(), AllocError> {
         let statuses = statuses_after(alloc, book, moved, after, moment, self.listed.as_slice())?;
-        let mut stated = noted_order(moved, moment, self)?;
-        stated.status = derived_order(moment, &stated, &statuses);
-        Ok(stated)
+        note_dates(self, moved, moment)?;
+        self.status = derived_order(moment, self, &statuses);
+        Ok(())
     }
 
-    fn put_where_differs(
-        &self,
-        changes: &mut Vec<Change>,
-        after: &OrderRow,
-    ) -> Result<(), AllocError> {
-        if order_differs(self, after) {
-            push_change(changes, Change::PutOrder(after.clone()?))?;
-        }
-        Ok(())
+    fn differs(&self, after: &OrderRow) -> bool {
+        is_gained(&self.finalized, &after.finalized)
+            || is_gained(&self.certified, &after.certified)
+            || is_gained(&self.failed, &after.failed)
+            || self.status != after.status
+    }
+
+    fn put(self) -> Change {
+        Change::PutOrder(self)
     }
 }
 
-/// Puts the orders that a move changes, by the authorizations that it touches, and gives those that it touches.
-pub(crate) fn put_orders(
+// Puts the orders that a move changes, by the authorizations that it touches, and adds those that it touches.
+fn put_orders(
     changes: &mut Vec<Change>,
     alloc: Global,
+    rows: &mut Vec<OrderRow>,
     book: &Book,
     moved: &Move,
     after: &[AuthorizationRow],
     moment: u64,
-) -> Result<Vec<OrderRow>, AllocError>
+) -> Result<(), AllocError>
     requires { after.now ≡ authorizations_moved (entry_of moved.now) moment book.now.authorizations }
     ensures changes { OnOk result (changes.new.items ≡ changes.old.items
         ++ map PutOrder (moved_rows (touches_order (entry_of moved.now) (standing_rows moment book.now.authorizations)) order_differs
         (stated_order (entry_of moved.now) moment book.now.authorizations) (map (swept_order moment book.now.authorizations) book.now.orders))) }
-    ensures rows { IfOk result (λ v. v.items ≡ orders_moved (entry_of moved.now) moment book.now.authorizations book.now.orders) }
+    ensures rows { OnOk result (rows.new.items ≡ rows.old.items ++ orders_moved (entry_of moved.now) moment book.now.authorizations book.now.orders) }
 {
-    put_moved(changes, alloc, book.orders(), book, moved, after, moment)
+    put_moved(
+        changes,
+        alloc,
+        rows,
+        book.orders(),
+        book,
+        moved,
+        after,
+        moment,
+    )
+}
+
+// ---- all of them
+
+/// Puts the rows that a move changes, and adds those that it touches to rows that were none.
+pub(crate) fn put_rows(
+    changes: &mut Vec<Change>,
+    alloc: Global,
+    rows: &mut MovedRows,
+    book: &Book,
+    moved: &Move,
+    moment: u64,
+) -> Result<(), AllocError>
+    requires accounts { rows.old.accounts.items ≡ [] }
+    requires authorizations { rows.old.authorizations.items ≡ [] }
+    requires orders { rows.old.orders.items ≡ [] }
+    ensures changes { OnOk result (changes.new.items ≡ changes.old.items ++ book_moves moment book.now (entry_of moved.now)) }
+    ensures rows { OnOk result (AreMoved moment book.now (entry_of moved.now) rows.new.accounts.items rows.new.authorizations.items
+        rows.new.orders.items) }
+{
+    put_accounts(changes, alloc, &mut rows.accounts, book, moved, moment)?;
+    put_authorizations(
+        changes,
+        alloc,
+        &mut rows.authorizations,
+        book,
+        moved,
+        moment,
+    )?;
+    put_orders(
+        changes,
+        alloc,
+        &mut rows.orders,
+        book,
+        moved,
+        &rows.authorizations,
+        moment,
+    )
 }

@@ -1,34 +1,35 @@
 //! Moves, written into the dated columns of rows.
-ghost use Rattle.std.specs.Prelude.{◌≡◌, map, unwrap_or, IfOk, OnOk};
+ghost use Rattle.std.specs.Prelude.{◌≡◌, if◌then◌else◌, None, Some, map, unwrap_or, IfOk, OnOk};
 ghost use Rattle.desk_model.specs.Entry.{entry_of};
 ghost use Rattle.desk_model.specs.History.{earlier};
 ghost use Rattle.desk_model.specs.Account.{changing, ends as account_ends};
 ghost use Rattle.desk_model.specs.Authorization.{in_time};
-ghost use Rattle.desk_model.specs.Order.{certifying, failing, finalizing};
 ghost use Rattle.desk_model.specs.declared.entry.Entry.TheVariants.{Reported as reported};
-ghost use Rattle.desk_model.specs.Effect.{noted_account, noted_authorization, noted_challenge, noted_order, answered_challenge, reported_challenge, row_ends};
+ghost use Rattle.desk_model.specs.Effect.{noted_challenge, noted_order, answered_challenge, reported_challenge, row_ends};
 
-use desk_book::{derived_account, derived_challenge, has_challenge};
+use desk_book::{derived_challenge, has_challenge};
 use desk_model::{
     AccountEnd, AccountRow, AuthorizationEnd, AuthorizationRow, ChallengeRow, DatedBytes,
-    DatedProblem, EndKind, Move, OrderRow, Outcome, Report, Sequence, Text,
+    DatedProblem, EndKind, Move, OrderProblem, OrderRow, Outcome, Report, Sequence,
 };
 use std::alloc::{AllocError, Global};
 
 // ---- accounts
 
-fn contacts_after(moved: &Move, row: &AccountRow) -> Result<Sequence<Text>, AllocError>
-    ensures { IfOk result (λ c. c ≡ unwrap_or (changing row.now.number (entry_of moved.now)) row.now.contacts) }
+/// Notes the contacts of a move in the row of an account.
+pub(crate) fn note_contacts(row: &mut AccountRow, moved: &Move) -> Result<(), AllocError>
+    ensures { OnOk result (row.new ≡ record row.old { contacts = unwrap_or (changing row.old.number (entry_of moved.now)) row.old.contacts }) }
 {
     if let Move::ContactsChanged(number, contacts) = moved {
         if *number == row.number {
-            return contacts.clone();
+            row.contacts = contacts.clone()?;
         }
     }
-    row.contacts.clone()
+    Ok(())
 }
 
-fn account_end_by(moved: &Move, moment: u64, number: u64) -> Option<AccountEnd>
+/// The end of the account of a number by a move.
+pub(crate) fn account_end_by(moved: &Move, moment: u64, number: u64) -> Option<AccountEnd>
     ensures { result ≡ account_ends number (entry_of moved.now) moment }
 {
     match moved {
@@ -43,21 +44,6 @@ fn account_end_by(moved: &Move, moment: u64, number: u64) -> Option<AccountEnd>
         }
         _ => None,
     }
-}
-
-/// The row of an account after a move.
-pub(crate) fn noted_account(
-    moved: &Move,
-    moment: u64,
-    row: &AccountRow,
-) -> Result<AccountRow, AllocError>
-    ensures { IfOk result (λ r. r ≡ noted_account (entry_of moved.now) moment row.now) }
-{
-    let mut noted = row.clone()?;
-    noted.contacts = contacts_after(moved, row)?;
-    noted.ended = row.ended.or(account_end_by(moved, moment, row.number));
-    noted.status = derived_account(&noted);
-    Ok(noted)
 }
 
 // ---- challenges
@@ -83,8 +69,8 @@ fn reported_challenge(outcome: Outcome, moment: u64, row: &ChallengeRow) -> Chal
     reported
 }
 
-/// The row of a challenge after a move.
-pub(crate) fn noted_challenge(moved: &Move, moment: u64, row: &ChallengeRow) -> ChallengeRow
+// The row of a challenge after a move.
+fn noted_challenge(moved: &Move, moment: u64, row: &ChallengeRow) -> ChallengeRow
     ensures { result ≡ noted_challenge (entry_of moved.now) moment row.now }
 {
     match moved {
@@ -104,7 +90,8 @@ pub(crate) fn noted_challenge(moved: &Move, moment: u64, row: &ChallengeRow) -> 
     }
 }
 
-fn noted_challenges(
+/// The rows of challenges after a move.
+pub(crate) fn noted_challenges(
     alloc: Global,
     moved: &Move,
     moment: u64,
@@ -187,109 +174,55 @@ pub(crate) fn end_after(
         .or(in_time(row.expires, end_by(moved, moment, row)))
 }
 
-/// The row of an authorization after a move, with the status that it had before.
-pub(crate) fn noted_authorization(
-    alloc: Global,
-    moved: &Move,
-    moment: u64,
-    row: &AuthorizationRow,
-) -> Result<AuthorizationRow, AllocError>
-    ensures { IfOk result (λ r. r ≡ noted_authorization (entry_of moved.now) moment row.now) }
-{
-    let challenges = noted_challenges(alloc, moved, moment, row.challenges.as_slice())?;
-    let mut noted = row.clone()?;
-    noted.ended = end_after(moved, moment, row);
-    noted.challenges = challenges;
-    Ok(noted)
-}
-
 // ---- orders
 
-fn csr_by(moved: &Move, moment: u64, number: u64) -> Result<Option<DatedBytes>, AllocError>
-    ensures { IfOk result (λ o. o ≡ finalizing number (entry_of moved.now) moment) }
+// Notes bytes of a date, where they concern a row that has none.
+fn note_bytes(
+    noted: &mut Option<DatedBytes>,
+    concerned: bool,
+    date: u64,
+    bytes: &Sequence<u8>,
+) -> Result<(), AllocError>
+    ensures { OnOk result (noted.new ≡ earlier noted.old (if concerned then Some (record { date = date; bytes = bytes.now }) else None)) }
 {
-    if let Move::Finalized(order, bytes) = moved {
-        if *order == number {
-            return Ok(Some(DatedBytes {
-                date: moment,
-                bytes: bytes.clone()?,
-            }));
-        }
-    }
-    Ok(None)
-}
-
-fn certificate_by(moved: &Move, moment: u64, number: u64) -> Result<Option<DatedBytes>, AllocError>
-    ensures { IfOk result (λ o. o ≡ certifying number (entry_of moved.now) moment) }
-{
-    if let Move::Certified(order, bytes) = moved {
-        if *order == number {
-            return Ok(Some(DatedBytes {
-                date: moment,
-                bytes: bytes.clone()?,
-            }));
-        }
-    }
-    Ok(None)
-}
-
-fn failure_by(moved: &Move, moment: u64, number: u64) -> Result<Option<DatedProblem>, AllocError>
-    ensures { IfOk result (λ o. o ≡ failing number (entry_of moved.now) moment) }
-{
-    if let Move::Failed(order, problem) = moved {
-        if *order == number {
-            return Ok(Some(DatedProblem {
-                date: moment,
-                problem: problem.clone()?,
-            }));
-        }
-    }
-    Ok(None)
-}
-
-// Notes the CSR of a move, where the order has none.
-fn note_csr(noted: &mut OrderRow, moved: &Move, moment: u64) -> Result<(), AllocError>
-    ensures { OnOk result (noted.new ≡ record noted.old { finalized = earlier noted.old.finalized (finalizing noted.old.number (entry_of moved.now) moment) }) }
-{
-    if noted.finalized.is_none() {
-        noted.finalized = csr_by(moved, moment, noted.number)?;
+    if concerned && noted.is_none() {
+        let bytes = bytes.clone()?;
+        *noted = Some(DatedBytes { date, bytes });
     }
     Ok(())
 }
 
-// Notes the certificate of a move, where the order has none.
-fn note_certificate(noted: &mut OrderRow, moved: &Move, moment: u64) -> Result<(), AllocError>
-    ensures { OnOk result (noted.new ≡ record noted.old { certified = earlier noted.old.certified (certifying noted.old.number (entry_of moved.now) moment) }) }
+// Notes a problem of a date, where it concerns a row that has none.
+fn note_problem(
+    noted: &mut Option<DatedProblem>,
+    concerned: bool,
+    date: u64,
+    problem: &OrderProblem,
+) -> Result<(), AllocError>
+    ensures { OnOk result (noted.new ≡ earlier noted.old (if concerned then Some (record { date = date; problem = problem.now }) else None)) }
 {
-    if noted.certified.is_none() {
-        noted.certified = certificate_by(moved, moment, noted.number)?;
+    if concerned && noted.is_none() {
+        let problem = problem.clone()?;
+        *noted = Some(DatedProblem { date, problem });
     }
     Ok(())
 }
 
-// Notes the failure of a move, where the order has none.
-fn note_failure(noted: &mut OrderRow, moved: &Move, moment: u64) -> Result<(), AllocError>
-    ensures { OnOk result (noted.new ≡ record noted.old { failed = earlier noted.old.failed (failing noted.old.number (entry_of moved.now) moment) }) }
+/// Notes a move in the dated columns of an order: what came first stays.
+pub(crate) fn note_dates(row: &mut OrderRow, moved: &Move, moment: u64) -> Result<(), AllocError>
+    ensures { OnOk result (row.new ≡ noted_order (entry_of moved.now) moment row.old) }
 {
-    if noted.failed.is_none() {
-        noted.failed = failure_by(moved, moment, noted.number)?;
+    let number = row.number;
+    match moved {
+        Move::Finalized(order, csr) => {
+            note_bytes(&mut row.finalized, *order == number, moment, csr)
+        }
+        Move::Certified(order, certificate) => {
+            note_bytes(&mut row.certified, *order == number, moment, certificate)
+        }
+        Move::Failed(order, problem) => {
+            note_problem(&mut row.failed, *order == number, moment, problem)
+        }
+        _ => Ok(()),
     }
-    Ok(())
-}
-
-// Notes a move in the dated columns of an order: what came first stays.
-fn note_dates(noted: &mut OrderRow, moved: &Move, moment: u64) -> Result<(), AllocError>
-    ensures { OnOk result (noted.new ≡ noted_order (entry_of moved.now) moment noted.old) }
-{
-    note_csr(noted, moved, moment)?;
-    note_certificate(noted, moved, moment)?;
-    note_failure(noted, moved, moment)
-}
-
-/// The row of an order after a move, with the status that it had before.
-pub(crate) fn noted_order(moved: &Move, moment: u64, row: &OrderRow) -> Result<OrderRow, AllocError>
-    ensures { IfOk result (λ r. r ≡ noted_order (entry_of moved.now) moment row.now) }
-{
-    let mut noted = row.clone()?;
-    note_dates(&mut noted, moved, moment).and(Ok(noted))
 }

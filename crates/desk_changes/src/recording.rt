@@ -16,7 +16,7 @@ ghost use Rattle.desk_model.specs.declared.rows.Change.TheVariants.{PutMeta, Put
 ghost use Rattle.desk_model.specs.declared.status.AccountStatus.TheVariants as account;
 
 use crate::making::{Making, push_authorizations, push_places, statuses_of};
-use crate::moved::{MovedRows, push_change, put_accounts, put_authorizations, put_orders};
+use crate::moved::{MovedRows, push_change, put_rows};
 use desk_book::{Book, derived_order};
 use desk_model::{
     AccountRow, AccountStatus, AuthorizationRow, Change, Clock, Counters, Jwk, Meta, Move, Nonce,
@@ -127,15 +127,6 @@ impl Recording {
             → IsRecorded m B es self.old.changes.items self.old.counters
             → IsRecorded m B (es ++ opened key contacts ∷ []) self.new.changes.items self.new.counters) }
     {
-        self.push_account(key, contacts)
-    }
-
-    fn push_account(&mut self, key: Jwk, contacts: Sequence<Text>) -> Result<AccountRow, AllocError>
-        requires { self.old.counters.accounts < last_number }
-        ensures changes { OnOk result (self.new.changes.items ≡ self.old.changes.items ++ PutAccount (next_account self.old.counters key contacts) ∷ []) }
-        ensures counters { OnOk result (self.new.counters ≡ record self.old.counters { accounts = self.old.counters.accounts + 1 }) }
-        ensures account { IfOk result (λ r. r ≡ next_account self.old.counters key contacts) }
-    {
         self.counters.accounts += 1;
         let row = AccountRow {
             number: self.counters.accounts,
@@ -168,21 +159,12 @@ impl Recording {
             → IsRecorded m book.now (es ++ entry_of moved.now ∷ []) self.new.changes.items self.new.counters) }
     {
         let moment = self.counters.clock.moment();
-        let accounts = put_accounts(&mut self.changes, alloc, book, moved, moment)?;
-        let authorizations = put_authorizations(&mut self.changes, alloc, book, moved, moment)?;
-        let orders = put_orders(
-            &mut self.changes,
-            alloc,
-            book,
-            moved,
-            &authorizations,
-            moment,
-        )?;
-        Ok(MovedRows {
-            accounts,
-            authorizations,
-            orders,
-        })
+        let mut rows = MovedRows {
+            accounts: Vec::new(alloc),
+            authorizations: Vec::new(alloc),
+            orders: Vec::new(alloc),
+        };
+        put_rows(&mut self.changes, alloc, &mut rows, book, moved, moment).and(Ok(rows))
     }
 
     /// Makes the next order of an account, with an authorization for each of these names, and gives its row.
@@ -212,7 +194,7 @@ impl Recording {
         let rows = self.make_rows(alloc, policy, account, wanted)?;
         let order = self.next_order(alloc, policy, account, &rows)?;
         self.counters.orders += 1;
-        self.push_made(rows, &order).and(Ok(order))
+        put_made(&mut self.changes, rows, &order).and(Ok(order))
     }
 
     // The authorizations of the next order, which are counted.
@@ -238,15 +220,6 @@ impl Recording {
         self.counters.authorizations += rows.len() as u64;
         self.counters.challenges = next - 1;
         Ok(rows)
-    }
-
-    // Records the rows of a new order.
-    fn push_made(&mut self, rows: Vec<AuthorizationRow>, order: &OrderRow) -> Result<(), AllocError>
-        ensures changes { OnOk result (self.new.changes.items ≡ self.old.changes.items ++ (map PutAuthorization rows.items ++ PutOrder order.now ∷ [])) }
-        ensures counters { OnOk result (self.new.counters ≡ self.old.counters) }
-    {
-        put_made(&mut self.changes, rows)?;
-        self.push(Change::PutOrder(order.clone()?))
     }
 
     // What the authorizations of the next order have in common.
@@ -292,12 +265,16 @@ impl Recording {
     }
 }
 
-// Puts these authorizations.
-fn put_made(changes: &mut Vec<Change>, rows: Vec<AuthorizationRow>) -> Result<(), AllocError>
-    ensures { OnOk result (changes.new.items ≡ changes.old.items ++ map PutAuthorization rows.items) }
+// Puts the authorizations of a new order, and the order.
+fn put_made(
+    changes: &mut Vec<Change>,
+    rows: Vec<AuthorizationRow>,
+    order: &OrderRow,
+) -> Result<(), AllocError>
+    ensures { OnOk result (changes.new.items ≡ changes.old.items ++ (map PutAuthorization rows.items ++ PutOrder order.now ∷ [])) }
 {
     for row in rows {
         push_change(changes, Change::PutAuthorization(row))?;
     }
-    Ok(())
+    push_change(changes, Change::PutOrder(order.clone()?))
 }

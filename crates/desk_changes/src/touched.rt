@@ -1,24 +1,12 @@
 //! Which rows a move touches.
-ghost use Rattle.std.specs.Prelude.{◌≡◌, ◌==◌};
-ghost use Rattle.std.specs.List.{list_any};
+ghost use Rattle.std.specs.Prelude.{◌≡◌};
 ghost use Rattle.desk_model.specs.Entry.{entry_of};
 ghost use Rattle.desk_model.specs.Lookup.{holds};
 ghost use Rattle.desk_model.specs.Derived.{authorization_numbered, numbers_of};
-ghost use Rattle.desk_model.specs.Effect.{names_order, lists_one, touches_account, touches_authorization, touches_order};
+ghost use Rattle.desk_model.specs.Effect.{names_order, lists_one, touches_authorization, touches_order};
 
 use desk_book::{Book, has_challenge};
-use desk_model::{AccountRow, AuthorizationRow, Listed, Move, OrderRow};
-
-/// Whether a move touches an account.
-pub(crate) fn touches_account(moved: &Move, row: &AccountRow) -> bool
-    ensures { result ≡ touches_account (entry_of moved.now) row.now }
-{
-    match moved {
-        Move::ContactsChanged(number, _) => *number == row.number,
-        Move::AccountEnded(number, _) => *number == row.number,
-        _ => false,
-    }
-}
+use desk_model::{AuthorizationRow, Listed, Move, OrderRow};
 
 /// Whether a move touches an authorization.
 pub(crate) fn touches_authorization(moved: &Move, row: &AuthorizationRow) -> bool
@@ -55,26 +43,21 @@ fn touches_number(moved: &Move, book: &Book, number: u64) -> bool
     }
 }
 
-fn touches_listed(moved: &Move, book: &Book, listed: &[Listed]) -> bool
-    ensures { result
-        ≡ list_any
-        (λ l. holds (touches_authorization (entry_of moved.now)) (authorization_numbered l.authorization book.now.authorizations)) listed.now }
-{
-    listed
-        .iter()
-        .any(|listed| touches_number(moved, book, listed.authorization))
-}
-
 // Whether a move touches one of the authorizations that an order lists.
-fn lists_touched(moved: &Move, book: &Book, row: &OrderRow) -> bool
-    ensures { result ≡ lists_one (touches_authorization (entry_of moved.now)) book.now.authorizations (numbers_of row.now.listed) }
+fn lists_touched(moved: &Move, book: &Book, listed: &[Listed]) -> bool
+    ensures { result ≡ lists_one (touches_authorization (entry_of moved.now)) book.now.authorizations (numbers_of listed.now) }
 {
-    touches_listed(moved, book, row.listed.as_slice())
+    for place in listed {
+        if touches_number(moved, book, place.authorization) {
+            return true;
+        }
+    }
+    false
 }
 
 /// Whether a move touches an order: it names it, or touches an authorization that it lists.
 pub(crate) fn touches_order(moved: &Move, book: &Book, row: &OrderRow) -> bool
     ensures { result ≡ touches_order (entry_of moved.now) book.now.authorizations row.now }
 {
-    names_order(moved, row.number) || lists_touched(moved, book, row)
+    names_order(moved, row.number) || lists_touched(moved, book, row.listed.as_slice())
 }

@@ -1,22 +1,17 @@
 -- Look-ups whose rows are put into tables, one after the other.
-use Rattle.std.proofs.Common.{◌≡◌, ℕ, Bool, Option, None, Some, List, [], ◌∷◌, Result, Ok, Err, IfErr, IfOk, IsErrAnd, OnOk, ap, subst, ◌∙◌}
-use Rattle.std.specs.Prelude.{if◌then◌else◌, option_to_list}
+use Rattle.std.proofs.Common.{◌≡◌, ℕ, Option, None, Some, List, [], ◌∷◌, Result, Ok, Err, IfErr, IfOk, IsErrAnd, OnOk, subst, ◌∙◌}
+use Rattle.std.specs.Prelude.{option_to_list}
 use Rattle.std.specs.Option.{MatchOption}
-use Rattle.std.specs.List.{flat_map}
 use Rattle.std.proofs.lemmas.Result.{on_ok_weaker}
 use Rattle.desk_laws.specs.Placing.{puts}
 use Rattle.desk_loading.specs.Finding.{Finds}
 use Rattle.desk_loading.proofs.Gathered.{put_if_found}
-use Rattle.desk_loading.proofs.Readings.{reads_failing, reads_found, reads_standing, reads_then, stands_here, stands_read}
+use Rattle.desk_loading.proofs.Readings.{reads_failing, reads_found, reads_then, stands_read}
 use Rattle.desk_model.specs.Tables.{Tables}
 use Rattle.desk_storage.specs.Sight.{ForTables, Reads, Sight}
 use Rattle.desk_storage.specs.declared.fault.StorageFault.{StorageFault}
 
 module _ {S C : Type 0} {v : Sight S C} where
-  -- nothing was looked up
-  pub finds_here : {A : Type 0} {s : S} {a : A} {P : Tables → Type 0} → ((T : Tables) → P T) → Finds v s s (Ok a) P
-  finds_here {A} {s} {a} so = record { reads = reads_standing (Ok a) stands_here; found = λ honest T held. so T }
-
   -- what follows from what was found
   pub finds_so : {A : Type 0} {old new : S} {P Q : Tables → Type 0} (r : Result A StorageFault) → Finds v old new r P → ((T : Tables) → P T → Q T) →
       Finds v old new r Q
@@ -33,20 +28,24 @@ module _ {S C : Type 0} {v : Sight S C} where
         on_ok_weaker r (both T (first.found so_far T held)) (second.found honest T (first.reads.tables so_far T held));
   }
 
+  -- what was found by both
+  pub finds_both : {A B : Type 0} {old mid new : S} {a : B} {P Q : Tables → Type 0} (r : Result A StorageFault) →
+      Finds v old mid (Ok a) P → Finds v mid new r Q →
+      Finds v old new r (λ T. P T × Q T)
+  finds_both r first second = finds_then r first second (λ T p q. (p, q))
+
   -- a third one
   pub finds_third : {A B D : Type 0} {s0 s1 s2 s3 : S} {b : B} {d : D} {P Q R Z : Tables → Type 0} (r : Result A StorageFault) →
       Finds v s0 s1 (Ok b) P → Finds v s1 s2 (Ok d) Q → Finds v s2 s3 r R → ((T : Tables) → P T → Q T → R T → Z T) →
       Finds v s0 s3 r Z
-  finds_third {A} {B} {D} {s0} {s1} {s2} {s3} {b} {d} {P} {Q} r first second third all =
-      finds_then {P = λ T. P T × Q T} r (finds_then _ first second (λ T p q. (p, q))) third (λ T both. all T both.0 both.1)
+  finds_third r first second third all = finds_then r (finds_both _ first second) third (λ T both. all T both.0 both.1)
 
   -- a fourth one
   pub finds_fourth : {A B D E : Type 0} {s0 s1 s2 s3 s4 : S} {b : B} {d : D} {e : E} {P Q R U Z : Tables → Type 0} (r : Result A StorageFault) →
       Finds v s0 s1 (Ok b) P → Finds v s1 s2 (Ok d) Q → Finds v s2 s3 (Ok e) R → Finds v s3 s4 r U →
       ((T : Tables) → P T → Q T → R T → U T → Z T) →
       Finds v s0 s4 r Z
-  finds_fourth {A} {B} {D} {E} {s0} {s1} {s2} {s3} {s4} {b} {d} {e} {P} {Q} r first second third fourth all =
-      finds_third {P = λ T. P T × Q T} r (finds_then _ first second (λ T p q. (p, q))) third fourth (λ T both. all T both.0 both.1)
+  finds_fourth r first second third fourth all = finds_third r (finds_both _ first second) third fourth (λ T both. all T both.0 both.1)
 
   -- the fault of a look-up is passed on
   pub finds_failing : {A B : Type 0} {old new : S} {why : StorageFault} {P Q : Tables → Type 0} (r : Result A StorageFault) →
@@ -75,15 +74,6 @@ module _ {S C : Type 0} {v : Sight S C} where
     reads = reads_found looked r read passed;
     found = λ honest T held. put_if_found number items looked r (rows_of T) rows later put_now passed (are honest T held);
   }
-
--- what is put where it is asked for, by one list, is put so by its equal
-pub put_asked_by : {X Y : Type 0} (number : X → ℕ) (rows_of : Y → List X) (b c : Bool) (ys zs : List Y) (rows later : List X) →
-    later ≡ puts number (if b then flat_map rows_of ys else []) rows → b ≡ c → ys ≡ zs →
-    later ≡ puts number (if c then flat_map rows_of zs else []) rows
-put_asked_by number rows_of b c ys zs rows later put_now same are =
-    put_now
-    ∙ ap (λ t. puts number (if t then flat_map rows_of ys else []) rows) same
-    ∙ ap (λ l. puts number (if c then flat_map rows_of l else []) rows) are
 
 -- an option as a slice
 pub listed_as : {X : Type 0} (o : Option X) (xs ys : List X) → MatchOption o (xs ≡ []) (λ x. xs ≡ x ∷ []) → option_to_list o ≡ ys → xs ≡ ys

@@ -1,5 +1,5 @@
 -- Rows that are looked up one number after the other, each put into its place.
-use Rattle.std.proofs.Common.{◌≡◌, ℕ, List, [], ◌∷◌, ◌++◌, Result, Ok, Err, IfErr, IfOk, OnOk, ap, subst, sym, ◌∙◌}
+use Rattle.std.proofs.Common.{◌≡◌, ℕ, List, [], ◌∷◌, ◌++◌, Result, Ok, Err, IfErr, IfOk, OnOk, ap, append-nil, subst, sym, ◌∙◌}
 use Rattle.std.specs.List.{flat_map}
 use Rattle.std.specs.Result.{result_and}
 use Rattle.desk_laws.specs.Placing.{puts}
@@ -39,6 +39,19 @@ put_into_none number xs rows later put_now none = put_now ∙ ap (puts number xs
 pub put_by : {X Y : Type 0} (number : X → ℕ) (rows_of : Y → List X) (y z : Y) (rows later : List X) → later ≡ puts number (rows_of y) rows → y ≡ z →
     later ≡ puts number (rows_of z) rows
 put_by number rows_of y z rows later put_now same = put_now ∙ ap (λ v. puts number (rows_of v) rows) same
+
+-- what is put by two values is put by their equals
+pub put_by_both : {X Y Z : Type 0} (number : X → ℕ) (rows_of : Y → Z → List X) (y v : Y) (z w : Z) (rows later : List X) →
+    later ≡ puts number (rows_of y z) rows → y ≡ v → z ≡ w → later ≡ puts number (rows_of v w) rows
+put_by_both number rows_of y v z w rows later put_now same alike =
+    put_now ∙ ap (λ a. puts number (rows_of a z) rows) same ∙ ap (λ b. puts number (rows_of v b) rows) alike
+
+-- the rows of two, and of three
+pub of_two : {X Y : Type 0} (rows_of : Y → List X) (a b : Y) → flat_map rows_of (a ∷ b ∷ []) ≡ rows_of a ++ rows_of b
+of_two rows_of a b = ap (λ l. rows_of a ++ l) (append-nil (rows_of b))
+
+pub of_three : {X Y : Type 0} (rows_of : Y → List X) (a b c : Y) → flat_map rows_of (a ∷ b ∷ c ∷ []) ≡ rows_of a ++ (rows_of b ++ rows_of c)
+of_three rows_of a b c = ap (λ l. rows_of a ++ l) (of_two rows_of b c)
 
 -- what is made of what was put, where there was no fault
 pub made_of : {A B F : Type 0} (P : Type 0) (Q : B → Type 0) (x : B) (r : Result A F) (q : Result B F) → q ≡ result_and r (Ok x) → OnOk r P → (P → Q x) →

@@ -1,5 +1,6 @@
 -- Look-ups of numbers, row by row.
-use Rattle.std.proofs.Common.{◌≡◌, ℕ, List, [], ◌∷◌, ◌++◌, map, filter, refl, sym, ap, ◌∙◌, true, false, Bool, cond, append-nil, append_assoc}
+use Rattle.std.proofs.Common.{◌≡◌, ℕ, List, [], ◌∷◌, ◌++◌, map, filter, refl, sym, ap, ◌∙◌, true, false, Bool, cond}
+use Rattle.std.proofs.Common.{append-nil, append_assoc, Result, Ok, Err, IfOk}
 use Rattle.std.proofs.Common.{◌≢◌, ◌+◌, ◌<◌, add-one, drop, drop-cons, get_or, length}
 use Rattle.std.specs.Prelude.{◌==◌}
 use Rattle.std.specs.List.{flat_map}
@@ -32,6 +33,17 @@ picked-map value test make (x ∷ xs) = by (test (make x)) (picked-map value tes
         ≡ map (λ x. value (make x)) (cond b (x ∷ filter (λ x. test (make x)) xs) (filter (λ x. test (make x)) xs))
     by true h = ap (λ l. value (make x) ∷ l) h
     by false h = h
+
+-- a test that each row passes leaves all of them
+all_pass : {X : Type 0} (xs : List X) → filter (λ x. true) xs ≡ xs
+all_pass [] = refl
+all_pass (x ∷ xs) = ap (λ l. x ∷ l) (all_pass xs)
+
+-- so what was found by it are all rows
+pub all_found : {X V E : Type 0} (items : V → List X) (r : Result V E) (xs ys : List X) → IfOk r (λ v. items v ≡ filter (λ x. true) xs) → xs ≡ ys →
+    IfOk r (λ v. items v ≡ ys)
+all_found items (Ok v) xs ys found same = found ∙ all_pass xs ∙ same
+all_found items (Err e) xs ys found same = tt
 
 -- with lists that are the same for each item
 flat_map-same : {X Y : Type 0} (f g : X → List Y) → ((x : X) → f x ≡ g x) → (xs : List X) → flat_map f xs ≡ flat_map g xs

@@ -57,7 +57,7 @@ module _ {S C : Type 0} {v : Sight S C} where
       (record { honest = read.honest; left = read.left; tables = tt; without_memory = read.without_memory })
 
   -- a result that is another
-  read_as : {A : Type 0} {old new : S} {r q : Result A StorageFault} → Reads v old new r → r ≡ q → Reads v old new q
+  pub read_as : {A : Type 0} {old new : S} {r q : Result A StorageFault} → Reads v old new r → r ≡ q → Reads v old new q
   read_as {A} {old} {new} read same = subst (Reads v old new) same read
 
   -- what was made of what was read

@@ -1,7 +1,6 @@
 -- Look-ups whose rows are put into tables.
 use Rattle.std.specs.Prelude.{◌≡◌, [], Result, OnOk}
 use Rattle.desk_model.specs.Tables.{Tables}
-use Rattle.desk_model.specs.declared.rows.Meta.{Meta}
 use Rattle.desk_storage.specs.Sight.{ForTables, Reads, Sight}
 use Rattle.desk_storage.specs.declared.fault.StorageFault.{StorageFault}
 use Rattle.desk_loading.specs.declared.touched.Rows.{Rows}
@@ -11,11 +10,6 @@ module _ {S C : Type 0} (v : Sight S C) where
   pub record Finds {A : Type 0} (old new : S) (result : Result A StorageFault) (P : Tables → Type 0) : Type 0 where
     pub reads : Reads v old new result
     pub found : ForTables v old new (λ T. OnOk result (P T))
-
--- the tables of these rows
-abbrev pub book_with : Meta → Rows → Tables
-book_with meta rows =
-    record { meta = meta; nonces = rows.nonces; accounts = rows.accounts; authorizations = rows.authorizations; orders = rows.orders }
 
 -- rows that are those of tables
 pub record AreRowsOf (T : Tables) (rows : Rows) : Type 0 where

@@ -1,9 +1,7 @@
 //! A book in memory as a source of rows.
-ghost use Rattle.std.specs.Prelude.{◌≡◌, ◌==◌, ◌&&◌, ◌++◌, [], ◌∷◌, Bool, List, nat_lt, map, filter, IfOk, OnOk};
-ghost use Rattle.std.specs.Fn.{FnReturnsAt};
+ghost use Rattle.std.specs.Prelude.{◌≡◌, ◌==◌, ◌&&◌, ◌++◌, [], ◌∷◌, ℕ, Bool, true, List, nat_lt, bytes_eq, map, filter, IfOk, OnOk};
 ghost use Rattle.std.specs.List.{flat_map};
 ghost use Rattle.desk_model.specs.Derived.{authz_code, order_code};
-ghost use Rattle.desk_parts.specs.LookUps.{orders_listing as listing_in, owners_of as owners_in};
 
 use crate::look_ups::LookUps;
 use desk_book::{Book, Row, Table, is_past};
@@ -15,6 +13,16 @@ use std::alloc::{AllocError, Global};
 
 // ---- rows
 
+/// What rows of a table are looked up by.
+trait RowTest<R: Row + Drop> {
+    // Whether a row is one of them.
+    ghost passed: { Self → R → Bool };
+
+    /// Whether a row is one of them.
+    fn passes(&self, row: &R) -> bool
+        ensures { result ≡ passed self.now row.now };
+}
+
 // Adds a copy of a row.
 fn push_copy<R: Row + Drop>(rows: &mut Vec<R>, row: &R) -> Result<(), AllocError>
     ensures { OnOk result (rows.new.items ≡ rows.old.items ++ row.now ∷ []) }
@@ -24,112 +32,149 @@ fn push_copy<R: Row + Drop>(rows: &mut Vec<R>, row: &R) -> Result<(), AllocError
 }
 
 // Copies of the rows that pass a test.
-fn rows_where<R: Row + Drop, F: Fn(&R) -> bool>(
+fn rows_where<R: Row + Drop, Q: RowTest<R>>(
     alloc: Global,
     table: &Table<R>,
-    passes: F,
+    test: &Q,
 ) -> Result<Vec<R>, StorageFault>
-    requires { F.IsAlwaysCallable passes }
-    ensures { IfOk result (λ rows. (test : R → Bool) → ((row : R) (yes : Bool) → FnReturnsAt F.Fn passes row yes → yes ≡ test row)
-        → rows.items ≡ filter test table.now) }
+    ensures { IfOk result (λ rows. rows.items ≡ filter (Q.passed test.now) table.now) }
 {
     let mut rows = Vec::new(alloc);
     for row in table.iter() {
-        if passes(row) {
+        if test.passes(row) {
             push_copy(&mut rows, row)?;
         }
     }
     Ok(rows)
 }
 
-// Copies of the rows of a number.
-fn rows_numbered<R: Row + Drop>(
-    alloc: Global,
-    table: &Table<R>,
-    number: u64,
-) -> Result<Vec<R>, StorageFault>
-    ensures { IfOk result (λ rows. rows.items ≡ filter (λ row. R.number row == number) table.now) }
-{
-    rows_where(alloc, table, |row| { row.number() == number })
+// Any row.
+impl<R: Row + Drop> RowTest<R> for () {
+    ghost passed = { λ any row. true };
+
+    fn passes(&self, _row: &R) -> bool {
+        true
+    }
 }
 
-// Copies of all rows.
-fn all_rows<R: Row + Drop>(alloc: Global, table: &Table<R>) -> Result<Vec<R>, StorageFault>
-    ensures { IfOk result (λ rows. rows.items ≡ table.now) }
-{
-    rows_where(alloc, table, |_| { true })
+// By its number.
+impl<R: Row + Drop> RowTest<R> for u64 {
+    ghost passed = { λ number row. R.number row == number };
+
+    fn passes(&self, row: &R) -> bool {
+        row.number() == *self
+    }
 }
 
-// Whether an order of a stored status is past its end.
-fn is_past_order(row: &OrderRow, status: OrderStatus, moment: u64) -> bool
-    ensures { result ≡ ((order_code row.now.status == order_code status) && nat_lt row.now.expires moment) }
-{
-    row.status == status && is_past(row.expires, moment)
+// What was issued before a moment.
+#[derive(Drop)]
+struct IssuedBefore(u64);
+
+impl RowTest<Nonce> for IssuedBefore {
+    ghost passed = { λ before row. nat_lt row.issued before.0 };
+
+    fn passes(&self, row: &Nonce) -> bool {
+        row.issued < self.0
+    }
 }
 
-// Whether an authorization of a stored status is past its end.
-fn is_past_authorization(row: &AuthorizationRow, status: AuthzStatus, moment: u64) -> bool
-    ensures { result ≡ ((authz_code row.now.status == authz_code status) && nat_lt row.now.expires moment) }
-{
-    row.status == status && is_past(row.expires, moment)
+// By the text of its key.
+impl RowTest<AccountRow> for &str {
+    ghost passed = { λ text row. bytes_eq row.key text.now };
+
+    fn passes(&self, row: &AccountRow) -> bool {
+        row.key.canonical() == *self
+    }
+}
+
+// What is of the account of a number.
+#[derive(Drop)]
+struct OfAccount(u64);
+
+impl RowTest<OrderRow> for OfAccount {
+    ghost passed = { λ owner row. row.account == owner.0 };
+
+    fn passes(&self, row: &OrderRow) -> bool {
+        row.account == self.0
+    }
+}
+
+impl RowTest<AuthorizationRow> for OfAccount {
+    ghost passed = { λ owner row. row.account == owner.0 };
+
+    fn passes(&self, row: &AuthorizationRow) -> bool {
+        row.account == self.0
+    }
+}
+
+// By the stored status, with an end before a moment.
+impl RowTest<OrderRow> for (OrderStatus, u64) {
+    ghost passed = { λ past row. (order_code row.status == order_code past.0) && nat_lt row.expires past.1 };
+
+    fn passes(&self, row: &OrderRow) -> bool {
+        row.status == self.0 && is_past(row.expires, self.1)
+    }
+}
+
+impl RowTest<AuthorizationRow> for (AuthzStatus, u64) {
+    ghost passed = { λ past row. (authz_code row.status == authz_code past.0) && nat_lt row.expires past.1 };
+
+    fn passes(&self, row: &AuthorizationRow) -> bool {
+        row.status == self.0 && is_past(row.expires, self.1)
+    }
 }
 
 // ---- numbers
 
-// Adds the number of an order once for each place where it lists an authorization.
-fn push_listing(
-    numbers: &mut Vec<u64>,
-    order: &OrderRow,
-    authorization: u64,
-) -> Result<(), AllocError>
-    ensures { OnOk result (numbers.new.items ≡ numbers.old.items
-        ++ map (λ l. order.now.number) (filter (λ l. l.authorization == authorization) order.now.listed)) }
-{
-    for listed in order.listed.as_slice() {
-        if listed.authorization == authorization {
-            numbers.push(order.number)?;
-        }
-    }
-    Ok(())
+/// A row with parts that have numbers.
+trait Holder: Row {
+    // Its number once for each part of a number.
+    ghost held: { Self → ℕ → List ℕ };
+
+    /// Adds its number once for each part of this number.
+    fn push_held(&self, numbers: &mut Vec<u64>, part: u64) -> Result<(), AllocError>
+        ensures { OnOk result (numbers.new.items ≡ numbers.old.items ++ held self.now part) };
 }
 
-// Adds the number of an authorization once for each of its challenges with this number.
-fn push_owner(
-    numbers: &mut Vec<u64>,
-    authorization: &AuthorizationRow,
-    challenge: u64,
-) -> Result<(), AllocError>
-    ensures { OnOk result (numbers.new.items ≡ numbers.old.items
-        ++ map (λ c. authorization.now.number) (filter (λ c. c.number == challenge) authorization.now.challenges)) }
-{
-    for row in authorization.challenges.as_slice() {
-        if row.number == challenge {
-            numbers.push(authorization.number)?;
+// An order, once for each place where it lists an authorization.
+impl Holder for OrderRow {
+    ghost held = { λ order n. map (λ l. order.number) (filter (λ l. l.authorization == n) order.listed) };
+
+    fn push_held(&self, numbers: &mut Vec<u64>, part: u64) -> Result<(), AllocError> {
+        for listed in self.listed.as_slice() {
+            if listed.authorization == part {
+                numbers.push(self.number)?;
+            }
         }
+        Ok(())
     }
-    Ok(())
 }
 
-// The orders that list an authorization.
-#[tactic(auto, using(crate::proofs::Pairs::orders_listing_rows))]
-fn orders_listing(alloc: Global, book: &Book, authorization: u64) -> Result<Vec<u64>, StorageFault>
-    ensures { IfOk result (λ numbers. numbers.items ≡ listing_in book.now authorization) }
+// An authorization, once for each of its challenges of a number.
+impl Holder for AuthorizationRow {
+    ghost held = { λ row n. map (λ c. row.number) (filter (λ c. c.number == n) row.challenges) };
+
+    fn push_held(&self, numbers: &mut Vec<u64>, part: u64) -> Result<(), AllocError> {
+        for challenge in self.challenges.as_slice() {
+            if challenge.number == part {
+                numbers.push(self.number)?;
+            }
+        }
+        Ok(())
+    }
+}
+
+// The numbers of the rows with a part of this number.
+fn holders<R: Holder + Drop>(
+    alloc: Global,
+    table: &Table<R>,
+    part: u64,
+) -> Result<Vec<u64>, StorageFault>
+    ensures { IfOk result (λ numbers. numbers.items ≡ flat_map (λ row. R.held row part) table.now) }
 {
     let mut numbers = Vec::new(alloc);
-    for order in book.orders().iter() {
-        push_listing(&mut numbers, order, authorization)?;
-    }
-    Ok(numbers)
-}
-
-// The authorization of a challenge.
-#[tactic(auto, using(crate::proofs::Pairs::owners_of_rows))]
-fn owners_of(alloc: Global, book: &Book, challenge: u64) -> Result<Vec<u64>, StorageFault>
-    ensures { IfOk result (λ numbers. numbers.items ≡ owners_in book.now challenge) }
-{
-    let mut numbers = Vec::new(alloc);
-    for authorization in book.authorizations().iter() {
-        push_owner(&mut numbers, authorization, challenge)?;
+    for row in table.iter() {
+        row.push_held(&mut numbers, part)?;
     }
     Ok(numbers)
 }
@@ -149,27 +194,27 @@ impl LookUps for Book {
     }
 
     fn all_nonces(&mut self, alloc: Global) -> Result<Vec<Nonce>, StorageFault> {
-        all_rows(alloc, self.nonces())
+        rows_where(alloc, self.nonces(), &())
     }
 
     fn all_accounts(&mut self, alloc: Global) -> Result<Vec<AccountRow>, StorageFault> {
-        all_rows(alloc, self.accounts())
+        rows_where(alloc, self.accounts(), &())
     }
 
     fn all_orders(&mut self, alloc: Global) -> Result<Vec<OrderRow>, StorageFault> {
-        all_rows(alloc, self.orders())
+        rows_where(alloc, self.orders(), &())
     }
 
     fn all_authorizations(&mut self, alloc: Global) -> Result<Vec<AuthorizationRow>, StorageFault> {
-        all_rows(alloc, self.authorizations())
+        rows_where(alloc, self.authorizations(), &())
     }
 
     fn nonces_numbered(&mut self, alloc: Global, serial: u64) -> Result<Vec<Nonce>, StorageFault> {
-        rows_numbered(alloc, self.nonces(), serial)
+        rows_where(alloc, self.nonces(), &serial)
     }
 
     fn nonces_before(&mut self, alloc: Global, moment: u64) -> Result<Vec<Nonce>, StorageFault> {
-        rows_where(alloc, self.nonces(), |row| { row.issued < moment })
+        rows_where(alloc, self.nonces(), &IssuedBefore(moment))
     }
 
     fn accounts_numbered(
@@ -177,7 +222,7 @@ impl LookUps for Book {
         alloc: Global,
         number: u64,
     ) -> Result<Vec<AccountRow>, StorageFault> {
-        rows_numbered(alloc, self.accounts(), number)
+        rows_where(alloc, self.accounts(), &number)
     }
 
     fn accounts_with_key(
@@ -185,10 +230,7 @@ impl LookUps for Book {
         alloc: Global,
         key: &Jwk,
     ) -> Result<Vec<AccountRow>, StorageFault> {
-        let text = key.canonical();
-        rows_where(alloc, self.accounts(), |row| {
-            row.key.canonical() == text
-        })
+        rows_where(alloc, self.accounts(), &key.canonical())
     }
 
     fn orders_numbered(
@@ -196,11 +238,11 @@ impl LookUps for Book {
         alloc: Global,
         number: u64,
     ) -> Result<Vec<OrderRow>, StorageFault> {
-        rows_numbered(alloc, self.orders(), number)
+        rows_where(alloc, self.orders(), &number)
     }
 
     fn orders_of(&mut self, alloc: Global, account: u64) -> Result<Vec<OrderRow>, StorageFault> {
-        rows_where(alloc, self.orders(), |row| { row.account == account })
+        rows_where(alloc, self.orders(), &OfAccount(account))
     }
 
     fn orders_past(
@@ -209,9 +251,7 @@ impl LookUps for Book {
         status: OrderStatus,
         moment: u64,
     ) -> Result<Vec<OrderRow>, StorageFault> {
-        rows_where(alloc, self.orders(), |row| {
-            is_past_order(row, status, moment)
-        })
+        rows_where(alloc, self.orders(), &(status, moment))
     }
 
     fn authorizations_numbered(
@@ -219,7 +259,7 @@ impl LookUps for Book {
         alloc: Global,
         number: u64,
     ) -> Result<Vec<AuthorizationRow>, StorageFault> {
-        rows_numbered(alloc, self.authorizations(), number)
+        rows_where(alloc, self.authorizations(), &number)
     }
 
     fn authorizations_of(
@@ -227,9 +267,7 @@ impl LookUps for Book {
         alloc: Global,
         account: u64,
     ) -> Result<Vec<AuthorizationRow>, StorageFault> {
-        rows_where(alloc, self.authorizations(), |row| {
-            row.account == account
-        })
+        rows_where(alloc, self.authorizations(), &OfAccount(account))
     }
 
     fn authorizations_past(
@@ -238,9 +276,7 @@ impl LookUps for Book {
         status: AuthzStatus,
         moment: u64,
     ) -> Result<Vec<AuthorizationRow>, StorageFault> {
-        rows_where(alloc, self.authorizations(), |row| {
-            is_past_authorization(row, status, moment)
-        })
+        rows_where(alloc, self.authorizations(), &(status, moment))
     }
 
     fn orders_listing(
@@ -248,10 +284,10 @@ impl LookUps for Book {
         alloc: Global,
         authorization: u64,
     ) -> Result<Vec<u64>, StorageFault> {
-        orders_listing(alloc, self, authorization)
+        holders(alloc, self.orders(), authorization)
     }
 
     fn owners_of(&mut self, alloc: Global, challenge: u64) -> Result<Vec<u64>, StorageFault> {
-        owners_of(alloc, self, challenge)
+        holders(alloc, self.authorizations(), challenge)
     }
 }

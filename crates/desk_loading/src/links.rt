@@ -2,12 +2,12 @@
 ghost use Rattle.std.specs.List.{flat_map};
 ghost use Rattle.desk_model.specs.Derived.{numbers_of};
 ghost use Rattle.desk_parts.specs.LookUps.{accounts_numbered, authorizations_numbered, authorizations_of, nonces_numbered};
-ghost use Rattle.desk_parts.specs.LookUps.{orders_listing, orders_numbered, orders_of};
+ghost use Rattle.desk_parts.specs.LookUps.{authorizations_past, orders_listing, orders_numbered, orders_of, orders_past};
 
 use crate::gathering::{LeadsTo, put_each, put_found};
 use crate::look_ups::LookUps;
 use desk_book::Table;
-use desk_model::{AccountRow, AuthorizationRow, Listed, Nonce, OrderRow};
+use desk_model::{AccountRow, AuthorizationRow, AuthzStatus, Listed, Nonce, OrderRow, OrderStatus};
 use desk_storage::StorageFault;
 use std::alloc::Global;
 
@@ -62,6 +62,34 @@ impl LeadsTo<AuthorizationRow> for u64 {
         table: &mut Table<AuthorizationRow>,
     ) -> Result<(), StorageFault> {
         put_found(table, source.authorizations_numbered(alloc, *self))
+    }
+}
+
+// ---- a stored status, with the moment by which the end is past
+
+impl LeadsTo<OrderRow> for (OrderStatus, u64) {
+    ghost rows_of = { λ T past. orders_past T past.0 past.1 };
+
+    fn put_rows<S: LookUps>(
+        &self,
+        alloc: Global,
+        source: &mut S,
+        table: &mut Table<OrderRow>,
+    ) -> Result<(), StorageFault> {
+        put_found(table, source.orders_past(alloc, self.0, self.1))
+    }
+}
+
+impl LeadsTo<AuthorizationRow> for (AuthzStatus, u64) {
+    ghost rows_of = { λ T past. authorizations_past T past.0 past.1 };
+
+    fn put_rows<S: LookUps>(
+        &self,
+        alloc: Global,
+        source: &mut S,
+        table: &mut Table<AuthorizationRow>,
+    ) -> Result<(), StorageFault> {
+        put_found(table, source.authorizations_past(alloc, self.0, self.1))
     }
 }
 

@@ -1,8 +1,8 @@
 //! The book of the rows that a call touches.
-ghost use Rattle.std.specs.Prelude.{◌≡◌, [], IfOk};
+ghost use Rattle.std.specs.Prelude.{◌≡◌, IfOk};
 ghost use Rattle.desk_laws.specs.Ordered.{IsOrdered};
 ghost use Rattle.desk_laws.specs.Placing.{puts};
-ghost use Rattle.desk_loading.specs.Finding.{AreNone, AreRowsOf, Finds, book_with};
+ghost use Rattle.desk_loading.specs.Finding.{AreNone, AreRowsOf, Finds};
 ghost use Rattle.desk_model.specs.Touched.{touched};
 ghost use Rattle.desk_parts.specs.Loaded.{found_nonces, loaded_at, loaded_rows};
 ghost use Rattle.desk_storage.specs.Sight.{ForTables, Reads};
@@ -10,8 +10,8 @@ ghost use Rattle.desk_storage.specs.Storing.{Loads};
 
 use crate::gathering::{put_each, put_found};
 use crate::look_ups::LookUps;
-use crate::named::serial;
-use crate::objects::put_objects;
+use crate::named::{named_in, serial};
+use crate::objects::{put_first_authorizations, put_first_orders, put_further, put_keyed};
 use desk_book::{Book, Table};
 use desk_model::{
     AccountRow, Ask, AuthorizationRow, Call, Meta, Nonce, OfficeAsk, OrderRow, Policy,
@@ -26,31 +26,6 @@ struct Rows {
     accounts: Table<AccountRow>,
     authorizations: Table<AuthorizationRow>,
     orders: Table<OrderRow>,
-}
-
-// Tables without rows.
-fn no_rows(alloc: Global) -> Rows
-    ensures { result ≡ record { nonces = []; accounts = []; authorizations = []; orders = [] } }
-{
-    Rows {
-        nonces: Table::new(alloc),
-        accounts: Table::new(alloc),
-        authorizations: Table::new(alloc),
-        orders: Table::new(alloc),
-    }
-}
-
-// The book of these rows.
-fn book_of(meta: Meta, rows: Rows) -> Book
-    ensures { result ≡ book_with meta rows }
-{
-    Book::of_tables(
-        meta,
-        rows.nonces,
-        rows.accounts,
-        rows.authorizations,
-        rows.orders,
-    )
 }
 
 // Puts the nonces that are touched into a table: the one that is carried, and those past their life.
@@ -84,15 +59,32 @@ fn put_touched<S: LookUps>(
     ensures { Finds S.sight source.old source.new result (λ T. policy.now ≡ T.meta.policy → AreNone rows.old
         → AreRowsOf (loaded_rows T moment ask.now) rows.new) }
 {
+    let named = named_in(ask);
     put_nonces(alloc, source, &mut rows.nonces, policy, moment, ask)?;
-    put_objects(
+    put_keyed(alloc, source, &mut rows.accounts, ask)?;
+    put_each(alloc, source, &mut rows.accounts, named.account.as_slice())?;
+    put_first_authorizations(
+        alloc,
+        source,
+        &mut rows.authorizations,
+        moment,
+        &named,
+        &rows.accounts,
+    )?;
+    put_first_orders(
+        alloc,
+        source,
+        &mut rows.orders,
+        moment,
+        &named,
+        &rows.accounts,
+    )?;
+    put_further(
         alloc,
         source,
         &mut rows.accounts,
         &mut rows.authorizations,
         &mut rows.orders,
-        moment,
-        ask,
     )
 }
 
@@ -148,9 +140,18 @@ pub fn touched_book<S: LookUps>(
     let meta = source.meta_row(alloc)?;
     let counters = meta.counters;
     let moment = call.at.max(counters.clock.moment());
-    let mut rows = no_rows(alloc);
-    put_rows_at(alloc, source, &mut rows, &meta.policy, moment, &call.ask).and(Ok(book_of(
-        meta, rows,
+    let mut rows = Rows {
+        nonces: Table::new(alloc),
+        accounts: Table::new(alloc),
+        authorizations: Table::new(alloc),
+        orders: Table::new(alloc),
+    };
+    put_rows_at(alloc, source, &mut rows, &meta.policy, moment, &call.ask).and(Ok(Book::of_tables(
+        meta,
+        rows.nonces,
+        rows.accounts,
+        rows.authorizations,
+        rows.orders,
     )))
 }
 

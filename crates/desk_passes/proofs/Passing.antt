@@ -1,5 +1,5 @@
 -- What a step of a pass read, behind what it read before.
-use Rattle.std.proofs.Common.{◌≡◌, Result, Err, IsErrAnd, subst}
+use Rattle.std.proofs.Common.{◌≡◌, Result, Err, IsErrAnd}
 use Rattle.desk_storage.specs.Sight.{Reads, Sight, Stands}
 use Rattle.desk_storage.specs.declared.fault.StorageFault.{StorageFault}
 use Rattle.desk_loading.proofs.Readings.{reads_failing, reads_then}
@@ -10,7 +10,3 @@ module _ {S C : Type 0} {v : Sight S C} where
       Stands v old mid → Reads v {R = B} mid new (Err why) → IsErrAnd r (λ e. e ≡ why) →
       Reads v old new r
   fails_then r stands read failed = reads_then r stands (reads_failing r read failed)
-
-  -- a result that is another
-  pub read_as : {A : Type 0} {old new : S} {r q : Result A StorageFault} → Reads v old new r → r ≡ q → Reads v old new q
-  read_as {A} {old} {new} read same = subst (Reads v old new) same read

@@ -65,18 +65,22 @@ pub nothing_left : {X F : Type 0} (found_at : X → List F) (rows : List X) → 
 nothing_left found_at [] e = refl
 nothing_left found_at (x ∷ xs) e = absurd (cc e)
 
--- the row of a look-up is the first of all, where there was no fault
-pub first_when_found : {V X F : Type 0} (items : V → List X) (found : Result V F) (r : Result (Option X) F) (row : Option X) (all : List X) →
-    IfOk found (λ vs. IfOk r (λ o. (all : List X) → items vs ≡ first_of all → IsFirst o all)) → IfErr found (λ why. r ≡ Err why) →
-    IfOk found (λ vs. items vs ≡ first_of all) → r ≡ Ok row →
-    IsFirst row all
-first_when_found {X = X} items (Ok vs) r row all first passed looked was =
-    IfOk-at_ok (λ o. (all : List X) → items vs ≡ first_of all → IsFirst o all) was first all looked
-first_when_found items (Err why) r row all first passed looked was = absurd (let e = sym passed ∙ was in cc)
-
 -- what was answered of what was found, where there was no fault
 pub answer_when_found : {V A F Z : Type 0} (P : V → A → Type 0) (Q : V → Type 0) (found : Result V F) (r : Result A F) (a : A) →
     IfOk found (λ v. IfOk r (P v)) → IfErr found (λ why. r ≡ Err why) → IfOk found Q → r ≡ Ok a → ((v : V) → P v a → Q v → Z) →
     Z
 answer_when_found P Q (Ok v) r a told passed looked was so = so v (IfOk-at_ok (P v) was told) looked
 answer_when_found P Q (Err why) r a told passed looked was so = absurd (let e = sym passed ∙ was in cc)
+
+-- what a look-up told of its first row
+pub first_at : {V X F : Type 0} (items : V → List X) (vs : V) (r : Result (Option X) F) (row : Option X) (all : List X) →
+    IfOk r (λ o. (xs : List X) → items vs ≡ first_of xs → IsFirst o xs) → r ≡ Ok row → items vs ≡ first_of all →
+    IsFirst row all
+first_at {X = X} items vs r row all told was is = IfOk-at_ok (λ o. (xs : List X) → items vs ≡ first_of xs → IsFirst o xs) was told all is
+
+-- what was made of what was found, where there was no fault
+pub made_when_found : {V A F : Type 0} (P : A → Type 0) (Q Z : V → Type 0) (found : Result V F) (r : Result A F) →
+    IfOk found Z → IfErr found (λ why. r ≡ Err why) → IfOk found Q → ((v : V) → Z v → Q v → IfOk r P) →
+    IfOk r P
+made_when_found P Q Z (Ok v) r told passed looked so = so v told looked
+made_when_found P Q Z (Err why) r told passed looked so = subst (λ q. IfOk q P) (sym passed) tt

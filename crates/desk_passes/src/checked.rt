@@ -1,7 +1,11 @@
 //! One step of a pass through the objects of a kind.
-ghost use Rattle.std.specs.Prelude.{◌≡◌, ◌<◌, List, Err, IfErr, IfOk, IfSome};
-ghost use Rattle.desk_model.specs.Derived.{numbers_of, order_faults, stored_statuses};
+ghost use Rattle.std.specs.Prelude.{◌≡◌, ◌<◌, ℕ, List, Err, IfErr, IfOk, IfSome};
+ghost use Rattle.std.specs.List.{flat_map};
+ghost use Rattle.desk_laws.specs.Ordered.{Ascends};
+ghost use Rattle.desk_model.specs.Derived.{account_faults, authorization_faults, challenge_faults, numbers_of, order_faults, stored_statuses};
 ghost use Rattle.desk_model.specs.declared.rows.AuthorizationRow.{AuthorizationRow as Authorization};
+ghost use Rattle.desk_model.specs.declared.rows.StatusFault.{StatusFault as Fault};
+ghost use Rattle.desk_parts.specs.Above.{above as rows_above, first_of};
 ghost use Rattle.desk_storage.specs.Sight.{ForTables, Reads};
 ghost use Rattle.desk_passes.specs.InOrder.{IsInOrder};
 ghost use Rattle.desk_passes.specs.Left.{faults_above};
@@ -12,8 +16,9 @@ use crate::fault_kind::FaultKind;
 use crate::first::first_above;
 use crate::listed_statuses::listed_statuses;
 use crate::orders::order_after;
+use desk_book::Row;
 use desk_loading::RowsAbove;
-use desk_model::{AuthzStatus, OrderRow, StatusFault};
+use desk_model::{AccountRow, AuthorizationRow, AuthzStatus, ChallengeRow, OrderRow, StatusFault};
 use desk_storage::StorageFault;
 use std::alloc::Global;
 use stored_rows::{account_fault, authorization_fault, challenge_fault, order_fault};
@@ -25,23 +30,57 @@ pub(crate) struct Checked {
     pub(crate) fault: Option<StatusFault>,
 }
 
-// Checks the account of the least number above this one.
-fn check_account<S: RowsAbove>(
-    alloc: Global,
-    source: &mut S,
+/// A row whose status fault its own columns tell.
+trait Faulty: Row {
+    // Its faults at a moment.
+    ghost faults: { ℕ → Self → List Fault };
+
+    /// Its fault at a moment, if it has one.
+    fn fault_at(&self, moment: u64) -> Option<StatusFault>
+        ensures { listed_fault result ≡ faults moment self.now };
+}
+
+impl Faulty for AccountRow {
+    ghost faults = { λ moment row. account_faults row };
+
+    fn fault_at(&self, _moment: u64) -> Option<StatusFault> {
+        account_fault(self)
+    }
+}
+
+impl Faulty for AuthorizationRow {
+    ghost faults = { λ moment row. authorization_faults moment row };
+
+    fn fault_at(&self, moment: u64) -> Option<StatusFault> {
+        authorization_fault(moment, self)
+    }
+}
+
+impl Faulty for ChallengeRow {
+    ghost faults = { λ moment row. challenge_faults row };
+
+    fn fault_at(&self, _moment: u64) -> Option<StatusFault> {
+        challenge_fault(self)
+    }
+}
+
+// Checks the row that was found above a number, if one was.
+fn check_first<R: Faulty + Drop>(
+    found: Result<Vec<R>, StorageFault>,
+    moment: u64,
     above: u64,
 ) -> Result<Option<Checked>, StorageFault>
-    ensures reads { Reads S.sight source.old source.new result }
-    ensures steps { ForTables S.sight source.old source.new (λ T. IsInOrder T →
-        IfOk result (λ checked. Steps checked (faults_above T FaultKind.Account 0) above)) }
+    ensures steps { IfOk found (λ rows. (all : List R) (least : ℕ) → Ascends R.number least all → rows.items ≡ first_of (rows_above R.number above all)
+        → IfOk result (λ checked. Steps checked (λ n. flat_map (R.faults moment) (rows_above R.number n all)) above)) }
     ensures onward { IfOk result (λ checked. IfSome checked (λ c. above < c.number)) }
+    ensures fails { IfErr found (λ why. result ≡ Err why) }
 {
-    let Some(row) = first_above(source.account_above(alloc, above), above)? else {
+    let Some(row) = first_above(found, above)? else {
         return Ok(None);
     };
     Ok(Some(Checked {
-        number: row.number,
-        fault: account_fault(&row),
+        number: row.number(),
+        fault: row.fault_at(moment),
     }))
 }
 
@@ -83,47 +122,6 @@ fn order_fault_by(
     Ok(order_fault(moment, row, &statuses?))
 }
 
-// Checks the authorization of the least number above this one.
-fn check_authorization<S: RowsAbove>(
-    alloc: Global,
-    source: &mut S,
-    moment: u64,
-    above: u64,
-) -> Result<Option<Checked>, StorageFault>
-    ensures reads { Reads S.sight source.old source.new result }
-    ensures steps { ForTables S.sight source.old source.new (λ T. IsInOrder T →
-        IfOk result (λ checked. Steps checked (faults_above T FaultKind.Authorization moment) above)) }
-    ensures onward { IfOk result (λ checked. IfSome checked (λ c. above < c.number)) }
-{
-    let Some(row) = first_above(source.authorization_above(alloc, above), above)? else {
-        return Ok(None);
-    };
-    Ok(Some(Checked {
-        number: row.number,
-        fault: authorization_fault(moment, &row),
-    }))
-}
-
-// Checks the challenge of the least number above this one.
-fn check_challenge<S: RowsAbove>(
-    alloc: Global,
-    source: &mut S,
-    above: u64,
-) -> Result<Option<Checked>, StorageFault>
-    ensures reads { Reads S.sight source.old source.new result }
-    ensures steps { ForTables S.sight source.old source.new (λ T. IsInOrder T →
-        IfOk result (λ checked. Steps checked (faults_above T FaultKind.Challenge 0) above)) }
-    ensures onward { IfOk result (λ checked. IfSome checked (λ c. above < c.number)) }
-{
-    let Some(row) = first_above(source.challenge_above(alloc, above), above)? else {
-        return Ok(None);
-    };
-    Ok(Some(Checked {
-        number: row.number,
-        fault: challenge_fault(&row),
-    }))
-}
-
 /// Checks the object of a kind that has the least number above this one, at a moment.
 pub(crate) fn check_after<S: RowsAbove>(
     alloc: Global,
@@ -138,9 +136,11 @@ pub(crate) fn check_after<S: RowsAbove>(
     ensures onward { IfOk result (λ checked. IfSome checked (λ c. above < c.number)) }
 {
     match kind {
-        FaultKind::Account => check_account(alloc, source, above),
+        FaultKind::Account => check_first(source.account_above(alloc, above), moment, above),
         FaultKind::Order => check_order(alloc, source, moment, above),
-        FaultKind::Authorization => check_authorization(alloc, source, moment, above),
-        FaultKind::Challenge => check_challenge(alloc, source, above),
+        FaultKind::Authorization => {
+            check_first(source.authorization_above(alloc, above), moment, above)
+        }
+        FaultKind::Challenge => { check_first(source.challenge_above(alloc, above), moment, above) }
     }
 }

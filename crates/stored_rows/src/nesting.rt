@@ -16,7 +16,14 @@ pub(crate) fn sort_by_number<R: Row>(rows: &mut Vec<R>)
     ensures permutation { IsPermutation rows.old.items rows.new.items }
     ensures sorted { IsSorted (by_number (λ row. R.number row)) rows.new.items }
 {
-    rows.sort_unstable_by_key(|row| row.number());
+    rows.sort_unstable_by_key(R::number);
+}
+
+// The owner of a row, and its own number.
+fn place_of<R: Row>(row: &Owned<R>) -> (u64, u64)
+    ensures { result ≡ (row.now.owner, R.number row.now.row) }
+{
+    (row.owner, row.row.number())
 }
 
 /// Sorts rows by owner, those of one owner by number.
@@ -24,7 +31,7 @@ pub(crate) fn sort_by_owner<R: Row>(rows: &mut Vec<Owned<R>>)
     ensures permutation { IsPermutation rows.old.items rows.new.items }
     ensures sorted { IsSorted (by_owner (λ row. R.number row)) rows.new.items }
 {
-    rows.sort_unstable_by_key(|row| (row.owner, row.row.number()));
+    rows.sort_unstable_by_key(place_of);
 }
 
 // Takes the first row, if it is of this owner.

@@ -1,7 +1,7 @@
 //! Whether a book's rows keep its counters, find what they refer to, and repeat nothing.
-ghost use Rattle.std.specs.Prelude.{ℕ, ◌≡◌, ◌==◌, ◌↔◌, nat_le, find, is_some, map, ◌++◌, IsTrue, IfOk, OnOk};
+ghost use Rattle.std.specs.Prelude.{Bool, ◌≡◌, ◌==◌, ◌↔◌, nat_le, find, is_some, map, ◌++◌, IsTrue, IfOk, OnOk};
 ghost use Rattle.std.specs.List.{IsDistinct, list_all};
-ghost use Rattle.std.specs.Ordering.{eq_by_cmp};
+ghost use Rattle.std.specs.Ordering.{eq_by_cmp, is_lt};
 ghost use Rattle.desk_laws.specs.Distinct.{Distinct};
 ghost use Rattle.stored_rows.specs.FaultNumbers.{challenges_of};
 ghost use Rattle.stored_rows.specs.IsBook.{AreDistinct, IsSound};
@@ -11,30 +11,72 @@ use desk_book::{Book, Row, Table};
 use desk_model::{AccountRow, AuthorizationRow, ChallengeRow, Listed, OrderRow};
 use std::alloc::{AllocError, Global};
 
+/// What rows are tested by.
+trait Test<R> {
+    // Whether a row passes.
+    ghost passed: { Self → R → Bool };
+
+    /// Whether a row passes.
+    fn passes(&self, row: &R) -> bool
+        ensures { result ≡ passed self.now row.now };
+}
+
+// Whether all rows of a table pass.
+fn all_pass<R: Row + Drop, Q: Test<R>>(rows: &Table<R>, test: &Q) -> bool
+    ensures { result ≡ list_all (Q.passed test.now) rows.now }
+{
+    for row in rows.iter() {
+        if !test.passes(row) {
+            return false;
+        }
+    }
+    true
+}
+
+// Whether all of these rows do.
+fn all_rows_pass<R, Q: Test<R>>(rows: &[R], test: &Q) -> bool
+    ensures { result ≡ list_all (Q.passed test.now) rows.now }
+{
+    for row in rows {
+        if !test.passes(row) {
+            return false;
+        }
+    }
+    true
+}
+
 fn all_hold(tests: &[bool]) -> bool
     ensures { result ≡ list_all (λ test. test) tests.now }
 {
-    tests.iter().all(|test| *test)
+    for test in tests {
+        if !*test {
+            return false;
+        }
+    }
+    true
 }
 
 // ---- counters
 
-fn are_given<R: Row + Drop>(rows: &Table<R>, last: u64) -> bool
-    ensures { result ≡ list_all (λ row. nat_le (R.number row) last) rows.now }
-{
-    rows.iter().all(|row| row.number() <= last)
+// The number of a row is not above this one.
+impl<R: Row> Test<R> for u64 {
+    ghost passed = { λ last row. nat_le (R.number row) last };
+
+    fn passes(&self, row: &R) -> bool {
+        row.number() <= *self
+    }
 }
 
-fn are_challenges_given(rows: &[ChallengeRow], last: u64) -> bool
-    ensures { result ≡ list_all (λ row. nat_le row.number last) rows.now }
-{
-    rows.iter().all(|row| row.number <= last)
-}
+// Nor are those of the challenges of an authorization.
+#[derive(Drop)]
+struct LastChallenge(u64);
 
-fn are_all_challenges_given(rows: &Table<AuthorizationRow>, last: u64) -> bool
-    ensures { result ≡ list_all (λ row. list_all (λ child. nat_le child.number last) row.challenges) rows.now }
-{
-    rows.iter().all(|row| are_challenges_given(row.challenges.as_slice(), last))
+impl Test<AuthorizationRow> for LastChallenge {
+    ghost passed = { λ last row. list_all (λ challenge. nat_le challenge.number last.0) row.challenges };
+
+    fn passes(&self, row: &AuthorizationRow) -> bool {
+        all_rows_pass(row.challenges.as_slice(), &self.0)
+    }
 }
 
 // Whether no number is above the last one given.
@@ -43,11 +85,11 @@ fn keeps_counters(book: &Book) -> bool
 {
     let last = book.meta().counters;
     let given = [
-        are_given(book.nonces(), last.nonces),
-        are_given(book.accounts(), last.accounts),
-        are_given(book.authorizations(), last.authorizations),
-        are_all_challenges_given(book.authorizations(), last.challenges),
-        are_given(book.orders(), last.orders),
+        all_pass(book.nonces(), &last.nonces),
+        all_pass(book.accounts(), &last.accounts),
+        all_pass(book.authorizations(), &last.authorizations),
+        all_pass(book.authorizations(), &LastChallenge(last.challenges)),
+        all_pass(book.orders(), &last.orders),
     ];
     all_hold(&given)
 }
@@ -60,51 +102,38 @@ fn has_row<R: Row + Drop>(rows: &Table<R>, number: u64) -> bool
     rows.get(number).is_some()
 }
 
-// A row that belongs to an account.
-trait OfAccount {
-    ghost account: { Self → ℕ };
+// The account of a row is one of these.
+impl Test<AuthorizationRow> for Table<AccountRow> {
+    ghost passed = { λ accounts row. is_some (find (λ account. account.number == row.account) accounts) };
 
-    // The number of its account.
-    fn account(&self) -> u64
-        ensures { result ≡ account self.now };
-}
-
-impl OfAccount for AuthorizationRow {
-    ghost account = { λ row. row.account };
-
-    fn account(&self) -> u64 {
-        self.account
+    fn passes(&self, row: &AuthorizationRow) -> bool {
+        has_row(self, row.account)
     }
 }
 
-impl OfAccount for OrderRow {
-    ghost account = { λ row. row.account };
+impl Test<OrderRow> for Table<AccountRow> {
+    ghost passed = { λ accounts row. is_some (find (λ account. account.number == row.account) accounts) };
 
-    fn account(&self) -> u64 {
-        self.account
+    fn passes(&self, row: &OrderRow) -> bool {
+        has_row(self, row.account)
     }
 }
 
-fn have_accounts<R: Row + Drop + OfAccount>(rows: &Table<R>, accounts: &Table<AccountRow>) -> bool
-    ensures { result ≡ list_all (λ row. is_some (find (λ account. account.number == R.account row) accounts.now)) rows.now }
-{
-    rows.iter().all(|row| has_row(accounts, row.account()))
+// What is listed is one of these.
+impl Test<Listed> for Table<AuthorizationRow> {
+    ghost passed = { λ authorizations place. is_some (find (λ a. a.number == place.authorization) authorizations) };
+
+    fn passes(&self, place: &Listed) -> bool {
+        has_row(self, place.authorization)
+    }
 }
 
-fn are_found(listed: &[Listed], authorizations: &Table<AuthorizationRow>) -> bool
-    ensures { result ≡ list_all (λ row. is_some (find (λ a. a.number == row.authorization) authorizations.now)) listed.now }
-{
-    listed
-        .iter()
-        .all(|row| has_row(authorizations, row.authorization))
-}
+impl Test<OrderRow> for Table<AuthorizationRow> {
+    ghost passed = { λ authorizations order. list_all (λ place. is_some (find (λ a. a.number == place.authorization) authorizations)) order.listed };
 
-fn are_all_found(orders: &Table<OrderRow>, authorizations: &Table<AuthorizationRow>) -> bool
-    ensures { result ≡ list_all (λ order. list_all (λ row. is_some (find (λ a. a.number == row.authorization) authorizations.now)) order.listed) orders.now }
-{
-    orders
-        .iter()
-        .all(|order| are_found(order.listed.as_slice(), authorizations))
+    fn passes(&self, order: &OrderRow) -> bool {
+        all_rows_pass(order.listed.as_slice(), self)
+    }
 }
 
 // Whether each reference is found.
@@ -112,20 +141,27 @@ fn has_references(book: &Book) -> bool
     ensures { result ≡ have_references book.now }
 {
     let found = [
-        have_accounts(book.authorizations(), book.accounts()),
-        have_accounts(book.orders(), book.accounts()),
-        are_all_found(book.orders(), book.authorizations()),
+        all_pass(book.authorizations(), book.accounts()),
+        all_pass(book.orders(), book.accounts()),
+        all_pass(book.orders(), book.authorizations()),
     ];
     all_hold(&found)
 }
 
 // ---- repetitions
 
+// Whether a key stands before the next.
+fn precedes<K: Ord>(key: &K, next: &K) -> bool
+    ensures { result ≡ is_lt (K.cmp key.now next.now) }
+{
+    key.cmp(next).is_lt()
+}
+
 fn are_distinct<K: Ord + Drop>(mut keys: Vec<K>) -> bool
     ensures { IsTrue result ↔ IsDistinct (eq_by_cmp K.cmp) keys.items }
 {
     keys.sort_unstable();
-    keys.is_sorted_by(|key, next| key.cmp(next).is_lt())
+    keys.is_sorted_by(precedes)
 }
 
 fn have_distinct_keys(alloc: Global, accounts: &Table<AccountRow>) -> Result<bool, AllocError>

@@ -1,7 +1,7 @@
 //! The check of statuses: which rows store another status than their columns give (RFC 8555, 7.1.6).
-ghost use Rattle.std.specs.Prelude.{◌≡◌, ◌++◌, ◌∷◌, [], List, IfOk, OnOk, option_map};
+ghost use Rattle.std.specs.Prelude.{◌≡◌, ◌++◌, ◌∷◌, [], List, IfOk, OnOk};
 ghost use Rattle.std.specs.List.{flat_map};
-ghost use Rattle.desk_model.specs.Derived.{account_faults, authorization_faults, authorization_numbered, challenge_faults};
+ghost use Rattle.desk_model.specs.Derived.{account_faults, authorization_faults, challenge_faults};
 ghost use Rattle.desk_model.specs.Derived.{numbers_of, order_faults, sorted_challenges, status_faults, stored_statuses};
 ghost use Rattle.desk_model.specs.Entry.{History};
 ghost use Rattle.desk_model.specs.Legal.{Legal};
@@ -114,13 +114,6 @@ impl StoresStatus for AuthorizationRow {
 
 // ---- orders
 
-// The stored status of the authorization of a number.
-fn stored_status(book: &Book, number: u64) -> Option<AuthzStatus>
-    ensures { result ≡ option_map (λ a. a.status) (authorization_numbered number book.now.authorizations) }
-{
-    Some(book.authorization(number)?.status)
-}
-
 // Puts the stored status of the authorization of a number, if there is one.
 fn push_stored_status(
     statuses: &mut Vec<AuthzStatus>,
@@ -129,8 +122,8 @@ fn push_stored_status(
 ) -> Result<(), AllocError>
     ensures { OnOk result (statuses.new.items ≡ statuses.old.items ++ stored_statuses book.now.authorizations (number ∷ [])) }
 {
-    if let Some(status) = stored_status(book, number) {
-        statuses.push(status)?;
+    if let Some(row) = book.authorization(number) {
+        statuses.push(row.status)?;
     }
     Ok(())
 }

@@ -1,7 +1,5 @@
 //! The book of rows that stand in any order.
-ghost use Rattle.std.specs.Prelude.{◌≡◌, [], ◌∷◌, IfOk, IfErr, IsPermutation, MatchResult};
-ghost use Rattle.desk_laws.specs.Ordered.{Ascends};
-ghost use Rattle.desk_model.specs.Kept.{EachOf};
+ghost use Rattle.std.specs.Prelude.{◌≡◌, [], ◌∷◌, IfOk, IfErr, MatchResult};
 ghost use Rattle.desk_model.specs.Tables.{Tables};
 ghost use Rattle.desk_columns.specs.Flat.{AreReordered, flat};
 ghost use Rattle.desk_columns.specs.Columns.{rows_columns};
@@ -9,17 +7,14 @@ ghost use Rattle.desk_columns.specs.Limits.{AreStored};
 ghost use Rattle.desk_columns.specs.declared.flat_rows.FlatRows.{FlatRows as Rows};
 ghost use Rattle.stored_rows.specs.Both.{both};
 ghost use Rattle.stored_rows.specs.IsBook.{AreFlat, AreInOrder, IsBookOf, IsBookOfStored, IsSound};
-ghost use Rattle.stored_rows.specs.Nesting.{IsNestOf};
 ghost use Rattle.stored_rows.specs.declared.rows_fault.RowsFault.TheVariants.{NotABook};
 
 use crate::assembling::{nested_table_of, table_of};
 use crate::rows_fault::RowsFault;
 use crate::soundness::is_sound;
-use desk_book::{Book, Table};
-use desk_columns::{FlatRows, Owned, StoredRows, read_rows};
-use desk_model::{
-    AccountRow, AuthorizationRow, ChallengeRow, Listed, Meta, Nonce, OrderRow, Sequence,
-};
+use desk_book::Book;
+use desk_columns::{FlatRows, StoredRows, read_rows};
+use desk_model::{Meta, Sequence};
 use std::alloc::Global;
 
 /// The book whose rows the tables of a file hold, in any order (format 1).
@@ -80,44 +75,6 @@ fn only_row(rows: Sequence<Meta>) -> Result<Meta, RowsFault>
     rows.pop().ok_or(RowsFault::NotABook)
 }
 
-// The tables of nonces and of accounts.
-fn numbered_tables(
-    alloc: Global,
-    nonces: Sequence<Nonce>,
-    accounts: Sequence<AccountRow>,
-) -> Result<(Table<Nonce>, Table<AccountRow>), RowsFault>
-    ensures { MatchResult result
-        (λ tables. (IsPermutation nonces tables.0 × Ascends (λ n. n.serial) 1 tables.0)
-        × (IsPermutation accounts tables.1 × Ascends (λ a. a.number) 1 tables.1))
-        (λ fault. fault ≡ NotABook → (T : Tables) → IsPermutation nonces T.nonces → Ascends (λ n. n.serial) 1 T.nonces
-        → IsPermutation accounts T.accounts → Ascends (λ a. a.number) 1 T.accounts → ⊥) }
-{
-    both(table_of(alloc, nonces), table_of(alloc, accounts))
-}
-
-// The tables of authorizations with their challenges and of orders with what they list.
-fn nested_tables(
-    alloc: Global,
-    authorizations: Sequence<AuthorizationRow>,
-    challenges: Sequence<Owned<ChallengeRow>>,
-    orders: Sequence<OrderRow>,
-    listed: Sequence<Owned<Listed>>,
-) -> Result<(Table<AuthorizationRow>, Table<OrderRow>), RowsFault>
-    requires authorizations { EachOf (λ a. a.challenges ≡ []) authorizations }
-    requires orders { EachOf (λ o. o.listed ≡ []) orders }
-    ensures { MatchResult result
-        (λ tables. IsNestOf (λ a. a.number) (λ a. a.challenges) (λ a cs. record a { challenges = cs }) (λ c. c.number) authorizations challenges tables.0
-        × IsNestOf (λ o. o.number) (λ o. o.listed) (λ o ls. record o { listed = ls }) (λ l. l.place) orders listed tables.1)
-        (λ fault. fault ≡ NotABook → (T : Tables)
-        → IsNestOf (λ a. a.number) (λ a. a.challenges) (λ a cs. record a { challenges = cs }) (λ c. c.number) authorizations challenges T.authorizations
-        → IsNestOf (λ o. o.number) (λ o. o.listed) (λ o ls. record o { listed = ls }) (λ l. l.place) orders listed T.orders → ⊥) }
-{
-    both(
-        nested_table_of(alloc, authorizations, challenges),
-        nested_table_of(alloc, orders, listed),
-    )
-}
-
 // Both of two, or why the first is missing, or else the second.
 fn both<A: Drop, B: Drop>(
     first: Result<A, RowsFault>,
@@ -140,13 +97,10 @@ fn book_in_order(alloc: Global, rows: FlatRows) -> Result<Book, RowsFault>
         (λ fault. fault ≡ NotABook → (T : Tables) → AreInOrder T → AreReordered rows (flat T) → ⊥) }
 {
     let meta = only_row(rows.metas);
-    let numbered = numbered_tables(alloc, rows.nonces, rows.accounts);
-    let nested = nested_tables(
-        alloc,
-        rows.authorizations,
-        rows.challenges,
-        rows.orders,
-        rows.listed,
+    let numbered = both(table_of(alloc, rows.nonces), table_of(alloc, rows.accounts));
+    let nested = both(
+        nested_table_of(alloc, rows.authorizations, rows.challenges),
+        nested_table_of(alloc, rows.orders, rows.listed),
     );
     let (meta, ((nonces, accounts), (authorizations, orders))) = both(
         meta,

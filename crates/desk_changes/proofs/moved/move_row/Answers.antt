@@ -24,11 +24,13 @@ returns-clause-changes g c =
     (moved_one-is (g.R.Movable.touched (entry_of c.args.moved.now) c.args.moment c.args.book.now) g.R.Movable.differs
     (g.R.Movable.stated (entry_of c.args.moved.now) c.args.moment c.args.book.now)
     (g.R.Movable.standing c.args.moment c.args.book.now c.args.row.now) _ _ (sym (c.is_touched.ensures c.args.moment) ∙ c.if-not-is_touched.false)
-    c.in_ok-standing.ensures refl)
+    (c.stand.ensures ∙ ap (g.R.Movable.standing c.args.moment c.args.book.now) (g.met.R.Row.clones _ _ c.in_ok-standing.ensures.cases)) refl)
 
 pub returns-clause-row : goal.returns-clause-row
 returns-clause-row g c =
-    ap Some (c.in_ok-next.ensures.row ∙ ap (g.R.Movable.stated (entry_of c.args.moved.now) c.args.moment c.args.book.now) c.in_ok-standing.ensures)
+    ap Some (c.in_ok-next.ensures.row
+    ∙ ap (g.R.Movable.stated (entry_of c.args.moved.now) c.args.moment c.args.book.now)
+    (c.stand.ensures ∙ ap (g.R.Movable.standing c.args.moment c.args.book.now) (g.met.R.Row.clones _ _ c.in_ok-standing.ensures.cases)))
     ∙ sym (touched_one-is (g.R.Movable.touched (entry_of c.args.moved.now) c.args.moment c.args.book.now)
     (g.R.Movable.stated (entry_of c.args.moved.now) c.args.moment c.args.book.now)
     (g.R.Movable.standing c.args.moment c.args.book.now c.args.row.now) _ (sym (c.is_touched.ensures c.args.moment) ∙ c.if-not-is_touched.false))

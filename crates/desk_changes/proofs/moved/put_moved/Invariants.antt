@@ -13,5 +13,5 @@ invariant-loop-row g l =
     (g.R.Movable.stated (entry_of l.moved) l.moment l.book) (map (g.R.Movable.standing l.moment l.book) l.table)))
     × (l.rows.items ++ map (g.R.Movable.stated (entry_of l.moved) l.moment l.book)
     (filter (g.R.Movable.touched (entry_of l.moved) l.moment l.book) (map (g.R.Movable.standing l.moment l.book) l.row-iterator))
-    ≡ map (g.R.Movable.stated (entry_of l.moved) l.moment l.book)
+    ≡ l.fn.rows.items ++ map (g.R.Movable.stated (entry_of l.moved) l.moment l.book)
     (filter (g.R.Movable.touched (entry_of l.moved) l.moment l.book) (map (g.R.Movable.standing l.moment l.book) l.table)))

@@ -1,4 +1,4 @@
-use Rattle.std.proofs.Common.{◌≡◌, Bool, true, false, sym, refl, ap, ◌∙◌, List, [], ◌∷◌, ◌++◌, filter, cond, append_assoc}
+use Rattle.std.proofs.Common.{◌≡◌, Bool, true, false, sym, ap, ◌∙◌, List, [], ◌∷◌, ◌++◌, filter, cond, append_assoc}
 use Rattle.std.proofs.lemmas.Result.{IfOk-from_err}
 use Rattle.desk_loading.proofs.book_source.rows_where.Goals as goal
 
@@ -23,14 +23,14 @@ row_left test x rows before rest all fails next h =
     ap (λ b. rows ++ cond b (x ∷ filter test rest) (filter test rest)) (sym fails) ∙ ap (λ l. rows ++ filter test l) (sym next) ∙ h
 
 pub loop-row-preserved-in-Continue-1 : goal.loop-row-preserved-in-Continue-1
-loop-row-preserved-in-Continue-1 g c test is =
-    let said = is c.in-Some.row.now true (record { shown = c.in-Some.row; shows = refl; says = record { met = c.if-passes.ensures } }) in
-    row_kept test c.in-Some.row.now _ _ _ _ _ (sym said) c.in_ok-push_copy.ensures c.in-Some.ensures.steps (c.loop-row.invariant test is)
+loop-row-preserved-in-Continue-1 g c =
+    row_kept (g.Q.RowTest.passed c.args.test.now) c.in-Some.row.now _ _ _ _ _ (sym c.passes.ensures ∙ c.if-passes.true)
+    c.in_ok-push_copy.ensures c.in-Some.ensures.steps c.loop-row.invariant
 
 pub loop-row-preserved : goal.loop-row-preserved
-loop-row-preserved g c test is =
-    let said = is c.in-Some.row.now false (record { shown = c.in-Some.row; shows = refl; says = record { met = c.if-passes.ensures } }) in
-    row_left test c.in-Some.row.now _ _ _ _ (sym said) c.in-Some.ensures.steps (c.loop-row.invariant test is)
+loop-row-preserved g c =
+    row_left (g.Q.RowTest.passed c.args.test.now) c.in-Some.row.now _ _ _ _ (sym c.passes.ensures ∙ c.if-passes.false)
+    c.in-Some.ensures.steps c.loop-row.invariant
 
 pub returns-in_err-push_copy : goal.returns-in_err-push_copy
 returns-in_err-push_copy g c = IfOk-from_err c.from_residual.result _ c.from_residual.ensures.0

@@ -1,8 +1,6 @@
-use Rattle.std.proofs.Common.{◌≡◌, ◌++◌, Bool, filter}
-use Rattle.std.specs.Fn.{FnReturnsAt}
+use Rattle.std.proofs.Common.{◌≡◌, ◌++◌, filter}
 use Rattle.desk_loading.proofs.book_source.rows_where.Given as goal
 
 abbrev pub invariant-loop-row : goal.invariant-loop-row
 invariant-loop-row g l =
-    (test : _ → Bool) → ((row : _) (yes : Bool) → FnReturnsAt g.F.Fn l.passes row yes → yes ≡ test row) →
-    l.rows.items ++ filter test l.row-iterator ≡ filter test l.fn.table
+    l.rows.items ++ filter (g.Q.RowTest.passed l.test) l.row-iterator ≡ filter (g.Q.RowTest.passed l.test) l.table

@@ -1,5 +1,5 @@
 use Rattle.std.specs.List.{flat_map}
-use Rattle.desk_loading.proofs.Found.{fails_behind, finds_failing, finds_fourth, finds_then}
+use Rattle.desk_loading.proofs.Found.{fails_behind, finds_both, finds_failing, finds_fourth}
 use Rattle.desk_loading.proofs.Gathered.{put_then}
 use Rattle.desk_loading.proofs.objects.put_further.Goals as goal
 use Rattle.desk_model.specs.declared.rows.AccountRow.{AccountRow}
@@ -25,5 +25,6 @@ returns-in_err-put_linked-2 g c = fails_behind _ c.in_ok-put_linked.ensures c.in
     c.from_residual-in_err-put_linked-2.ensures.1
 
 pub returns-in_err-put_linked-3 : goal.returns-in_err-put_linked-3
-returns-in_err-put_linked-3 g c = fails_behind _ (finds_then _ c.in_ok-put_linked.ensures c.in_ok-put_linked-2.ensures (λ T first second. second)) c.in_err-put_linked-3.ensures
+returns-in_err-put_linked-3 g c =
+    fails_behind _ (finds_both _ c.in_ok-put_linked.ensures c.in_ok-put_linked-2.ensures) c.in_err-put_linked-3.ensures
     c.from_residual-in_err-put_linked-3.ensures.1

@@ -21,11 +21,11 @@ returns g c =
     (finds_put (λ (n : Nonce). n.serial) (λ rows. rows.items) (λ T. T.nonces) _ _ c.all_nonces.result _ c.all_nonces.ensures.reads c.all_nonces.ensures.found
     c.put_found.ensures.put c.put_found.ensures.fails))
     (finds_as c.in_ok-put_found-2.was
-    (finds_put (λ (x : AccountRow). x.number) (λ rows. rows.items) (λ T. T.accounts) _ _ c.all_accounts.result _ c.all_accounts.ensures.reads c.all_accounts.ensures.found
-    c.put_found-2.ensures.put c.put_found-2.ensures.fails))
+    (finds_put (λ (x : AccountRow). x.number) (λ rows. rows.items) (λ T. T.accounts) _ _ c.all_accounts.result _
+    c.all_accounts.ensures.reads c.all_accounts.ensures.found c.put_found-2.ensures.put c.put_found-2.ensures.fails))
     (finds_as c.in_ok-put_found-3.was
-    (finds_put (λ (a : AuthorizationRow). a.number) (λ rows. rows.items) (λ T. T.authorizations) _ _ c.all_authorizations.result _ c.all_authorizations.ensures.reads c.all_authorizations.ensures.found
-    c.put_found-3.ensures.put c.put_found-3.ensures.fails))
+    (finds_put (λ (a : AuthorizationRow). a.number) (λ rows. rows.items) (λ T. T.authorizations) _ _ c.all_authorizations.result _
+    c.all_authorizations.ensures.reads c.all_authorizations.ensures.found c.put_found-3.ensures.put c.put_found-3.ensures.fails))
     (finds_put (λ (o : OrderRow). o.number) (λ rows. rows.items) (λ T. T.orders) _ _ c.all_orders.result _ c.all_orders.ensures.reads c.all_orders.ensures.found
     c.put_found-4.ensures.put c.put_found-4.ensures.fails)
     (λ T nonces accounts authorizations orders ordered none. record {
@@ -44,16 +44,17 @@ pub returns-in_err-put_found-2 : goal.returns-in_err-put_found-2
 returns-in_err-put_found-2 g c = fails_behind _ (finds_as c.in_ok-put_found.was
     (finds_put (λ (n : Nonce). n.serial) (λ rows. rows.items) (λ T. T.nonces) _ _ c.all_nonces.result _ c.all_nonces.ensures.reads c.all_nonces.ensures.found
     c.put_found.ensures.put c.put_found.ensures.fails)) (finds_as c.in_err-put_found-2.was
-    (finds_put (λ (x : AccountRow). x.number) (λ rows. rows.items) (λ T. T.accounts) _ _ c.all_accounts.result _ c.all_accounts.ensures.reads c.all_accounts.ensures.found
-    c.put_found-2.ensures.put c.put_found-2.ensures.fails))
+    (finds_put (λ (x : AccountRow). x.number) (λ rows. rows.items) (λ T. T.accounts) _ _ c.all_accounts.result _
+    c.all_accounts.ensures.reads c.all_accounts.ensures.found c.put_found-2.ensures.put c.put_found-2.ensures.fails))
     c.from_residual-in_err-put_found-2.ensures.1
 
 pub returns-in_err-put_found-3 : goal.returns-in_err-put_found-3
 returns-in_err-put_found-3 g c = fails_behind _ (finds_then _ (finds_as c.in_ok-put_found.was
     (finds_put (λ (n : Nonce). n.serial) (λ rows. rows.items) (λ T. T.nonces) _ _ c.all_nonces.result _ c.all_nonces.ensures.reads c.all_nonces.ensures.found
     c.put_found.ensures.put c.put_found.ensures.fails)) (finds_as c.in_ok-put_found-2.was
-    (finds_put (λ (x : AccountRow). x.number) (λ rows. rows.items) (λ T. T.accounts) _ _ c.all_accounts.result _ c.all_accounts.ensures.reads c.all_accounts.ensures.found
-    c.put_found-2.ensures.put c.put_found-2.ensures.fails)) (λ T first second. second)) (finds_as c.in_err-put_found-3.was
-    (finds_put (λ (a : AuthorizationRow). a.number) (λ rows. rows.items) (λ T. T.authorizations) _ _ c.all_authorizations.result _ c.all_authorizations.ensures.reads c.all_authorizations.ensures.found
-    c.put_found-3.ensures.put c.put_found-3.ensures.fails))
+    (finds_put (λ (x : AccountRow). x.number) (λ rows. rows.items) (λ T. T.accounts) _ _ c.all_accounts.result _
+    c.all_accounts.ensures.reads c.all_accounts.ensures.found c.put_found-2.ensures.put c.put_found-2.ensures.fails))
+    (λ T first second. second)) (finds_as c.in_err-put_found-3.was
+    (finds_put (λ (a : AuthorizationRow). a.number) (λ rows. rows.items) (λ T. T.authorizations) _ _ c.all_authorizations.result _
+    c.all_authorizations.ensures.reads c.all_authorizations.ensures.found c.put_found-3.ensures.put c.put_found-3.ensures.fails))
     c.from_residual-in_err-put_found-3.ensures.1

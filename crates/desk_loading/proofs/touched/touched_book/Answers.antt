@@ -7,7 +7,7 @@ use Rattle.desk_model.specs.declared.call.OfficeAsk.TheVariants as office
 use Rattle.desk_model.specs.declared.rows.Meta.{Meta}
 use Rattle.desk_parts.proofs.Loading.{loaded_touched}
 use Rattle.desk_parts.specs.Loaded.{loaded_at}
-use Rattle.desk_loading.specs.Finding.{AreRowsOf, book_with}
+use Rattle.desk_loading.specs.Finding.{AreRowsOf}
 use Rattle.desk_loading.specs.declared.touched.Rows.{Rows}
 use Rattle.desk_loading.proofs.Gathered.{made_of}
 use Rattle.desk_loading.proofs.Readings.{reads_and, reads_failing, reads_then, stands_read}
@@ -27,6 +27,11 @@ loaded_meta T m (ask.Office (office.RevokeAuthz n)) = refl
 loaded_meta T m (ask.Office (office.RevokeAccount n)) = refl
 loaded_meta T m (ask.Office (office.KeyOf n)) = refl
 
+-- the tables of these rows
+abbrev book_with : Meta → Rows → Tables
+book_with meta rows =
+    record { meta = meta; nonces = rows.nonces; accounts = rows.accounts; authorizations = rows.authorizations; orders = rows.orders }
+
 -- the tables of rows that are those of tables
 book_are : (meta : Meta) (rows : Rows) (T : Tables) → meta ≡ T.meta → AreRowsOf T rows → book_with meta rows ≡ T
 book_are meta rows T same are = λ i.
@@ -43,11 +48,11 @@ returns-clause-touched g c = λ honest T held ordered.
     made_of _ _ _ c.put_rows_at.result c.and.result c.and.ensures
     (c.put_rows_at.ensures.found honest T (c.in_ok-meta.ensures.reads.tables so_far T held))
     (λ put_now.
-    let none = c.no_rows-rows.ensures in
     let are = put_now (λ i. (same i).policy) ordered
-    (record { nonces = λ i. (none i).nonces; accounts = λ i. (none i).accounts; authorizations = λ i. (none i).authorizations; orders = λ i. (none i).orders }) in
-    c.book_of.ensures
-    ∙ book_are c.in_ok-meta.meta _ (loaded_at T c.max-moment.result c.args.call.now.ask) (same ∙ sym (loaded_meta T c.max-moment.result c.args.call.now.ask)) are
+    (record { nonces = c.new.ensures; accounts = c.new-2.ensures; authorizations = c.new-3.ensures; orders = c.new-4.ensures }) in
+    c.of_tables.ensures
+    ∙ book_are c.in_ok-meta.meta _ (loaded_at T c.max-moment.result c.args.call.now.ask)
+    (same ∙ sym (loaded_meta T c.max-moment.result c.args.call.now.ask)) are
     ∙ ap (λ m. loaded_at T m c.args.call.now.ask)
     (c.max-moment.ensures ∙ ap (max c.args.call.now.at) (c.moment.ensures.same ∙ ap (λ (m : Meta). m.counters.clock) same))
     ∙ loaded_touched T c.args.call.now ordered)

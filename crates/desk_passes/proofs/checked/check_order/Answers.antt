@@ -4,9 +4,9 @@ use Rattle.desk_model.specs.Derived.{numbers_of, order_faults, stored_statuses}
 use Rattle.desk_model.specs.declared.rows.OrderRow.{OrderRow}
 use Rattle.desk_parts.specs.Above.{orders_above}
 use Rattle.stored_rows.specs.RowFaults.{listed_fault}
-use Rattle.desk_loading.proofs.Readings.{reads_failing, reads_found, reads_standing, stands_read, stands_then}
+use Rattle.desk_loading.proofs.Readings.{read_as, reads_failing, reads_found, reads_standing, stands_read, stands_then}
 use Rattle.desk_passes.specs.Stepping.{IsFirst}
-use Rattle.desk_passes.proofs.Passing.{fails_then, read_as}
+use Rattle.desk_passes.proofs.Passing.{fails_then}
 use Rattle.desk_passes.proofs.Rows.{answer_when_found, found_step, nothing_left}
 use Rattle.desk_passes.proofs.checked.check_order.Goals as goal
 

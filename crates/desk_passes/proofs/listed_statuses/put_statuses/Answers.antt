@@ -1,7 +1,13 @@
-use Rattle.std.proofs.Common.{suc, ◌++◌, ◌∙◌, add-one, ap, append-nil, arith, drop, drop-cons, sym}
+use Rattle.std.proofs.Common.{suc, ◌++◌, ◌∙◌, add-one, ap, append-nil, arith, drop, drop-cons, refl, sym}
 use Rattle.std.proofs.lemmas.List.{drop_all}
+use Rattle.std.proofs.lemmas.Result.{IfOk-from_err}
+use Rattle.desk_loading.proofs.Readings.{reads_standing, stands_here, stands_then}
 use Rattle.desk_model.specs.Derived.{numbers_of, stored_statuses}
+use Rattle.desk_passes.proofs.Passing.{fails_then}
 use Rattle.desk_passes.proofs.listed_statuses.put_statuses.Goals as goal
+
+pub loop-place-init : goal.loop-place-init
+loop-place-init g c = record { stands = stands_here; found = λ h T held. refl }
 
 pub loop-place-preserved : goal.loop-place-preserved
 loop-place-preserved g c =
@@ -10,11 +16,7 @@ loop-place-preserved g c =
     let before = c.loop-place.invariant in
     let read = c.in_ok-push_stored.ensures.reads in
     record {
-      stands = record {
-        honest = λ h. before.stands.honest (read.honest h);
-        left = λ h content left. before.stands.left (read.honest h) content (read.left h content left);
-        tables = λ h T held. read.tables h T (before.stands.tables (read.honest h) T held);
-      };
+      stands = stands_then before.stands read;
       found = λ h T held.
           let so_far = read.honest h in
           let next = ap (λ l. c.loop-place.statuses.items ++ stored_statuses T.authorizations (numbers_of l)) (drop-cons places i _ (omega arith)) in
@@ -29,3 +31,13 @@ returns-clause-found g c h T held =
     sym (append-nil statuses)
     ∙ ap (λ l. statuses ++ stored_statuses T.authorizations (numbers_of l)) (sym done)
     ∙ c.loop-place.invariant.found h T held
+
+pub returns-clause-reads : goal.returns-clause-reads
+returns-clause-reads g c = reads_standing _ c.loop-place.invariant.stands
+
+pub returns-in_err-push_stored-clause-reads : goal.returns-in_err-push_stored-clause-reads
+returns-in_err-push_stored-clause-reads g c =
+    fails_then _ c.loop-place.invariant.stands c.in_err-push_stored.ensures.reads c.from_residual.ensures.1
+
+pub returns-in_err-push_stored-clause-found : goal.returns-in_err-push_stored-clause-found
+returns-in_err-push_stored-clause-found g c h T held = IfOk-from_err c.from_residual.result _ c.from_residual.ensures.0

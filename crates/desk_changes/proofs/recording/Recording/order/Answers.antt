@@ -25,7 +25,7 @@ order_is c =
 
 pub returns-clause-order : goal.returns-clause-order
 returns-clause-order c =
-    and_gives _ c.push_made.result c.in_ok-order.order c.and.result c.and.ensures c.push_made.ensures.changes (λ made. order_is c)
+    and_gives _ c.put_made.result c.in_ok-order.order c.and.result c.and.ensures c.put_made.ensures (λ made. order_is c)
 
 -- the counters after them
 counters_are : (c : After-and) → record c.make_rows.new.self.counters { orders = c.make_rows.new.self.counters.orders + 1 }
@@ -34,11 +34,11 @@ counters_are c = ap (λ (x : Counters). record x { orders = x.orders + 1 }) c.in
 
 pub returns-clause-counters : goal.returns-clause-counters
 returns-clause-counters c =
-    and_ok _ c.push_made.result c.in_ok-order.order c.and.result c.and.ensures c.push_made.ensures.counters (λ same. same ∙ counters_are c)
+    and_ok _ c.put_made.result c.in_ok-order.order c.and.result c.and.ensures c.put_made.ensures (λ made. counters_are c)
 
 pub returns-clause-changes : goal.returns-clause-changes
 returns-clause-changes c =
-    and_ok _ c.push_made.result c.in_ok-order.order c.and.result c.and.ensures c.push_made.ensures.changes
+    and_ok _ c.put_made.result c.in_ok-order.order c.and.result c.and.ensures c.put_made.ensures
     (λ made. made
     ∙ (λ i. c.in_ok-rows.ensures.changes i ++ (map PutAuthorization (c.in_ok-rows.ensures.rows i) ++ PutOrder (order_is c i) ∷ [])))
 

@@ -1,0 +1,29 @@
+use Rattle.std.proofs.Common.{IfOk, subst, sym}
+use Rattle.desk_loading.proofs.Readings.{reads_found}
+use Rattle.desk_passes.specs.Left.{faults_above}
+use Rattle.desk_passes.specs.Stepping.{Steps}
+use Rattle.desk_passes.proofs.Rows.{made_when_found}
+use Rattle.desk_passes.proofs.checked.check_after.Goals as goal
+
+pub returns-in-Account-clause-reads : goal.returns-in-Account-clause-reads
+returns-in-Account-clause-reads g c = reads_found _ c.check_first.result c.account_above.ensures.reads c.check_first.ensures.fails
+
+pub returns-in-Account-clause-steps : goal.returns-in-Account-clause-steps
+returns-in-Account-clause-steps g c honest T holds h =
+    subst (λ kind. IfOk c.check_first.result (λ checked. Steps checked (faults_above T kind c.args.moment) c.args.above))
+    (sym c.in-Account.is)
+    (made_when_found _ _ _ c.account_above.result c.check_first.result
+    c.check_first.ensures.steps c.check_first.ensures.fails
+    (c.account_above.ensures.found honest T holds) (λ rows told are. told T.accounts 1 h.tables.accounts.0 are))
+
+pub returns-in-Authorization-clause-reads : goal.returns-in-Authorization-clause-reads
+returns-in-Authorization-clause-reads g c =
+    reads_found _ c.check_first-in-Authorization.result c.authorization_above.ensures.reads c.check_first-in-Authorization.ensures.fails
+
+pub returns-in-Authorization-clause-steps : goal.returns-in-Authorization-clause-steps
+returns-in-Authorization-clause-steps g c honest T holds h =
+    subst (λ kind. IfOk c.check_first-in-Authorization.result (λ checked. Steps checked (faults_above T kind c.args.moment) c.args.above))
+    (sym c.in-Authorization.is)
+    (made_when_found _ _ _ c.authorization_above.result c.check_first-in-Authorization.result
+    c.check_first-in-Authorization.ensures.steps c.check_first-in-Authorization.ensures.fails
+    (c.authorization_above.ensures.found honest T holds) (λ rows told are. told T.authorizations 1 h.tables.authorizations.0 are))
