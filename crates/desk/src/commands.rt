@@ -4,9 +4,7 @@ use crate::desks::adopt;
 use crate::fault::{Fault, tell};
 use crate::reporting::{CheckStatuses, ListOrders};
 use crate::revoking::Revoke;
-use command_line::{
-    AUTHZ_LIFE, Listing, NONCE_LIFE, ORDER_LIFE, Order, Terms, WordsFault, read_words,
-};
+use command_line::{AUTHZ_LIFE, NONCE_LIFE, ORDER_LIFE, Order, Terms, WordsFault, read_words};
 use desk_calls::{Desk, DeskFault, Memory};
 use desk_model::{Clock, Policy};
 use file_tasks::{make_desk, run_over_file};
@@ -66,24 +64,15 @@ fn run_order<R: Read + Drop, W: Write, E: Write>(
             };
             run_over_file(rt, file, task)
         }
-        Order::Status { file, listing } => list_orders(rt, file, listing, out),
+        Order::Status { file, listing } => {
+            run_over_file(rt, file, ListOrders::new(alloc, out, listing)?)
+        }
         Order::Check { file, json } => {
             run_over_file(rt, file, CheckStatuses::new(alloc, out, json))
         }
         Order::Revoke { file, target } => run_over_file(rt, file, Revoke { rt, target, out }),
         Order::Batch { file } => answer_lines(rt, file, reader, out, errors),
     }
-}
-
-// Lists the orders of the desk in a file.
-fn list_orders<W: Write>(
-    rt: &HostRuntime,
-    file: &str,
-    listing: Listing<'_>,
-    out: &mut W,
-) -> Result<u8, Fault> {
-    let task = ListOrders::new(rt.alloc(), out, listing)?;
-    run_over_file(rt, file, task)
 }
 
 // Answers the lines of a reader, by the desk of a file or by a new one in memory.
@@ -107,11 +96,12 @@ fn answer_lines<R: Read + Drop, W: Write, E: Write>(
     }
 }
 
-// Answers the lines by a new desk in memory.
+// Answers the lines by a new desk in memory, made at 0.
 fn answer_in_memory<R: Read, W: Write, E: Write>(
     task: &mut AnswerLines<'_, '_, '_, R, W, E>,
 ) -> Result<u8, Fault> {
-    let mut desk = memory_desk(task.alloc)?;
+    let policy = policy(task.alloc, TERMS)?;
+    let mut desk = adopt(task.alloc, Memory::make(task.alloc, policy, Clock::at(0)))?;
     Ok(task.answer(&mut desk))
 }
 
@@ -158,10 +148,4 @@ fn make_file<W: Write>(
         Ok(()) => Ok(0),
         Err(_) => Err(Fault::Output),
     }
-}
-
-// A desk in memory, made at 0.
-fn memory_desk(alloc: Global) -> Result<Desk<Memory>, Fault> {
-    let policy = policy(alloc, TERMS)?;
-    adopt(alloc, Memory::make(alloc, policy, Clock::at(0)))
 }

@@ -2,7 +2,6 @@
 use connections::ServeFault;
 use desk_calls::DeskFault;
 use desk_model::Refusal;
-use desk_storage::StorageFault;
 use desk_store::OpenFault;
 use reports::ReportFault;
 use std::io::Write;
@@ -41,16 +40,10 @@ impl From<OpenFault> for Fault {
     }
 }
 
-impl From<StorageFault> for Fault {
-    fn from(fault: StorageFault) -> Fault {
-        Fault::Desk(DeskFault::from(fault))
-    }
-}
-
 impl From<ReportFault> for Fault {
     fn from(fault: ReportFault) -> Fault {
         match fault {
-            ReportFault::Storage(fault) => Fault::from(fault),
+            ReportFault::Storage(fault) => Fault::Desk(DeskFault::from(fault)),
             ReportFault::Output => Fault::Output,
         }
     }

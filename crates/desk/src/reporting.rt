@@ -17,15 +17,10 @@ fn form(json: bool) -> Form {
     if json { Form::Json } else { Form::Text }
 }
 
-// The status of an order that a word names.
-fn status_named(word: &str) -> Result<OrderStatus, Fault> {
-    OrderStatus::from_text(word).ok_or(Fault::NoStatus)
-}
-
 // The orders that the words ask for.
 fn filter(listing: Listing<'_>) -> Result<OrderFilter, Fault> {
     let status = match listing.status {
-        Some(word) => Some(status_named(word)?),
+        Some(word) => Some(OrderStatus::from_text(word).ok_or(Fault::NoStatus)?),
         None => None,
     };
     Ok(OrderFilter {

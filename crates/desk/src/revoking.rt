@@ -5,7 +5,7 @@ use command_line::Target;
 use connections::moment;
 use desk_calls::Desk;
 use desk_loading::RowsAbove;
-use desk_model::{Ask, Body, Call, OfficeAsk, Reply, Sequence};
+use desk_model::{Ask, Body, Call, OfficeAsk, Sequence};
 use desk_storage::Storage;
 use file_tasks::Task;
 use std::io::{self, Write};
@@ -19,33 +19,25 @@ pub(crate) struct Revoke<'a, W: Write> {
 }
 
 impl<'a, W: Write> Revoke<'a, W> {
-    fn ask(&self) -> OfficeAsk {
-        match self.target {
-            Target::Authorization(number) => OfficeAsk::RevokeAuthz(number),
-            Target::Account(number) => OfficeAsk::RevokeAccount(number),
-        }
-    }
-
     // The call that asks so, at the machine's clock.
     fn call(&self) -> Result<Call, Fault> {
+        let ask = match self.target {
+            Target::Authorization(number) => OfficeAsk::RevokeAuthz(number),
+            Target::Account(number) => OfficeAsk::RevokeAccount(number),
+        };
         Ok(Call {
             at: moment(self.rt)?,
             random: Sequence::new(Vec::new(self.rt.alloc())),
-            ask: Ask::Office(self.ask()),
+            ask: Ask::Office(ask),
         })
-    }
-
-    fn answer<K: Storage + Drop>(&self, desk: &mut Desk<K>) -> Result<Reply, Fault> {
-        let call = self.call()?;
-        let answered = desk.answer(self.rt.alloc(), &call);
-        drop(call);
-        Ok(answered?)
     }
 
     // Revokes it by a desk.
     fn revoke<K: Storage + Drop>(&self, desk: &mut Desk<K>) -> Result<(), Fault> {
-        let reply = self.answer(desk)?;
-        match &reply.body {
+        let call = self.call()?;
+        let answered = desk.answer(self.rt.alloc(), &call);
+        drop(call);
+        match &answered?.body {
             Body::Problem(problem) => Err(Fault::Refused(problem.refusal)),
             _ => Ok(()),
         }
