@@ -1,5 +1,6 @@
 -- The JSON documents of replies (RFC 8555, 7.1), by the rows that they show.
-use Rattle.std.specs.Prelude.{ℕ, List, [], ◌∷◌, ◌++◌, map, Bool, false, true, not, ◌&&◌, ◌==◌, Option, Some, None, is_some, if◌then◌else◌, bytes_eq, codes, decimal}
+use Rattle.std.specs.Prelude.{ℕ, List, [], ◌∷◌, ◌++◌, map, Bool, false, true, not, ◌&&◌, ◌==◌, Option, Some, None, is_some, if◌then◌else◌}
+use Rattle.std.specs.Prelude.{bytes_eq, codes, decimal}
 use Rattle.std.specs.List.{filter, flat_map, slice_split}
 use Rattle.serde_json.specs.Data.{unsigned, Data, boolean, number, string}
 use Rattle.desk_model.specs.Json.{document, list, when}

@@ -6,5 +6,6 @@ use Rattle.desk_tables.specs.Layouts.{authorization_layout}
 
 pub returns-clause-ok : goal.returns-clause-ok
 returns-clause-ok g c =
-    puts_written authorization_layout authorization_columns c.args.row.now (state g.S.Store c.args.tx.now.conn.now) (state g.S.Store c.put_columns.new.tx.conn.now)
+    puts_written authorization_layout authorization_columns c.args.row.now
+    (state g.S.Store c.args.tx.now.conn.now) (state g.S.Store c.put_columns.new.tx.conn.now)
     c.authorization_columns.result c.put_columns.result c.authorization_columns.ensures.columns c.put_columns.ensures.ok

@@ -18,7 +18,8 @@ text_of-path-requires g c = subst IsUtf8 (sym c.of-2.ensures) c.requires.path
 
 pub read_with-requires : goal.read_with-requires
 read_with-requires g c =
-    subst (All (IsHeaderWithin (length c.args.bytes.now))) (sym c.first.ensures) (headers_within c.args.bytes.now c.args.headers.now c.args.spans c.requires.within)
+    subst (All (IsHeaderWithin (length c.args.bytes.now))) (sym c.first.ensures)
+    (headers_within c.args.bytes.now c.args.headers.now c.args.spans c.requires.within)
 
 pub returns-clause-manner : goal.returns-clause-manner
 returns-clause-manner g c = rw (c.text_of-method.ensures ∙ c.of.ensures, c.text_of-path.ensures ∙ c.of-2.ensures) at c.manner_by.ensures

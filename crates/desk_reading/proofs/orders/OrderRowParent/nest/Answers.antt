@@ -14,7 +14,8 @@ pub returns-clause-found : goal.returns-clause-found
 returns-clause-found g c clean T has book whole own bare =
     let it = c.in_ok-listed.ensures.read clean in
     let row = c.args.self.now in
-    let found = listed_by_found (state g.S.Store c.args.conn.now) (state g.S.Store c.find_owned.new.conn) T it.0 _ has book it.1 it.3 it.4 row.number refl it.2 in
+    let found = listed_by_found (state g.S.Store c.args.conn.now) (state g.S.Store c.find_owned.new.conn)
+    T it.0 _ has book it.1 it.3 it.4 row.number refl it.2 in
     let listed = c.new.ensures ∙ it.5 ∙ ap (map (λ r. r.row)) found
     ∙ ap (λ (o : OrderRow). rows_under o.number (listed_rows T.orders)) bare ∙ own in
     λ i. record (bare i) { listed = listed i }

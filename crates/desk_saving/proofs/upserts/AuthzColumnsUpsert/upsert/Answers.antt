@@ -10,4 +10,5 @@ use Rattle.desk_tables.proofs.UpsertStatement.{advances_by}
 pub returns-clause-ok : goal.returns-clause-ok
 returns-clause-ok g c =
     where_run _ _ _ _ c.perform.result c.perform.ensures.runs
-    (advances_by authorization_layout authorization_columns authorization_params upsert_authorization authorization_upsert _ _ c.args.self.now _ c.authorization_values-values.ensures)
+    (advances_by authorization_layout authorization_columns authorization_params upsert_authorization authorization_upsert
+    _ _ c.args.self.now _ c.authorization_values-values.ensures)

@@ -7,5 +7,6 @@ returns-clause-reads g c = c.told.ensures.reads c.args.self.now c.authorizations
 
 pub returns-clause-found : goal.returns-clause-found
 returns-clause-found g c =
-    hands_on _ (state g.S.Store c.args.self.now.conn) (state g.S.Store c.authorizations_numbered-read.new.conn) (state g.S.Store c.told.new.self.conn) _ c.told.result
+    hands_on _ (state g.S.Store c.args.self.now.conn) (state g.S.Store c.authorizations_numbered-read.new.conn)
+    (state g.S.Store c.told.new.self.conn) _ c.told.result
     c.authorizations_numbered-read.ensures.found c.told.ensures.found c.told.ensures.honest
