@@ -16,27 +16,20 @@ CALLS = f"{ROOT}/examples/first.jsonl"
 MAIN = """\
 //! Answers the lines of standard input by a new desk in memory.
 #![tactic(auto)]
-use batches::batch;
-use desk_calls::{Desk, Memory};
-use desk_model::{Clock, Policy};
-use std::alloc::{AllocError, Global};
+use batches::batch_in_memory;
+use desk_model::Policy;
 use std::io;
 use std::process::ExitCode;
 
-fn new_desk(alloc: Global) -> Result<Option<Desk<Memory>>, AllocError> {
-    let Some(policy) = Policy::new(alloc, "https://ca.example", 3600, 604800, 2592000)? else {
-        return Ok(None);
-    };
-    Ok(Desk::adopt(alloc, Memory::make(alloc, policy, Clock::at(0))).ok())
-}
-
 fn main(rt: HostRuntime) -> ExitCode {
     let alloc = rt.alloc();
-    let Ok(Some(mut desk)) = new_desk(alloc) else {
+    let Ok(Some(policy)) = Policy::new(alloc, "https://ca.example", 3600, 604800, 2592000) else {
         return ExitCode::from(1);
     };
-    let status = batch(alloc, rt.reader(), &mut io::writer(&rt), &mut rt.stderr(), &mut desk);
-    ExitCode::from(status)
+    match batch_in_memory(alloc, policy, rt.reader(), &mut io::writer(&rt), &mut rt.stderr()) {
+        Ok(status) => ExitCode::from(status),
+        Err(_) => ExitCode::from(1),
+    }
 }
 """
 
@@ -47,7 +40,7 @@ def main():
         shutil.copytree(f"{ROOT}/crates", f"{room}/crates", ignore=shutil.ignore_patterns("out", "must-fail"))
         shutil.copyfile(f"{ROOT}/crates.txt", f"{room}/crates.txt")
         with open(f"{room}/crates.txt", "a", encoding="utf-8") as crates:
-            crates.write("first: batches desk_calls desk_model\n")
+            crates.write("first: batches desk_model\n")
         os.makedirs(f"{room}/crates/first/src")
         with open(f"{room}/crates/first/src/main.rt", "w", encoding="utf-8") as program:
             program.write(MAIN)

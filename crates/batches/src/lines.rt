@@ -1,11 +1,12 @@
 //! Batches: a call a line in, a reply a line out.
-ghost use Rattle.std.specs.Prelude.{◌≡◌, ◌≤◌, MatchResult};
+ghost use Rattle.std.specs.Prelude.{◌≡◌, ◌≤◌, IfErr, IfOk, MatchResult};
 ghost use Rattle.batches.specs.LineRequests.{call_of};
+ghost use Rattle.desk_calls.specs.declared.fault.DeskFault.TheVariants.{Memory as memory_fault};
 ghost use Rattle.batches.specs.Said.{Says, SaysNothing, RepliesTo, DeclinesTo};
 
 use crate::line_requests::request_of;
-use desk_calls::{Desk, DeskFault};
-use desk_model::{Ask, Call, Reply};
+use desk_calls::{Desk, DeskFault, Memory};
+use desk_model::{Ask, Call, Clock, Policy, Reply};
 use desk_storage::Storage;
 use requests::{Line, LineFault, Request, read_line, reply_line};
 use std::alloc::Global;
@@ -126,6 +127,28 @@ pub fn batch<K: Storage + Drop, R: Read + Drop, W: Write, E: Write>(
             let _ = writeln!(errors, "desk: {fault}");
             1
         }
+    }
+}
+
+/// Answers the lines of a reader on a writer as `batch` does, by a new desk in memory with this policy, made at moment 0,
+/// which is gone at the end; and gives the exit status.
+///
+/// # Errors
+///
+/// `Memory` where there is no memory for the desk.
+pub fn batch_in_memory<R: Read + Drop, W: Write, E: Write>(
+    alloc: Global,
+    policy: Policy,
+    reader: R,
+    writer: &mut W,
+    errors: &mut E,
+) -> Result<u8, DeskFault>
+    ensures status { IfOk result (λ s. s ≤ 1) }
+    ensures failed { IfErr result (λ fault. fault ≡ memory_fault) }
+{
+    match Desk::adopt(alloc, Memory::make(alloc, policy, Clock::at(0))) {
+        Ok(mut desk) => Ok(batch(alloc, reader, writer, errors, &mut desk)),
+        Err(unadopted) => Err(DeskFault::from(unadopted.fault)),
     }
 }
 

@@ -19,13 +19,6 @@ pub(crate) struct AnswerLines<'r, 'o, 'e, R: Read, W: Write, E: Write> {
     pub(crate) errors: &'e mut E,
 }
 
-impl<'r, 'o, 'e, R: Read, W: Write, E: Write> AnswerLines<'r, 'o, 'e, R, W, E> {
-    /// Answers them by a desk, and gives the exit status.
-    pub(crate) fn answer<K: Storage + Drop>(&mut self, desk: &mut Desk<K>) -> u8 {
-        batch(self.alloc, &mut *self.reader, self.out, self.errors, desk)
-    }
-}
-
 impl<'r, 'o, 'e, R: Read, W: Write, E: Write> Task for AnswerLines<'r, 'o, 'e, R, W, E> {
     type Fault = Fault;
 
@@ -34,7 +27,13 @@ impl<'r, 'o, 'e, R: Read, W: Write, E: Write> Task for AnswerLines<'r, 'o, 'e, R
         store: K,
     ) -> Result<(K, Result<u8, Fault>), Fault> {
         let mut desk = adopt(self.alloc, store)?;
-        let status = self.answer(&mut desk);
+        let status = batch(
+            self.alloc,
+            &mut *self.reader,
+            self.out,
+            self.errors,
+            &mut desk,
+        );
         Ok((desk.close(), Ok(status)))
     }
 }

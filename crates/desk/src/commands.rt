@@ -1,12 +1,12 @@
 //! The commands, each over its reader and its writers.
 use crate::answering::{AnswerLines, ServeConnections};
-use crate::desks::adopt;
 use crate::fault::{Fault, tell};
-use crate::reporting::{CheckStatuses, ListOrders};
+use crate::reporting::{CheckStatuses, ListOrders, filter, form};
 use crate::revoking::Revoke;
+use batches::batch_in_memory;
 use command_line::{AUTHZ_LIFE, NONCE_LIFE, ORDER_LIFE, Order, Terms, WordsFault, read_words};
-use desk_calls::{Desk, DeskFault, Memory};
-use desk_model::{Clock, Policy};
+use desk_calls::DeskFault;
+use desk_model::Policy;
 use file_tasks::{make_desk, run_over_file};
 use std::alloc::Global;
 use std::io::{Read, Write};
@@ -19,14 +19,9 @@ const TERMS: Terms<'static> = Terms {
     authz_life: AUTHZ_LIFE.seconds,
 };
 
-/// Says that there was no memory for the words, and gives the exit status.
-pub fn no_memory<E: Write>(errors: &mut E) -> u8 {
-    tell(errors, Fault::Desk(DeskFault::Memory))
-}
-
 /// Runs what the words ask for, and gives the exit status: 0 where it was done, 1 after a fault, 2 where the words are
 /// wrong or a limit of the terms is broken, 3 where a stored status is wrong.
-pub fn run_words<R: Read + Drop, W: Write, E: Write>(
+pub(crate) fn run_words<R: Read + Drop, W: Write, E: Write>(
     rt: &HostRuntime,
     words: &[String],
     reader: R,
@@ -35,7 +30,7 @@ pub fn run_words<R: Read + Drop, W: Write, E: Write>(
 ) -> u8 {
     let done = match read_words(rt.alloc(), words) {
         Ok(order) => run_order(rt, order, reader, out, errors),
-        Err(fault) => return tell_words(&fault, out, errors),
+        Err(fault) => tell_words(&fault, out, errors),
     };
     match done {
         Ok(status) => status,
@@ -65,10 +60,17 @@ fn run_order<R: Read + Drop, W: Write, E: Write>(
             run_over_file(rt, file, task)
         }
         Order::Status { file, listing } => {
-            run_over_file(rt, file, ListOrders::new(alloc, out, listing)?)
+            let task = ListOrders {
+                alloc,
+                out,
+                form: form(listing.json),
+                filter: filter(listing)?,
+            };
+            run_over_file(rt, file, task)
         }
         Order::Check { file, json } => {
-            run_over_file(rt, file, CheckStatuses::new(alloc, out, json))
+            let form = form(json);
+            run_over_file(rt, file, CheckStatuses { alloc, out, form })
         }
         Order::Revoke { file, target } => run_over_file(rt, file, Revoke { rt, target, out }),
         Order::Batch { file } => answer_lines(rt, file, reader, out, errors),
@@ -84,39 +86,35 @@ fn answer_lines<R: Read + Drop, W: Write, E: Write>(
     errors: &mut E,
 ) -> Result<u8, Fault> {
     let alloc = rt.alloc();
-    let mut task = AnswerLines {
+    let Some(file) = file else {
+        let policy = policy(alloc, TERMS)?;
+        return Ok(batch_in_memory(alloc, policy, reader, out, errors)?);
+    };
+    let task = AnswerLines {
         alloc,
         reader: &mut reader,
         out,
         errors,
     };
-    match file {
-        Some(file) => run_over_file(rt, file, task),
-        None => answer_in_memory(&mut task),
-    }
-}
-
-// Answers the lines by a new desk in memory, made at 0.
-fn answer_in_memory<R: Read, W: Write, E: Write>(
-    task: &mut AnswerLines<'_, '_, '_, R, W, E>,
-) -> Result<u8, Fault> {
-    let policy = policy(task.alloc, TERMS)?;
-    let mut desk = adopt(task.alloc, Memory::make(task.alloc, policy, Clock::at(0)))?;
-    Ok(task.answer(&mut desk))
+    run_over_file(rt, file, task)
 }
 
 // Says what the words lack, or the help that they ask for.
-fn tell_words<W: Write, E: Write>(fault: &WordsFault, out: &mut W, errors: &mut E) -> u8 {
+fn tell_words<W: Write, E: Write>(
+    fault: &WordsFault,
+    out: &mut W,
+    errors: &mut E,
+) -> Result<u8, Fault> {
     match fault {
         WordsFault::Help(text) => match write!(out, "{text}") {
-            Ok(()) => 0,
-            Err(_) => tell(errors, Fault::Output),
+            Ok(()) => Ok(0),
+            Err(_) => Err(Fault::Output),
         },
         WordsFault::Wrong(text) => {
             let _ = write!(errors, "{text}");
-            2
+            Ok(2)
         }
-        WordsFault::Memory => no_memory(errors),
+        WordsFault::Memory => Err(Fault::Desk(DeskFault::Memory)),
     }
 }
 

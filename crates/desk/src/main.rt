@@ -8,19 +8,22 @@ mod fault;
 mod reporting;
 mod revoking;
 
+use crate::commands::run_words;
+use crate::fault::{Fault, tell};
+use desk_calls::DeskFault;
 use std::io;
 use std::process::ExitCode;
 
 fn main(rt: HostRuntime) -> ExitCode {
     let status = match words_given(&rt) {
-        Ok(words) => commands::run_words(
+        Ok(words) => run_words(
             &rt,
             words.as_slice(),
             rt.reader(),
             &mut io::writer(&rt),
             &mut rt.stderr(),
         ),
-        Err(_) => commands::no_memory(&mut rt.stderr()),
+        Err(_) => tell(&mut rt.stderr(), Fault::Desk(DeskFault::Memory)),
     };
     ExitCode::from(status)
 }

@@ -12,13 +12,17 @@ use std::io::Write;
 // The exit status where a stored status is wrong.
 const FOUND: u8 = 3;
 
-// The form that the words ask for.
-fn form(json: bool) -> Form {
+/// The form that the words ask for.
+pub(crate) fn form(json: bool) -> Form {
     if json { Form::Json } else { Form::Text }
 }
 
-// The orders that the words ask for.
-fn filter(listing: Listing<'_>) -> Result<OrderFilter, Fault> {
+/// The orders that the words ask for.
+///
+/// # Errors
+///
+/// `NoStatus` where the word of the status names none.
+pub(crate) fn filter(listing: Listing<'_>) -> Result<OrderFilter, Fault> {
     let status = match listing.status {
         Some(word) => Some(OrderStatus::from_text(word).ok_or(Fault::NoStatus)?),
         None => None,
@@ -32,31 +36,10 @@ fn filter(listing: Listing<'_>) -> Result<OrderFilter, Fault> {
 /// Lists the orders.
 #[derive(Drop)]
 pub(crate) struct ListOrders<'a, W: Write> {
-    alloc: Global,
-    out: &'a mut W,
-    form: Form,
-    filter: OrderFilter,
-}
-
-impl<'a, W: Write> ListOrders<'a, W> {
-    /// Lists those that the words ask for.
-    ///
-    /// # Errors
-    ///
-    /// `NoStatus` where the word of the status names none.
-    pub(crate) fn new(
-        alloc: Global,
-        out: &'a mut W,
-        listing: Listing<'_>,
-    ) -> Result<ListOrders<'a, W>, Fault> {
-        let filter = filter(listing)?;
-        Ok(ListOrders {
-            alloc,
-            out,
-            form: form(listing.json),
-            filter,
-        })
-    }
+    pub(crate) alloc: Global,
+    pub(crate) out: &'a mut W,
+    pub(crate) form: Form,
+    pub(crate) filter: OrderFilter,
 }
 
 impl<'a, W: Write> Task for ListOrders<'a, W> {
@@ -75,20 +58,9 @@ impl<'a, W: Write> Task for ListOrders<'a, W> {
 /// Lists the stored statuses that are wrong.
 #[derive(Drop)]
 pub(crate) struct CheckStatuses<'a, W: Write> {
-    alloc: Global,
-    out: &'a mut W,
-    form: Form,
-}
-
-impl<'a, W: Write> CheckStatuses<'a, W> {
-    /// Lists them as JSON, or as text.
-    pub(crate) fn new(alloc: Global, out: &'a mut W, json: bool) -> CheckStatuses<'a, W> {
-        CheckStatuses {
-            alloc,
-            out,
-            form: form(json),
-        }
-    }
+    pub(crate) alloc: Global,
+    pub(crate) out: &'a mut W,
+    pub(crate) form: Form,
 }
 
 impl<'a, W: Write> Task for CheckStatuses<'a, W> {

@@ -8,7 +8,7 @@ use desk_loading::RowsAbove;
 use desk_model::{Ask, Body, Call, OfficeAsk, Sequence};
 use desk_storage::Storage;
 use file_tasks::Task;
-use std::io::{self, Write};
+use std::io::Write;
 
 /// Revokes an authorization or an account, at the machine's clock.
 #[derive(Drop)]
@@ -19,35 +19,22 @@ pub(crate) struct Revoke<'a, W: Write> {
 }
 
 impl<'a, W: Write> Revoke<'a, W> {
-    // The call that asks so, at the machine's clock.
-    fn call(&self) -> Result<Call, Fault> {
+    // Revokes it by a desk.
+    fn revoke<K: Storage + Drop>(&self, desk: &mut Desk<K>) -> Result<(), Fault> {
         let ask = match self.target {
             Target::Authorization(number) => OfficeAsk::RevokeAuthz(number),
             Target::Account(number) => OfficeAsk::RevokeAccount(number),
         };
-        Ok(Call {
+        let call = Call {
             at: moment(self.rt)?,
             random: Sequence::new(Vec::new(self.rt.alloc())),
             ask: Ask::Office(ask),
-        })
-    }
-
-    // Revokes it by a desk.
-    fn revoke<K: Storage + Drop>(&self, desk: &mut Desk<K>) -> Result<(), Fault> {
-        let call = self.call()?;
+        };
         let answered = desk.answer(self.rt.alloc(), &call);
         drop(call);
         match &answered?.body {
             Body::Problem(problem) => Err(Fault::Refused(problem.refusal)),
             _ => Ok(()),
-        }
-    }
-
-    // Says that it is revoked.
-    fn tell(&mut self) -> io::Result<()> {
-        match self.target {
-            Target::Authorization(number) => writeln!(self.out, "authz {number} revoked"),
-            Target::Account(number) => writeln!(self.out, "account {number} revoked"),
         }
     }
 }
@@ -61,7 +48,11 @@ impl<'a, W: Write> Task for Revoke<'a, W> {
     ) -> Result<(K, Result<u8, Fault>), Fault> {
         let mut desk = adopt(self.rt.alloc(), store)?;
         self.revoke(&mut desk)?;
-        match self.tell() {
+        let told = match self.target {
+            Target::Authorization(number) => writeln!(self.out, "authz {number} revoked"),
+            Target::Account(number) => writeln!(self.out, "account {number} revoked"),
+        };
+        match told {
             Ok(()) => Ok((desk.close(), Ok(0))),
             Err(_) => Err(Fault::Output),
         }
