@@ -101,6 +101,12 @@ fn answer<K: Storage + Drop>(
 fn call_of(alloc: Global, at: u64, random: &[u8], ask: Ask) -> Result<Call, AllocError>
     ensures { IfOk result (λ call. call ≡ call_of at random.now ask) }
 {
-    let random = Sequence::new(Vec::from_slice(alloc, random)?);
-    Ok(Call { at, random, ask })
+    match Vec::from_slice(alloc, random) {
+        Ok(random) => Ok(Call {
+            at,
+            random: Sequence::new(random),
+            ask,
+        }),
+        Err(refused) => Err(refused),
+    }
 }

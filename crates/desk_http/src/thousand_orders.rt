@@ -41,11 +41,14 @@ fn request(
     call(alloc, Ask::Signed(signed))
 }
 
-// The nonce of the reply to a call.
-fn next_nonce(rt: &impl Abort, alloc: Global, desk: &mut Desk<Memory>, call: Call) -> Option<Text> {
-    let reply = desk.answer(alloc, &call).ok().expect(rt, "a reply");
+// The nonce of the reply to a call, none where there is no reply.
+fn next_nonce(alloc: Global, desk: &mut Desk<Memory>, call: Call) -> Option<Text> {
+    let answered = desk.answer(alloc, &call);
     drop(call);
-    reply.nonce
+    match answered {
+        Ok(mut reply) => reply.nonce.take(),
+        Err(_) => None,
+    }
 }
 
 // A new account at a new desk, and the nonce of its next request.
@@ -55,10 +58,10 @@ fn open_account(
     desk: &mut Desk<Memory>,
 ) -> Result<Option<Text>, Fail> {
     let asked = call(alloc, Ask::NewNonce { head: false })?;
-    let nonce = next_nonce(rt, alloc, desk, asked);
+    let nonce = next_nonce(alloc, desk, asked);
     let payload = String::from_str(alloc, "{}")?;
     let asked = request(rt, alloc, Target::NewAccount, nonce, payload)?;
-    Ok(next_nonce(rt, alloc, desk, asked))
+    Ok(next_nonce(alloc, desk, asked))
 }
 
 // The orders of one account, each for one name of its own.
@@ -69,7 +72,7 @@ fn make_orders(rt: &impl Abort, alloc: Global, desk: &mut Desk<Memory>) -> Resul
             "{{\"identifiers\":[{{\"type\":\"dns\",\"value\":\"n{number}.example\"}}]}}"
         )?;
         let asked = request(rt, alloc, Target::NewOrder, nonce, payload)?;
-        nonce = next_nonce(rt, alloc, desk, asked);
+        nonce = next_nonce(alloc, desk, asked);
     }
     Ok(())
 }
