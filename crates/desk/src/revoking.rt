@@ -5,7 +5,7 @@ use command_line::Target;
 use connections::moment;
 use desk_calls::Desk;
 use desk_loading::RowsAbove;
-use desk_model::{Ask, Body, Call, OfficeAsk, Sequence};
+use desk_model::OfficeAsk;
 use desk_storage::Storage;
 use file_tasks::Task;
 use std::io::Write;
@@ -21,20 +21,14 @@ pub(crate) struct Revoke<'a, W: Write> {
 impl<'a, W: Write> Revoke<'a, W> {
     // Revokes it by a desk.
     fn revoke<K: Storage + Drop>(&self, desk: &mut Desk<K>) -> Result<(), Fault> {
+        let at = moment(self.rt)?;
         let ask = match self.target {
             Target::Authorization(number) => OfficeAsk::RevokeAuthz(number),
             Target::Account(number) => OfficeAsk::RevokeAccount(number),
         };
-        let call = Call {
-            at: moment(self.rt)?,
-            random: Sequence::new(Vec::new(self.rt.alloc())),
-            ask: Ask::Office(ask),
-        };
-        let answered = desk.answer(self.rt.alloc(), &call);
-        drop(call);
-        match &answered?.body {
-            Body::Problem(problem) => Err(Fault::Refused(problem.refusal)),
-            _ => Ok(()),
+        match desk.ask_office(self.rt.alloc(), at, ask)? {
+            Some(refusal) => Err(Fault::Refused(refusal)),
+            None => Ok(()),
         }
     }
 }

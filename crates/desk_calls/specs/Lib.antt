@@ -1,5 +1,6 @@
 pub mod Answers
 pub mod Faults
+pub mod Office
 pub mod Runs
 pub mod Seen
 pub mod SeenRuns

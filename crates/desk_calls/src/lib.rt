@@ -5,6 +5,7 @@ mod desk;
 mod fault;
 mod laws;
 mod memory;
+mod office;
 
 pub use desk::{Desk, Unadopted};
 pub use fault::DeskFault;
