@@ -32,11 +32,12 @@ edits:
 	@python3 scripts/edits.py check
 
 # The gate leaves the program that it proved, built and ran in crates/desk/out. It runs as many checks side by side as there
-# are processors, each by one job.
+# are processors, each by one job. The prover's allocator gives back what was freed after a tenth of a second, not after a
+# whole one: the largest process, the check of the program, takes a quarter of a GB less so.
 test: edits
 	@$(HAS_RT)
 	@echo 'Running the merge gate: every proof from nothing, the edits that must fail, every test.'
-	@start=$$SECONDS; RT_JOBS=$${RT_JOBS:-$$(nproc)} rt ci || exit 1; echo "The gate took $$((SECONDS - start)) seconds on $$(nproc) processors."
+	@start=$$SECONDS; MIMALLOC_PURGE_DELAY=100 RT_JOBS=$${RT_JOBS:-$$(nproc)} rt ci || exit 1; echo "The gate took $$((SECONDS - start)) seconds on $$(nproc) processors."
 	@mkdir -p bin
 	@cp crates/desk/out/desk bin/desk
 	@set -o pipefail; for calls in examples/*.jsonl; do \
