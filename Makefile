@@ -33,7 +33,7 @@ edits:
 
 # The gate leaves the program that it proved, built and ran in crates/desk/out. It runs as many checks side by side as there
 # are processors, each by one job. The prover's allocator gives back what was freed after a tenth of a second, not after a
-# whole one: the largest process, the check of the program, takes a quarter of a GB less so.
+# whole one: the largest process, the check of the program, takes up to a quarter of a GB less so.
 test: edits
 	@$(HAS_RT)
 	@echo 'Running the merge gate: every proof from nothing, the edits that must fail, every test.'
