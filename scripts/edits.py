@@ -4,7 +4,11 @@
   scripts/edits.py check         sees that each edit still applies: its old texts stand once, and its first line says what it gets wrong
   scripts/edits.py try [NAME..]  tries the planted edits of these crates, or of all, crates side by side; the prover must refuse each. Edits of different
                                  functions are made together and told apart by what it says of each function; what this leaves open is tried alone
+
+An edit may leave out modules that its wrong body does not need, so that it is tried in less time: it puts #[cfg(test)] before what names them. That the
+crate is proved without these, so that it is refused for its wrong body alone, is tried with the planted edits.
 """
+import contextlib
 import os
 import re
 import shutil
@@ -16,6 +20,7 @@ from concurrent.futures import ThreadPoolExecutor
 
 ROOT = os.path.dirname(os.path.dirname(os.path.abspath(__file__)))
 MEMORY = 4 << 30  # what one crate's edits take at most, in bytes
+LEFT_OUT = "#[cfg(test)] "
 LOST = re.compile(r"has no field|is not in scope|has no `|was not admitted")  # of a proof that names what an edit took away
 
 
@@ -30,13 +35,18 @@ def crates_with(folder):
     return sorted(name for name in os.listdir(folder) if os.path.isdir(f"{folder}/{name}"))
 
 
+def leaves_out(old, new):
+    """Whether a line is not changed but left out."""
+    return new == LEFT_OUT + old
+
+
 def fault_of(edit, crate):
     """Why an edit does not apply to its crate, or nothing."""
     with open(edit, encoding="utf-8") as file:
         lines = file.read().split("\n")
     if not lines[0].startswith("wrong: "):
         return "its first line does not say what it gets wrong"
-    texts, path, old, pairs = {}, None, None, 0
+    texts, path, old, changes = {}, None, None, 0
     for line in lines[1:]:
         word, _, text = line.partition(": ") if not line.startswith("new:") else ("new", "", line[4:].removeprefix(" "))
         if word == "file":
@@ -54,8 +64,10 @@ def fault_of(edit, crate):
                     texts[path] = file.read()
             if texts[path].count(old) != 1:
                 return f"{old.strip()!r} stands {texts[path].count(old)} times in {path}"
-            texts[path], old, pairs = texts[path].replace(old, text), None, pairs + 1
-    return None if pairs else "it changes nothing"
+            if LEFT_OUT in text and not leaves_out(old, text):
+                return f"{old.strip()!r} is left out and changed"
+            texts[path], changes, old = texts[path].replace(old, text), changes + (not leaves_out(old, text)), None
+    return None if changes else "it changes nothing"
 
 
 def check():
@@ -137,13 +149,6 @@ class Edit:
                 return
             self.functions.append(inside[-1])
 
-    def apply(self, folder):
-        for path, old, new in self.pairs:
-            with open(f"{folder}/{path}", encoding="utf-8") as it:
-                text = it.read()
-            with open(f"{folder}/{path}", "w", encoding="utf-8") as it:
-                it.write(text.replace(old, new))
-
     def is_refused(self, said):
         """Whether the prover's words refuse a function that the edit changes, for what stands in it and not for a name that it lost."""
         for line in said.split("\n"):
@@ -154,6 +159,26 @@ class Edit:
             if at and not LOST.search(at[3]) and any(it.is_proved_in(at[1], at[2]) for it in self.functions):
                 return True
         return False
+
+
+@contextlib.contextmanager
+def made(folder, pairs):
+    """Has a crate's texts replaced for a while."""
+    sources = {path: open(f"{folder}/{path}", encoding="utf-8").read() for path, _, _ in pairs}
+    texts = dict(sources)
+    for path, old, new in pairs:
+        texts[path] = texts[path].replace(old, new)
+    try:
+        write(folder, texts)
+        yield
+    finally:
+        write(folder, sources)
+
+
+def write(folder, texts):
+    for path, text in texts.items():
+        with open(f"{folder}/{path}", "w", encoding="utf-8") as it:
+            it.write(text)
 
 
 def linked(folder, to, *without):
@@ -188,25 +213,32 @@ def refused_together(folder, edits):
     """The edits that are refused when they are made together. The prover takes a function by the contracts of those that it calls, so what it says of one
     function is what it says without the edits of others; it leaves one that calls a refused one open, which the next round tries."""
     seed, kept = f"{folder}/out/seed", f"{folder}/out/incremental"
-    taken, made = set(), []
+    taken, chosen = set(), []
     for edit in edits:
         keys = {it.key for it in edit.functions}
         if keys and not keys & taken:
             taken |= keys
-            made.append(edit)
-    sources = {path: open(f"{folder}/{path}", encoding="utf-8").read() for edit in made for path, _, _ in edit.pairs}
+            chosen.append(edit)
     shutil.rmtree(kept, ignore_errors=True)
     linked(seed, kept)
-    try:
-        for edit in made:
-            edit.apply(folder)
+    with made(folder, [pair for edit in chosen for pair in edit.pairs]):
         status, said = run(folder, "check", "--jobs", "1")
-    finally:
-        for path, text in sources.items():
-            with open(f"{folder}/{path}", "w", encoding="utf-8") as it:
-                it.write(text)
     is_verdict = status == 1 and "logic=not-proved" in said
-    return [it for it in made if is_verdict and it.is_refused(said)]
+    return [it for it in chosen if is_verdict and it.is_refused(said)]
+
+
+def unproved_without(crate, folder):
+    """The lines on the gate's edits of a crate that leave out what it is not proved without."""
+    bad = []
+    for file in edits_of(f"{ROOT}/crates/{crate}/must-fail"):
+        edit = Edit(file, folder)
+        without = [(path, old, new) for path, old, new in edit.pairs if leaves_out(old, new)]
+        if without:
+            with made(folder, without):
+                status, said = run(folder, "check", "--jobs", "1")
+            if status:
+                bad += [f"{edit.name}: {crate} is not proved without what it leaves out", said[-2000:]]
+    return bad
 
 
 def try_alone(copy, crate, edits):
@@ -232,6 +264,7 @@ def try_crate(copy, crate):
     status, said = run(folder, "check", "--jobs", "1")
     if status:
         return 0, [f"{crate} is not proved as it stands", said[-2000:]]
+    bad = unproved_without(crate, folder)
     os.rename(f"{folder}/out/incremental", f"{folder}/out/seed")
     while left:
         refused = refused_together(folder, left)
@@ -240,7 +273,7 @@ def try_crate(copy, crate):
         left = [it for it in left if it not in refused]
     shutil.rmtree(f"{folder}/out/incremental", ignore_errors=True)
     os.rename(f"{folder}/out/seed", f"{folder}/out/incremental")
-    return len(left), try_alone(copy, crate, left)
+    return len(left), bad + try_alone(copy, crate, left)
 
 
 def try_planted(names):

@@ -26,7 +26,7 @@ impl<'a, W: Write> Revoke<'a, W> {
             Target::Authorization(number) => OfficeAsk::RevokeAuthz(number),
             Target::Account(number) => OfficeAsk::RevokeAccount(number),
         };
-        match desk.ask_office(self.rt.alloc(), at, ask)? {
+        match desk.answer_office(self.rt.alloc(), at, ask)? {
             Some(refusal) => Err(Fault::Refused(refusal)),
             None => Ok(()),
         }

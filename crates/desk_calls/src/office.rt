@@ -21,13 +21,13 @@ fn refusal_in(body: &Body) -> Option<Refusal>
 }
 
 impl<K: Storage + Drop> Desk<K> {
-    /// Asks what an office asks at a moment, in seconds since 1970, with no random bytes; and gives the refusal, if it is
+    /// Answers what an office asks at a moment, in seconds since 1970, with no random bytes, and gives the refusal, if it is
     /// refused (RFC 8555, 6.7).
     ///
     /// # Errors
     ///
     /// Those of `answer` to that call.
-    pub fn ask_office(
+    pub fn answer_office(
         &mut self,
         alloc: Global,
         at: u64,

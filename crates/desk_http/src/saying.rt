@@ -107,6 +107,9 @@ fn call_of(alloc: Global, at: u64, random: &[u8], ask: Ask) -> Result<Call, Allo
             random: Sequence::new(random),
             ask,
         }),
-        Err(refused) => Err(refused),
+        Err(refused) => {
+            drop(ask);
+            Err(refused)
+        }
     }
 }

@@ -99,14 +99,36 @@ fn counts(book: &Book) -> [usize; 4] {
     ]
 }
 
-// How many the desk has, and how many of them a request to its first order touches.
+// How many rows of a store a call touches.
+fn counts_of_touched(
+    rt: &impl Abort,
+    alloc: Global,
+    store: &mut Memory,
+    call: &Call,
+) -> [usize; 4] {
+    let touched = store.load_part(alloc, call).ok().expect(rt, "rows");
+    counts(&touched)
+}
+
+// How many rows a store has, and how many of them a request to its first order touches.
+fn counts_of(rt: &impl Abort, alloc: Global, store: &mut Memory) -> Result<[[usize; 4]; 2], Fail> {
+    let asked = request(rt, alloc, Target::Order(1), None, String::new(alloc))?;
+    let touched = counts_of_touched(rt, alloc, store, &asked);
+    drop(asked);
+    Ok([counts(store.book()), touched])
+}
+
+// How many there are at a desk of a thousand orders.
 fn counts_of_thousand(rt: &impl Abort, alloc: Global) -> Result<[[usize; 4]; 2], Fail> {
     let mut desk = new_desk(rt, alloc)?;
-    make_orders(rt, alloc, &mut desk)?;
-    let asked = request(rt, alloc, Target::Order(1), None, String::new(alloc))?;
+    let made = make_orders(rt, alloc, &mut desk);
     let mut store = desk.close();
-    let touched = store.load_part(alloc, &asked).ok().expect(rt, "rows");
-    Ok([counts(store.book()), counts(&touched)])
+    let counts = match made {
+        Ok(()) => counts_of(rt, alloc, &mut store),
+        Err(fail) => Err(fail),
+    };
+    drop(store);
+    counts
 }
 
 #[test]
