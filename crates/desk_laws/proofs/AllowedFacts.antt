@@ -8,7 +8,7 @@ use Rattle.desk_model.specs.Lookup.{holds}
 use Rattle.desk_model.specs.Entry.{History}
 use Rattle.desk_model.specs.Contact.{contacts_pass}
 use Rattle.desk_model.specs.Nonce.{nonces, is_open}
-use Rattle.desk_model.specs.Account.{accounts, is_valid as is_valid_account}
+use Rattle.desk_model.specs.Account.{accounts, account_by_key, key_of, is_valid as is_valid_account}
 use Rattle.desk_model.specs.Authorization.{authorizations, authorization_of, has_challenge, authorization_status, challenge_status, is_live, is_pending}
 use Rattle.desk_model.specs.Order.{orders, is_ready, is_processing}
 use Rattle.desk_model.specs.History.{clock}
@@ -21,7 +21,7 @@ use Rattle.desk_model.specs.Allowed.{may_on, challenge_passes}
 use Rattle.desk_model.specs.declared.status.ChallengeStatus.{ChallengeStatus}
 use Rattle.desk_model.specs.declared.entry.Entry.{Entry}
 use Rattle.desk_model.specs.declared.entry.Entry.TheVariants.{Made as made, Issued as issued, Spent as spent, Opened as opened}
-use Rattle.desk_model.specs.declared.entry.Entry.TheVariants.{ContactsChanged as contacts_changed, AccountEnded as account_ended}
+use Rattle.desk_model.specs.declared.entry.Entry.TheVariants.{ContactsChanged as contacts_changed, KeyChanged as key_changed, AccountEnded as account_ended}
 use Rattle.desk_model.specs.declared.entry.Entry.TheVariants.{Ordered as ordered, Answered as answered, Reported as reported}
 use Rattle.desk_model.specs.declared.entry.Entry.TheVariants.{AuthorizationEnded as authorization_ended, Finalized as finalized}
 use Rattle.desk_model.specs.declared.entry.Entry.TheVariants.{Certified as certified, Failed as failed}
@@ -58,15 +58,15 @@ none-map f (Some x) = refl
 -- ---- challenges
 
 -- the row of a challenge that stands in an authorization has the status that the history gives
-challenge_found : (F : History) (test : ChallengeStatus → Bool) (n : ℕ) (cs : List Challenge) → list_any (λ c. n == c.number) cs ≡ true →
-    holds (λ c. test c.status) (find (λ c. n == c.number) (map (challenge_row F) cs)) ≡ test (challenge_status n F)
-challenge_found F test n [] h = cc
-challenge_found F test n (c ∷ cs) h = by (n == c.number) refl h (challenge_found F test n cs)
+challenge_found : (F : History) (test : ChallengeStatus → Bool) (n account : ℕ) (cs : List Challenge) → list_any (λ c. n == c.number) cs ≡ true →
+    holds (λ c. test c.status) (find (λ c. n == c.number) (map (challenge_row F account) cs)) ≡ test (challenge_status n F)
+challenge_found F test n account [] h = cc
+challenge_found F test n account (c ∷ cs) h = by (n == c.number) refl h (challenge_found F test n account cs)
   where
     by : (b : Bool) → (n == c.number) ≡ b → (b || list_any (λ d. n == d.number) cs) ≡ true →
-        (list_any (λ d. n == d.number) cs ≡ true → holds (λ r. test r.status) (find (λ d. n == d.number) (map (challenge_row F) cs))
+        (list_any (λ d. n == d.number) cs ≡ true → holds (λ r. test r.status) (find (λ d. n == d.number) (map (challenge_row F account) cs))
         ≡ test (challenge_status n F)) →
-        holds (λ r. test r.status) (cond b (Some (challenge_row F c)) (find (λ d. n == d.number) (map (challenge_row F) cs)))
+        holds (λ r. test r.status) (cond b (Some (challenge_row F account c)) (find (λ d. n == d.number) (map (challenge_row F account) cs)))
         ≡ test (challenge_status n F)
     by true e k ih = ap (λ j. test (challenge_status j F)) (sym (eqb-true n c.number e))
     by false e k ih = ih k
@@ -80,24 +80,24 @@ challenge_allowed F m test n =
     ∙ sym (row_holds (λ a. is_pending a.status && holds (λ c. test c.status) (find (λ c. n == c.number) a.challenges)) (has_row n)
     (authorization_row F m) (authorizations F)
     ∙ ap (holds (λ a. is_pending (authorization_status a F m)
-    && holds (λ c. test c.status) (find (λ c. n == c.number) (map (challenge_row F) a.challenges)))) (find-same (λ a. has_row n
+    && holds (λ c. test c.status) (find (λ c. n == c.number) (map (challenge_row F a.account) a.challenges)))) (find-same (λ a. has_row n
     (authorization_row F m a)) (has_challenge n) (authorizations F) (λ a. has_row-row n F m a)))
   where
     go : (xs : List Authorization) → (holds (λ a. is_pending (authorization_status a F m)) (find (has_challenge n) xs) && test (challenge_status n F))
         ≡ holds (λ a. is_pending (authorization_status a F m)
-        && holds (λ c. test c.status) (find (λ c. n == c.number) (map (challenge_row F) a.challenges))) (find (has_challenge n) xs)
+        && holds (λ c. test c.status) (find (λ c. n == c.number) (map (challenge_row F a.account) a.challenges))) (find (has_challenge n) xs)
     go [] = refl
     go (x ∷ xs) = by (has_challenge n x) refl (go xs)
       where
         by : (b : Bool) → has_challenge n x ≡ b →
             (holds (λ a. is_pending (authorization_status a F m)) (find (has_challenge n) xs) && test (challenge_status n F))
             ≡ holds (λ a. is_pending (authorization_status a F m)
-            && holds (λ c. test c.status) (find (λ c. n == c.number) (map (challenge_row F) a.challenges))) (find (has_challenge n) xs) →
+            && holds (λ c. test c.status) (find (λ c. n == c.number) (map (challenge_row F a.account) a.challenges))) (find (has_challenge n) xs) →
             (holds (λ a. is_pending (authorization_status a F m)) (cond b (Some x) (find (has_challenge n) xs)) && test (challenge_status n F))
             ≡ holds (λ a. is_pending (authorization_status a F m)
-            && holds (λ c. test c.status) (find (λ c. n == c.number) (map (challenge_row F) a.challenges))) (cond b (Some x)
+            && holds (λ c. test c.status) (find (λ c. n == c.number) (map (challenge_row F a.account) a.challenges))) (cond b (Some x)
             (find (has_challenge n) xs))
-        by true e ih = ap (λ b. is_pending (authorization_status x F m) && b) (sym (challenge_found F test n x.challenges e))
+        by true e ih = ap (λ b. is_pending (authorization_status x F m) && b) (sym (challenge_found F test n x.account x.challenges e))
         by false e ih = ih
 
 -- ---- nonces
@@ -128,6 +128,14 @@ nonce_open q k n (x ∷ xs) h = by (x.serial == k) refl (q x) refl (nonce_open q
     by false e true r ih = ih ∙ sym (ap (λ c. is_some (cond c (Some x) (find (λ y. y.serial == k) (filter q xs)))) e)
     by false e false r ih = ih
 
+-- ---- keys
+
+-- no account has the key where no row has it
+unkeyed : (F : History) (key : List ℕ) → is_none (account_by_key key F) ≡ is_none (find (λ a. bytes_eq a.key key) (map (account_row F) (accounts F)))
+unkeyed F key =
+    sym (ap is_none (find-map (λ a. bytes_eq a.key key) (account_row F) (accounts F))
+    ∙ none-map (account_row F) (find (λ a. bytes_eq (key_of a F) key) (accounts F)))
+
 -- ---- every kind but the first
 
 -- what may follow, by the history and by its tables
@@ -136,11 +144,11 @@ allowed F (made t) m h = absurd h
 allowed F (issued r) m h = refl
 allowed F (spent n) m h = nonce_open (is_open F m) n 1 (nonces F) (numbered_ascends (λ x. x.serial) 1 (nonces F) (nonces_numbered F))
 allowed F (opened key cs) m h =
-    ap (λ b. b && contacts_pass cs)
-    (sym (ap is_none (find-map (λ a. bytes_eq a.key key) (account_row F) (accounts F))
-    ∙ none-map (account_row F) (find (λ a. bytes_eq a.key key) (accounts F))))
+    ap (λ b. b && contacts_pass cs) (unkeyed F key)
 allowed F (contacts_changed n cs) m h =
     ap (λ b. b && contacts_pass cs) (sym (row_holds (λ a. is_valid_account a.status) (λ a. a.number == n) (account_row F) (accounts F)))
+allowed F (key_changed n key) m h =
+    (λ i. sym (row_holds (λ a. is_valid_account a.status) (λ a. a.number == n) (account_row F) (accounts F)) i && unkeyed F key i)
 allowed F (account_ended n s) m h = sym (row_holds (λ a. is_valid_account a.status) (λ a. a.number == n) (account_row F) (accounts F))
 allowed F (ordered n ws) m h =
     ap (λ b. b && (has_length 1 most_names ws && (all_different (map wanted_name ws) && list_all is_wanted ws)))

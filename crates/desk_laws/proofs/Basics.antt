@@ -1,7 +1,7 @@
 -- Small lemmas on options and lists.
 use Rattle.std.proofs.Common.{◌≡◌, ◌<◌, ◌≢◌, ℕ, ◌+◌, List, [], ◌∷◌, ◌++◌, length, map, Option, Some, None, refl, sym, ap, ◌∙◌}
 use Rattle.std.proofs.Common.{subst, true, false, Bool, cond, arith}
-use Rattle.std.specs.Prelude.{◌==◌, ◌||◌, find}
+use Rattle.std.specs.Prelude.{◌==◌, ◌||◌, find, is_some}
 use Rattle.std.specs.List.{list_any}
 use Rattle.std.specs.Option.{option_map}
 use Rattle.std.proofs.lemmas.Bool.{eqb-true, eq-eqb, ne_eqb}
@@ -17,6 +17,13 @@ earlier-some x (Some y) = refl
 pub none_earlier : {X : Type 0} (o : Option X) → earlier None o ≡ o
 none_earlier None = refl
 none_earlier (Some x) = refl
+
+-- there is a first fact where there is one of the two
+pub is_some-earlier : {X : Type 0} (x y : Option X) → is_some (earlier x y) ≡ (is_some x || is_some y)
+is_some-earlier None None = refl
+is_some-earlier None (Some y) = refl
+is_some-earlier (Some x) None = refl
+is_some-earlier (Some x) (Some y) = refl
 
 -- a test of some mapped item
 pub list_any-map : {X Y : Type 0} (p : Y → Bool) (f : X → Y) (xs : List X) → list_any p (map f xs) ≡ list_any (λ x. p (f x)) xs

@@ -12,7 +12,7 @@ use Rattle.desk_model.specs.Effect.{noted_account, noted_order, touches_account,
 use Rattle.desk_model.specs.Effect.{moved_authorization, moved_order, fresh_account, fresh_authorization, fresh_order, not_spent}
 use Rattle.desk_model.specs.Effect.{new_authorizations, authorizations_after, effect, effects, swept}
 use Rattle.desk_model.specs.Change.{all_changes, recorded_changes, applied}
-use Rattle.desk_model.specs.Kept.{Kept, restricted, EachOf, IsClosed, CoversSweep}
+use Rattle.desk_model.specs.Kept.{Kept, restricted, EachOf, IsClosed, CoversSweep, HoldersKept}
 use Rattle.desk_model.specs.declared.entry.Entry.{Entry}
 use Rattle.desk_model.specs.declared.objects.Nonce.{Nonce}
 use Rattle.desk_model.specs.declared.rows.AccountRow.{AccountRow}
@@ -24,7 +24,7 @@ use Rattle.desk_laws.specs.Parts.{FreshKept, CoversAll}
 use Rattle.desk_laws.proofs.Basics.{each, each_all}
 use Rattle.desk_laws.proofs.Recorded.{issued_up, opened_up, ordered_up, made_up, recorded}
 use Rattle.desk_laws.proofs.Step.{filter-append}
-use Rattle.desk_laws.proofs.Local.{filters_swap, filter_all, moved_part, restated_same, kept_after, moved_number, touches_same}
+use Rattle.desk_laws.proofs.Local.{all_moved_same, filters_swap, filter_all, moved_part, restated_same, kept_after, moved_number, touches_same}
 use Rattle.desk_laws.proofs.Local.{changes_local, sweep_changes_local, swept_part}
 
 -- new rows are kept
@@ -60,19 +60,19 @@ order_number e m before after row = by (touches_order e before row)
     by false = refl
 
 -- new orders get the same status from the part as from the whole
-fresh_orders : (k : Kept) (T : Tables) (m : ℕ) (e : Entry) (xs : List _) →
+fresh_orders : (k : Kept) (T : Tables) (m : ℕ) (e : Entry) (xs : List _) → HoldersKept k T e →
     EachOf (λ o. EachOf (λ n. k.authorizations n ≡ true) (numbers_of (fresh_order o).listed)) xs →
     map (λ o. restated_order m (authorizations_after (restricted k T) e m) (fresh_order o)) xs
     ≡ map (λ o. restated_order m (authorizations_after T e m) (fresh_order o)) xs
-fresh_orders k T m e [] h = refl
-fresh_orders k T m e (o ∷ os) h =
+fresh_orders k T m e [] holders h = refl
+fresh_orders k T m e (o ∷ os) holders h =
     λ i. restated_same m (authorizations_after (restricted k T) e m) (authorizations_after T e m) (fresh_order o)
-    (kept_after k T e m (numbers_of (fresh_order o).listed) h.0) i ∷ fresh_orders k T m e os h.1 i
+    (kept_after k T e m (numbers_of (fresh_order o).listed) holders h.0) i ∷ fresh_orders k T m e os holders h.1 i
 
 -- the part after an entry is the part of the tables after it
-pub effect_part : (k : Kept) (T : Tables) (m : ℕ) (e : Entry) → IsClosed k T → FreshKept k T m e →
+pub effect_part : (k : Kept) (T : Tables) (m : ℕ) (e : Entry) → IsClosed k T → HoldersKept k T e → FreshKept k T m e →
     effect m (restricted k T) e ≡ restricted k (effect m T e)
-effect_part k T m e closed fresh =
+effect_part k T m e closed holders fresh =
     λ i. record {
       meta = (effect m T e).meta;
       nonces = nonces_part i;
@@ -82,9 +82,10 @@ effect_part k T m e closed fresh =
           (up_kept (λ (a : AccountRow). a.number) k.accounts T.meta.counters.accounts closed.new_accounts (T.meta.counters.accounts + 1) (omega arith) _
           (opened_up e m (T.meta.counters.accounts + 1))) i;
       authorizations =
-          part_on (λ (a : AuthorizationRow). a.number) k.authorizations (moved_authorization e m) (moved_authorization e m) T.authorizations _
-          (map (λ a. restated_authorization m (fresh_authorization a)) (new_authorizations T e m)) (moved_number e m)
-          (each_all _ T.authorizations (λ a yes. refl)) refl
+          part_on (λ (a : AuthorizationRow). a.number) k.authorizations (moved_authorization e m (restricted k T).accounts)
+          (moved_authorization e m T.accounts) T.authorizations _
+          (map (λ a. restated_authorization m (fresh_authorization a)) (new_authorizations T e m)) (moved_number e m T.accounts)
+          (all_moved_same k T e m holders) refl
           (up_kept (λ (a : AuthorizationRow). a.number) k.authorizations T.meta.counters.authorizations closed.new_authorizations
           (T.meta.counters.authorizations + 1)
           (omega arith) _ (made_up e m T.meta.policy.authz_life (T.meta.counters.authorizations + 1) (T.meta.counters.challenges + 1))) i;
@@ -99,8 +100,8 @@ effect_part k T m e closed fresh =
           (each _ _ T.orders (λ o all yes.
           (λ j. cond (touches_same k T e o (all yes) j)
           (restated_same m (authorizations_after (restricted k T) e m) (authorizations_after T e m) (noted_order e m o)
-          (kept_after k T e m (numbers_of o.listed) (all yes)) j) o)) closed.listed)
-          (fresh_orders k T m e _ fresh)
+          (kept_after k T e m (numbers_of o.listed) holders (all yes)) j) o)) closed.listed)
+          (fresh_orders k T m e _ holders fresh)
           (up_kept (λ (o : OrderRow). o.number) k.orders T.meta.counters.orders closed.new_orders (T.meta.counters.orders + 1) (omega arith) _
           (ordered_up e m T.meta.policy (new_authorizations T e m) (T.meta.counters.orders + 1) (authorizations_after T e m))) i;
     }
@@ -120,13 +121,13 @@ pub all_changes_local : (k : Kept) (m : ℕ) (T : Tables) (es : List Entry) → 
 all_changes_local k m T [] h = refl
 all_changes_local k m T (e ∷ es) h =
     λ i. changes_local k T m e h.0 h.1 h.2 i ++
-    (ap (λ P. all_changes m P es) (effect_part k T m e h.0 h.2) ∙ all_changes_local k m (effect m T e) es h.3) i
+    (ap (λ P. all_changes m P es) (effect_part k T m e h.0 h.1.holders h.2) ∙ all_changes_local k m (effect m T e) es h.3) i
 
 -- the part after some entries is the part of the tables after them
 pub effects_part : (k : Kept) (m : ℕ) (T : Tables) (es : List Entry) → CoversAll k m T es →
     effects m (restricted k T) es ≡ restricted k (effects m T es)
 effects_part k m T [] h = refl
-effects_part k m T (e ∷ es) h = ap (λ P. effects m P es) (effect_part k T m e h.0 h.2) ∙ effects_part k m (effect m T e) es h.3
+effects_part k m T (e ∷ es) h = ap (λ P. effects m P es) (effect_part k T m e h.0 h.1.holders h.2) ∙ effects_part k m (effect m T e) es h.3
 
 -- a part records of some entries what the whole does
 pub recorded_local : (k : Kept) (T : Tables) (m : ℕ) (es : List Entry) → IsClosed k T → CoversSweep k T m →

@@ -2,8 +2,8 @@
 use Rattle.std.proofs.Common.{◌≤◌, ℕ, ◌+◌, List, [], ◌∷◌, length, Option, Some, None, true, false, Bool, cond, arith}
 use Rattle.std.specs.Prelude.{◌==◌, IfSome}
 use Rattle.std.proofs.lemmas.Option.{IfSome_then}
-use Rattle.desk_model.specs.Account.{accounts, opened_by, ends as account_ends}
-use Rattle.desk_model.specs.Authorization.{answering, authorizations, count_challenges, ends, has_challenge, in_time, is_good, made_by, made_for, reporting}
+use Rattle.desk_model.specs.Account.{account_key, accounts, opened_by, ends as account_ends}
+use Rattle.desk_model.specs.Authorization.{answer, answer_by, answering, authorizations, count_challenges, ends, has_challenge, in_time, is_good, made_by, made_for, reporting}
 use Rattle.desk_model.specs.Entry.{History}
 use Rattle.desk_model.specs.History.{clock, first, terms}
 use Rattle.desk_model.specs.Kept.{EachOf}
@@ -26,7 +26,7 @@ use Rattle.desk_laws.specs.DateLaws.{AreDatedBy, IsChallengeDatedBy}
 use Rattle.desk_laws.proofs.Basics.{each, each_all, each-append, each-map}
 use Rattle.desk_laws.proofs.Keeps.{each-filter}
 use Rattle.desk_laws.proofs.Numbers.{made_now, ordered_now}
-use Rattle.desk_laws.proofs.StatedFacts.{first_holds, stated}
+use Rattle.desk_laws.proofs.StatedFacts.{earlier_holds, first_holds, stated}
 
 -- ---- facts that an entry states
 
@@ -52,13 +52,26 @@ account_end_dated n e = by e.entry
     by (account_ended k s) = stated _ (k == n) _ (omega arith)
     by _ = tt
 
--- an answer to a challenge
-answer_dated : (n : ℕ) (e : Dated) → IfSome (answering n e.entry e.date) (λ date. date ≤ e.date)
-answer_dated n e = by e.entry
+-- an answer to a challenge, under the key of a later moment or not
+answer_dated : (key : List ℕ) (n : ℕ) (e : Dated) → IfSome (answer_by key (answering n e.entry e.date)) (λ a. a.date ≤ e.date)
+answer_dated key n e = by e.entry
   where
-    by : (entry : Entry) → IfSome (answering n entry e.date) (λ date. date ≤ e.date)
-    by (answered k) = stated _ (k == n) _ (omega arith)
+    chosen : (b : Bool) → IfSome (answer_by key (cond b (Some e.date) None)) (λ a. a.date ≤ e.date)
+    chosen true = omega arith
+    chosen false = tt
+
+    by : (entry : Entry) → IfSome (answer_by key (answering n entry e.date)) (λ a. a.date ≤ e.date)
+    by (answered k) = chosen (k == n)
     by _ = tt
+
+-- the first one
+answers_dated : (account n : ℕ) (F : History) → IfSome (answer account n F) (λ a. a.date ≤ clock F)
+answers_dated account n [] = tt
+answers_dated account n (e ∷ F) =
+    earlier_holds _ (answer account n F) (answer_by (account_key account F) (answering n e.entry e.date))
+    (IfSome_then (answer account n F) (answers_dated account n F) (λ a h. let le : a.date ≤ clock F = h in omega arith))
+    (IfSome_then (answer_by (account_key account F) (answering n e.entry e.date)) (answer_dated (account_key account F) n e)
+    (λ a h. let le : a.date ≤ e.date = h in omega arith))
 
 -- a report on a challenge
 report_dated : (n : ℕ) (e : Dated) → IfSome (reporting n e.entry e.date) (λ x. x.date ≤ e.date)
@@ -175,9 +188,9 @@ no_date_later F t =
           (each _ _ (authorizations F) (λ a made. record {
             made = made;
             ended = in_time_holds _ a.expires _ (first_dated (λ x. x.date) _ (authorization_end_dated a) F);
-            challenges = each-map (IsChallengeDatedBy (clock F)) (challenge_row F) a.challenges
+            challenges = each-map (IsChallengeDatedBy (clock F)) (challenge_row F a.account) a.challenges
                 (each_all _ a.challenges (λ c. record {
-                  answered = first_dated (λ date. date) _ (answer_dated c.number) F;
+                  answered = answers_dated a.account c.number F;
                   reported = first_dated (λ x. x.date) _ (report_dated c.number) F;
                 }));
           }) (authorizations_made F));

@@ -8,7 +8,8 @@ use Rattle.std.proofs.lemmas.Slice.Eq.{bytes_eq-Decides, slice_eq-Decides}
 use Rattle.desk_model.specs.History.{earlier}
 use Rattle.desk_model.specs.Account.{ends as account_ends}
 use Rattle.desk_model.specs.Derived.{account_code, chall_code, authz_code, order_code, restated_authorization, restated_order}
-use Rattle.desk_model.specs.Effect.{noted_account, noted_challenge, answered_challenge, reported_challenge, noted_authorization, noted_order}
+use Rattle.desk_model.specs.Keys.{thumbprint}
+use Rattle.desk_model.specs.Effect.{key_numbered, noted_account, noted_challenge, answered_challenge, reported_challenge, noted_authorization, noted_order}
 use Rattle.desk_model.specs.Change.{is_gained, account_differs, challenge_differs, authorization_differs, order_differs}
 use Rattle.desk_model.specs.Kept.{EachOf}
 use Rattle.desk_model.specs.declared.entry.Entry.{Entry}
@@ -118,42 +119,51 @@ none_gained (Some x) = refl
 same_contacts : (xs ys : List (List ℕ)) → not (pointwise bytes_eq xs ys) ≡ false → ys ≡ xs
 same_contacts xs ys h = sym ((slice_eq-Decides bytes_eq-Decides xs ys (pointwise bytes_eq xs ys) refl).0 (unnegated (pointwise bytes_eq xs ys) h))
 
+-- keys that do not differ are equal
+same_key : (xs ys : List ℕ) → not (bytes_eq xs ys) ≡ false → ys ≡ xs
+same_key xs ys h = sym ((bytes_eq-Decides xs ys).0 (unnegated (bytes_eq xs ys) h))
+
 -- an account's row that does not differ is the same
 pub account_unmoved : (e : Entry) (m : ℕ) (row : AccountRow) → account_differs row (noted_account e m row) ≡ false → noted_account e m row ≡ row
 account_unmoved e m row h =
     let after : AccountRow = noted_account e m row in
-    let p = or_parts (not (pointwise bytes_eq row.contacts after.contacts)) _ h in
+    let k = or_parts (not (bytes_eq row.key after.key)) _ h in
+    let p = or_parts (not (pointwise bytes_eq row.contacts after.contacts)) _ k.1 in
     let q = or_parts (is_gained row.ended after.ended) _ p.1 in
+    let key : after.key ≡ row.key = same_key row.key after.key k.0 in
     let contacts : after.contacts ≡ row.contacts = same_contacts row.contacts after.contacts p.0 in
     let ended : after.ended ≡ row.ended = earlier_stays row.ended (account_ends row.number e m) q.0 in
     let status : after.status ≡ row.status = same_coded account_code account_by_code account_coded row.status after.status q.1 in
-    λ i. record row { contacts = contacts i; ended = ended i; status = status i }
+    λ i. record row { key = key i; contacts = contacts i; ended = ended i; status = status i }
 
 -- no account's row differs from itself
 pub account_differs_not : (row : AccountRow) → account_differs row row ≡ false
 account_differs_not row =
-    λ i. not (contacts i) || (none_gained row.ended i || own_code (account_code row.status) i)
+    λ i. not (key i) || (not (contacts i) || (none_gained row.ended i || own_code (account_code row.status) i))
   where
+    key : bytes_eq row.key row.key ≡ true
+    key = (bytes_eq-Decides row.key row.key).1 refl
+
     contacts : pointwise bytes_eq row.contacts row.contacts ≡ true
     contacts = (slice_eq-Decides bytes_eq-Decides row.contacts row.contacts (pointwise bytes_eq row.contacts row.contacts) refl).1 refl
 
 -- ---- challenges
 
 -- a challenge's row that does not differ is the same
-pub challenge_unmoved : (e : Entry) (m : ℕ) (row : ChallengeRow) → challenge_differs row (noted_challenge e m row) ≡ false →
-    noted_challenge e m row ≡ row
-challenge_unmoved (answered n) m row h = by (n == row.number) h
+pub challenge_unmoved : (e : Entry) (m : ℕ) (key : List ℕ) (row : ChallengeRow) → challenge_differs row (noted_challenge e m key row) ≡ false →
+    noted_challenge e m key row ≡ row
+challenge_unmoved (answered n) m key row h = by (n == row.number) h
   where
-    by : (b : Bool) → challenge_differs row (cond b (answered_challenge m row) row) ≡ false → cond b (answered_challenge m row) row ≡ row
+    by : (b : Bool) → challenge_differs row (cond b (answered_challenge m key row) row) ≡ false → cond b (answered_challenge m key row) row ≡ row
     by true k =
-        let p = or_parts (is_gained row.answered (answered_challenge m row).answered) _ k in
+        let p = or_parts (is_gained row.answered (answered_challenge m key row).answered) _ k in
         let q = or_parts (is_gained row.reported row.reported) _ p.1 in
-        let fact : (answered_challenge m row).answered ≡ row.answered = earlier_stays row.answered (Some m) p.0 in
-        let status : (answered_challenge m row).status ≡ row.status =
-        same_coded chall_code chall_by_code chall_coded row.status (answered_challenge m row).status q.1 in
+        let fact : (answered_challenge m key row).answered ≡ row.answered = earlier_stays row.answered (Some (record { date = m; thumb = thumbprint key })) p.0 in
+        let status : (answered_challenge m key row).status ≡ row.status =
+        same_coded chall_code chall_by_code chall_coded row.status (answered_challenge m key row).status q.1 in
         λ i. record row { answered = fact i; status = status i }
     by false k = refl
-challenge_unmoved (reported n o) m row h = by (n == row.number) h
+challenge_unmoved (reported n o) m key row h = by (n == row.number) h
   where
     by : (b : Bool) → challenge_differs row (cond b (reported_challenge o m row) row) ≡ false → cond b (reported_challenge o m row) row ≡ row
     by true k =
@@ -164,7 +174,7 @@ challenge_unmoved (reported n o) m row h = by (n == row.number) h
         same_coded chall_code chall_by_code chall_coded row.status (reported_challenge o m row).status q.1 in
         λ i. record row { reported = fact i; status = status i }
     by false k = refl
-challenge_unmoved _ m row h = refl
+challenge_unmoved _ m key row h = refl
 
 -- no challenge's row differs from itself
 challenge_differs_not : (row : ChallengeRow) → challenge_differs row row ≡ false
@@ -173,26 +183,27 @@ challenge_differs_not row = λ i. none_gained row.answered i || (none_gained row
 -- ---- authorizations
 
 -- challenges that do not differ are the same
-challenges_unmoved : (e : Entry) (m : ℕ) (cs : List ChallengeRow) →
-    list_any (λ p. challenge_differs p.0 p.1) (zip cs (map (noted_challenge e m) cs)) ≡ false →
-    EachOf (λ c. noted_challenge e m c ≡ c) cs
-challenges_unmoved e m [] h = tt
-challenges_unmoved e m (c ∷ cs) h =
-    let p = or_parts (challenge_differs c (noted_challenge e m c)) _ h in
-    (challenge_unmoved e m c p.0, challenges_unmoved e m cs p.1)
+challenges_unmoved : (e : Entry) (m : ℕ) (key : List ℕ) (cs : List ChallengeRow) →
+    list_any (λ p. challenge_differs p.0 p.1) (zip cs (map (noted_challenge e m key) cs)) ≡ false →
+    EachOf (λ c. noted_challenge e m key c ≡ c) cs
+challenges_unmoved e m key [] h = tt
+challenges_unmoved e m key (c ∷ cs) h =
+    let p = or_parts (challenge_differs c (noted_challenge e m key c)) _ h in
+    (challenge_unmoved e m key c p.0, challenges_unmoved e m key cs p.1)
 
 -- an authorization's row that does not differ is the same
-pub authorization_unmoved : (e : Entry) (m : ℕ) (row : AuthorizationRow) →
-    authorization_differs row (restated_authorization m (noted_authorization e m row)) ≡ false →
-    restated_authorization m (noted_authorization e m row) ≡ row
-authorization_unmoved e m row h =
-    let after : AuthorizationRow = restated_authorization m (noted_authorization e m row) in
+pub authorization_unmoved : (e : Entry) (m : ℕ) (accounts : List AccountRow) (row : AuthorizationRow) →
+    authorization_differs row (restated_authorization m (noted_authorization e m accounts row)) ≡ false →
+    restated_authorization m (noted_authorization e m accounts row) ≡ row
+authorization_unmoved e m accounts row h =
+    let key : List ℕ = key_numbered row.account accounts in
+    let after : AuthorizationRow = restated_authorization m (noted_authorization e m accounts row) in
     let p = or_parts (is_gained row.ended after.ended) _ h in
     let q = or_parts (not (authz_code row.status == authz_code after.status)) _ p.1 in
     let ended : after.ended ≡ row.ended = earlier_stays row.ended _ p.0 in
     let status : after.status ≡ row.status = same_coded authz_code authz_by_code authz_coded row.status after.status q.0 in
     let challenges : after.challenges ≡ row.challenges =
-    kept_challenges (noted_challenge e m) row.challenges (challenges_unmoved e m row.challenges q.1) in
+    kept_challenges (noted_challenge e m key) row.challenges (challenges_unmoved e m key row.challenges q.1) in
     λ i. record row { ended = ended i; status = status i; challenges = challenges i }
 
 -- no challenge of an authorization differs from itself

@@ -1,15 +1,15 @@
 -- The tables of a legal history have no status fault.
-use Rattle.std.proofs.Common.{◌≡◌, ℕ, List, [], ◌∷◌, ◌++◌, map, refl, ap, true, false, Bool, cond}
+use Rattle.std.proofs.Common.{◌≡◌, ℕ, List, [], ◌∷◌, ◌++◌, map, refl, sym, ap, true, false, Bool, cond}
 use Rattle.std.specs.Prelude.{◌==◌, nat_le}
 use Rattle.std.specs.List.{flat_map}
 use Rattle.std.proofs.lemmas.Bool.{eq-eqb}
 use Rattle.desk_model.specs.Entry.{History}
 use Rattle.desk_model.specs.Account.{accounts}
-use Rattle.desk_model.specs.Authorization.{authorizations}
+use Rattle.desk_model.specs.Authorization.{authorizations, challenge_status_by, report}
 use Rattle.desk_model.specs.Order.{orders}
 use Rattle.desk_model.specs.Legal.{EachFollows}
 use Rattle.desk_model.specs.Tables.{account_row, challenge_row, authorization_row, order_row, tables_at}
-use Rattle.desk_model.specs.Derived.{unless, order_code, authz_code, account_faults, order_faults, authorization_faults}
+use Rattle.desk_model.specs.Derived.{unless, chall_code, order_code, authz_code, account_faults, order_faults, authorization_faults}
 use Rattle.desk_model.specs.Derived.{challenge_faults, insert_challenge, sorted_challenges, status_faults}
 use Rattle.desk_model.specs.Kept.{EachOf}
 use Rattle.desk_model.specs.declared.objects.Authorization.{Authorization}
@@ -19,7 +19,7 @@ use Rattle.desk_model.specs.declared.rows.ChallengeRow.{ChallengeRow}
 use Rattle.desk_model.specs.declared.rows.OrderRow.{OrderRow}
 use Rattle.desk_model.specs.declared.rows.StatusFault.{StatusFault}
 use Rattle.desk_laws.proofs.Basics.{each, each_all, each-append}
-use Rattle.desk_laws.proofs.RowFacts.{authorization_stated}
+use Rattle.desk_laws.proofs.RowFacts.{answered_alike, authorization_stated}
 use Rattle.desk_laws.proofs.OrderFacts.{listed_found, order_stated}
 
 -- rows without a fault, one by one
@@ -52,15 +52,18 @@ each_sorted P [] h = tt
 each_sorted P (c ∷ cs) h = each_inserted P c (sorted_challenges cs) h.0 (each_sorted P cs h.1)
 
 -- no challenge's row has a fault
-challenges_are_fine : (F : History) (cs : List Challenge) → EachOf (λ c. challenge_faults c ≡ []) (map (challenge_row F) cs)
-challenges_are_fine F [] = tt
-challenges_are_fine F (c ∷ cs) = (no_fault _ _ _ refl, challenges_are_fine F cs)
+challenges_are_fine : (F : History) (account : ℕ) (cs : List Challenge) → EachOf (λ c. challenge_faults c ≡ []) (map (challenge_row F account) cs)
+challenges_are_fine F account [] = tt
+challenges_are_fine F account (c ∷ cs) = (
+  no_fault _ _ _ (ap (λ b. chall_code (challenge_status_by (report c.number F) b)) (sym (answered_alike account c.number F))),
+  challenges_are_fine F account cs,
+)
 
 -- no challenge of these authorizations has a fault
 all_fine : (F : History) (t : ℕ) (xs : List Authorization) →
     EachOf (λ c. challenge_faults c ≡ []) (flat_map (λ (a : AuthorizationRow). a.challenges) (map (authorization_row F t) xs))
 all_fine F t [] = tt
-all_fine F t (a ∷ xs) = each-append _ (map (challenge_row F) a.challenges) _ (challenges_are_fine F a.challenges) (all_fine F t xs)
+all_fine F t (a ∷ xs) = each-append _ (map (challenge_row F a.account) a.challenges) _ (challenges_are_fine F a.account a.challenges) (all_fine F t xs)
 
 -- by kind, no row has a fault
 pub no_faults : (F : History) (t : ℕ) → EachFollows F → status_faults (tables_at F t) ≡ []

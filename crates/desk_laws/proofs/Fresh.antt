@@ -1,17 +1,17 @@
 -- What is made new has no facts yet: an entry names only what was made before it.
 use Rattle.std.proofs.Common.{◌≡◌, ◌≤◌, ◌<◌, ℕ, ◌+◌, List, [], ◌∷◌, length, map, Option, Some, None, refl, ap, ◌∙◌, subst, true, false, Bool, cond, arith}
-use Rattle.std.specs.Prelude.{◌==◌, ◌||◌, find, unwrap_or}
+use Rattle.std.specs.Prelude.{◌==◌, ◌||◌, find, is_some, unwrap_or}
 use Rattle.std.specs.List.{list_any}
 use Rattle.std.proofs.lemmas.Bool.{eqb-true, and_parts}
 use Rattle.desk_model.specs.Entry.{History}
 use Rattle.desk_model.specs.History.{terms, first, latest, earlier}
 use Rattle.desk_model.specs.Lookup.{holds}
 use Rattle.desk_model.specs.Nonce.{spending}
-use Rattle.desk_model.specs.Account.{accounts, opened_by, account_by_number, account_end, account_status, changing}
+use Rattle.desk_model.specs.Account.{accounts, opened_by, account_by_number, account_end, account_key, account_status, changing, rekeying}
 use Rattle.desk_model.specs.Account.{ends as account_ends, status_of as account_status_of, is_valid as is_valid_account}
 use Rattle.desk_model.specs.Authorization.{authorizations, has_challenge, made_for, kinds_of, challenges_from, count_challenges}
 use Rattle.desk_model.specs.Authorization.{authorization_end, ends, in_time, is_good, kind_of, answering, reporting}
-use Rattle.desk_model.specs.Authorization.{when_answered, report, challenge_status_by}
+use Rattle.desk_model.specs.Authorization.{answer, answer_by, when_answered, report, challenge_status_by}
 use Rattle.desk_model.specs.Order.{orders, ordered_by, csr, certificate, failure, finalizing, certifying, failing}
 use Rattle.desk_model.specs.Legal.{EachFollows}
 use Rattle.desk_model.specs.Tables.{account_row, challenge_row, authorization_row, order_row}
@@ -25,7 +25,7 @@ use Rattle.desk_model.specs.declared.entry.Ending.{Ending}
 use Rattle.desk_model.specs.declared.entry.Ending.TheVariants.{Deactivated as deactivated, Revoked as revoked}
 use Rattle.desk_model.specs.declared.entry.Entry.{Entry}
 use Rattle.desk_model.specs.declared.entry.Entry.TheVariants.{Spent as spent, Opened as opened}
-use Rattle.desk_model.specs.declared.entry.Entry.TheVariants.{ContactsChanged as contacts_changed, AccountEnded as account_ended}
+use Rattle.desk_model.specs.declared.entry.Entry.TheVariants.{ContactsChanged as contacts_changed, KeyChanged as key_changed, AccountEnded as account_ended}
 use Rattle.desk_model.specs.declared.entry.Entry.TheVariants.{Ordered as ordered, Answered as answered, Reported as reported}
 use Rattle.desk_model.specs.declared.entry.Entry.TheVariants.{AuthorizationEnded as authorization_ended, Finalized as finalized}
 use Rattle.desk_model.specs.declared.entry.Entry.TheVariants.{Certified as certified, Failed as failed}
@@ -101,6 +101,14 @@ new_account_contacts c n new d named = by d.entry named
     by (contacts_changed k cs) h = rw (less_differs k n (omega arith)) refl
     by _ h = refl
 
+-- and no other key
+pub new_account_key : (c : Counts) (n : ℕ) → c.accounts < n → (d : Dated) → NamesGiven c d.entry → rekeying n d.entry ≡ None
+new_account_key c n new d named = by d.entry named
+  where
+    by : (e : Entry) → NamesGiven c e → rekeying n e ≡ None
+    by (key_changed k key) h = rw (less_differs k n (omega arith)) refl
+    by _ h = refl
+
 -- a nonce of a serial that was not given is not spent
 pub new_nonce_spent : (c : Counts) (n : ℕ) → c.nonces < n → (d : Dated) → NamesGiven c d.entry → spending n d.entry d.date ≡ None
 new_nonce_spent c n new d named = by d.entry named
@@ -150,10 +158,12 @@ accounts_fresh F (opened k cs) m h =
     let ended_none : first (λ d. account_ends n d.entry d.date) F ≡ None =
     no_first (λ d. account_ends n d.entry d.date) F (each _ _ F (new_account_end (counts F) n new) named) in
     let changed_none : latest (λ d. changing n d.entry) F ≡ None =
-    no_latest (λ d. changing n d.entry) F (each _ _ F (new_account_contacts (counts F) n new) named) in (
+    no_latest (λ d. changing n d.entry) F (each _ _ F (new_account_contacts (counts F) n new) named) in
+    let rekeyed_none : latest (λ d. rekeying n d.entry) F ≡ None =
+    no_latest (λ d. rekeying n d.entry) F (each _ _ F (new_account_key (counts F) n new) named) in (
       (λ i. record {
         number = n;
-        key = k;
+        key = unwrap_or (earlier None (rekeyed_none i)) k;
         contacts = unwrap_or
             (earlier None (changed_none i)) cs;
         opened = m;
@@ -202,16 +212,22 @@ no_end c a new free d named alive = by d.entry named alive
         ap (λ b. cond {A = Option AuthorizationEnd} b (Some (record { date = d.date; kind = kind_of s })) None) (not_ended k a.account s d.date l)
     by _ h l = refl
 
+-- where no entry answers a challenge it has no answer
+unanswered : (account n : ℕ) (F : History) → EachOf (λ d. answering n d.entry d.date ≡ None) F → answer account n F ≡ None
+unanswered account n [] h = refl
+unanswered account n (e ∷ F) h = λ i. earlier (unanswered account n F h.1 i) (answer_by (account_key account F) (h.0 i))
+
 -- new challenges
-challenges_fresh : (F : History) (n : ℕ) (cs : List Challenge) → EachFollows F → count_challenges (authorizations F) < n →
-    IsNumbered (λ c. c.number) n cs → EachOf (λ c. challenge_row F c ≡ fresh_challenge c) cs
-challenges_fresh F n [] h lt numbered = tt
-challenges_fresh F n (c ∷ cs) h lt numbered =
+pub challenges_fresh : (F : History) (account n : ℕ) (cs : List Challenge) → EachFollows F → count_challenges (authorizations F) < n →
+    IsNumbered (λ c. c.number) n cs → EachOf (λ c. challenge_row F account c ≡ fresh_challenge c) cs
+challenges_fresh F account n [] h lt numbered = tt
+challenges_fresh F account n (c ∷ cs) h lt numbered =
     let start : c.number ≡ n = numbered.0 in
     let new : count_challenges (authorizations F) < c.number = omega arith in
     let named = all_named F h in
-    let answered_none : when_answered c.number F ≡ None =
-    no_first (λ d. answering c.number d.entry d.date) F (each _ _ F (new_challenge_answer (counts F) c.number new) named) in
+    let never = each _ _ F (new_challenge_answer (counts F) c.number new) named in
+    let answered_none : answer account c.number F ≡ None = unanswered account c.number F never in
+    let when_none : when_answered c.number F ≡ None = no_first (λ d. answering c.number d.entry d.date) F never in
     let reported_none : report c.number F ≡ None =
     no_first (λ d. reporting c.number d.entry d.date) F (each _ _ F (new_challenge_report (counts F) c.number new) named) in (
       (λ i. record {
@@ -220,21 +236,21 @@ challenges_fresh F n (c ∷ cs) h lt numbered =
         token = c.token;
         answered = answered_none i;
         reported = reported_none i;
-        status = challenge_status_by (reported_none i) (answered_none i);
+        status = challenge_status_by (reported_none i) (is_some (when_none i));
       }),
-      challenges_fresh F (n + 1) cs h (omega arith) numbered.1,
+      challenges_fresh F account (n + 1) cs h (omega arith) numbered.1,
     )
 
 -- a new authorization has no end, and its challenges no facts
 authorization_fresh : (F : History) (e : Entry) (m : ℕ) (a : Authorization) (c : ℕ) → EachFollows F →
     first (λ d. account_ends a.account d.entry d.date) F ≡ None →
     length (authorizations F) < a.number → count_challenges (authorizations F) < c → IsNumbered (λ x. x.number) c a.challenges →
-    (authorization_end a F ≡ None) × (map (challenge_row F) a.challenges ≡ map fresh_challenge a.challenges)
+    (authorization_end a F ≡ None) × (map (challenge_row F a.account) a.challenges ≡ map fresh_challenge a.challenges)
 authorization_fresh F e m a c h alive new free numbered = (
   ap (in_time a.expires) (no_first (λ d. ends a d.entry d.date) F
       (each _ _ F (λ d p. no_end (counts F) a new (λ k below. from_numbered c k a.challenges (omega arith) numbered) d p.0 p.1)
       (each_both _ _ F (all_named F h) (first_no (λ d. account_ends a.account d.entry d.date) F alive)))),
-  map-each (challenge_row F) fresh_challenge a.challenges (challenges_fresh F c a.challenges h free numbered),
+  map-each (challenge_row F a.account) fresh_challenge a.challenges (challenges_fresh F a.account c a.challenges h free numbered),
 )
 
 -- new authorizations of an order

@@ -1,16 +1,16 @@
 -- What every legal history keeps.
-use Rattle.std.proofs.Common.{◌≡◌, ◌≢◌, ◌≤◌, ℕ, ◌+◌, List, [], ◌∷◌, length, map, filter, Option, Some, None, refl, ap, ◌∙◌, subst}
+use Rattle.std.proofs.Common.{◌≡◌, ◌≢◌, ◌≤◌, ℕ, ◌+◌, List, [], ◌∷◌, length, map, filter, Option, Some, None, refl, sym, ap, ◌∙◌, subst}
 use Rattle.std.proofs.Common.{true, false, Bool, cond, arith}
-use Rattle.std.specs.Prelude.{◌==◌, ◌&&◌, nat_le, IsTrue, find, is_none, is_some, bytes_eq}
+use Rattle.std.specs.Prelude.{◌==◌, ◌&&◌, nat_le, IfSome, IsTrue, find, is_none, is_some, bytes_eq, unwrap_or}
 use Rattle.std.specs.List.{list_all}
 use Rattle.std.proofs.lemmas.Bool.{leb-true, le-leb, eqb-true, and_parts, and_from}
 use Rattle.std.proofs.lemmas.Slice.Eq.{bytes_eq-Decides}
-use Rattle.desk_model.specs.Account.{accounts, opened_by}
+use Rattle.desk_model.specs.Account.{account_by_key, accounts, key_of, opened_by, rekeying}
 use Rattle.desk_model.specs.Authorization.{authorizations, challenge_status, count_challenges, made_by, made_for, report, reporting, kinds_of, challenges_from}
 use Rattle.desk_model.specs.BaseName.{is_base_name}
 use Rattle.desk_model.specs.Contact.{contacts_pass}
 use Rattle.desk_model.specs.Entry.{History}
-use Rattle.desk_model.specs.History.{terms}
+use Rattle.desk_model.specs.History.{earlier, latest, terms}
 use Rattle.desk_model.specs.Keys.{IsKeyText}
 use Rattle.desk_model.specs.Legal.{EachFollows, Follows, IsFormed, BeginsMade, IsMade, Legal, all_different, has_length, is_empty}
 use Rattle.desk_model.specs.Legal.{is_processing_challenge, is_wanted, may_follow, numbers_fit, wanted_name}
@@ -22,7 +22,8 @@ use Rattle.desk_model.specs.Terms.{Terms, are_terms, is_base, is_life}
 use Rattle.desk_model.specs.Kept.{EachOf}
 use Rattle.desk_model.specs.declared.entry.Dated.{Dated}
 use Rattle.desk_model.specs.declared.entry.Entry.{Entry}
-use Rattle.desk_model.specs.declared.entry.Entry.TheVariants.{Made as made, Issued as issued, Opened as opened, Ordered as ordered, Reported as reported}
+use Rattle.desk_model.specs.declared.entry.Entry.TheVariants.{Made as made, Issued as issued, Opened as opened, KeyChanged as key_changed}
+use Rattle.desk_model.specs.declared.entry.Entry.TheVariants.{Ordered as ordered, Reported as reported}
 use Rattle.desk_model.specs.declared.entry.Wanted.{Wanted}
 use Rattle.desk_model.specs.declared.entry.Wanted.TheVariants.{New}
 use Rattle.desk_model.specs.declared.objects.Account.{Account}
@@ -30,9 +31,13 @@ use Rattle.desk_model.specs.declared.objects.Authorization.{Authorization}
 use Rattle.desk_model.specs.declared.objects.Report.{Report}
 use Rattle.desk_laws.specs.Distinct.{Distinct}
 use Rattle.desk_laws.specs.LegalLaws.{CountersFit, EndsInTime, reports_on}
-use Rattle.desk_laws.proofs.Basics.{each, each-append, each-map}
-use Rattle.desk_laws.proofs.Distinctness.{distinct-append, distinct-map}
-use Rattle.desk_laws.proofs.Numbers.{first_no, made_now, ordered_now}
+use Rattle.desk_laws.proofs.Basics.{each, each_both, each-append, each-map, earlier-some, none_earlier}
+use Rattle.desk_laws.proofs.Distinctness.{ascends_distinct, distinct-append, distinct-map}
+use Rattle.desk_laws.proofs.Fresh.{new_account_key}
+use Rattle.desk_laws.proofs.RowLists.{numbered_ascends}
+use Rattle.desk_laws.proofs.StatedFacts.{latest_holds, now_holds, stated}
+use Rattle.desk_laws.specs.Given.{counts}
+use Rattle.desk_laws.proofs.Numbers.{accounts_numbered, all_named, first_no, made_now, no_latest, ordered_now}
 use Rattle.desk_laws.proofs.RowFacts.{processing_unreported}
 
 -- ---- reports
@@ -71,33 +76,97 @@ reported_once (e ∷ F) h n = by (reports_on n e) refl (reported_once F h.1 n)
 -- ---- keys
 
 -- where none is found by a key, each has another
-none_found : (key : List ℕ) (xs : List Account) → is_none (find (λ a. bytes_eq a.key key) xs) ≡ true → EachOf (λ a. a.key ≢ key) xs
-none_found key [] h = tt
-none_found key (x ∷ xs) h = by (bytes_eq x.key key) refl h (none_found key xs)
+none_found : {X : Type 0} (value : X → List ℕ) (key : List ℕ) (xs : List X) → is_none (find (λ x. bytes_eq (value x) key) xs) ≡ true →
+    EachOf (λ x. value x ≢ key) xs
+none_found value key [] h = tt
+none_found value key (x ∷ xs) h = by (bytes_eq (value x) key) refl h (none_found value key xs)
   where
-    by : (b : Bool) → bytes_eq x.key key ≡ b → is_none (cond b (Some x) (find (λ a. bytes_eq a.key key) xs)) ≡ true →
-        (is_none (find (λ a. bytes_eq a.key key) xs) ≡ true → EachOf (λ a. a.key ≢ key) xs) → EachOf (λ a. a.key ≢ key) (x ∷ xs)
+    by : (b : Bool) → bytes_eq (value x) key ≡ b → is_none (cond b (Some x) (find (λ y. bytes_eq (value y) key) xs)) ≡ true →
+        (is_none (find (λ y. bytes_eq (value y) key) xs) ≡ true → EachOf (λ y. value y ≢ key) xs) → EachOf (λ y. value y ≢ key) (x ∷ xs)
     by true p k ih = cc
-    by false p k ih = ((λ same. let is : bytes_eq x.key key ≡ true = (bytes_eq-Decides x.key key).1 same in cc), ih k)
+    by false p k ih = ((λ same. let is : bytes_eq (value x) key ≡ true = (bytes_eq-Decides (value x) key).1 same in cc), ih k)
+
+-- values that are equal differ alike
+distinct_alike : {X Y : Type 0} (f g : X → Y) (xs : List X) → ((x : X) → f x ≡ g x) → Distinct g xs → Distinct f xs
+distinct_alike f g [] same h = tt
+distinct_alike f g (x ∷ xs) same h =
+    (each _ _ xs (λ y differs is. differs (sym (same x) ∙ is ∙ same y)) h.0, distinct_alike f g xs same h.1)
+
+-- the key of an account after an entry
+key_moves : (e : Dated) (F : History) (a : Account) → key_of a (e ∷ F) ≡ unwrap_or (rekeying a.number e.entry) (key_of a F)
+key_moves e F a = by (rekeying a.number e.entry) (latest (λ d. rekeying a.number d.entry) F)
+  where
+    by : (x y : Option (List ℕ)) → unwrap_or (earlier x y) a.key ≡ unwrap_or x (unwrap_or y a.key)
+    by None y = ap (λ o. unwrap_or o a.key) (none_earlier y)
+    by (Some x) y = ap (λ o. unwrap_or o a.key) (earlier-some x y)
+
+-- one item gets a value that none has
+one_changed : {X : Type 0} (number : X → ℕ) (value : X → List ℕ) (n : ℕ) (key : List ℕ) (xs : List X) → Distinct number xs → Distinct value xs →
+    EachOf (λ x. value x ≢ key) xs → Distinct (λ x. unwrap_or (cond {A = Option (List ℕ)} (n == number x) (Some key) None) (value x)) xs
+one_changed number value n key [] numbers values free = tt
+one_changed number value n key (x ∷ xs) numbers values free = (
+  each _ _ xs (λ y p. differ y p.0 p.1.0 p.1.1) (each_both _ _ xs numbers.0 (each_both _ _ xs values.0 free.1)),
+  one_changed number value n key xs numbers.1 values.1 free.1,
+)
+  where
+    differ : (y : _) → number x ≢ number y → value x ≢ value y → value y ≢ key →
+        unwrap_or (cond {A = Option (List ℕ)} (n == number x) (Some key) None) (value x)
+        ≢ unwrap_or (cond {A = Option (List ℕ)} (n == number y) (Some key) None) (value y)
+    differ y other differs unused = by (n == number x) refl (n == number y) refl
+      where
+        by : (b : Bool) → (n == number x) ≡ b → (c : Bool) → (n == number y) ≡ c →
+            unwrap_or (cond {A = Option (List ℕ)} b (Some key) None) (value x) ≢ unwrap_or (cond {A = Option (List ℕ)} c (Some key) None) (value y)
+        by true p true q same = other (sym (eqb-true n (number x) p) ∙ eqb-true n (number y) q)
+        by true p false q same = unused (sym same)
+        by false p true q same = free.0 same
+        by false p false q same = differs same
 
 -- no two accounts have the same key
-pub keys_differ : (F : History) → EachFollows F → Distinct (λ a. a.key) (accounts F)
+pub keys_differ : (F : History) → EachFollows F → Distinct (λ a. key_of a F) (accounts F)
 keys_differ [] h = tt
 keys_differ (e ∷ F) h =
-    distinct-append (λ a. a.key) (accounts F) _ (keys_differ F h.1) (one e.entry) (others e.entry h.0.allowed)
+    distinct-append (λ a. key_of a (e ∷ F)) (accounts F) _
+    (distinct_alike (λ a. key_of a (e ∷ F)) (λ a. unwrap_or (rekeying a.number e.entry) (key_of a F)) (accounts F) (key_moves e F)
+    (old e.entry h.0.allowed (keys_differ F h.1)))
+    (one e.entry) (others e.entry refl h.0.allowed)
   where
-    one : (entry : Entry) → Distinct (λ a. a.key) (opened_by entry e.date (length (accounts F) + 1))
+    numbers : Distinct (λ a. a.number) (accounts F)
+    numbers = ascends_distinct (λ (a : Account). a.number) 1 (accounts F) (numbered_ascends (λ a. a.number) 1 (accounts F) (accounts_numbered F))
+
+    old : (entry : Entry) → may_follow F entry e.date ≡ true → Distinct (λ a. key_of a F) (accounts F) →
+        Distinct (λ a. unwrap_or (rekeying a.number entry) (key_of a F)) (accounts F)
+    old (key_changed n key) may ih =
+        one_changed (λ a. a.number) (λ a. key_of a F) n key (accounts F) numbers ih
+        (none_found (λ a. key_of a F) key (accounts F) (and_parts _ (is_none (account_by_key key F)) may).1)
+    old _ may ih = ih
+
+    one : (entry : Entry) → Distinct (λ a. key_of a (e ∷ F)) (opened_by entry e.date (length (accounts F) + 1))
     one (opened key cs) = (tt, tt)
     one _ = tt
 
-    nothing : (xs : List Account) → EachOf (λ x. EachOf (λ (y : Account). x.key ≢ y.key) []) xs
+    nothing : (xs : List Account) → EachOf (λ x. EachOf (λ (y : Account). key_of x (e ∷ F) ≢ key_of y (e ∷ F)) []) xs
     nothing [] = tt
     nothing (x ∷ xs) = (tt, nothing xs)
 
-    others : (entry : Entry) → may_follow F entry e.date ≡ true →
-        EachOf (λ x. EachOf (λ y. x.key ≢ y.key) (opened_by entry e.date (length (accounts F) + 1))) (accounts F)
-    others (opened key cs) may = each _ _ (accounts F) (λ x k. (k, tt)) (none_found key (accounts F) (and_parts _ (contacts_pass cs) may).0)
-    others _ may = nothing (accounts F)
+    -- a new account has the key that it was opened with, and the others have those that they had
+    new_key : (key : List ℕ) (cs : List (List ℕ)) → (d : Dated) → d.entry ≡ opened key cs → (x : Account) → key_of x F ≢ key →
+        key_of x (d ∷ F) ≢ key_of (record { number = length (accounts F) + 1; key = key; contacts = cs; opened = d.date }) (d ∷ F)
+    new_key key cs d is x differs same =
+        let n : ℕ = length (accounts F) + 1 in
+        let a : Account = record { number = n; key = key; contacts = cs; opened = d.date } in
+        let none : latest (λ c. rekeying n c.entry) F ≡ None =
+        no_latest (λ c. rekeying n c.entry) F (each _ _ F (new_account_key (counts F) n (omega arith)) (all_named F h.1)) in
+        let kept : key_of x (d ∷ F) ≡ key_of x F = key_moves d F x ∙ ap (λ entry. unwrap_or (rekeying x.number entry) (key_of x F)) is in
+        let given : key_of a (d ∷ F) ≡ key =
+        key_moves d F a ∙ ap (λ entry. unwrap_or (rekeying n entry) (key_of a F)) is ∙ ap (λ o. unwrap_or o key) none in
+        differs (sym kept ∙ same ∙ given)
+
+    others : (entry : Entry) → e.entry ≡ entry → may_follow F entry e.date ≡ true →
+        EachOf (λ x. EachOf (λ y. key_of x (e ∷ F) ≢ key_of y (e ∷ F)) (opened_by entry e.date (length (accounts F) + 1))) (accounts F)
+    others (opened key cs) is may =
+        each _ _ (accounts F) (λ x k. (new_key key cs e is x k, tt))
+        (none_found (λ a. key_of a F) key (accounts F) (and_parts _ (contacts_pass cs) may).0)
+    others _ is may = nothing (accounts F)
 
 -- and so in their rows
 pub row_keys_differ : (F : History) → EachFollows F → (t : ℕ) → Distinct (λ a. a.key) (tables_at F t).accounts
@@ -244,7 +313,12 @@ all_end F h t =
 
 -- ---- keys and names
 
--- each account's key is a canonical text
+-- each entry is formed
+pub each_formed : (F : History) → EachFollows F → EachOf (λ d. IsFormed d.entry) F
+each_formed [] h = tt
+each_formed (e ∷ F) h = (h.0.formed, each_formed F h.1)
+
+-- each account's first key is a canonical text
 pub keys_formed : (F : History) → EachFollows F → EachOf (λ a. IsKeyText a.key) (accounts F)
 keys_formed [] h = tt
 keys_formed (e ∷ F) h = each-append _ (accounts F) _ (keys_formed F h.1) (one e h.0)
@@ -255,6 +329,18 @@ keys_formed (e ∷ F) h = each-append _ (accounts F) _ (keys_formed F h.1) (one 
         by : (entry : Entry) → IsFormed entry → EachOf (λ a. IsKeyText a.key) (opened_by entry d.date (length (accounts F) + 1))
         by (opened key cs) formed = (formed.0, tt)
         by _ formed = tt
+
+-- a key that an account gets is a canonical text
+rekeying_formed : (n : ℕ) (entry : Entry) → IsFormed entry → IfSome (rekeying n entry) IsKeyText
+rekeying_formed n (key_changed k key) formed = stated IsKeyText (k == n) key formed
+rekeying_formed n _ formed = tt
+
+-- each account's key is a canonical text
+pub keys_now_formed : (F : History) → EachFollows F → EachOf (λ a. IsKeyText (key_of a F)) (accounts F)
+keys_now_formed F h =
+    each _ _ (accounts F)
+    (λ a. now_holds IsKeyText (latest (λ d. rekeying a.number d.entry) F) a.key
+    (latest_holds IsKeyText _ F (each _ _ F (λ d. rekeying_formed a.number d.entry) (each_formed F h)))) (keys_formed F h)
 
 -- well-formed names give well-formed authorizations
 made_for_named : (account date expires : ℕ) (ws : List Wanted) (n c : ℕ) → list_all is_wanted ws ≡ true →
@@ -284,7 +370,7 @@ names_formed (e ∷ F) h = each-append _ (authorizations F) (made_now e F) (name
 
 -- and so in the rows
 pub row_keys_formed : (F : History) → EachFollows F → (t : ℕ) → EachOf (λ a. IsKeyText a.key) (tables_at F t).accounts
-row_keys_formed F h t = each-map _ (account_row F) (accounts F) (keys_formed F h)
+row_keys_formed F h t = each-map _ (account_row F) (accounts F) (keys_now_formed F h)
 
 -- and so in the rows, for names
 pub row_names_formed : (F : History) → EachFollows F → (t : ℕ) → EachOf (λ a. IsTrue (is_base_name a.name.base)) (tables_at F t).authorizations

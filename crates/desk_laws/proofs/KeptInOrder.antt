@@ -22,7 +22,7 @@ use Rattle.desk_model.specs.declared.rows.Meta.{Meta}
 use Rattle.desk_model.specs.declared.rows.OrderRow.{OrderRow}
 use Rattle.desk_model.specs.declared.status.AuthzStatus.TheVariants as authz
 use Rattle.desk_model.specs.declared.status.OrderStatus.TheVariants as order
-use Rattle.desk_laws.specs.News.{AreKept, KeepsChildren}
+use Rattle.desk_laws.specs.News.{AreKept, KeepChallenges, KeepsChildren}
 use Rattle.desk_laws.specs.Ordered.{Ascends, IsOrdered}
 use Rattle.desk_laws.proofs.Basics.{each, each_both, each_of_map, each_parts}
 use Rattle.desk_laws.proofs.InTurn.{records_in_turn, removing}
@@ -64,7 +64,7 @@ putting_authorizations k [] cs T up kept h = h
 putting_authorizations k (x ∷ xs) cs T up kept h = (
   kept.0,
   putting_authorizations (x.number + 1) xs cs (applied_one (PutAuthorization x) T) up.1
-      (still_kept (λ a. a.number) (λ a y. map (λ c. c.number) a.challenges ≡ map (λ c. c.number) y.challenges) x T.authorizations xs
+      (still_kept (λ a. a.number) (λ a y. KeepChallenges a.challenges y.challenges) x T.authorizations xs
       (ascends_above (λ a. a.number) x.number (x.number + 1) xs (omega arith) up.1) kept.1) h,
 )
 
@@ -109,7 +109,7 @@ entry_kept T m e M h =
     (putting_nonces (nonces_put T e m) _ _
     (putting_accounts (accounts_put T e m) _ _
     (putting_authorizations 1 (authorizations_put T e m) _ _
-    (put_up (λ a. a.number) (touches_authorization e) authorization_differs (λ r. restated_authorization m (noted_authorization e m r)) (λ a. refl)
+    (put_up (λ a. a.number) (touches_authorization e) authorization_differs (λ r. restated_authorization m (noted_authorization e m T.accounts r)) (λ a. refl)
     T.meta.counters.authorizations T.authorizations _ h.authorizations
     (made_up e m T.meta.policy.authz_life (T.meta.counters.authorizations + 1) (T.meta.counters.challenges + 1)))
     (each_of_map (KeepsChildren T) PutAuthorization (authorizations_put T e m) d.0)

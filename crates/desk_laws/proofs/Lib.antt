@@ -9,6 +9,7 @@ pub mod Distinctness
 pub mod Drawn
 pub mod Faults
 pub mod Finds
+pub mod FirstKeys
 pub mod Forms
 pub mod Fresh
 pub mod InTurn

@@ -6,19 +6,20 @@ use Rattle.std.specs.Option.{option_or}
 use Rattle.std.proofs.lemmas.Bool.{eqb-true, and_parts}
 use Rattle.std.proofs.lemmas.List.Folds.{find-append}
 use Rattle.desk_model.specs.Lookup.{holds}
+use Rattle.desk_model.specs.History.{earlier}
 use Rattle.desk_model.specs.Account.{opened_by}
-use Rattle.desk_model.specs.Authorization.{is_over, is_valid}
+use Rattle.desk_model.specs.Authorization.{in_time, is_over, is_valid}
 use Rattle.desk_model.specs.Order.{ordered_by, order_status_by}
 use Rattle.desk_model.specs.Tables.{Tables}
 use Rattle.desk_model.specs.Derived.{numbers_of, authorization_numbered, stored_statuses, and_status, restated_authorization, restated_order}
 use Rattle.desk_model.specs.Effect.{noted_account, noted_authorization, noted_order, touches_account, touches_authorization}
-use Rattle.desk_model.specs.Effect.{touches_order, names_order, lists_one, moved_authorization, fresh_account}
+use Rattle.desk_model.specs.Effect.{key_in, key_numbered, noted_challenge, row_ends, touches_order, names_order, lists_one, moved_authorization, fresh_account}
 use Rattle.desk_model.specs.Effect.{fresh_authorization, fresh_order, new_authorizations, authorizations_after, lasts, swept}
 use Rattle.desk_model.specs.Effect.{swept_authorization, swept_order, is_overdue, falls, is_live_order}
 use Rattle.desk_model.specs.Change.{moved_rows, account_differs, authorization_differs, order_differs, spent_by, nonces_put}
 use Rattle.desk_model.specs.Change.{accounts_put, authorizations_put, changes, sweep_changes, nonces_gone, authorizations_expired}
 use Rattle.desk_model.specs.Change.{orders_fallen}
-use Rattle.desk_model.specs.Kept.{Kept, restricted, EachOf, IsClosed, Covers, CoversSweep}
+use Rattle.desk_model.specs.Kept.{Kept, restricted, EachOf, IsClosed, Covers, CoversSweep, HoldersKept}
 use Rattle.desk_model.specs.declared.status.AuthzStatus.TheVariants as authz
 use Rattle.desk_model.specs.declared.status.OrderStatus.TheVariants as order
 use Rattle.desk_model.specs.declared.entry.Entry.{Entry}
@@ -30,6 +31,7 @@ use Rattle.desk_model.specs.declared.rows.Change.TheVariants.{PutNonce, RemoveNo
 use Rattle.desk_model.specs.declared.rows.OrderRow.{OrderRow}
 use Rattle.desk_laws.specs.Parts.{FreshKept}
 use Rattle.desk_laws.proofs.Basics.{each, each_all}
+use Rattle.desk_laws.proofs.RowFacts.{authorization_untouched}
 
 -- ---- lists
 
@@ -111,30 +113,57 @@ kept_before : (k : Kept) (T : Tables) (ns : List ℕ) → EachOf (λ n. k.author
 kept_before k T ns h = each _ _ ns (λ n yes. find_kept (λ (a : AuthorizationRow). a.number) k.authorizations n T.authorizations yes) h
 
 -- a moved authorization keeps its number
-pub moved_number : (e : Entry) (m : ℕ) (row : AuthorizationRow) → (moved_authorization e m row).number ≡ row.number
-moved_number e m row = by (touches_authorization e row)
+pub moved_number : (e : Entry) (m : ℕ) (accounts : List AccountRow) (row : AuthorizationRow) → (moved_authorization e m accounts row).number ≡ row.number
+moved_number e m accounts row = by (touches_authorization e row)
   where
-    by : (b : Bool) → (cond b (restated_authorization m (noted_authorization e m row)) row).number ≡ row.number
+    by : (b : Bool) → (cond b (restated_authorization m (noted_authorization e m accounts row)) row).number ≡ row.number
     by true = refl
     by false = refl
 
+-- an account that is kept has its key in the part
+key_kept : (k : Kept) (T : Tables) (n : ℕ) → k.accounts n ≡ true → key_numbered n (restricted k T).accounts ≡ key_numbered n T.accounts
+key_kept k T n h = ap key_in (find_kept (λ (a : AccountRow). a.number) k.accounts n T.accounts h)
+
+-- an authorization is noted by the part as by the whole, if its account is kept where the entry touches it
+noted_same : (k : Kept) (T : Tables) (e : Entry) (m : ℕ) (a : AuthorizationRow) → (touches_authorization e a ≡ true → k.accounts a.account ≡ true) →
+    noted_authorization e m (restricted k T).accounts a ≡ noted_authorization e m T.accounts a
+noted_same k T e m a h = by (touches_authorization e a) refl
+  where
+    by : (b : Bool) → touches_authorization e a ≡ b → noted_authorization e m (restricted k T).accounts a ≡ noted_authorization e m T.accounts a
+    by true t =
+        ap (λ key. record a { ended = earlier a.ended (in_time a.expires (row_ends a e m)); challenges = map (noted_challenge e m key) a.challenges })
+        (key_kept k T a.account (h t))
+    by false t = authorization_untouched e m (restricted k T).accounts a t ∙ sym (authorization_untouched e m T.accounts a t)
+
+-- and so it is moved
+moved_same : (k : Kept) (T : Tables) (e : Entry) (m : ℕ) (a : AuthorizationRow) → (touches_authorization e a ≡ true → k.accounts a.account ≡ true) →
+    moved_authorization e m (restricted k T).accounts a ≡ moved_authorization e m T.accounts a
+moved_same k T e m a h = ap (λ r. cond (touches_authorization e a) (restated_authorization m r) a) (noted_same k T e m a h)
+
+-- each of them
+pub all_moved_same : (k : Kept) (T : Tables) (e : Entry) (m : ℕ) → HoldersKept k T e →
+    EachOf (λ a. k.authorizations a.number ≡ true → moved_authorization e m (restricted k T).accounts a ≡ moved_authorization e m T.accounts a)
+    T.authorizations
+all_moved_same k T e m holders = each _ _ T.authorizations (λ a h yes. moved_same k T e m a h) holders
+
 -- the part's authorizations after an entry
-pub after_part : (k : Kept) (T : Tables) (e : Entry) (m : ℕ) → authorizations_after (restricted k T) e m
-    ≡ filter (λ a. k.authorizations a.number) (map (moved_authorization e m) T.authorizations)
+pub after_part : (k : Kept) (T : Tables) (e : Entry) (m : ℕ) → HoldersKept k T e → authorizations_after (restricted k T) e m
+    ≡ filter (λ a. k.authorizations a.number) (map (moved_authorization e m T.accounts) T.authorizations)
     ++ map (λ a. restated_authorization m (fresh_authorization a)) (new_authorizations T e m)
-after_part k T e m =
+after_part k T e m holders =
     ap (λ rows. rows ++ map (λ a. restated_authorization m (fresh_authorization a)) (new_authorizations T e m))
-    (moved_part (λ (a : AuthorizationRow). k.authorizations a.number) (moved_authorization e m) (moved_authorization e m) T.authorizations
-    (λ a. ap k.authorizations (moved_number e m a)) (each_all _ T.authorizations (λ a yes. refl)))
+    (moved_part (λ (a : AuthorizationRow). k.authorizations a.number) (moved_authorization e m (restricted k T).accounts)
+    (moved_authorization e m T.accounts) T.authorizations
+    (λ a. ap k.authorizations (moved_number e m T.accounts a)) (all_moved_same k T e m holders))
 
 -- the look-ups agree after an entry
-pub kept_after : (k : Kept) (T : Tables) (e : Entry) (m : ℕ) (ns : List ℕ) → EachOf (λ n. k.authorizations n ≡ true) ns →
+pub kept_after : (k : Kept) (T : Tables) (e : Entry) (m : ℕ) (ns : List ℕ) → HoldersKept k T e → EachOf (λ n. k.authorizations n ≡ true) ns →
     SameFor (authorizations_after (restricted k T) e m) (authorizations_after T e m) ns
-kept_after k T e m ns h =
+kept_after k T e m ns holders h =
     each _ _ ns (λ n yes.
     let new : List AuthorizationRow = map (λ a. restated_authorization m (fresh_authorization a)) (new_authorizations T e m) in
-    let rows : List AuthorizationRow = map (moved_authorization e m) T.authorizations in
-    ap (authorization_numbered n) (after_part k T e m)
+    let rows : List AuthorizationRow = map (moved_authorization e m T.accounts) T.authorizations in
+    ap (authorization_numbered n) (after_part k T e m holders)
     ∙ find-append (λ a. a.number == n) (filter (λ a. k.authorizations a.number) rows) new
     ∙ ap (λ o. option_or o (find (λ a. a.number == n) new)) (find_kept (λ (a : AuthorizationRow). a.number) k.authorizations n rows yes)
     ∙ sym (find-append (λ a. a.number == n) rows new)) h
@@ -187,10 +216,13 @@ changes_local k T m e closed covers fresh_kept =
     let authorizations : authorizations_put (restricted k T) e m ≡ authorizations_put T e m =
     ap (λ rows. rows ++ map (λ a. restated_authorization m (fresh_authorization a)) (new_authorizations T e m))
     (picked (λ (a : AuthorizationRow). k.authorizations a.number)
-    (λ r. touches_authorization e r && authorization_differs r (restated_authorization m (noted_authorization e m r)))
-    (λ r. touches_authorization e r && authorization_differs r (restated_authorization m (noted_authorization e m r)))
-    (λ r. restated_authorization m (noted_authorization e m r)) (λ r. restated_authorization m (noted_authorization e m r)) T.authorizations
-    (each_all _ T.authorizations (λ a yes. (refl, refl)))
+    (λ r. touches_authorization e r && authorization_differs r (restated_authorization m (noted_authorization e m (restricted k T).accounts r)))
+    (λ r. touches_authorization e r && authorization_differs r (restated_authorization m (noted_authorization e m T.accounts r)))
+    (λ r. restated_authorization m (noted_authorization e m (restricted k T).accounts r))
+    (λ r. restated_authorization m (noted_authorization e m T.accounts r)) T.authorizations
+    (each _ _ T.authorizations (λ a h yes.
+    let same = ap (restated_authorization m) (noted_same k T e m a h) in
+    ((λ i. touches_authorization e a && authorization_differs a (same i)), same)) covers.holders)
     (each _ _ T.authorizations (λ a f h. f (and_parts (touches_authorization e a) _ h).0) covers.authorizations)) in
     let before : List AuthorizationRow = (restricted k T).authorizations in
     let after : List AuthorizationRow = authorizations_after (restricted k T) e m in
@@ -201,7 +233,8 @@ changes_local k T m e closed covers fresh_kept =
     (λ r. touches_order e T.authorizations r && order_differs r (restated_order m (authorizations_after T e m) (noted_order e m r)))
     (λ r. restated_order m after (noted_order e m r)) (λ r. restated_order m (authorizations_after T e m) (noted_order e m r)) T.orders
     (each _ _ T.orders (λ o all yes.
-    let same = restated_same m after (authorizations_after T e m) (noted_order e m o) (kept_after k T e m (numbers_of o.listed) (all yes)) in
+    let same = restated_same m after (authorizations_after T e m) (noted_order e m o)
+    (kept_after k T e m (numbers_of o.listed) covers.holders (all yes)) in
     ((λ i. touches_same k T e o (all yes) i && order_differs o (same i)), same)) closed.listed)
     (each _ _ T.orders (λ o f h. f (and_parts (touches_order e T.authorizations o) _ h).0) covers.orders) in
     let new = news (ordered_by e m T.meta.policy (new_authorizations T e m) (T.meta.counters.orders + 1)) fresh_kept in
@@ -215,7 +248,7 @@ changes_local k T m e closed covers fresh_kept =
     news [] h = refl
     news (o ∷ os) h =
         λ i. restated_same m (authorizations_after (restricted k T) e m) (authorizations_after T e m) (fresh_order o)
-        (kept_after k T e m (numbers_of (fresh_order o).listed) h.0) i ∷ news os h.1 i
+        (kept_after k T e m (numbers_of (fresh_order o).listed) covers.holders h.0) i ∷ news os h.1 i
 
 -- ---- a part moves as the whole
 

@@ -19,7 +19,7 @@ use Rattle.desk_model.specs.declared.rows.Change.{Change}
 use Rattle.desk_model.specs.declared.rows.Change.TheVariants.{PutMeta, PutNonce, RemoveNonce, PutAccount, PutAuthorization, PutOrder}
 use Rattle.desk_model.specs.declared.rows.ChallengeRow.{ChallengeRow}
 use Rattle.desk_laws.specs.Distinct.{Distinct}
-use Rattle.desk_laws.specs.News.{AreKept, AreNewChildren, BringsNewChildren, KeepsChildren}
+use Rattle.desk_laws.specs.News.{AreKept, AreNewChildren, BringsNewChildren, KeepChallenges, KeepsChildren}
 use Rattle.desk_laws.proofs.Basics.{each, each_of_map, each_parts, eq_turn}
 use Rattle.desk_laws.proofs.Distinctness.{ascends_distinct, between, distinct-map, map-distinct}
 use Rattle.desk_laws.proofs.KeptInOrder.{records_keep}
@@ -126,10 +126,19 @@ challenges_differ F t =
 
 -- ---- changes
 
+-- an authorization that keeps its challenges keeps their numbers
+pub numbers_kept : (T : Tables) (x : AuthorizationRow) → KeepsChildren T (PutAuthorization x)
+    → IfSome (find (λ a. a.number == x.number) T.authorizations) (λ a. challenges_in a ≡ challenges_in x)
+numbers_kept T x kept = by (find (λ a. a.number == x.number) T.authorizations) kept
+  where
+    by : (o : Option AuthorizationRow) → IfSome o (λ a. KeepChallenges a.challenges x.challenges) → IfSome o (λ a. challenges_in a ≡ challenges_in x)
+    by None kept = tt
+    by (Some a) kept = kept.numbers
+
 -- a change that keeps children and leaves challenges differing found them so, and brings new children
 one_brings : (T : Tables) (c : Change) → KeepsChildren T c → ChallengesDiffer (applied_one c T) → ChallengesDiffer T × BringsNewChildren T c
 one_brings T (PutAuthorization x) kept h =
-    let parts = put_apart (λ a. a.number) challenges_in x T.authorizations kept h in
+    let parts = put_apart (λ a. a.number) challenges_in x T.authorizations (numbers_kept T x kept) h in
     let new = λ (none : authorization_on T x.number ≡ None).
     each _ _ x.challenges (λ c. no_owner c.number T.authorizations)
     (each_of_map (λ n. EachOf (λ k. n ≢ k) (flat_map challenges_in T.authorizations)) (λ c. c.number) x.challenges (parts.2 none)) in

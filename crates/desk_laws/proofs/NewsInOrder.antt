@@ -155,7 +155,7 @@ entry_news T m e M h =
     (opened_up e m (T.meta.counters.accounts + 1)))
     (accounts_differ T m e h)
     (putting_authorizations 1 (authorizations_put T e m) _ _
-    (put_up (λ a. a.number) (touches_authorization e) authorization_differs (λ r. restated_authorization m (noted_authorization e m r)) (λ a. refl)
+    (put_up (λ a. a.number) (touches_authorization e) authorization_differs (λ r. restated_authorization m (noted_authorization e m T.accounts r)) (λ a. refl)
     T.meta.counters.authorizations T.authorizations _ h.authorizations
     (made_up e m T.meta.policy.authz_life (T.meta.counters.authorizations + 1) (T.meta.counters.challenges + 1)))
     (authorizations_differ T m e h)

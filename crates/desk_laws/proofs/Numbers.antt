@@ -16,7 +16,7 @@ use Rattle.desk_model.specs.Kept.{EachOf}
 use Rattle.desk_model.specs.declared.entry.Dated.{Dated}
 use Rattle.desk_model.specs.declared.entry.Entry.{Entry}
 use Rattle.desk_model.specs.declared.entry.Entry.TheVariants.{Made as made, Issued as issued, Spent as spent, Opened as opened}
-use Rattle.desk_model.specs.declared.entry.Entry.TheVariants.{ContactsChanged as contacts_changed, AccountEnded as account_ended}
+use Rattle.desk_model.specs.declared.entry.Entry.TheVariants.{ContactsChanged as contacts_changed, KeyChanged as key_changed, AccountEnded as account_ended}
 use Rattle.desk_model.specs.declared.entry.Entry.TheVariants.{Ordered as ordered, Answered as answered, Reported as reported}
 use Rattle.desk_model.specs.declared.entry.Entry.TheVariants.{AuthorizationEnded as authorization_ended, Finalized as finalized}
 use Rattle.desk_model.specs.declared.entry.Entry.TheVariants.{Certified as certified, Failed as failed}
@@ -67,6 +67,7 @@ record IsWithin (c d : Counts) : Type 0 where
 names_more : (c d : Counts) → IsWithin c d → (e : Entry) → NamesGiven c e → NamesGiven d e
 names_more c d w (spent n) h = omega (arith, w.nonces)
 names_more c d w (contacts_changed n cs) h = omega (arith, w.accounts)
+names_more c d w (key_changed n key) h = omega (arith, w.accounts)
 names_more c d w (account_ended n s) h = omega (arith, w.accounts)
 names_more c d w (ordered n ws) h = omega (arith, w.accounts)
 names_more c d w (answered n) h = omega (arith, w.challenges)
@@ -205,6 +206,9 @@ names_allowed F (opened k cs) m may = tt
 names_allowed F (spent n) m may =
     let below : n < 1 + length (nonces F) = found_below (λ x. x.serial) 1 n (nonces F) _ (nonces_numbered F) may in omega arith
 names_allowed F (contacts_changed n cs) m may =
+    let below : n < 1 + length (accounts F) = found_below (λ x. x.number) 1 n (accounts F) _ (accounts_numbered F) (and_parts _ _ may).0 in
+    omega arith
+names_allowed F (key_changed n key) m may =
     let below : n < 1 + length (accounts F) = found_below (λ x. x.number) 1 n (accounts F) _ (accounts_numbered F) (and_parts _ _ may).0 in
     omega arith
 names_allowed F (account_ended n s) m may =

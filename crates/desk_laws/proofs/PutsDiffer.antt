@@ -1,7 +1,10 @@
 -- What is put, beside what stands there.
 use Rattle.std.proofs.Common.{subst, ◌≡◌, ◌≢◌, ◌≤◌, ◌<◌, ℕ, ◌+◌, List, [], ◌∷◌, ◌++◌, map, filter, Some, None, refl, sym, ap, ◌∙◌}
 use Rattle.std.proofs.Common.{true, false, Bool, cond, arith}
-use Rattle.std.specs.Prelude.{IfSome, ◌==◌, ◌&&◌, find, unwrap_or}
+use Rattle.std.specs.Prelude.{IfSome, IsTrue, Option, ◌==◌, ◌&&◌, find, is_some, unwrap_or}
+use Rattle.desk_model.specs.Keys.{thumbprint}
+use Rattle.desk_model.specs.History.{earlier}
+use Rattle.desk_model.specs.declared.objects.Answer.{Answer}
 use Rattle.std.proofs.lemmas.Bool.{and_parts}
 use Rattle.desk_model.specs.Tables.{Tables}
 use Rattle.desk_model.specs.Derived.{restated_authorization, restated_order}
@@ -23,7 +26,7 @@ use Rattle.desk_model.specs.declared.status.AuthzStatus.TheVariants as authz
 use Rattle.desk_model.specs.declared.status.OrderStatus.TheVariants as order
 use Rattle.desk_model.specs.declared.rows.ChallengeRow.{ChallengeRow}
 use Rattle.desk_model.specs.declared.rows.Change.{Change}
-use Rattle.desk_laws.specs.News.{IsNews, KeepsChildren}
+use Rattle.desk_laws.specs.News.{IsNews, KeepsChildren, StayAnswered}
 use Rattle.desk_laws.specs.Ordered.{Ascends, Below, IsTable, IsOrdered}
 use Rattle.desk_laws.proofs.Basics.{each_all, each-append, each-map}
 use Rattle.desk_laws.proofs.Differing.{account_differs_not, authorization_differs_not, order_differs_not}
@@ -102,23 +105,23 @@ of_none : {X : Type 0} (number : X → ℕ) (rows : List X) (x : X) (P : X → T
 of_none number rows x P none = subst (λ o. IfSome o P) (sym none) tt
 
 -- an entry leaves the number of a challenge
-challenge_number : (e : Entry) (m : ℕ) (c : ChallengeRow) → c.number ≡ (noted_challenge e m c).number
-challenge_number (answered n) m c = by (n == c.number)
+challenge_number : (e : Entry) (m : ℕ) (key : List ℕ) (c : ChallengeRow) → c.number ≡ (noted_challenge e m key c).number
+challenge_number (answered n) m key c = by (n == c.number)
   where
-    by : (b : Bool) → c.number ≡ (cond b (answered_challenge m c) c).number
+    by : (b : Bool) → c.number ≡ (cond b (answered_challenge m key c) c).number
     by true = refl
     by false = refl
-challenge_number (reported n o) m c = by (n == c.number)
+challenge_number (reported n o) m key c = by (n == c.number)
   where
     by : (b : Bool) → c.number ≡ (cond b (reported_challenge o m c) c).number
     by true = refl
     by false = refl
-challenge_number _ m c = refl
+challenge_number _ m key c = refl
 
 -- an entry leaves the numbers of challenges
-challenge_numbers : (e : Entry) (m : ℕ) (cs : List ChallengeRow) → map (λ c. c.number) cs ≡ map (λ c. c.number) (map (noted_challenge e m) cs)
-challenge_numbers e m [] = refl
-challenge_numbers e m (c ∷ cs) = λ i. challenge_number e m c i ∷ challenge_numbers e m cs i
+challenge_numbers : (e : Entry) (m : ℕ) (key : List ℕ) (cs : List ChallengeRow) → map (λ c. c.number) cs ≡ map (λ c. c.number) (map (noted_challenge e m key) cs)
+challenge_numbers e m key [] = refl
+challenge_numbers e m key (c ∷ cs) = λ i. challenge_number e m key c i ∷ challenge_numbers e m key cs i
 
 -- ---- the changes of an entry
 
@@ -153,9 +156,9 @@ pub authorizations_differ : (T : Tables) (m : ℕ) (e : Entry) → IsOrdered T �
     EachOf (λ x. find (λ a. a.number == x.number) T.authorizations ≢ Some x) (authorizations_put T e m)
 authorizations_differ T m e h =
     each_put (λ a. a.number) (touches_authorization e) authorization_differs
-    (λ r. restated_authorization m (noted_authorization e m r)) T.meta.counters.authorizations T.authorizations _ _
+    (λ r. restated_authorization m (noted_authorization e m T.accounts r)) T.meta.counters.authorizations T.authorizations _ _
     (λ x d.
-    let y : AuthorizationRow = restated_authorization m (noted_authorization e m x) in
+    let y : AuthorizationRow = restated_authorization m (noted_authorization e m T.accounts x) in
     another (λ a. a.number) T.authorizations x y refl (others authorization_differs authorization_differs_not x y d))
     (nowhere (λ a. a.number) T.authorizations) h.authorizations
     (made_up e m T.meta.policy.authz_life (T.meta.counters.authorizations + 1) (T.meta.counters.challenges + 1))
@@ -179,16 +182,46 @@ puts_differ T m e h =
     (authorizations_differ T m e h)
     (orders_differ T m e h)
 
+-- challenges that are as they were
+stay_same : (cs : List ChallengeRow) → StayAnswered cs cs
+stay_same [] = tt
+stay_same (c ∷ cs) = (λ h. h, stay_same cs)
+
+-- an answer stands behind another
+answer_stays : (old new : Option Answer) → IsTrue (is_some old) → IsTrue (is_some (earlier old new))
+answer_stays None new h = cc h
+answer_stays (Some a) None h = h
+answer_stays (Some a) (Some b) h = h
+
+-- an entry takes no answer away
+stay_noted : (e : Entry) (m : ℕ) (key : List ℕ) (cs : List ChallengeRow) → StayAnswered cs (map (noted_challenge e m key) cs)
+stay_noted e m key [] = tt
+stay_noted e m key (c ∷ cs) = (one e, stay_noted e m key cs)
+  where
+    one : (e : Entry) → IsTrue (is_some c.answered) → IsTrue (is_some (noted_challenge e m key c).answered)
+    one (answered n) h = by (n == c.number)
+      where
+        by : (b : Bool) → IsTrue (is_some (cond b (answered_challenge m key c) c).answered)
+        by true = answer_stays c.answered (Some (record { date = m; thumb = thumbprint key })) h
+        by false = h
+    one (reported n outcome) h = by (n == c.number)
+      where
+        by : (b : Bool) → IsTrue (is_some (cond b (reported_challenge outcome m c) c).answered)
+        by true = h
+        by false = h
+    one _ h = h
+
 -- what an entry puts keeps the children of what stands there
 pub puts_keep_children : (T : Tables) (m : ℕ) (e : Entry) → IsOrdered T → EachOf (KeepsChildren T) (changes m T e)
 puts_keep_children T m e h =
     each_change (KeepsChildren T) T m e (each_all _ (spent_by e) (λ n. tt)) (each_all _ (nonces_put T e m) (λ x. tt))
     (each_all _ (accounts_put T e m) (λ x. tt))
     (each_put (λ a. a.number) (touches_authorization e) authorization_differs
-    (λ r. restated_authorization m (noted_authorization e m r)) T.meta.counters.authorizations T.authorizations _ _
+    (λ r. restated_authorization m (noted_authorization e m T.accounts r)) T.meta.counters.authorizations T.authorizations _ _
     (λ x d.
-    let y : AuthorizationRow = restated_authorization m (noted_authorization e m x) in
-    of_standing (λ a. a.number) T.authorizations x y _ refl (challenge_numbers e m x.challenges))
+    let y : AuthorizationRow = restated_authorization m (noted_authorization e m T.accounts x) in
+    of_standing (λ a. a.number) T.authorizations x y _ refl
+    (record { numbers = challenge_numbers e m _ x.challenges; answers = stay_noted e m _ x.challenges }))
     (λ x. of_none (λ a. a.number) T.authorizations x _) h.authorizations
     (made_up e m T.meta.policy.authz_life (T.meta.counters.authorizations + 1) (T.meta.counters.challenges + 1)))
     (each_put (λ o. o.number) (touches_order e T.authorizations) order_differs
@@ -246,7 +279,8 @@ pub swept_puts_keep_children : (T : Tables) (m : ℕ) → IsOrdered T → EachOf
 swept_puts_keep_children T m h =
     each_sweep (KeepsChildren T) T m (each_all _ (nonces_gone m T) (λ n. tt))
     (each_moved (λ a. a.number) (is_overdue m) (λ (r : AuthorizationRow). record r { status = authz.Expired }) T.authorizations _
-    (λ x picked. of_standing (λ a. a.number) T.authorizations x (record x { status = authz.Expired }) _ refl refl)
+    (λ x picked. of_standing (λ a. a.number) T.authorizations x (record x { status = authz.Expired }) _ refl
+    (record { numbers = refl; answers = stay_same x.challenges }))
     T.authorizations (ascends_found (λ a. a.number) 1 T.authorizations h.authorizations.0))
     (each_moved (λ o. o.number) (falls m T.authorizations) (λ (r : OrderRow). record r { status = order.Invalid }) T.orders _
     (λ x picked. of_standing (λ o. o.number) T.orders x (record x { status = order.Invalid }) _ refl refl)

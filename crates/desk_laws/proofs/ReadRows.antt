@@ -15,7 +15,7 @@ use Rattle.desk_model.specs.Kept.{Kept, restricted}
 use Rattle.desk_model.specs.Allowed.{may_on}
 use Rattle.desk_model.specs.declared.entry.Entry.{Entry}
 use Rattle.desk_model.specs.declared.entry.Entry.TheVariants.{Spent as spent, Opened as opened}
-use Rattle.desk_model.specs.declared.entry.Entry.TheVariants.{ContactsChanged as contacts_changed, AccountEnded as account_ended}
+use Rattle.desk_model.specs.declared.entry.Entry.TheVariants.{ContactsChanged as contacts_changed, KeyChanged as key_changed, AccountEnded as account_ended}
 use Rattle.desk_model.specs.declared.entry.Entry.TheVariants.{Ordered as ordered, Answered as answered, Reported as reported}
 use Rattle.desk_model.specs.declared.entry.Entry.TheVariants.{AuthorizationEnded as authorization_ended, Finalized as finalized}
 use Rattle.desk_model.specs.declared.entry.Entry.TheVariants.{Certified as certified, Failed as failed}
@@ -29,6 +29,9 @@ may_local k T (opened key cs) h =
     ap (λ o. is_none o && contacts_pass cs) (find_part (λ a. bytes_eq a.key key) (λ a. k.accounts a.number) T.accounts h)
 may_local k T (contacts_changed n cs) h =
     ap (λ o. holds (λ a. is_valid_account a.status) o && contacts_pass cs) (find_part (λ a. a.number == n) (λ a. k.accounts a.number) T.accounts h)
+may_local k T (key_changed n key) h =
+    λ i. holds (λ a. is_valid_account a.status) (find_part (λ a. a.number == n) (λ a. k.accounts a.number) T.accounts h.0 i)
+    && is_none (find_part (λ a. bytes_eq a.key key) (λ a. k.accounts a.number) T.accounts h.1 i)
 may_local k T (account_ended n s) h =
     ap (holds (λ a. is_valid_account a.status)) (find_part (λ a. a.number == n) (λ a. k.accounts a.number) T.accounts h)
 may_local k T (ordered n ws) h =

@@ -137,9 +137,9 @@ challenges_in_rows : (F : History) (t n : ℕ) (xs : List Authorization) → Are
     IsNumbered (λ c. c.number) n (flat_map (λ (a : AuthorizationRow). a.challenges) (map (authorization_row F t) xs))
 challenges_in_rows F t n [] h = tt
 challenges_in_rows F t n (a ∷ xs) h =
-    numbered-append (λ c. c.number) n (map (challenge_row F) a.challenges) _ (n + length a.challenges)
-    (let e = length-map a.challenges (challenge_row F) in omega arith)
-    (numbered_map (λ c. c.number) (λ c. c.number) (challenge_row F) (λ c. refl) n a.challenges h.0)
+    numbered-append (λ c. c.number) n (map (challenge_row F a.account) a.challenges) _ (n + length a.challenges)
+    (let e = length-map a.challenges (challenge_row F a.account) in omega arith)
+    (numbered_map (λ c. c.number) (λ c. c.number) (challenge_row F a.account) (λ c. refl) n a.challenges h.0)
     (challenges_in_rows F t (n + length a.challenges) xs h.1)
 
 -- the challenges of a history stand by number
@@ -228,8 +228,8 @@ changes_make T m e M h =
           puts_all (λ a. a.number) (touches_account e) account_differs (noted_account e m) (λ a. refl)
           (account_unmoved e m) T.meta.counters.accounts T.accounts _ h.accounts (opened_up e m (T.meta.counters.accounts + 1)) i;
       authorizations =
-          puts_all (λ a. a.number) (touches_authorization e) authorization_differs (λ r. restated_authorization m (noted_authorization e m r))
-          (λ a. refl) (authorization_unmoved e m) T.meta.counters.authorizations T.authorizations _ h.authorizations
+          puts_all (λ a. a.number) (touches_authorization e) authorization_differs (λ r. restated_authorization m (noted_authorization e m T.accounts r))
+          (λ a. refl) (authorization_unmoved e m T.accounts) T.meta.counters.authorizations T.authorizations _ h.authorizations
           (made_up e m T.meta.policy.authz_life (T.meta.counters.authorizations + 1) (T.meta.counters.challenges + 1)) i;
       orders =
           puts_all (λ o. o.number) (touches_order e T.authorizations) order_differs

@@ -1,19 +1,22 @@
 -- What an entry does to a row that is there.
 use Rattle.std.proofs.Common.{◌≡◌, ◌≤◌, ◌<◌, ℕ, List, [], ◌∷◌, map, Option, Some, None, refl, sym, ap, ◌∙◌, true, false, Bool, cond, arith, ltb, leb}
-use Rattle.std.specs.Prelude.{nat_lt, ◌==◌, ◌&&◌, ◌||◌, is_some}
+use Rattle.std.specs.Prelude.{nat_lt, ◌==◌, ◌&&◌, ◌||◌, find, is_some}
+use Rattle.std.specs.Option.{option_map}
 use Rattle.std.specs.List.{list_any}
 use Rattle.std.proofs.lemmas.Bool.{leb-true, le-leb, ltb-true, lt-ltb, eqb-true, and_parts, or_parts}
 use Rattle.std.proofs.Math.Bool.{or-false}
 use Rattle.desk_model.specs.Entry.{History}
 use Rattle.desk_model.specs.History.{clock, first, earlier}
 use Rattle.desk_model.specs.Lookup.{holds}
+use Rattle.desk_model.specs.Account.{account_key, accounts, key_if}
+use Rattle.desk_model.specs.Keys.{thumbprint}
 use Rattle.desk_model.specs.Authorization.{ends, in_time, authorization_end, authorization_status, authorization_status_by, ends_by}
-use Rattle.desk_model.specs.Authorization.{when_proved, proving, reporting, when_answered, report, challenge_status}
+use Rattle.desk_model.specs.Authorization.{when_proved, proving, answer, answer_by, answering, reporting, when_answered, report, challenge_status}
 use Rattle.desk_model.specs.Authorization.{challenge_status_by, is_good, has_challenge, status_of, kind_of, is_live}
 use Rattle.desk_model.specs.Legal.{may_follow, is_processing_challenge, EachFollows}
-use Rattle.desk_model.specs.Tables.{challenge_row, authorization_row}
+use Rattle.desk_model.specs.Tables.{account_row, challenge_row, authorization_row}
 use Rattle.desk_model.specs.Derived.{is_proved, restated_authorization}
-use Rattle.desk_model.specs.Effect.{noted_challenge, answered_challenge, reported_challenge, noted_authorization, row_ends}
+use Rattle.desk_model.specs.Effect.{key_in, key_numbered, noted_challenge, answered_challenge, reported_challenge, noted_authorization, row_ends}
 use Rattle.desk_model.specs.Effect.{has_row, touches_authorization, moved_authorization, is_overdue, swept_authorization}
 use Rattle.desk_model.specs.declared.objects.EndKind.TheVariants as kind
 use Rattle.desk_model.specs.declared.status.AuthzStatus.TheVariants as authz
@@ -23,37 +26,67 @@ use Rattle.desk_model.specs.declared.entry.Entry.{Entry}
 use Rattle.desk_model.specs.declared.entry.Entry.TheVariants.{AccountEnded as account_ended, Answered as answered}
 use Rattle.desk_model.specs.declared.entry.Entry.TheVariants.{Reported as reported, AuthorizationEnded as authorization_ended}
 use Rattle.desk_model.specs.declared.entry.Outcome.{Outcome}
+use Rattle.desk_model.specs.declared.objects.Account.{Account}
+use Rattle.desk_model.specs.declared.objects.Answer.{Answer}
 use Rattle.desk_model.specs.declared.objects.Authorization.{Authorization}
 use Rattle.desk_model.specs.declared.objects.AuthorizationEnd.{AuthorizationEnd}
 use Rattle.desk_model.specs.declared.objects.Challenge.{Challenge}
 use Rattle.desk_model.specs.declared.objects.EndKind.{EndKind}
 use Rattle.desk_model.specs.declared.objects.Report.{Report}
+use Rattle.desk_model.specs.declared.rows.AccountRow.{AccountRow}
 use Rattle.desk_model.specs.declared.rows.AuthorizationRow.{AuthorizationRow}
 use Rattle.desk_model.specs.declared.rows.ChallengeRow.{ChallengeRow}
-use Rattle.desk_laws.proofs.Basics.{earlier-some, none_earlier, list_any-map, list_any-same, any_or, each, each_all, map-moved}
+use Rattle.desk_laws.proofs.Basics.{earlier-some, none_earlier, is_some-earlier, list_any-map, list_any-same, any_or, each, each_all, find-map, map-moved}
 
--- ---- challenges: by computing
+-- ---- challenges
+
+-- an answer is one under each key
+answer_some : (key : List ℕ) (o : Option ℕ) → is_some (answer_by key o) ≡ is_some o
+answer_some key None = refl
+answer_some key (Some date) = refl
+
+-- an answer stands where the challenge was answered
+pub answered_alike : (account n : ℕ) (F : History) → is_some (answer account n F) ≡ is_some (when_answered n F)
+answered_alike account n [] = refl
+answered_alike account n (e ∷ F) =
+    is_some-earlier (answer account n F) (answer_by (account_key account F) (answering n e.entry e.date))
+    ∙ (λ i. answered_alike account n F i || answer_some (account_key account F) (answering n e.entry e.date) i)
+    ∙ sym (is_some-earlier (when_answered n F) (answering n e.entry e.date))
 
 -- the row of a challenge after an entry
-challenge_moves : (F : History) (e : Entry) (m : ℕ) (c : Challenge) →
-    challenge_row (record { date = m; entry = e } ∷ F) c ≡ noted_challenge e m (challenge_row F c)
-challenge_moves F (answered n) m c = by (n == c.number)
+challenge_moves : (F : History) (e : Entry) (m account : ℕ) (c : Challenge) →
+    challenge_row (record { date = m; entry = e } ∷ F) account c ≡ noted_challenge e m (account_key account F) (challenge_row F account c)
+challenge_moves F (answered n) m account c = by (n == c.number)
   where
-    by : (b : Bool) → (let d : Option ℕ = earlier (when_answered c.number F) (cond b (Some m) None) in
-        let x : ChallengeRow =
+    key : List ℕ
+    key = account_key account F
+
+    given : Answer
+    given = record { date = m; thumb = thumbprint key }
+
+    both : is_some (earlier (when_answered c.number F) (Some m)) ≡ is_some (earlier (answer account c.number F) (Some given))
+    both =
+        is_some-earlier (when_answered c.number F) (Some m)
+        ∙ ap (λ b. b || true) (sym (answered_alike account c.number F))
+        ∙ sym (is_some-earlier (answer account c.number F) (Some given))
+
+    by : (b : Bool) → (let x : ChallengeRow =
         record {
           number = c.number;
           kind = c.kind;
           token = c.token;
-          answered = d;
+          answered = earlier (answer account c.number F) (answer_by key (cond b (Some m) None));
           reported = report c.number F;
-          status = challenge_status_by
-              (report c.number F) d;
+          status = challenge_status_by (report c.number F) (is_some (earlier (when_answered c.number F) (cond b (Some m) None)));
         } in
-        x ≡ cond b (answered_challenge m (challenge_row F c)) (challenge_row F c))
-    by true = refl
+        x ≡ cond b (answered_challenge m key (challenge_row F account c)) (challenge_row F account c))
+    by true =
+        λ i. record (challenge_row F account c) {
+          answered = earlier (answer account c.number F) (Some given);
+          status = challenge_status_by (report c.number F) (both i);
+        }
     by false = refl
-challenge_moves F (reported n o) m c = by (n == c.number)
+challenge_moves F (reported n o) m account c = by (n == c.number)
   where
     by : (b : Bool) → (let r : Option Report = earlier (report c.number F) (cond b (Some (record { date = m; outcome = o })) None) in
         let x : ChallengeRow =
@@ -61,20 +94,34 @@ challenge_moves F (reported n o) m c = by (n == c.number)
           number = c.number;
           kind = c.kind;
           token = c.token;
-          answered = when_answered c.number F;
+          answered = answer account c.number F;
           reported = r;
-          status = challenge_status_by r (when_answered c.number F);
+          status = challenge_status_by r (is_some (when_answered c.number F));
         } in
-        x ≡ cond b (reported_challenge o m (challenge_row F c)) (challenge_row F c))
-    by true = refl
+        x ≡ cond b (reported_challenge o m (challenge_row F account c)) (challenge_row F account c))
+    by true =
+        let r : Option Report = earlier (report c.number F) (Some (record { date = m; outcome = o })) in
+        λ i. record (challenge_row F account c) {
+          reported = r;
+          status = challenge_status_by r (sym (answered_alike account c.number F) i);
+        }
     by false = refl
-challenge_moves F _ m c = refl
+challenge_moves F _ m account c = refl
+
+-- the key in an account's row is the one that the account has
+pub key_row : (n : ℕ) (F : History) → key_numbered n (map (account_row F) (accounts F)) ≡ account_key n F
+key_row n F =
+    ap key_in (find-map (λ (a : AccountRow). a.number == n) (account_row F) (accounts F)) ∙ by (find (λ a. a.number == n) (accounts F))
+  where
+    by : (o : Option Account) → key_in (option_map (account_row F) o) ≡ key_if o F
+    by None = refl
+    by (Some a) = refl
 
 -- ---- the end of an authorization
 
 -- an authorization has the challenges of its row
 pub has_row-row : (n : ℕ) (F : History) (t : ℕ) (a : Authorization) → has_row n (authorization_row F t a) ≡ has_challenge n a
-has_row-row n F t a = list_any-map (λ c. n == c.number) (challenge_row F) a.challenges
+has_row-row n F t a = list_any-map (λ c. n == c.number) (challenge_row F a.account) a.challenges
 
 -- an entry ends an authorization where it ends its row
 row_ends-row : (F : History) (t : ℕ) (a : Authorization) (e : Entry) (m : ℕ) → row_ends (authorization_row F t a) e m ≡ ends a e m
@@ -142,22 +189,15 @@ end_moves a F e m le = by (first (λ d. ends a d.entry d.date) F) refl (ends a e
 
 -- ---- a good report
 
--- there is a first fact where there is one of the two
-is_some-earlier : {X : Type 0} (x y : Option X) → is_some (earlier x y) ≡ (is_some x || is_some y)
-is_some-earlier None None = refl
-is_some-earlier None (Some y) = refl
-is_some-earlier (Some x) None = refl
-is_some-earlier (Some x) (Some y) = refl
-
 -- there is a report, and it is good
 abbrev is_good_report : Option Report → Bool
 is_good_report r = holds (λ r. is_good r.outcome) r
 
 -- a challenge that is processing has no report
 pub processing_unreported : (n : ℕ) (F : History) → is_processing_challenge (challenge_status n F) ≡ true → report n F ≡ None
-processing_unreported n F h = by (report n F) (when_answered n F) h
+processing_unreported n F h = by (report n F) (is_some (when_answered n F)) h
   where
-    by : (r : Option Report) (d : Option ℕ) → is_processing_challenge (challenge_status_by r d) ≡ true → r ≡ None
+    by : (r : Option Report) (d : Bool) → is_processing_challenge (challenge_status_by r d) ≡ true → r ≡ None
     by None d k = refl
     by (Some r) d k = other (is_good r.outcome) k
       where
@@ -230,18 +270,21 @@ pub authorization_stated : (F : History) → EachFollows F → (t u : ℕ) (a : 
     authorization_row F t a ≡ restated_authorization t (authorization_row F u a)
 authorization_stated F each t u a =
     let same : is_some (when_proved a F) ≡ is_proved (authorization_row F u a) =
-    proved_by a F each ∙ sym (list_any-map (λ c. holds (λ r. is_good r.outcome) c.reported) (challenge_row F) a.challenges) in
+    proved_by a F each ∙ sym (list_any-map (λ c. holds (λ r. is_good r.outcome) c.reported) (challenge_row F a.account) a.challenges) in
     λ i. record (authorization_row F t a) { status = authorization_status_by (authorization_end a F) (nat_lt a.expires t) (same i) }
 
 -- the row of an authorization after an entry, in general
 pub authorization_noted : (F : History) (e : Entry) (m t : ℕ) (a : Authorization) → EachFollows (record { date = m; entry = e } ∷ F) → clock F ≤ m →
-    authorization_row (record { date = m; entry = e } ∷ F) m a ≡ restated_authorization m (noted_authorization e m (authorization_row F t a))
+    authorization_row (record { date = m; entry = e } ∷ F) m a ≡ restated_authorization m (noted_authorization e m (map (account_row F) (accounts F)) (authorization_row F t a))
 authorization_noted F e m t a each le =
     let G : History = record { date = m; entry = e } ∷ F in
     let ended : authorization_end a G ≡ earlier (authorization_end a F) (in_time a.expires (row_ends (authorization_row F t a) e m)) =
     end_moves a F e m le ∙ ap (λ o. earlier (authorization_end a F) (in_time a.expires o)) (sym (row_ends-row F t a e m)) in
-    let challenges : map (challenge_row G) a.challenges ≡ map (noted_challenge e m) (map (challenge_row F) a.challenges) =
-    map-moved (challenge_row F) (noted_challenge e m) (challenge_row G) a.challenges (each_all _ a.challenges (challenge_moves F e m)) in
+    let key : List ℕ = key_numbered a.account (map (account_row F) (accounts F)) in
+    let challenges : map (challenge_row G a.account) a.challenges ≡ map (noted_challenge e m key) (map (challenge_row F a.account) a.challenges) =
+    map-moved (challenge_row F a.account) (noted_challenge e m (account_key a.account F)) (challenge_row G a.account) a.challenges
+    (each_all _ a.challenges (challenge_moves F e m a.account))
+    ∙ ap (λ k. map (noted_challenge e m k) (map (challenge_row F a.account) a.challenges)) (sym (key_row a.account F)) in
     authorization_stated G each m m a
     ∙ (λ i. restated_authorization m (record (authorization_row G m a) { ended = ended i; challenges = challenges i }))
 
@@ -256,17 +299,20 @@ kept_challenges move [] h = refl
 kept_challenges move (c ∷ cs) h = λ i. h.0 i ∷ kept_challenges move cs h.1 i
 
 -- challenges that the entry does not concern
-other_challenges : (e : Entry) (m : ℕ) (cs : List ChallengeRow) → ((c : ChallengeRow) → noted_challenge e m c ≡ c) → map (noted_challenge e m) cs ≡ cs
-other_challenges e m cs f = kept_challenges (noted_challenge e m) cs (each_all _ cs f)
+other_challenges : (e : Entry) (m : ℕ) (key : List ℕ) (cs : List ChallengeRow) → ((c : ChallengeRow) → noted_challenge e m key c ≡ c) →
+    map (noted_challenge e m key) cs ≡ cs
+other_challenges e m key cs f = kept_challenges (noted_challenge e m key) cs (each_all _ cs f)
 
 -- an authorization that the entry does not touch keeps its columns
-pub authorization_untouched : (e : Entry) (m : ℕ) (row : AuthorizationRow) → touches_authorization e row ≡ false → noted_authorization e m row ≡ row
-authorization_untouched (answered n) m row h =
-    let kept : map (noted_challenge (answered n) m) row.challenges ≡ row.challenges =
-    kept_challenges _ row.challenges (each _ _ row.challenges (λ c k. ap (λ b. cond b (answered_challenge m c) c) k) (has_none n row.challenges h)) in
+pub authorization_untouched : (e : Entry) (m : ℕ) (accounts : List AccountRow) (row : AuthorizationRow) → touches_authorization e row ≡ false →
+    noted_authorization e m accounts row ≡ row
+authorization_untouched (answered n) m accounts row h =
+    let key : List ℕ = key_numbered row.account accounts in
+    let kept : map (noted_challenge (answered n) m key) row.challenges ≡ row.challenges =
+    kept_challenges _ row.challenges (each _ _ row.challenges (λ c k. ap (λ b. cond b (answered_challenge m key c) c) k) (has_none n row.challenges h)) in
     λ i. record row { challenges = kept i }
-authorization_untouched (reported n o) m row h =
-    let kept : map (noted_challenge (reported n o) m) row.challenges ≡ row.challenges =
+authorization_untouched (reported n o) m accounts row h =
+    let kept : map (noted_challenge (reported n o) m (key_numbered row.account accounts)) row.challenges ≡ row.challenges =
     kept_challenges _ row.challenges
     (each _ _ row.challenges (λ c k. ap (λ b. cond b (reported_challenge o m c) c) k) (has_none n row.challenges h)) in
     let end : row_ends row (reported n o) m ≡ None =
@@ -278,34 +324,35 @@ authorization_untouched (reported n o) m row h =
     either : (b : Bool) → cond {A = Option AuthorizationEnd} b None None ≡ None
     either true = refl
     either false = refl
-authorization_untouched (authorization_ended n s) m row h =
+authorization_untouched (authorization_ended n s) m accounts row h =
     let end : row_ends row (authorization_ended n s) m ≡ None =
     ap (λ b. cond {A = Option AuthorizationEnd} b (Some (record { date = m; kind = kind_of s })) None) h in
-    let kept = other_challenges (authorization_ended n s) m row.challenges (λ c. refl) in
+    let kept = other_challenges (authorization_ended n s) m (key_numbered row.account accounts) row.challenges (λ c. refl) in
     λ i. record row { challenges = kept i; ended = earlier row.ended (in_time row.expires (end i)) }
-authorization_untouched (account_ended n s) m row h =
+authorization_untouched (account_ended n s) m accounts row h =
     let end : row_ends row (account_ended n s) m ≡ None =
     ap (λ b. cond {A = Option AuthorizationEnd} b (Some (record { date = m; kind = kind_of s })) None) h in
-    let kept = other_challenges (account_ended n s) m row.challenges (λ c. refl) in
+    let kept = other_challenges (account_ended n s) m (key_numbered row.account accounts) row.challenges (λ c. refl) in
     λ i. record row { challenges = kept i; ended = earlier row.ended (in_time row.expires (end i)) }
-authorization_untouched e m row h = let kept = other_challenges e m row.challenges (λ c. refl) in λ i. record row { challenges = kept i }
+authorization_untouched e m accounts row h =
+    let kept = other_challenges e m (key_numbered row.account accounts) row.challenges (λ c. refl) in λ i. record row { challenges = kept i }
 
 -- and its row
 pub authorization_kept : (F : History) (e : Entry) (m : ℕ) (a : Authorization) → EachFollows (record { date = m; entry = e } ∷ F) → clock F ≤ m →
     touches_authorization e (authorization_row F m a) ≡ false → authorization_row (record { date = m; entry = e } ∷ F) m a ≡ authorization_row F m a
 authorization_kept F e m a each le h =
     authorization_noted F e m m a each le
-    ∙ ap (restated_authorization m) (authorization_untouched e m (authorization_row F m a) h)
+    ∙ ap (restated_authorization m) (authorization_untouched e m (map (account_row F) (accounts F)) (authorization_row F m a) h)
     ∙ sym (authorization_stated F each.1 m m a)
 
 -- the row of an authorization after an entry
 pub authorization_moves : (F : History) (e : Entry) (m : ℕ) (a : Authorization) → EachFollows (record { date = m; entry = e } ∷ F) → clock F ≤ m →
-    authorization_row (record { date = m; entry = e } ∷ F) m a ≡ moved_authorization e m (authorization_row F m a)
+    authorization_row (record { date = m; entry = e } ∷ F) m a ≡ moved_authorization e m (map (account_row F) (accounts F)) (authorization_row F m a)
 authorization_moves F e m a each le = by (touches_authorization e (authorization_row F m a)) refl
   where
     by : (b : Bool) → touches_authorization e (authorization_row F m a) ≡ b →
         authorization_row (record { date = m; entry = e } ∷ F) m a
-        ≡ cond b (restated_authorization m (noted_authorization e m (authorization_row F m a))) (authorization_row F m a)
+        ≡ cond b (restated_authorization m (noted_authorization e m (map (account_row F) (accounts F)) (authorization_row F m a))) (authorization_row F m a)
     by true h = authorization_noted F e m m a each le
     by false h = authorization_kept F e m a each le h
 

@@ -1,13 +1,13 @@
 -- Facts that entries state.
 use Rattle.std.proofs.Common.{[], ◌∷◌, Option, Some, None, true, false, Bool, cond}
-use Rattle.std.specs.Prelude.{IfSome}
+use Rattle.std.specs.Prelude.{IfSome, unwrap_or}
 use Rattle.desk_model.specs.Entry.{History}
 use Rattle.desk_model.specs.History.{earlier, first, latest}
 use Rattle.desk_model.specs.Kept.{EachOf}
 use Rattle.desk_model.specs.declared.entry.Dated.{Dated}
 
 -- what holds of two facts holds of the earlier one
-earlier_holds : {X : Type 0} (P : X → Type 0) (x y : Option X) → IfSome x P → IfSome y P → IfSome (earlier x y) P
+pub earlier_holds : {X : Type 0} (P : X → Type 0) (x y : Option X) → IfSome x P → IfSome y P → IfSome (earlier x y) P
 earlier_holds P None None h k = tt
 earlier_holds P None (Some y) h k = k
 earlier_holds P (Some x) None h k = h
@@ -22,6 +22,11 @@ first_holds P fact (e ∷ F) h = earlier_holds P (first fact F) (fact e) (first_
 pub latest_holds : {X : Type 0} (P : X → Type 0) (fact : Dated → Option X) (F : History) → EachOf (λ e. IfSome (fact e) P) F → IfSome (latest fact F) P
 latest_holds P fact [] h = tt
 latest_holds P fact (e ∷ F) h = earlier_holds P (fact e) (latest fact F) h.0 (latest_holds P fact F h.1)
+
+-- what holds of the fact, if there is one, and of the value at making, holds of the value now
+pub now_holds : {X : Type 0} (P : X → Type 0) (o : Option X) (x : X) → IfSome o P → P x → P (unwrap_or o x)
+now_holds P None x h k = k
+now_holds P (Some y) x h k = h
 
 -- a fact that is stated under a condition
 pub stated : {X : Type 0} (P : X → Type 0) (b : Bool) (x : X) → P x → IfSome (cond b (Some x) None) P

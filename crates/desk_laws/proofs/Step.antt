@@ -8,7 +8,7 @@ use Rattle.desk_model.specs.Entry.{History}
 use Rattle.desk_model.specs.Terms.{are_terms}
 use Rattle.desk_model.specs.History.{clock, terms, latest, earlier, record_all}
 use Rattle.desk_model.specs.Nonce.{nonces, issued_by, is_open, when_spent, spending}
-use Rattle.desk_model.specs.Account.{accounts, opened_by, changing, ends as account_ends, status_of as account_status_of}
+use Rattle.desk_model.specs.Account.{accounts, opened_by, changing, rekeying, ends as account_ends, status_of as account_status_of}
 use Rattle.desk_model.specs.Authorization.{authorizations, count_challenges}
 use Rattle.desk_model.specs.Order.{orders}
 use Rattle.desk_model.specs.Legal.{EachFollows, is_empty}
@@ -21,7 +21,7 @@ use Rattle.desk_model.specs.Kept.{EachOf}
 use Rattle.desk_model.specs.declared.entry.Dated.{Dated}
 use Rattle.desk_model.specs.declared.entry.Entry.{Entry}
 use Rattle.desk_model.specs.declared.entry.Entry.TheVariants.{Made as made, Issued as issued, Spent as spent}
-use Rattle.desk_model.specs.declared.entry.Entry.TheVariants.{ContactsChanged as contacts_changed, AccountEnded as account_ended}
+use Rattle.desk_model.specs.declared.entry.Entry.TheVariants.{ContactsChanged as contacts_changed, KeyChanged as key_changed, AccountEnded as account_ended}
 use Rattle.desk_model.specs.declared.objects.Account.{Account}
 use Rattle.desk_model.specs.declared.objects.AccountEnd.{AccountEnd}
 use Rattle.desk_model.specs.declared.objects.Nonce.{Nonce}
@@ -40,6 +40,8 @@ account_untouched : (e : Entry) (m : ℕ) (row : AccountRow) → row.status ≡ 
     noted_account e m row ≡ row
 account_untouched (contacts_changed n cs) m row s h =
     λ i. record row { contacts = unwrap_or (cond {A = Option (List (List ℕ))} (h i) (Some cs) None) row.contacts; status = sym s i }
+account_untouched (key_changed n key) m row s h =
+    λ i. record row { key = unwrap_or (cond {A = Option (List ℕ)} (h i) (Some key) None) row.key; status = sym s i }
 account_untouched (account_ended n x) m row s h =
     let ended : earlier row.ended (account_ends row.number (account_ended n x) m) ≡ row.ended =
     ap (λ b. earlier row.ended (cond {A = Option AccountEnd} b (Some (record { date = m; ending = x })) None)) h in
@@ -50,12 +52,13 @@ account_untouched _ m row s h = λ i. record row { status = sym s i }
 account_noted : (F : History) (e : Entry) (m : ℕ) (a : Account) →
     account_row (record { date = m; entry = e } ∷ F) a ≡ noted_account e m (account_row F a)
 account_noted F e m a =
-    let same = contacts_on (changing a.number e) (latest (λ d. changing a.number d.entry) F) in
-    λ i. record (account_row (record { date = m; entry = e } ∷ F) a) { contacts = same i }
+    let contacts = latest_on a.contacts (changing a.number e) (latest (λ d. changing a.number d.entry) F) in
+    let key = latest_on a.key (rekeying a.number e) (latest (λ d. rekeying a.number d.entry) F) in
+    λ i. record (account_row (record { date = m; entry = e } ∷ F) a) { key = key i; contacts = contacts i }
   where
-    contacts_on : (x y : Option (List (List ℕ))) → unwrap_or (earlier x y) a.contacts ≡ unwrap_or x (unwrap_or y a.contacts)
-    contacts_on None y = ap (λ o. unwrap_or o a.contacts) (none_earlier y)
-    contacts_on (Some x) y = ap (λ o. unwrap_or o a.contacts) (earlier-some x y)
+    latest_on : {X : Type 0} (first : X) (x y : Option X) → unwrap_or (earlier x y) first ≡ unwrap_or x (unwrap_or y first)
+    latest_on first None y = ap (λ o. unwrap_or o first) (none_earlier y)
+    latest_on first (Some x) y = ap (λ o. unwrap_or o first) (earlier-some x y)
 
 -- the row of an account after an entry
 account_moves : (F : History) (e : Entry) (m : ℕ) (a : Account) →
@@ -169,10 +172,10 @@ step F e m h =
     let le : clock F ≤ m = h.0.in_order in
     let found : EachOf (AreFound F) (orders F) = listed_found F in
     let authorization_rows : map (authorization_row G m) (authorizations G)
-    ≡ map (moved_authorization e m) (map (authorization_row F m) (authorizations F))
+    ≡ map (moved_authorization e m (map (account_row F) (accounts F))) (map (authorization_row F m) (authorizations F))
     ++ map (λ a. restated_authorization m (fresh_authorization a)) (made_now d F) =
-    rows_on (authorization_row F m) (authorization_row G m) (λ a. restated_authorization m (fresh_authorization a)) (moved_authorization e m)
-    (authorizations F) (made_now d F)
+    rows_on (authorization_row F m) (authorization_row G m) (λ a. restated_authorization m (fresh_authorization a))
+    (moved_authorization e m (map (account_row F) (accounts F))) (authorizations F) (made_now d F)
     (each_all _ (authorizations F) (λ a. authorization_moves F e m a h le)) (authorizations_fresh F e m h) in
     let order_rows : map (order_row G m) (orders G) ≡ map
     (moved_order e m (map (authorization_row F m) (authorizations F)) (map (authorization_row G m) (authorizations G)))

@@ -82,6 +82,14 @@ swept_closed k T m h =
       new_orders = h.new_orders;
     }
 
+-- a swept authorization keeps its account
+swept_account : (m : ℕ) (row : AuthorizationRow) → (swept_authorization m row).account ≡ row.account
+swept_account m row = by (is_overdue m row)
+  where
+    by : (b : Bool) → (cond b (record row { status = authz.Expired }) row).account ≡ row.account
+    by true = refl
+    by false = refl
+
 -- and covers what it covered
 pub swept_covers : (k : Kept) (T : Tables) (m : ℕ) (e : Entry) → Covers k T e → Covers k (swept m T) e
 swept_covers k T m e h =
@@ -98,4 +106,6 @@ swept_covers k T m e h =
           (λ i. names_order e (number i) || lists_one (touches_authorization e) (map (swept_authorization m) T.authorizations) (listed i))
           ∙ ap (λ b. names_order e o.number || b) (lists_swept e m T.authorizations (numbers_of o.listed)) in
           ap k.orders number ∙ f (sym same ∙ t)) h.orders);
+      holders = each-map _ (swept_authorization m) T.authorizations
+          (each _ _ T.authorizations (λ a f t. ap k.accounts (swept_account m a) ∙ f (sym (touches_swept e m a) ∙ t)) h.holders);
     }

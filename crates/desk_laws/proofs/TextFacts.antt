@@ -1,13 +1,14 @@
 -- The texts that a history keeps are UTF-8.
-use Rattle.std.proofs.Common.{◌≡◌, ℕ, ◌+◌, List, [], ◌∷◌, length, Option, Some, None, IsUtf8, IfSome, true}
-use Rattle.std.specs.Prelude.{◌==◌, unwrap_or}
+use Rattle.std.proofs.Common.{◌≡◌, ℕ, ◌+◌, [], ◌∷◌, length, IsUtf8, IfSome, true}
+use Rattle.std.specs.Prelude.{◌==◌}
 use Rattle.std.proofs.lemmas.Bool.{and_parts}
 use Rattle.std.proofs.lemmas.Str.{IsUtf8-nil}
-use Rattle.desk_model.specs.Account.{accounts, changing, opened_by}
+use Rattle.desk_model.specs.Account.{accounts, changing, key_of, opened_by}
 use Rattle.desk_model.specs.Authorization.{authorizations}
 use Rattle.desk_model.specs.Entry.{History}
 use Rattle.desk_model.specs.History.{terms}
 use Rattle.desk_model.specs.Kept.{EachOf}
+use Rattle.desk_model.specs.Keys.{IsKeyText}
 use Rattle.desk_model.specs.Legal.{EachFollows, IsFormed, is_empty, may_follow}
 use Rattle.desk_model.specs.Order.{failing, failure, orders}
 use Rattle.desk_model.specs.Tables.{account_row, authorization_row, order_row, tables_at}
@@ -18,31 +19,21 @@ use Rattle.desk_model.specs.declared.entry.Entry.TheVariants.{Made as made, Open
 use Rattle.desk_model.specs.declared.objects.Account.{Account}
 use Rattle.desk_model.specs.declared.rows.DatedProblem.{DatedProblem}
 use Rattle.desk_laws.proofs.AsciiTexts.{base_text, base_name_text, key_text}
-use Rattle.desk_laws.proofs.Basics.{each, each_all, each-append, each-map}
-use Rattle.desk_laws.proofs.Keeps.{names_formed}
-use Rattle.desk_laws.proofs.StatedFacts.{first_holds, latest_holds, stated}
+use Rattle.desk_laws.proofs.Basics.{each, each_all, each_both, each-append, each-map}
+use Rattle.desk_laws.proofs.Keeps.{each_formed, keys_now_formed, names_formed}
+use Rattle.desk_laws.proofs.StatedFacts.{first_holds, latest_holds, now_holds, stated}
 
 -- ---- facts
 
--- each entry that follows is formed
-each_formed : (F : History) → EachFollows F → EachOf (λ d. IsFormed d.entry) F
-each_formed [] h = tt
-each_formed (e ∷ F) h = (h.0.formed, each_formed F h.1)
-
 -- ---- accounts
 
--- what an account holds as text when it is opened
-pub record OpensTexts (a : Account) : Type 0 where
-  pub canonical : IsUtf8 a.key
-  pub contact : AreTexts a.contacts
-
 -- each account is opened with texts
-accounts_open : (F : History) → EachFollows F → EachOf OpensTexts (accounts F)
+accounts_open : (F : History) → EachFollows F → EachOf (λ a. AreTexts a.contacts) (accounts F)
 accounts_open [] h = tt
 accounts_open (e ∷ F) h = each-append _ (accounts F) _ (accounts_open F h.1) (by e.entry h.0.formed)
   where
-    by : (entry : Entry) → IsFormed entry → EachOf OpensTexts (opened_by entry e.date (length (accounts F) + 1))
-    by (opened key cs) formed = (record { canonical = key_text key formed.0; contact = formed.1 }, tt)
+    by : (entry : Entry) → IsFormed entry → EachOf (λ a. AreTexts a.contacts) (opened_by entry e.date (length (accounts F) + 1))
+    by (opened key cs) formed = (formed.1, tt)
     by _ formed = tt
 
 -- an entry changes contacts to texts
@@ -50,18 +41,13 @@ changing_keeps : (n : ℕ) (entry : Entry) → IsFormed entry → IfSome (changi
 changing_keeps n (contacts_changed k cs) formed = stated AreTexts (k == n) cs formed
 changing_keeps n _ formed = tt
 
--- the contacts now are those changed to, if there are some
-now_keeps : (o : Option (List (List ℕ))) (cs : List (List ℕ)) → IfSome o AreTexts → AreTexts cs → AreTexts (unwrap_or o cs)
-now_keeps None cs h k = k
-now_keeps (Some ds) cs h k = h
-
 -- the row of an account holds texts
-account_row_holds : (F : History) → EachFollows F → (a : Account) → OpensTexts a → HoldsTextAccount (account_row F a)
-account_row_holds F h a held =
+account_row_holds : (F : History) → EachFollows F → (a : Account) → AreTexts a.contacts → IsKeyText (key_of a F) → HoldsTextAccount (account_row F a)
+account_row_holds F h a held keyed =
     record {
-      canonical = held.canonical;
-      contact = now_keeps _ a.contacts
-          (latest_holds AreTexts _ F (each _ _ F (λ d formed. changing_keeps a.number d.entry formed) (each_formed F h))) held.contact;
+      canonical = key_text (key_of a F) keyed;
+      contact = now_holds AreTexts _ a.contacts
+          (latest_holds AreTexts _ F (each _ _ F (λ d formed. changing_keeps a.number d.entry formed) (each_formed F h))) held;
     }
 
 -- ---- orders
@@ -93,7 +79,8 @@ pub hold_texts : (F : History) → EachFollows F → (t : ℕ) → HoldTexts (ta
 hold_texts F h t =
     record {
       meta = base_keeps F h;
-      accounts = each-map _ (account_row F) (accounts F) (each _ _ (accounts F) (account_row_holds F h) (accounts_open F h));
+      accounts = each-map _ (account_row F) (accounts F)
+          (each _ _ (accounts F) (λ a p. account_row_holds F h a p.0 p.1) (each_both _ _ (accounts F) (accounts_open F h) (keys_now_formed F h)));
       authorizations = each-map _ (authorization_row F t) (authorizations F)
           (each _ _ (authorizations F) (λ a formed. base_name_text a.name.base formed) (names_formed F h));
       orders = each-map _ (order_row F t) (orders F) (each_all _ (orders F) (λ o. failure_keeps F h o.number));

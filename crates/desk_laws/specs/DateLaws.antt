@@ -18,7 +18,7 @@ pub record IsAccountDatedBy (t : ℕ) (row : AccountRow) : Type 0 where
 
 -- no date of the challenge
 pub record IsChallengeDatedBy (t : ℕ) (row : ChallengeRow) : Type 0 where
-  pub answered : IfSome row.answered (λ date. date ≤ t)
+  pub answered : IfSome row.answered (λ a. a.date ≤ t)
   pub reported : IfSome row.reported (λ r. r.date ≤ t)
 
 -- no date of the authorization and its challenges, but for its expiry

@@ -6,7 +6,7 @@ use Rattle.desk_model.specs.Entry.{History}
 use Rattle.desk_model.specs.Nonce.{nonces}
 use Rattle.desk_model.specs.Order.{orders}
 use Rattle.desk_model.specs.declared.entry.Entry.{Entry}
-use Rattle.desk_model.specs.declared.entry.Entry.TheVariants.{Spent as spent, ContactsChanged as contacts_changed}
+use Rattle.desk_model.specs.declared.entry.Entry.TheVariants.{Spent as spent, ContactsChanged as contacts_changed, KeyChanged as key_changed}
 use Rattle.desk_model.specs.declared.entry.Entry.TheVariants.{AccountEnded as account_ended, Ordered as ordered}
 use Rattle.desk_model.specs.declared.entry.Entry.TheVariants.{Answered as answered, Reported as reported}
 use Rattle.desk_model.specs.declared.entry.Entry.TheVariants.{AuthorizationEnded as authorization_ended, Finalized as finalized}
@@ -35,6 +35,7 @@ counts F =
 abbrev pub NamesGiven : Counts → Entry → Type 0
 NamesGiven c (spent n) = n ≤ c.nonces
 NamesGiven c (contacts_changed n contacts) = n ≤ c.accounts
+NamesGiven c (key_changed n key) = n ≤ c.accounts
 NamesGiven c (account_ended n ending) = n ≤ c.accounts
 NamesGiven c (ordered n wanted) = n ≤ c.accounts
 NamesGiven c (answered n) = n ≤ c.challenges

@@ -1,6 +1,7 @@
 pub mod ChangeLaws
 pub mod DateLaws
 pub mod Distinct
+pub mod FirstLaws
 pub mod Given
 pub mod Later
 pub mod LegalLaws

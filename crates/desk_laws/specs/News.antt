@@ -1,9 +1,10 @@
 -- What a change puts, beside the row that stands in its place.
-use Rattle.std.specs.Prelude.{◌==◌, ◌≡◌, ◌≢◌, List, [], ◌∷◌, Some, None, IfSome, find, map}
+use Rattle.std.specs.Prelude.{◌==◌, ◌≡◌, ◌≢◌, List, [], ◌∷◌, Some, None, IfSome, IsTrue, find, is_some, map}
 use Rattle.desk_model.specs.Tables.{Tables}
 use Rattle.desk_model.specs.Change.{applied_one}
 use Rattle.desk_model.specs.Kept.{EachOf}
 use Rattle.desk_model.specs.Questions.{authorization_on, owner_on}
+use Rattle.desk_model.specs.declared.rows.ChallengeRow.{ChallengeRow}
 use Rattle.desk_model.specs.declared.rows.Change.{Change}
 use Rattle.desk_model.specs.declared.rows.Change.TheVariants.{PutNonce, PutAccount, PutAuthorization, PutOrder}
 use Rattle.desk_laws.specs.Distinct.{Distinct}
@@ -16,10 +17,20 @@ IsNews T (PutAuthorization x) = find (λ a. a.number == x.number) T.authorizatio
 IsNews T (PutOrder x) = find (λ o. o.number == x.number) T.orders ≢ Some x
 IsNews T _ = Unit {0}
 
--- the row has the challenges, by number, of the one that stands in its place, or lists what it lists
+-- row by row, a challenge that was answered is answered
+abbrev pub StayAnswered : List ChallengeRow → List ChallengeRow → Type 0
+StayAnswered (c ∷ cs) (d ∷ ds) = (IsTrue (is_some c.answered) → IsTrue (is_some d.answered)) × StayAnswered cs ds
+StayAnswered _ _ = Unit {0}
+
+-- the same challenges, by number, none of which loses its answer
+pub record KeepChallenges (old new : List ChallengeRow) : Type 0 where
+  pub numbers : map (λ c. c.number) old ≡ map (λ c. c.number) new
+  pub answers : StayAnswered old new
+
+-- the row has the challenges of the one that stands in its place, or lists what it lists
 abbrev pub KeepsChildren : Tables → Change → Type 0
 KeepsChildren T (PutAuthorization x) =
-    IfSome (find (λ a. a.number == x.number) T.authorizations) (λ a. map (λ c. c.number) a.challenges ≡ map (λ c. c.number) x.challenges)
+    IfSome (find (λ a. a.number == x.number) T.authorizations) (λ a. KeepChallenges a.challenges x.challenges)
 KeepsChildren T (PutOrder x) = IfSome (find (λ o. o.number == x.number) T.orders) (λ o. o.listed ≡ x.listed)
 KeepsChildren T _ = Unit {0}
 

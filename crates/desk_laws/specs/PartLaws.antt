@@ -8,7 +8,7 @@ use Rattle.desk_model.specs.Entry.{History}
 use Rattle.desk_model.specs.History.{clock, record_all}
 use Rattle.desk_model.specs.Legal.{EachFollows}
 use Rattle.desk_model.specs.Tables.{Tables, picture}
-use Rattle.desk_model.specs.Kept.{Covers, CoversSweep, EachOf, IsClosed, Kept, restricted}
+use Rattle.desk_model.specs.Kept.{Covers, CoversSweep, EachOf, HoldersKept, IsClosed, Kept, restricted}
 use Rattle.desk_model.specs.declared.entry.Entry.{Entry}
 use Rattle.desk_model.specs.declared.objects.Nonce.{Nonce}
 use Rattle.desk_model.specs.declared.rows.AccountRow.{AccountRow}
@@ -48,10 +48,10 @@ MayFollowIsLocal = (k : Kept) (T : Tables) (e : Entry) → ReadsKept k T e → m
 abbrev pub PartsAreSwept : Type 0
 PartsAreSwept = (k : Kept) (T : Tables) (m : ℕ) → IsClosed k T → swept m (restricted k T) ≡ restricted k (swept m T)
 
--- the part after an entry is the part of the tables after it
+-- the part after an entry is the part of the tables after it, where the accounts of what it touches are kept
 abbrev pub PartsHaveEffect : Type 0
 PartsHaveEffect =
-    (k : Kept) (T : Tables) (m : ℕ) (e : Entry) → IsClosed k T → FreshKept k T m e →
+    (k : Kept) (T : Tables) (m : ℕ) (e : Entry) → IsClosed k T → HoldersKept k T e → FreshKept k T m e →
     effect m (restricted k T) e ≡ restricted k (effect m T e)
 
 -- and so for entries in a row

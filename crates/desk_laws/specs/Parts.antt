@@ -7,7 +7,7 @@ use Rattle.desk_model.specs.Tables.{Tables}
 use Rattle.desk_model.specs.Kept.{Covers, EachOf, IsClosed, Kept}
 use Rattle.desk_model.specs.declared.entry.Entry.{Entry}
 use Rattle.desk_model.specs.declared.entry.Entry.TheVariants.{Spent as spent, Opened as opened}
-use Rattle.desk_model.specs.declared.entry.Entry.TheVariants.{ContactsChanged as contacts_changed, AccountEnded as account_ended}
+use Rattle.desk_model.specs.declared.entry.Entry.TheVariants.{ContactsChanged as contacts_changed, KeyChanged as key_changed, AccountEnded as account_ended}
 use Rattle.desk_model.specs.declared.entry.Entry.TheVariants.{Ordered as ordered, Answered as answered, Reported as reported}
 use Rattle.desk_model.specs.declared.entry.Entry.TheVariants.{AuthorizationEnded as authorization_ended, Finalized as finalized}
 use Rattle.desk_model.specs.declared.entry.Entry.TheVariants.{Certified as certified, Failed as failed}
@@ -17,6 +17,9 @@ abbrev pub ReadsKept : Kept → Tables → Entry → Type 0
 ReadsKept k T (spent n) = EachOf (λ x. (x.serial == n) ≡ true → k.nonces x.serial ≡ true) T.nonces
 ReadsKept k T (opened key contacts) = EachOf (λ a. bytes_eq a.key key ≡ true → k.accounts a.number ≡ true) T.accounts
 ReadsKept k T (contacts_changed n contacts) = EachOf (λ a. (a.number == n) ≡ true → k.accounts a.number ≡ true) T.accounts
+ReadsKept k T (key_changed n key) =
+    EachOf (λ a. (a.number == n) ≡ true → k.accounts a.number ≡ true) T.accounts
+    × EachOf (λ a. bytes_eq a.key key ≡ true → k.accounts a.number ≡ true) T.accounts
 ReadsKept k T (account_ended n ending) = EachOf (λ a. (a.number == n) ≡ true → k.accounts a.number ≡ true) T.accounts
 ReadsKept k T (ordered n wanted) = EachOf (λ a. (a.number == n) ≡ true → k.accounts a.number ≡ true) T.accounts
 ReadsKept k T (answered n) = EachOf (λ a. has_row n a ≡ true → k.authorizations a.number ≡ true) T.authorizations

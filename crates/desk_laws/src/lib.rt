@@ -7,6 +7,7 @@ ghost use Rattle.desk_laws.specs.ChangeLaws.{RecordsPutNews, RecordsKeepChildren
 ghost use Rattle.desk_laws.specs.DateLaws.{ClockIsInTime, NoDateIsLater};
 ghost use Rattle.desk_laws.specs.LegalLaws.{OnlyGivenAreNamed, ReportedOnce, ProvedByReports, KeysDiffer, NumbersFitCounters};
 ghost use Rattle.desk_laws.specs.LegalLaws.{CountersFitNumbers, TermsAreInLimits, AllEndInTime, KeysAreFormed, NamesAreFormed};
+ghost use Rattle.desk_laws.specs.FirstLaws.{KeptKeysAnswer};
 ghost use Rattle.desk_laws.specs.LegalLaws.{TextsAreUtf8};
 ghost use Rattle.desk_laws.specs.PartLaws.{FindsAreLocal, FiltersAreLocal, MayFollowIsLocal, PartsAreSwept, PartsHaveEffect};
 ghost use Rattle.desk_laws.specs.PartLaws.{PartsHaveEffects, SweepChangesAreLocal, ChangesAreLocal, PartsRecord};
@@ -77,4 +78,5 @@ pub fn legal_histories_keep()
     ensures dates { NoDateIsLater }
     ensures clock { ClockIsInTime }
     ensures texts { TextsAreUtf8 }
+    ensures first { KeptKeysAnswer }
 {}

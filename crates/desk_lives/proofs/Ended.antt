@@ -17,7 +17,7 @@ use Rattle.desk_model.specs.declared.rows.ChallengeRow.{ChallengeRow}
 use Rattle.desk_model.specs.declared.rows.AuthorizationRow.{AuthorizationRow}
 use Rattle.desk_model.specs.declared.rows.OrderRow.{OrderRow}
 use Rattle.desk_model.specs.Derived.{restated_authorization, restated_order, numbers_of}
-use Rattle.desk_model.specs.Effect.{authorizations_after, effect, falls, has_row, is_live_order, is_overdue, lists_one}
+use Rattle.desk_model.specs.Effect.{authorizations_after, effect, falls, has_row, is_live_order, is_overdue, key_numbered, lists_one}
 use Rattle.desk_model.specs.Effect.{moved_account, moved_authorization, moved_order, noted_account, noted_authorization}
 use Rattle.desk_model.specs.Effect.{noted_challenge, noted_order, swept, swept_authorization, swept_order, touches_account}
 use Rattle.desk_model.specs.Effect.{touches_authorization, touches_order}
@@ -59,15 +59,18 @@ stands T n row h = by (owner_on T n) refl h
 -- a challenge that has ended stands in the moved authorization
 challenge_moved : (T : Tables) (e : Entry) (m n : ℕ) (a : AuthorizationRow) (row : ChallengeRow) → may_on T e ≡ true → owner_on T n ≡ Some a →
     challenge_of n a ≡ Some row → is_final_challenge row.status ≡ true →
-    challenge_of n (moved_authorization e m a) ≡ Some row
+    challenge_of n (moved_authorization e m T.accounts a) ≡ Some row
 challenge_moved T e m n a row may owner found ended = by (touches_authorization e a)
   where
-    noted : find (λ c. n == c.number) (map (noted_challenge e m) a.challenges) ≡ Some row
-    noted =
-        found_moved (λ c. n == c.number) (noted_challenge e m) (λ c. ap (λ k. n == k) (challenge_number e m c)) a.challenges row found
-        ∙ ap (λ c. Some c) (challenge_stays T e m n a row may owner found ended)
+    key : List ℕ
+    key = key_numbered a.account T.accounts
 
-    by : (b : Bool) → challenge_of n (cond b (restated_authorization m (noted_authorization e m a)) a) ≡ Some row
+    noted : find (λ c. n == c.number) (map (noted_challenge e m key) a.challenges) ≡ Some row
+    noted =
+        found_moved (λ c. n == c.number) (noted_challenge e m key) (λ c. ap (λ k. n == k) (challenge_number e m key c)) a.challenges row found
+        ∙ ap (λ c. Some c) (challenge_stays T e m n key a row may owner found ended)
+
+    by : (b : Bool) → challenge_of n (cond b (restated_authorization m (noted_authorization e m T.accounts a)) a) ≡ Some row
     by true = noted
     by false = found
 
@@ -86,10 +89,10 @@ entry_stays T e m stated may = record { accounts = accounts_stay; orders = order
     authorizations_stay : (n : ℕ) (row : AuthorizationRow) → authorization_on T n ≡ Some row → IsTrue (is_over row.status) →
         authorization_on (effect m T e) n ≡ Some row
     authorizations_stay n row found ended =
-        find-append (λ a. a.number == n) (map (moved_authorization e m) T.authorizations) _ row
-        (found_moved (λ a. a.number == n) (moved_authorization e m)
+        find-append (λ a. a.number == n) (map (moved_authorization e m T.accounts) T.authorizations) _ row
+        (found_moved (λ a. a.number == n) (moved_authorization e m T.accounts)
         (λ a. ap (λ k. k == n) (one_kept (λ (a : AuthorizationRow). a.number) (touches_authorization e a)
-        (restated_authorization m (noted_authorization e m a)) a refl)) T.authorizations row found
+        (restated_authorization m (noted_authorization e m T.accounts a)) a refl)) T.authorizations row found
         ∙ ap (λ a. Some a) (authorization_stays T e m n row stated may found ended))
 
     orders_stay : (n : ℕ) (row : OrderRow) → order_on T n ≡ Some row → IsTrue (is_final_order row.status) → order_on (effect m T e) n ≡ Some row
@@ -105,8 +108,8 @@ entry_stays T e m stated may = record { accounts = accounts_stay; orders = order
         challenge_on (effect m T e) n ≡ Some row
     challenges_stay n row found ended =
         let s = stands T n row found in
-        ap (challenge_in_rows n) (find-append (has_row n) (map (moved_authorization e m) T.authorizations) _ (moved_authorization e m s.owner)
-        (found_moved (has_row n) (moved_authorization e m) (has_row-moved n e m) T.authorizations s.owner s.owned))
+        ap (challenge_in_rows n) (find-append (has_row n) (map (moved_authorization e m T.accounts) T.authorizations) _ (moved_authorization e m T.accounts s.owner)
+        (found_moved (has_row n) (moved_authorization e m T.accounts) (has_row-moved n e m T.accounts) T.authorizations s.owner s.owned))
         ∙ challenge_moved T e m n s.owner row may s.owned s.found ended
 
 -- ---- the passing of time

@@ -6,7 +6,7 @@ use Rattle.std.proofs.lemmas.Bool.{eqb-true, and_parts, leb-true, ltb-true}
 use Rattle.desk_model.specs.Lookup.{holds}
 use Rattle.desk_model.specs.declared.entry.Entry.{Entry}
 use Rattle.desk_model.specs.declared.entry.Ending.{Ending}
-use Rattle.desk_model.specs.declared.entry.Entry.TheVariants.{ContactsChanged as contacts_changed, AccountEnded as account_ended}
+use Rattle.desk_model.specs.declared.entry.Entry.TheVariants.{ContactsChanged as contacts_changed, KeyChanged as key_changed, AccountEnded as account_ended}
 use Rattle.desk_model.specs.declared.entry.Entry.TheVariants.{Answered as answered, Reported as reported}
 use Rattle.desk_model.specs.declared.entry.Entry.TheVariants.{AuthorizationEnded as authorization_ended}
 use Rattle.desk_model.specs.History.{earlier}
@@ -21,7 +21,7 @@ use Rattle.desk_model.specs.declared.rows.AccountRow.{AccountRow}
 use Rattle.desk_model.specs.declared.rows.ChallengeRow.{ChallengeRow}
 use Rattle.desk_model.specs.declared.rows.AuthorizationRow.{AuthorizationRow}
 use Rattle.desk_model.specs.Derived.{derived_authorization, derived_order, is_proved, restated_authorization}
-use Rattle.desk_model.specs.Effect.{answered_challenge, has_row, moved_account, moved_authorization, noted_account}
+use Rattle.desk_model.specs.Effect.{answered_challenge, has_row, key_numbered, moved_account, moved_authorization, noted_account}
 use Rattle.desk_model.specs.Effect.{noted_authorization, noted_challenge, reported_challenge, row_ends}
 use Rattle.desk_model.specs.Life.{is_final_account, is_final_challenge}
 use Rattle.desk_model.specs.Kept.{EachOf}
@@ -67,6 +67,14 @@ pub account_stays : (T : Tables) (e : Entry) (m n : ℕ) (row : AccountRow) → 
 account_stays T (contacts_changed k cs) m n row may found ended = by (k == row.number) refl
   where
     by : (b : Bool) → (k == row.number) ≡ b → cond b (noted_account (contacts_changed k cs) m row) row ≡ row
+    by true e =
+        absurd (shut (λ (a : AccountRow). a.number) (λ a. is_valid_account a.status) (λ a. is_final_account a.status)
+        (λ a. valid_lasts a.status) T.accounts k n row found
+        ended e (and_parts _ _ may).0)
+    by false e = refl
+account_stays T (key_changed k key) m n row may found ended = by (k == row.number) refl
+  where
+    by : (b : Bool) → (k == row.number) ≡ b → cond b (noted_account (key_changed k key) m row) row ≡ row
     by true e =
         absurd (shut (λ (a : AccountRow). a.number) (λ a. is_valid_account a.status) (λ a. is_final_account a.status)
         (λ a. valid_lasts a.status) T.accounts k n row found
@@ -142,20 +150,20 @@ end_stays k s m row stated ended = by row.ended refl
 -- an authorization that is over keeps its row
 pub authorization_stays : (T : Tables) (e : Entry) (m n : ℕ) (row : AuthorizationRow) → IsStated m T → may_on T e ≡ true → authorization_on T n ≡ Some row →
     is_over row.status ≡ true →
-    moved_authorization e m row ≡ row
+    moved_authorization e m T.accounts row ≡ row
 authorization_stays T (answered k) m n row stated may found ended = by (has_row k row) refl
   where
-    by : (b : Bool) → has_row k row ≡ b → cond b (restated_authorization m (noted_authorization (answered k) m row)) row ≡ row
+    by : (b : Bool) → has_row k row ≡ b → cond b (restated_authorization m (noted_authorization (answered k) m T.accounts row)) row ≡ row
     by true e = absurd (unpassed T is_pending_challenge k n row m stated found ended e may)
     by false e = refl
 authorization_stays T (reported k o) m n row stated may found ended = by (has_row k row) refl
   where
-    by : (b : Bool) → has_row k row ≡ b → cond b (restated_authorization m (noted_authorization (reported k o) m row)) row ≡ row
+    by : (b : Bool) → has_row k row ≡ b → cond b (restated_authorization m (noted_authorization (reported k o) m T.accounts row)) row ≡ row
     by true e = absurd (unpassed T is_processing_challenge k n row m stated found ended e may)
     by false e = refl
 authorization_stays T (authorization_ended k s) m n row stated may found ended = by (k == row.number) refl
   where
-    by : (b : Bool) → (k == row.number) ≡ b → cond b (restated_authorization m (noted_authorization (authorization_ended k s) m row)) row ≡ row
+    by : (b : Bool) → (k == row.number) ≡ b → cond b (restated_authorization m (noted_authorization (authorization_ended k s) m T.accounts row)) row ≡ row
     by true e =
         absurd (shut (λ (a : AuthorizationRow). a.number) (λ a. is_pending a.status || is_valid a.status) (λ a. is_over a.status)
         (λ a. live_lasts a.status) T.authorizations
@@ -166,13 +174,13 @@ authorization_stays T (account_ended k s) m n row stated may found ended = by (k
     own : row.status ≡ derived_authorization m row
     own = each_found (λ (a : AuthorizationRow). a.status ≡ derived_authorization m a) (λ a. a.number == n) T.authorizations row stated.authorizations found
 
-    noted : noted_authorization (account_ended k s) m row ≡ row
+    noted : noted_authorization (account_ended k s) m T.accounts row ≡ row
     noted =
         let end = end_stays k s m row own ended in
-        let same = kept_challenges (noted_challenge (account_ended k s) m) row.challenges (each_all _ row.challenges (λ c. refl)) in
+        let same = kept_challenges (noted_challenge (account_ended k s) m (key_numbered row.account T.accounts)) row.challenges (each_all _ row.challenges (λ c. refl)) in
         λ i. record row { ended = end i; challenges = same i }
 
-    by : (b : Bool) → cond b (restated_authorization m (noted_authorization (account_ended k s) m row)) row ≡ row
+    by : (b : Bool) → cond b (restated_authorization m (noted_authorization (account_ended k s) m T.accounts row)) row ≡ row
     by true = ap (restated_authorization m) noted ∙ (λ i. record row { status = sym own i })
     by false = refl
 authorization_stays T _ m n row stated may found ended = refl
@@ -207,17 +215,17 @@ challenge_shut T test never k n a c owner found ended named may =
     never c.status (sym (ap (holds (λ d. test d.status)) found) ∙ (and_parts _ _ passes).1) ended
 
 -- a challenge that has ended keeps its row
-pub challenge_stays : (T : Tables) (e : Entry) (m n : ℕ) (a : AuthorizationRow) (c : ChallengeRow) → may_on T e ≡ true → owner_on T n ≡ Some a →
+pub challenge_stays : (T : Tables) (e : Entry) (m n : ℕ) (key : List ℕ) (a : AuthorizationRow) (c : ChallengeRow) → may_on T e ≡ true → owner_on T n ≡ Some a →
     challenge_of n a ≡ Some c → is_final_challenge c.status ≡ true →
-    noted_challenge e m c ≡ c
-challenge_stays T (answered k) m n a c may owner found ended = by (k == c.number) refl
+    noted_challenge e m key c ≡ c
+challenge_stays T (answered k) m n key a c may owner found ended = by (k == c.number) refl
   where
-    by : (b : Bool) → (k == c.number) ≡ b → cond b (answered_challenge m c) c ≡ c
+    by : (b : Bool) → (k == c.number) ≡ b → cond b (answered_challenge m key c) c ≡ c
     by true e = absurd (challenge_shut T is_pending_challenge pending_challenge_lasts k n a c owner found ended e may)
     by false e = refl
-challenge_stays T (reported k o) m n a c may owner found ended = by (k == c.number) refl
+challenge_stays T (reported k o) m n key a c may owner found ended = by (k == c.number) refl
   where
     by : (b : Bool) → (k == c.number) ≡ b → cond b (reported_challenge o m c) c ≡ c
     by true e = absurd (challenge_shut T is_processing_challenge processing_challenge_lasts k n a c owner found ended e may)
     by false e = refl
-challenge_stays T _ m n a c may owner found ended = refl
+challenge_stays T _ m n key a c may owner found ended = refl

@@ -5,6 +5,7 @@ pub mod Extends
 pub mod JsonContent
 pub mod JsonTexts
 pub mod JsonTokens
+mod KeyPayloads
 pub mod Names
 pub mod Nonces
 pub mod Owners

@@ -28,6 +28,7 @@ use Rattle.desk_model.specs.Questions.{account_on, account_with_key, challenge_o
 use Rattle.desk_model.specs.Allowed.{may_on}
 use Rattle.desk_model.specs.declared.payload.NewAccount.{NewAccount}
 use Rattle.desk_model.specs.declared.payload.AccountChange.{AccountChange}
+use Rattle.desk_model.specs.declared.payload.KeyChange.{KeyChange}
 use Rattle.desk_model.specs.declared.payload.AuthorizationChange.{AuthorizationChange}
 use Rattle.desk_model.specs.declared.payload.ChallengeChange.{ChallengeChange}
 use Rattle.desk_model.specs.declared.payload.Identifier.{Identifier}
@@ -37,10 +38,10 @@ use Rattle.desk_model.specs.declared.payload.ChallengeChange.TheVariants as chal
 use Rattle.desk_model.specs.Run.{pieces_of, IsFormedKey, IsFormedOfficeAsk, IsFormedSigned}
 use Rattle.desk_model.specs.Texts.{IsTextProblem}
 use Rattle.desk_model.specs.Verdict.{check, given, unless_fault, choose}
-use Rattle.desk_model.specs.declared.verdict.Verdict.TheVariants.{Answers as answers, Opens as opens, Orders as orders, Moves as moves, Refused as refused}
+use Rattle.desk_model.specs.declared.verdict.Verdict.TheVariants.{KeyTaken as key_taken, Answers as answers, Opens as opens, Orders as orders, Moves as moves, Refused as refused}
 use Rattle.desk_model.specs.declared.verdict.Verdict.{Verdict}
 use Rattle.desk_model.specs.declared.verdict.Shows.{Shows}
-use Rattle.desk_model.specs.Rules.{open_account, unknown_key_verdict, account_verdict, order_of, new_order_verdict, subproblems}
+use Rattle.desk_model.specs.Rules.{open_account, unknown_key_verdict, account_verdict, key_change_verdict, rekey_verdict, order_of, new_order_verdict, subproblems}
 use Rattle.desk_model.specs.Rules.{if_fits, csr_in, finalize_verdict, authorization_verdict, stands_open, challenge_verdict, own}
 use Rattle.desk_model.specs.Rules.{target_verdict, holder_verdict, key_verdict, signed_verdict, if_spelled, open_nonce_in}
 use Rattle.desk_model.specs.Rules.{open_nonce, outcome_verdict, report_verdict, certify_verdict, fail_verdict}
@@ -57,6 +58,7 @@ use Rattle.desk_laws.specs.Later.{IsLater}
 use Rattle.desk_laws.specs.Ordered.{IsOrdered}
 use Rattle.desk_laws.proofs.RowLists.{ascends_found}
 use Rattle.desk_laws.proofs.Finds.{each_found}
+use Rattle.desk_lives.proofs.KeyPayloads.{ChangesToKey, key_change_formed}
 use Rattle.desk_lives.proofs.Names.{wanted_fits}
 use Rattle.desk_lives.proofs.Steps.{check_keeps, choose_keeps, fault_keeps, given_keeps}
 use Rattle.desk_lives.proofs.PayloadTexts.{AsksWithTexts, ChangesToTexts, account_change_texts, new_account_texts}
@@ -70,6 +72,7 @@ pub record MayRecord (T : Tables) (e : Entry) : Type 0 where
 -- the entry of the verdict, if it has one, may be recorded
 abbrev pub Records : List ℕ → Tables → Verdict → Type 0
 Records r T (refused why subproblems) = Unit {0}
+Records r T (key_taken account) = Unit {0}
 Records r T (answers what) = Unit {0}
 Records r T (opens key contacts) = MayRecord T (opened key contacts)
 Records r T (orders account wanted) = 16 * pieces_of (ordered account wanted) ≤ length r → MayRecord T (ordered account wanted)
@@ -130,6 +133,23 @@ account_sound r T n a change.Deactivate texts found valid = move_sound _ tt tt (
 account_sound r T n a (change.Update None) texts found valid = none_sound _
 account_sound r T n a (change.Update (Some contacts)) texts found valid =
     fault_sound r T (contacts_fault contacts) _ (λ pass. move_sound _ tt texts (rw (found, pass) (and_from _ _ valid refl)))
+
+-- ---- keys
+
+-- an account that is valid gets a key that no account has
+rekey_sound : (r : List ℕ) (T : Tables) (n : ℕ) (a : AccountRow) (key : List ℕ) (o : Option AccountRow) → IsKeyText key → account_on T n ≡ Some a →
+    is_valid_account a.status ≡ true → account_with_key T key ≡ o →
+    IsSound r T (rekey_verdict n key o)
+rekey_sound r T n a key None formed found valid free = move_sound _ tt formed (rw (found, free) (and_from _ _ valid refl))
+rekey_sound r T n a key (Some holder) formed found valid is = record { records = tt }
+
+-- a key change of an account that is valid
+key_change_sound : (r : List ℕ) (T : Tables) (n : ℕ) (a : AccountRow) (c : KeyChange) → ChangesToKey c → account_on T n ≡ Some a →
+    is_valid_account a.status ≡ true →
+    IsSound r T (key_change_verdict T n c)
+key_change_sound r T n a c formed found valid =
+    check_sound r T _ refusal.Malformed _ (λ _. given_sound r T c.new_key refusal.BadPublicKey _
+    (λ key is. rekey_sound r T n a key (account_with_key T key) (subst (λ o. IfSome o IsKeyText) is formed) found valid refl))
 
 -- ---- orders
 
@@ -200,6 +220,9 @@ target_sound : (r : List ℕ) (T : Tables) (n : ℕ) (a : AccountRow) (p : List 
     is_valid_account a.status ≡ true →
     IsSound r T (target_verdict T r n p t)
 target_sound r T n a p to.NewAccount text found valid = given_sound r T _ refusal.Malformed _ (λ _ _. none_sound _)
+target_sound r T n a p to.KeyChange text found valid =
+    given_sound r T _ refusal.Malformed _
+    (λ c asked. key_change_sound r T n a c (subst (λ o. IfSome o ChangesToKey) asked (key_change_formed p)) found valid)
 target_sound r T n a p to.NewOrder text found valid = given_sound r T _ refusal.Malformed _ (λ ids _. new_order_sound r T n a ids found valid)
 target_sound r T n a p (to.Account k) text found valid =
     check_sound r T _ refusal.NotFound _ (λ _. given_sound r T _ refusal.Malformed _

@@ -11,7 +11,7 @@ use Rattle.desk_model.specs.Tables.{tables_at}
 use Rattle.desk_model.specs.Legal.{numbers_fit, EachFollows, BeginsMade, Legal}
 use Rattle.desk_model.specs.Limits.{last_moment}
 use Rattle.desk_model.specs.declared.verdict.Verdict.{Verdict}
-use Rattle.desk_model.specs.declared.verdict.Verdict.TheVariants.{Refused as refused, Answers as answers, Opens as opens, Orders as orders, Moves as moves}
+use Rattle.desk_model.specs.declared.verdict.Verdict.TheVariants.{Refused as refused, KeyTaken as key_taken, Answers as answers, Opens as opens, Orders as orders, Moves as moves}
 use Rattle.desk_model.specs.Rules.{office_verdict, open_nonce}
 use Rattle.desk_model.specs.Decide.{Decision, entries_of, nonce_entries, signed_decision, office_decision, passed_decision}
 use Rattle.desk_model.specs.Decide.{tables_after, decide, decide_at, after}
@@ -54,6 +54,7 @@ verdict_follows : (F : History) (m : ℕ) (r : List ℕ) (v : Verdict) → IsMom
     16 * count_pieces (entries_of v) ≤ length r →
     EachFollows (record_all m (entries_of v) F)
 verdict_follows F m r (refused n ss) now sound enough = now.each
+verdict_follows F m r (key_taken account) now sound enough = now.each
 verdict_follows F m r (answers what) now sound enough = now.each
 verdict_follows F m r (opens key contacts) now sound enough = may_follow F m (opened key contacts) now sound.records
 verdict_follows F m r (orders account wanted) now sound enough = may_follow F m (ordered account wanted) now (sound.records (omega arith))

@@ -1,6 +1,6 @@
--- Accounts (RFC 8555, 7.1.2, 7.1.6, 7.3).
+-- Accounts (RFC 8555, 7.1.2, 7.1.6, 7.3, 7.3.5).
 use Rattle.std.specs.Prelude.{ℕ, ◌+◌, List, [], ◌∷◌, ◌++◌, length, Bool, false, true, ◌==◌, Option, Some, None, find, bytes_eq, if◌then◌else◌, unwrap_or}
-use Rattle.desk_model.specs.Entry.{Entry, opened, contacts_changed, account_ended, deactivated, revoked, History}
+use Rattle.desk_model.specs.Entry.{Entry, opened, contacts_changed, key_changed, account_ended, deactivated, revoked, History}
 use Rattle.desk_model.specs.History.{first, latest}
 pub use Rattle.desk_model.specs.declared.objects.Account.{Account}
 pub use Rattle.desk_model.specs.declared.objects.AccountEnd.{AccountEnd}
@@ -20,9 +20,21 @@ accounts (e ∷ before) = accounts before ++ opened_by e.entry e.date (length (a
 abbrev pub account_by_number : ℕ → History → Option Account
 account_by_number number F = find (λ a. a.number == number) (accounts F)
 
--- the key of the account
+abbrev pub rekeying : ℕ → Entry → Option (List ℕ)
+rekeying number (key_changed account key) = if account == number then Some key else None
+rekeying number _ = None
+
+-- the key of the account now (7.3.5)
 abbrev pub key_of : Account → History → List ℕ
-key_of a F = a.key
+key_of a F = unwrap_or (latest (λ e. rekeying a.number e.entry) F) a.key
+
+abbrev pub key_if : Option Account → History → List ℕ
+key_if None F = []
+key_if (Some a) F = key_of a F
+
+-- the key that the account of this number has now, empty where there is none
+abbrev pub account_key : ℕ → History → List ℕ
+account_key number F = key_if (account_by_number number F) F
 
 abbrev pub account_by_key : List ℕ → History → Option Account
 account_by_key key F = find (λ a. bytes_eq (key_of a F) key) (accounts F)

@@ -2,7 +2,7 @@
 use Rattle.std.specs.Prelude.{ℕ, length, Bool, false, ◌&&◌, ◌==◌, is_some, is_none, find, bytes_eq, map}
 use Rattle.std.specs.List.{list_all}
 use Rattle.desk_model.specs.Lookup.{holds}
-use Rattle.desk_model.specs.Entry.{Entry, made, issued, spent, opened, contacts_changed, account_ended, ordered, answered}
+use Rattle.desk_model.specs.Entry.{Entry, made, issued, spent, opened, contacts_changed, key_changed, account_ended, ordered, answered}
 use Rattle.desk_model.specs.Entry.{reported, authorization_ended, finalized, certified, failed}
 use Rattle.desk_model.specs.Contact.{contacts_pass}
 use Rattle.desk_model.specs.Account.{is_valid as is_valid_account}
@@ -24,6 +24,8 @@ may_on T (issued random) = length random == 16
 may_on T (spent serial) = is_some (find (λ n. n.serial == serial) T.nonces)
 may_on T (opened key contacts) = is_none (find (λ a. bytes_eq a.key key) T.accounts) && contacts_pass contacts
 may_on T (contacts_changed n contacts) = holds (λ a. is_valid_account a.status) (account_on T n) && contacts_pass contacts
+may_on T (key_changed n key) =
+    holds (λ a. is_valid_account a.status) (account_on T n) && is_none (find (λ a. bytes_eq a.key key) T.accounts)
 may_on T (account_ended n ending) = holds (λ a. is_valid_account a.status) (account_on T n)
 may_on T (ordered n wanted) = holds (λ a. is_valid_account a.status) (account_on T n)
     && (has_length 1 most_names wanted && (all_different (map wanted_name wanted) && list_all is_wanted wanted))

@@ -5,11 +5,14 @@ use Rattle.std.specs.List.{list_any}
 use Rattle.desk_model.specs.Name.{Name}
 use Rattle.desk_model.specs.Entry.{Entry, ordered, answered, reported, authorization_ended, account_ended, Wanted, new, Ending}
 use Rattle.desk_model.specs.Entry.{deactivated, revoked, Outcome, good, History}
-use Rattle.desk_model.specs.History.{first, terms}
+use Rattle.desk_model.specs.History.{first, earlier, terms}
+use Rattle.desk_model.specs.Account.{account_key}
+use Rattle.desk_model.specs.Keys.{thumbprint}
 pub use Rattle.desk_model.specs.declared.objects.Kind.{Kind}
 pub use Rattle.desk_model.specs.declared.objects.Kind.TheVariants.{Http01 as http_01, Dns01 as dns_01}
 pub use Rattle.desk_model.specs.declared.objects.Challenge.{Challenge}
 pub use Rattle.desk_model.specs.declared.objects.Authorization.{Authorization}
+pub use Rattle.desk_model.specs.declared.objects.Answer.{Answer}
 pub use Rattle.desk_model.specs.declared.objects.Report.{Report}
 pub use Rattle.desk_model.specs.declared.objects.AuthorizationEnd.{AuthorizationEnd}
 pub use Rattle.desk_model.specs.declared.objects.EndKind.{EndKind}
@@ -80,6 +83,17 @@ reporting number _ date = None
 abbrev pub when_answered : ℕ → History → Option ℕ
 when_answered number F = first (λ e. answering number e.entry e.date) F
 
+-- an answer at this date under the key, if there is one
+abbrev pub answer_by : List ℕ → Option ℕ → Option Answer
+answer_by key None = None
+answer_by key (Some date) = Some (record { date = date; thumb = thumbprint key })
+
+-- when a challenge of this account was answered, and the thumbprint of the key that the account had then (8.1)
+abbrev pub answer : (account number : ℕ) → History → Option Answer
+answer account number [] = None
+answer account number (e ∷ before) =
+    earlier (answer account number before) (answer_by (account_key account before) (answering number e.entry e.date))
+
 abbrev pub report : ℕ → History → Option Report
 report number F = first (λ e. reporting number e.entry e.date) F
 
@@ -87,13 +101,13 @@ abbrev pub is_good : Outcome → Bool
 is_good good = true
 is_good _ = false
 
-abbrev pub challenge_status_by : Option Report → Option ℕ → ChallengeStatus
+abbrev pub challenge_status_by : Option Report → (was_answered : Bool) → ChallengeStatus
 challenge_status_by (Some r) a = if is_good r.outcome then chall.Valid else chall.Invalid
-challenge_status_by None (Some d) = chall.Processing
-challenge_status_by None None = chall.Pending
+challenge_status_by None true = chall.Processing
+challenge_status_by None false = chall.Pending
 
 abbrev pub challenge_status : ℕ → History → ChallengeStatus
-challenge_status number F = challenge_status_by (report number F) (when_answered number F)
+challenge_status number F = challenge_status_by (report number F) (is_some (when_answered number F))
 
 -- ---- authorizations
 

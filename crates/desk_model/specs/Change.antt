@@ -49,11 +49,12 @@ spent_by _ = []
 abbrev pub is_gained : {X : Type 0} → (before after : Option X) → Bool
 is_gained before after = is_none before && is_some after
 
--- an account's row differs in its contacts, its end or its status
+-- an account's row differs in its key, its contacts, its end or its status
 abbrev pub account_differs : (before after : AccountRow) → Bool
 account_differs before after =
-    not (pointwise bytes_eq before.contacts after.contacts)
-    || (is_gained before.ended after.ended || not (account_code before.status == account_code after.status))
+    not (bytes_eq before.key after.key)
+    || (not (pointwise bytes_eq before.contacts after.contacts)
+    || (is_gained before.ended after.ended || not (account_code before.status == account_code after.status)))
 
 -- a challenge's row differs in its answer, its report or its status
 abbrev pub challenge_differs : (before after : ChallengeRow) → Bool
@@ -90,7 +91,7 @@ accounts_put T e m =
 
 abbrev pub authorizations_put : Tables → Entry → ℕ → List AuthorizationRow
 authorizations_put T e m =
-    moved_rows (touches_authorization e) authorization_differs (λ r. restated_authorization m (noted_authorization e m r)) T.authorizations
+    moved_rows (touches_authorization e) authorization_differs (λ r. restated_authorization m (noted_authorization e m T.accounts r)) T.authorizations
     ++ map (λ a. restated_authorization m (fresh_authorization a)) (new_authorizations T e m)
 
 abbrev pub orders_put : Tables → Entry → ℕ → List OrderRow

@@ -3,9 +3,9 @@ use Rattle.std.specs.Prelude.{ℕ, List, [], ◌∷◌, ◌++◌, take, drop, Bo
 use Rattle.desk_model.specs.Entry.{Entry, entry_of, issued, spent, opened, ordered, History}
 use Rattle.desk_model.specs.History.{moment_of, record_all}
 use Rattle.desk_model.specs.Tables.{Tables, tables_at}
-use Rattle.desk_model.specs.Verdict.{Verdict, refused, answers, opens, orders, moves}
+use Rattle.desk_model.specs.Verdict.{Verdict, refused, key_taken, answers, opens, orders, moves}
 use Rattle.desk_model.specs.Rules.{signed_verdict, office_verdict, open_nonce}
-use Rattle.desk_model.specs.Shown.{Reply, reply_of, made_account, made_order, moved_reply, refusal_reply, nonce_reply, with_nonce, fresh_nonce}
+use Rattle.desk_model.specs.Shown.{Reply, reply_of, made_account, made_order, moved_reply, refusal_reply, taken_reply, nonce_reply, with_nonce, fresh_nonce}
 use Rattle.desk_model.specs.declared.call.Call.{Call}
 use Rattle.desk_model.specs.declared.call.Ask.{Ask}
 use Rattle.desk_model.specs.declared.call.Ask.TheVariants as ask
@@ -19,6 +19,7 @@ pub record Decision : Type 0 where
 -- the entries that a verdict records
 abbrev pub entries_of : Verdict → List Entry
 entries_of (refused why subproblems) = []
+entries_of (key_taken account) = []
 entries_of (answers what) = []
 entries_of (opens key contacts) = opened key contacts ∷ []
 entries_of (orders account wanted) = ordered account wanted ∷ []
@@ -27,6 +28,7 @@ entries_of (moves move) = entry_of move ∷ []
 -- the reply of a verdict, by the tables after its entries
 abbrev pub verdict_reply : (index : Bool) → Tables → Verdict → Reply
 verdict_reply index T (refused why subproblems) = refusal_reply index why subproblems
+verdict_reply index T (key_taken account) = taken_reply index T account
 verdict_reply index T (answers what) = reply_of T what
 verdict_reply index T (opens key contacts) = made_account T
 verdict_reply index T (orders account wanted) = made_order T

@@ -21,7 +21,7 @@ abbrev pub derived_account : AccountRow → AccountStatus
 derived_account row = status_of row.ended
 
 abbrev pub derived_challenge : ChallengeRow → ChallengeStatus
-derived_challenge row = challenge_status_by row.reported row.answered
+derived_challenge row = challenge_status_by row.reported (is_some row.answered)
 
 -- a good report stands on one of its challenges
 abbrev pub is_proved : AuthorizationRow → Bool

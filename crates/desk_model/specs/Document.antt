@@ -9,17 +9,15 @@ use Rattle.desk_model.specs.Name.{Name}
 use Rattle.desk_model.specs.Names.{dns_type, shown_name}
 use Rattle.desk_model.specs.Moment.{moment_text}
 use Rattle.desk_model.specs.Tokens.{base64url, token_text, authorization_of, dns_value_of}
-use Rattle.sha2.specs.Sha256.{sha256}
 use Rattle.desk_model.specs.Refusals.{error_type, refusal_of}
 use Rattle.desk_model.specs.declared.refusal.Refusal.TheVariants as refusal
 use Rattle.desk_model.specs.Facts.{outcome_text}
 use Rattle.desk_model.specs.Entry.{Outcome, good, incorrect_response, connection, dns}
-use Rattle.desk_model.specs.Authorization.{Kind, http_01, dns_01, Report, is_good, is_pending}
+use Rattle.desk_model.specs.Authorization.{Kind, http_01, dns_01, Answer, Report, is_good, is_pending}
 use Rattle.desk_model.specs.Order.{DatedBytes, DatedProblem, is_processing}
 use Rattle.desk_model.specs.Legal.{is_processing_challenge}
 use Rattle.desk_model.specs.Tables.{Tables, AccountRow, ChallengeRow, AuthorizationRow, OrderRow}
 use Rattle.desk_model.specs.Derived.{authorization_numbered, numbers_of}
-use Rattle.desk_model.specs.Questions.{account_on}
 use Rattle.desk_model.specs.declared.status.AccountStatus.{AccountStatus}
 use Rattle.desk_model.specs.declared.status.AccountStatus.TheVariants as account
 use Rattle.desk_model.specs.declared.status.AuthzStatus.{AuthzStatus}
@@ -93,7 +91,8 @@ challenge_url t n = t.base ++ (codes "/chall/" ++ decimal n)
 abbrev pub directory : Terms → Data
 directory t =
     document (
-    (codes "newAccount", string (url t (codes "/new-account")))
+    (codes "keyChange", string (url t (codes "/key-change")))
+    ∷ (codes "newAccount", string (url t (codes "/new-account")))
     ∷ (codes "newNonce", string (url t (codes "/new-nonce")))
     ∷ (codes "newOrder", string (url t (codes "/new-order")))
     ∷ []
@@ -236,23 +235,24 @@ authorization_document t a =
 
 -- ---- what waits for the validator and the signing office
 
--- the key under which a challenge is answered
-abbrev pub answer_key : Tables → AuthorizationRow → ChallengeRow → List ℕ
-answer_key T a c = elim (account_on T a.account) [ None ↦ [] | Some x ↦ x.key ]
+-- the thumbprint of the key under which a challenge was answered, empty where it was not
+abbrev pub answer_thumb : Option Answer → List ℕ
+answer_thumb None = []
+answer_thumb (Some a) = a.thumb
 
 abbrev pub expected_by : Kind → List ℕ → List ℕ
 expected_by http_01 authorization = authorization
 expected_by dns_01 authorization = dns_value_of authorization
 
 -- what the validator has to find for a challenge (8.3, 8.4)
-abbrev pub expected : Tables → AuthorizationRow → ChallengeRow → List ℕ
-expected T a c = expected_by c.kind (authorization_of (token_text c.token) (sha256 (answer_key T a c)))
+abbrev pub expected : ChallengeRow → List ℕ
+expected c = expected_by c.kind (authorization_of (token_text c.token) (answer_thumb c.answered))
 
-abbrev pub work_document : Tables → AuthorizationRow → ChallengeRow → Data
-work_document T a c =
+abbrev pub work_document : AuthorizationRow → ChallengeRow → Data
+work_document a c =
     document (
     (codes "challenge", number (unsigned c.number))
-    ∷ (codes "expected", string (expected T a c))
+    ∷ (codes "expected", string (expected c))
     ∷ (codes "name", string a.name.base)
     ∷ (codes "token", string (token_text c.token))
     ∷ (codes "type", string (kind_text c.kind))
@@ -260,13 +260,13 @@ work_document T a c =
     )
 
 -- the challenges of an authorization that wait for the validator
-abbrev pub work_of : Tables → AuthorizationRow → List Data
-work_of T a =
-    if is_pending a.status then map (work_document T a) (filter (λ c. is_processing_challenge c.status) a.challenges)
+abbrev pub work_of : AuthorizationRow → List Data
+work_of a =
+    if is_pending a.status then map (work_document a) (filter (λ c. is_processing_challenge c.status) a.challenges)
     else []
 
 abbrev pub challenge_work : Tables → Data
-challenge_work T = document ((codes "challenges", list (flat_map (work_of T) T.authorizations)) ∷ [])
+challenge_work T = document ((codes "challenges", list (flat_map work_of T.authorizations)) ∷ [])
 
 abbrev pub bytes_of : Option DatedBytes → List ℕ
 bytes_of None = []

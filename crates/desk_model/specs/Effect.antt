@@ -1,15 +1,16 @@
 -- What an entry, and what the passing of time, does to the rows.
 use Rattle.std.specs.Prelude.{ℕ, ◌+◌, List, [], ◌∷◌, ◌++◌, length, map, Bool, true, false, not, cond, ◌&&◌, ◌||◌, ◌==◌, nat_lt}
-use Rattle.std.specs.Prelude.{nat_le, Option, Some, None, unwrap_or}
+use Rattle.std.specs.Prelude.{nat_le, Option, Some, None, find, is_some, unwrap_or}
 use Rattle.std.specs.List.{filter, list_any}
 use Rattle.desk_model.specs.Terms.{Terms}
 use Rattle.desk_model.specs.Lookup.{holds}
-use Rattle.desk_model.specs.Entry.{Entry, spent, contacts_changed, account_ended, answered, reported, authorization_ended}
+use Rattle.desk_model.specs.Keys.{thumbprint}
+use Rattle.desk_model.specs.Entry.{Entry, spent, contacts_changed, key_changed, account_ended, answered, reported, authorization_ended}
 use Rattle.desk_model.specs.Entry.{finalized, certified, failed, Outcome}
 use Rattle.desk_model.specs.History.{terms_after, earlier}
 use Rattle.desk_model.specs.Nonce.{Nonce, issued_by}
-use Rattle.desk_model.specs.Account.{Account, opened_by, AccountEnd, changing, ends as account_ends, status_of as account_status_of}
-use Rattle.desk_model.specs.Authorization.{Authorization, Challenge, AuthorizationEnd, Report, made_by, count_challenges, ends_by, in_time}
+use Rattle.desk_model.specs.Account.{Account, opened_by, AccountEnd, changing, rekeying, ends as account_ends, status_of as account_status_of}
+use Rattle.desk_model.specs.Authorization.{Authorization, Challenge, AuthorizationEnd, Answer, Report, made_by, count_challenges, ends_by, in_time}
 use Rattle.desk_model.specs.Authorization.{is_live, challenge_status_by}
 use Rattle.desk_model.specs.Order.{Order, ordered_by, finalizing, certifying, failing}
 use Rattle.desk_model.specs.Tables.{AccountRow, ChallengeRow, AuthorizationRow, OrderRow, Tables, listed_from}
@@ -25,22 +26,37 @@ use Rattle.desk_model.specs.declared.status.ChallengeStatus.TheVariants as chall
 abbrev pub noted_account : Entry → ℕ → AccountRow → AccountRow
 noted_account e m row =
     let ended : Option AccountEnd = earlier row.ended (account_ends row.number e m) in
-    record row { contacts = unwrap_or (changing row.number e) row.contacts; ended = ended; status = account_status_of ended }
+    record row {
+      key = unwrap_or (rekeying row.number e) row.key;
+      contacts = unwrap_or (changing row.number e) row.contacts;
+      ended = ended;
+      status = account_status_of ended;
+    }
 
-abbrev pub answered_challenge : ℕ → ChallengeRow → ChallengeRow
-answered_challenge m row =
-    let was_answered : Option ℕ = earlier row.answered (Some m) in
-    record row { answered = was_answered; status = challenge_status_by row.reported was_answered }
+abbrev pub key_in : Option AccountRow → List ℕ
+key_in None = []
+key_in (Some row) = row.key
+
+-- the key of the account of this number, empty where it has no row
+abbrev pub key_numbered : ℕ → List AccountRow → List ℕ
+key_numbered n rows = key_in (find (λ a. a.number == n) rows)
+
+-- a challenge that is answered under this key
+abbrev pub answered_challenge : ℕ → List ℕ → ChallengeRow → ChallengeRow
+answered_challenge m key row =
+    let was_answered : Option Answer = earlier row.answered (Some (record { date = m; thumb = thumbprint key })) in
+    record row { answered = was_answered; status = challenge_status_by row.reported (is_some was_answered) }
 
 abbrev pub reported_challenge : Outcome → ℕ → ChallengeRow → ChallengeRow
 reported_challenge outcome m row =
     let was_reported : Option Report = earlier row.reported (Some (record { date = m; outcome = outcome })) in
-    record row { reported = was_reported; status = challenge_status_by was_reported row.answered }
+    record row { reported = was_reported; status = challenge_status_by was_reported (is_some row.answered) }
 
-abbrev pub noted_challenge : Entry → ℕ → ChallengeRow → ChallengeRow
-noted_challenge (answered n) m row = cond (n == row.number) (answered_challenge m row) row
-noted_challenge (reported n outcome) m row = cond (n == row.number) (reported_challenge outcome m row) row
-noted_challenge _ m row = row
+-- a challenge of an account that has this key
+abbrev pub noted_challenge : Entry → ℕ → List ℕ → ChallengeRow → ChallengeRow
+noted_challenge (answered n) m key row = cond (n == row.number) (answered_challenge m key row) row
+noted_challenge (reported n outcome) m key row = cond (n == row.number) (reported_challenge outcome m row) row
+noted_challenge _ m key row = row
 
 abbrev pub has_row : ℕ → AuthorizationRow → Bool
 has_row number row = list_any (λ c. number == c.number) row.challenges
@@ -49,9 +65,13 @@ has_row number row = list_any (λ c. number == c.number) row.challenges
 abbrev pub row_ends : AuthorizationRow → Entry → ℕ → Option AuthorizationEnd
 row_ends row = ends_by row.number row.account (λ n. has_row n row)
 
-abbrev pub noted_authorization : Entry → ℕ → AuthorizationRow → AuthorizationRow
-noted_authorization e m row =
-    record row { ended = earlier row.ended (in_time row.expires (row_ends row e m)); challenges = map (noted_challenge e m) row.challenges }
+-- an authorization, beside the accounts as they stand
+abbrev pub noted_authorization : Entry → ℕ → List AccountRow → AuthorizationRow → AuthorizationRow
+noted_authorization e m accounts row =
+    record row {
+      ended = earlier row.ended (in_time row.expires (row_ends row e m));
+      challenges = map (noted_challenge e m (key_numbered row.account accounts)) row.challenges;
+    }
 
 abbrev pub noted_order : Entry → ℕ → OrderRow → OrderRow
 noted_order e m row =
@@ -65,6 +85,7 @@ noted_order e m row =
 
 abbrev pub touches_account : Entry → AccountRow → Bool
 touches_account (contacts_changed number contacts) row = number == row.number
+touches_account (key_changed number key) row = number == row.number
 touches_account (account_ended number ending) row = number == row.number
 touches_account _ row = false
 
@@ -90,8 +111,9 @@ lists_one test rows numbers = list_any (λ n. holds test (authorization_numbered
 abbrev pub moved_account : Entry → ℕ → AccountRow → AccountRow
 moved_account e m row = cond (touches_account e row) (noted_account e m row) row
 
-abbrev pub moved_authorization : Entry → ℕ → AuthorizationRow → AuthorizationRow
-moved_authorization e m row = cond (touches_authorization e row) (restated_authorization m (noted_authorization e m row)) row
+abbrev pub moved_authorization : Entry → ℕ → List AccountRow → AuthorizationRow → AuthorizationRow
+moved_authorization e m accounts row =
+    cond (touches_authorization e row) (restated_authorization m (noted_authorization e m accounts row)) row
 
 -- an order that the entry names, or that lists an authorization that the entry touches
 abbrev pub touches_order : Entry → List AuthorizationRow → OrderRow → Bool
@@ -143,7 +165,7 @@ new_authorizations T e m = made_by e m T.meta.policy.authz_life (T.meta.counters
 
 abbrev pub authorizations_after : Tables → Entry → ℕ → List AuthorizationRow
 authorizations_after T e m =
-    map (moved_authorization e m) T.authorizations
+    map (moved_authorization e m T.accounts) T.authorizations
     ++ map (λ a. restated_authorization m (fresh_authorization a)) (new_authorizations T e m)
 
 -- the tables after the entry

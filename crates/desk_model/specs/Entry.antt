@@ -1,4 +1,4 @@
--- The dated facts of a desk, of thirteen kinds, and the histories that they make.
+-- The dated facts of a desk, of fourteen kinds, and the histories that they make.
 use Rattle.std.specs.Prelude.{List}
 pub use Rattle.desk_model.specs.declared.entry.Ending.{Ending}
 pub use Rattle.desk_model.specs.declared.entry.Ending.TheVariants.{Deactivated as deactivated, Revoked as revoked}
@@ -9,7 +9,7 @@ pub use Rattle.desk_model.specs.declared.entry.Wanted.{Wanted}
 pub use Rattle.desk_model.specs.declared.entry.Wanted.TheVariants.{New as new}
 pub use Rattle.desk_model.specs.declared.entry.Entry.{Entry}
 pub use Rattle.desk_model.specs.declared.entry.Entry.TheVariants.{Made as made, Issued as issued, Spent as spent}
-pub use Rattle.desk_model.specs.declared.entry.Entry.TheVariants.{Opened as opened, ContactsChanged as contacts_changed}
+pub use Rattle.desk_model.specs.declared.entry.Entry.TheVariants.{Opened as opened, ContactsChanged as contacts_changed, KeyChanged as key_changed}
 pub use Rattle.desk_model.specs.declared.entry.Entry.TheVariants.{AccountEnded as account_ended, Ordered as ordered}
 pub use Rattle.desk_model.specs.declared.entry.Entry.TheVariants.{Answered as answered, Reported as reported}
 pub use Rattle.desk_model.specs.declared.entry.Entry.TheVariants.{AuthorizationEnded as authorization_ended}
@@ -22,6 +22,7 @@ use Rattle.desk_model.specs.declared.moves.Move.TheVariants as move
 -- the entry that a move is recorded as
 abbrev pub entry_of : Move → Entry
 entry_of (move.ContactsChanged account contacts) = contacts_changed account contacts
+entry_of (move.KeyChanged account key) = key_changed account key
 entry_of (move.AccountEnded account ending) = account_ended account ending
 entry_of (move.Answered challenge) = answered challenge
 entry_of (move.Reported challenge outcome) = reported challenge outcome

@@ -36,11 +36,16 @@ pub record IsClosed (k : Kept) (T : Tables) : Type 0 where
   pub new_authorizations : (n : ℕ) → T.meta.counters.authorizations < n → k.authorizations n ≡ true
   pub new_orders : (n : ℕ) → T.meta.counters.orders < n → k.orders n ≡ true
 
+-- with an authorization that the entry touches its account is kept, whose key an answer takes
+abbrev pub HoldersKept : Kept → Tables → Entry → Type 0
+HoldersKept k T e = EachOf (λ a. touches_authorization e a ≡ true → k.accounts a.account ≡ true) T.authorizations
+
 -- what the entry touches is kept
 pub record Covers (k : Kept) (T : Tables) (e : Entry) : Type 0 where
   pub accounts : EachOf (λ a. touches_account e a ≡ true → k.accounts a.number ≡ true) T.accounts
   pub authorizations : EachOf (λ a. touches_authorization e a ≡ true → k.authorizations a.number ≡ true) T.authorizations
   pub orders : EachOf (λ o. touches_order e T.authorizations o ≡ true → k.orders o.number ≡ true) T.orders
+  pub holders : HoldersKept k T e
 
 -- what falls by the passing of time is kept
 pub record CoversSweep (k : Kept) (T : Tables) (m : ℕ) : Type 0 where

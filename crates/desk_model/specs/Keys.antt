@@ -1,9 +1,10 @@
 -- The keys of accounts, their canonical texts (RFC 7638, 3) and what is made of them.
-use Rattle.std.specs.Prelude.{◌≡◌, ℕ, Bool, ◌⊎◌, ◌&&◌, ◌||◌, ◌==◌, List, ◌++◌, length, codes, Option, Some, None, IsTrue, option_and_then, if◌then◌else◌}
+use Rattle.std.specs.Prelude.{◌≡◌, ℕ, Bool, ◌⊎◌, ◌&&◌, ◌||◌, ◌==◌, List, ◌++◌, length, codes, Option, Some, None, IsTrue, bytes_eq, option_and_then, if◌then◌else◌}
 use Rattle.std.specs.Int.{is_in_range}
 use Rattle.std.specs.Char.{is_ascii_alphanumeric}
 use Rattle.std.specs.List.{list_all}
 use Rattle.serde_json.specs.Data.{Data}
+use Rattle.sha2.specs.Sha256.{sha256}
 use Rattle.serde_json.specs.Find.{get, as_str}
 
 -- a public key, by the strings of its members
@@ -49,6 +50,34 @@ IsKeyOf d (ec crv x y) = (text_member (codes "kty") d ≡ Some (codes "EC")) × 
 IsKeyOf d (rsa e n) = (text_member (codes "kty") d ≡ Some (codes "RSA")) × IsRsa d e n
 IsKeyOf d (okp x) = (text_member (codes "kty") d ≡ Some (codes "OKP")) × IsOkp d x
 
+-- the curve is one of them
+abbrev pub is_curve : List ℕ → Bool
+is_curve crv = bytes_eq crv (codes "P-256") || (bytes_eq crv (codes "P-384") || bytes_eq crv (codes "P-521"))
+
+abbrev pub ec_by : (crv x y : Option (List ℕ)) → Option Key
+ec_by (Some crv) (Some x) (Some y) = if is_curve crv then Some (ec crv x y) else None
+ec_by _ _ _ = None
+
+abbrev pub rsa_by : (e n : Option (List ℕ)) → Option Key
+rsa_by (Some e) (Some n) = Some (rsa e n)
+rsa_by _ _ = None
+
+abbrev pub okp_by : (crv x : Option (List ℕ)) → Option Key
+okp_by (Some crv) (Some x) = if bytes_eq crv (codes "Ed25519") then Some (okp x) else None
+okp_by _ _ = None
+
+abbrev pub key_of_type : Data → Option (List ℕ) → Option Key
+key_of_type d None = None
+key_of_type d (Some kty) =
+    if bytes_eq kty (codes "EC") then ec_by (text_member (codes "crv") d) (number_member (codes "x") d) (number_member (codes "y") d)
+    else (if bytes_eq kty (codes "RSA") then rsa_by (number_member (codes "e") d) (number_member (codes "n") d)
+    else (if bytes_eq kty (codes "OKP") then okp_by (text_member (codes "crv") d) (number_member (codes "x") d)
+    else None))
+
+-- the key that the value spells, if it spells one
+unfoldable pub key_in : Data → Option Key
+key_in d = key_of_type d (text_member (codes "kty") d)
+
 -- the canonical text of a key
 abbrev pub canonical_text : Key → List ℕ
 canonical_text (ec crv x y) =
@@ -63,6 +92,10 @@ abbrev pub IsKey : Key → Type 0
 IsKey (ec crv x y) = IsCurve crv × IsTrue (is_number_text x) × IsTrue (is_number_text y)
 IsKey (rsa e n) = IsTrue (is_number_text e) × IsTrue (is_number_text n)
 IsKey (okp x) = IsTrue (is_number_text x)
+
+-- the thumbprint of a key, by its canonical text (RFC 7638, 3)
+abbrev pub thumbprint : List ℕ → List ℕ
+thumbprint text = sha256 text
 
 -- the text is the canonical text of a key
 pub record IsKeyText (text : List ℕ) : Type 0 where

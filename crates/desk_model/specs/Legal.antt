@@ -2,7 +2,7 @@
 use Rattle.std.specs.Prelude.{ℕ, ◌≤◌, List, [], ◌∷◌, length, Bool, false, true, not, ◌&&◌, ◌||◌, ◌==◌, nat_le, is_none, IsTrue, map, bytes_eq, codes}
 use Rattle.std.specs.List.{list_any, list_all}
 use Rattle.desk_model.specs.Name.{Name, same_name}
-use Rattle.desk_model.specs.Entry.{Entry, made, issued, spent, opened, contacts_changed, account_ended, ordered, answered}
+use Rattle.desk_model.specs.Entry.{Entry, made, issued, spent, opened, contacts_changed, key_changed, account_ended, ordered, answered}
 use Rattle.desk_model.specs.Entry.{reported, authorization_ended, finalized, certified, failed, Wanted, new, OrderProblem, Dated}
 use Rattle.desk_model.specs.Entry.{History}
 use Rattle.desk_model.specs.History.{clock}
@@ -63,6 +63,8 @@ may_follow F (spent serial) m = holds (is_open F m) (nonce serial F)
 may_follow F (opened key contacts) m = is_none (account_by_key key F) && contacts_pass contacts
 may_follow F (contacts_changed account contacts) m =
     holds (λ a. is_valid_account (account_status a F)) (account_by_number account F) && contacts_pass contacts
+may_follow F (key_changed account key) m =
+    holds (λ a. is_valid_account (account_status a F)) (account_by_number account F) && is_none (account_by_key key F)
 may_follow F (account_ended account ending) m = holds (λ a. is_valid_account (account_status a F)) (account_by_number account F)
 may_follow F (ordered account wanted) m =
     holds (λ a. is_valid_account (account_status a F)) (account_by_number account F)
@@ -88,10 +90,11 @@ numbers_fit F =
     && (nat_le (length (authorizations F)) last_number
     && nat_le (count_challenges (authorizations F)) last_number)))
 
--- the key of a new account is one that the desk accepts, and what is recorded as text is UTF-8
+-- a key that an account gets is one that the desk accepts, and what is recorded as text is UTF-8
 abbrev pub IsFormed : Entry → Type 0
 IsFormed (opened key contacts) = IsKeyText key × AreTexts contacts
 IsFormed (contacts_changed account contacts) = AreTexts contacts
+IsFormed (key_changed account key) = IsKeyText key
 IsFormed (failed order problem) = IsTextProblem problem
 IsFormed _ = Unit {0}
 

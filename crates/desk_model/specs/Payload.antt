@@ -4,10 +4,11 @@ use Rattle.std.specs.Prelude.{option_map, option_and_then, unwrap_or}
 use Rattle.serde_json.specs.Data.{Data, Items, no_items, item}
 use Rattle.serde_json.specs.Find.{get, as_str, as_object, as_array, as_bool}
 use Rattle.serde_json.specs.Read.{read}
-use Rattle.desk_model.specs.Keys.{text_member}
+use Rattle.desk_model.specs.Keys.{canonical_text, key_in, text_member}
 pub use Rattle.desk_model.specs.declared.payload.NewAccount.{NewAccount}
 pub use Rattle.desk_model.specs.declared.payload.AccountChange.{AccountChange}
 pub use Rattle.desk_model.specs.declared.payload.AccountChange.TheVariants as account
+pub use Rattle.desk_model.specs.declared.payload.KeyChange.{KeyChange}
 pub use Rattle.desk_model.specs.declared.payload.AuthorizationChange.{AuthorizationChange}
 pub use Rattle.desk_model.specs.declared.payload.AuthorizationChange.TheVariants as authz
 pub use Rattle.desk_model.specs.declared.payload.ChallengeChange.{ChallengeChange}
@@ -72,6 +73,27 @@ account_change_in d =
 abbrev pub account_change : List ℕ → Option AccountChange
 account_change [] = Some account.Read
 account_change (b ∷ bs) = option_and_then account_change_in (object_in (b ∷ bs))
+
+-- ---- key change (RFC 8555, 7.3.5)
+
+-- the canonical text of the key that the value spells, if it spells one
+abbrev pub key_text_in : Data → Option (List ℕ)
+key_text_in d = option_map canonical_text (key_in d)
+
+abbrev pub object_member : List ℕ → Data → Option Data
+object_member name d = option_and_then if_object (get name d)
+
+abbrev pub key_change_by : Option (List ℕ) → Option Data → Option Data → Option KeyChange
+key_change_by (Some account) (Some next) (Some old) =
+    Some (record { account = account; new_key = key_text_in next; old_key = key_text_in old })
+key_change_by _ _ _ = None
+
+-- a URL and two objects, each of which may be a key
+abbrev pub key_change_in : Data → Option KeyChange
+key_change_in d = key_change_by (text_member (codes "account") d) (object_member (codes "newKey") d) (object_member (codes "oldKey") d)
+
+abbrev pub key_change : List ℕ → Option KeyChange
+key_change payload = option_and_then key_change_in (object_in payload)
 
 -- ---- authorizations and challenges (RFC 8555, 7.5)
 

@@ -36,6 +36,7 @@ refusal_of refusal.BadCsr = row 13 (codes "badCSR") 400 (codes "the CSR is not a
 refusal_of refusal.Conflict = row 14 (codes "malformed") 409 (codes "the report does not fit the records")
 refusal_of refusal.ServerInternal = row 15 (codes "serverInternal") 500 (codes "the desk could not act")
 refusal_of refusal.TooLarge = row 16 (codes "malformed") 413 (codes "the request is too large")
+refusal_of refusal.KeyInUse = row 17 (codes "malformed") 409 (codes "the key has an account")
 
 -- an error type, with its prefix
 abbrev pub error_type : List ℕ → List ℕ

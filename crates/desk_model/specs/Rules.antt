@@ -15,13 +15,13 @@ use Rattle.desk_model.specs.Legal.{is_problem, has_length, is_pending_challenge,
 use Rattle.desk_model.specs.Limits.{longest_certificate, longest_csr, most_names}
 use Rattle.desk_model.specs.Tables.{Tables, AccountRow, ChallengeRow, AuthorizationRow, OrderRow}
 use Rattle.desk_model.specs.Questions.{nonce_on, account_on, account_with_key, order_on, authorization_on, owner_on, challenge_of}
-use Rattle.desk_model.specs.Payload.{NewAccount, new_account, AccountChange, account_change, AuthorizationChange}
+use Rattle.desk_model.specs.Payload.{NewAccount, new_account, AccountChange, account_change, KeyChange, key_change, AuthorizationChange}
 use Rattle.desk_model.specs.Payload.{authorization_change, ChallengeChange, challenge_change, Identifier, new_order, finalize}
 use Rattle.desk_model.specs.Payload as payload
-use Rattle.desk_model.specs.Document.{expected}
+use Rattle.desk_model.specs.Document.{account_url, expected}
 use Rattle.desk_model.specs.declared.refusal.Refusal.{Refusal}
 use Rattle.desk_model.specs.declared.refusal.Refusal.TheVariants as refusal
-use Rattle.desk_model.specs.Verdict.{Verdict, refused, answers, opens, orders, moves, check, given, unless_fault, choose}
+use Rattle.desk_model.specs.Verdict.{Verdict, refused, key_taken, answers, opens, orders, moves, check, given, unless_fault, choose}
 use Rattle.desk_model.specs.declared.verdict.Shows.TheVariants as show
 use Rattle.desk_model.specs.declared.verdict.Listing.TheVariants as list
 use Rattle.desk_model.specs.declared.moves.Move.TheVariants as move
@@ -53,6 +53,23 @@ account_verdict n payload.account.Deactivate = moves (move.AccountEnded n deacti
 account_verdict n (payload.account.Update None) = answers (show.Account n)
 account_verdict n (payload.account.Update (Some contacts)) =
     unless_fault (contacts_fault contacts) (moves (move.ContactsChanged n contacts))
+
+-- ---- key change (RFC 8555, 7.3.5)
+
+-- the account gets the key, unless an account has it, this one or another
+abbrev pub rekey_verdict : ℕ → List ℕ → Option AccountRow → Verdict
+rekey_verdict n key None = moves (move.KeyChanged n key)
+rekey_verdict n key (Some holder) = key_taken holder.number
+
+-- the account has this key
+abbrev pub has_this_key : Tables → ℕ → List ℕ → Bool
+has_this_key T n key = holds (λ a. bytes_eq a.key key) (account_on T n)
+
+-- the account's URL and the key that it has must be given, and a key that the desk accepts
+abbrev pub key_change_verdict : Tables → ℕ → KeyChange → Verdict
+key_change_verdict T n c =
+    check (bytes_eq c.account (account_url T.meta.policy n) && holds (has_this_key T n) c.old_key) refusal.Malformed
+    (given c.new_key refusal.BadPublicKey (λ key. rekey_verdict n key (account_with_key T key)))
 
 -- ---- orders (RFC 8555, 7.4)
 
@@ -152,6 +169,7 @@ own account n (Some x) = if account x == n then Some x else None
 -- of the payload of newAccount only the form is looked at (7.3.1)
 abbrev pub target_verdict : Tables → List ℕ → ℕ → List ℕ → Target → Verdict
 target_verdict T random n p to.NewAccount = given (new_account p) refusal.Malformed (λ asked. answers (show.KnownAccount n))
+target_verdict T random n p to.KeyChange = given (key_change p) refusal.Malformed (key_change_verdict T n)
 target_verdict T random n p to.NewOrder = given (new_order p) refusal.Malformed (new_order_verdict random n)
 target_verdict T random n p (to.Account k) = check (k == n) refusal.NotFound (given (account_change p) refusal.Malformed (account_verdict n))
 target_verdict T random n p (to.Orders k) = check (k == n) refusal.NotFound (check (nothing p) refusal.Malformed (answers (show.List (list.Orders n))))
@@ -227,11 +245,11 @@ outcome_verdict n status c outcome =
     (answers (show.Challenge n))
     (check (is_pending status && is_processing_challenge c.status) refusal.Conflict (moves (move.Reported n outcome)))
 
-abbrev pub finding_verdict : Tables → ℕ → Finding → AuthorizationRow → ChallengeRow → Verdict
-finding_verdict T n finding a c = given (outcome_of c.kind (expected T a c) finding) refusal.Malformed (outcome_verdict n a.status c)
+abbrev pub finding_verdict : ℕ → Finding → AuthorizationRow → ChallengeRow → Verdict
+finding_verdict n finding a c = given (outcome_of c.kind (expected c) finding) refusal.Malformed (outcome_verdict n a.status c)
 
 abbrev pub report_verdict : Tables → ℕ → Finding → Verdict
-report_verdict T n finding = given (owner_on T n) refusal.NotFound (λ a. given (challenge_of n a) refusal.NotFound (finding_verdict T n finding a))
+report_verdict T n finding = given (owner_on T n) refusal.NotFound (λ a. given (challenge_of n a) refusal.NotFound (finding_verdict n finding a))
 
 abbrev pub certify_verdict : ℕ → List ℕ → OrderRow → Verdict
 certify_verdict n bytes o =

@@ -43,6 +43,10 @@ abbrev pub refusal_reply : Bool → Refusal → List Subproblem → Reply
 refusal_reply index why subproblems =
     plain (refusal_of why).status (body.Problem (record { refusal = why; subproblems = subproblems; allow = allow.No; index = index }))
 
+-- a key that is asked for has this account (7.3.5)
+abbrev pub taken_reply : Bool → Tables → ℕ → Reply
+taken_reply index T n = at (account_url T.meta.policy n) (refusal_reply index refusal.KeyInUse [])
+
 -- the reply to newNonce (RFC 8555, 7.2)
 abbrev pub nonce_reply : Bool → Reply
 nonce_reply head = plain (if head then 200 else 204) body.Empty
@@ -116,6 +120,7 @@ made_order T = shown (located_order 201 T) (order_on T T.meta.counters.orders)
 -- the object that a move names, by the tables after it; an order that is finalized is shown with its Location (7.4)
 abbrev pub moved_reply : Tables → Move → Reply
 moved_reply T (move.ContactsChanged n contacts) = reply_of T (show.Account n)
+moved_reply T (move.KeyChanged n key) = reply_of T (show.Account n)
 moved_reply T (move.AccountEnded n ending) = reply_of T (show.Account n)
 moved_reply T (move.Answered n) = reply_of T (show.ClientChallenge n)
 moved_reply T (move.Reported n outcome) = reply_of T (show.Challenge n)

@@ -6,7 +6,7 @@ use Rattle.desk_model.specs.History.{clock, terms}
 use Rattle.desk_model.specs.Nonce.{Nonce, nonces, is_open}
 use Rattle.desk_model.specs.Account.{Account, accounts, account_end, account_status, contacts, key_of}
 use Rattle.desk_model.specs.Authorization.{Authorization, Challenge, authorizations, authorization_end, authorization_status}
-use Rattle.desk_model.specs.Authorization.{report, when_answered, challenge_status, count_challenges}
+use Rattle.desk_model.specs.Authorization.{report, answer, challenge_status, count_challenges}
 use Rattle.desk_model.specs.Order.{Order, orders, csr, certificate, failure, order_status}
 pub use Rattle.desk_model.specs.declared.rows.Counters.{Counters}
 pub use Rattle.desk_model.specs.declared.rows.Meta.{Meta}
@@ -28,13 +28,14 @@ abbrev pub account_row : History → Account → AccountRow
 account_row F a =
     record { number = a.number; key = key_of a F; contacts = contacts a F; opened = a.opened; ended = account_end a F; status = account_status a F }
 
-abbrev pub challenge_row : History → Challenge → ChallengeRow
-challenge_row F c =
+-- a challenge of the account of this number
+abbrev pub challenge_row : History → ℕ → Challenge → ChallengeRow
+challenge_row F account c =
     record {
       number = c.number;
       kind = c.kind;
       token = c.token;
-      answered = when_answered c.number F;
+      answered = answer account c.number F;
       reported = report c.number F;
       status = challenge_status c.number F;
     }
@@ -48,7 +49,7 @@ authorization_row F t a =
       made = a.made;
       expires = a.expires;
       ended = authorization_end a F;
-      challenges = map (challenge_row F) a.challenges;
+      challenges = map (challenge_row F a.account) a.challenges;
       status = authorization_status a F t;
     }
 

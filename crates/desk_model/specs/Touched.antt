@@ -12,15 +12,15 @@ use Rattle.desk_model.specs.declared.call.Ask.TheVariants as ask
 use Rattle.desk_model.specs.declared.call.OfficeAsk.TheVariants as office
 use Rattle.desk_model.specs.declared.call.Call.{Call}
 use Rattle.desk_model.specs.declared.objects.Nonce.{Nonce}
-use Rattle.desk_model.specs.Asked.{carries, has_key, names_account, names_order, names_authorization, names_owner, asks_orders, asks_authorizations}
+use Rattle.desk_model.specs.Asked.{carries, has_key, has_new_key, names_account, names_order, names_authorization, names_owner, asks_orders, asks_authorizations}
 
 -- the nonce that the request carries, and each past its life
 abbrev pub is_touched_nonce : Tables → ℕ → Ask → Nonce → Bool
 is_touched_nonce T m a x = carries a x.serial || not (lasts T.meta.policy m x)
 
--- the account with the request's key, and the one that is named
+-- the account with the request's key, the one with the key that an account is to get, and the one that is named
 abbrev pub is_named_account : Ask → AccountRow → Bool
-is_named_account a x = has_key a x.key || names_account a x.number
+is_named_account a x = has_key a x.key || (has_new_key a x.key || names_account a x.number)
 
 -- the order that is named
 abbrev pub is_named_order : Ask → OrderRow → Bool

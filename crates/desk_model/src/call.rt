@@ -81,6 +81,8 @@ pub struct BadKey;
 pub enum Target {
     /// Where accounts are opened or looked up by their key (RFC 8555, 7.3).
     NewAccount,
+    /// Where an account gets another key (RFC 8555, 7.3.5).
+    KeyChange,
     /// Where orders are made (RFC 8555, 7.4).
     NewOrder,
     /// The account of this number, read, changed or deactivated (RFC 8555, 7.3.2, 7.3.6).

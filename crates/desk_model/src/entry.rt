@@ -151,6 +151,8 @@ pub enum Entry {
     Opened(Jwk, Sequence<Text>),
     /// The account got these contacts in the place of those that it had (RFC 8555, 7.3.2).
     ContactsChanged(u64, Sequence<Text>),
+    /// The account got this key in the place of the one that it had, which is free then (RFC 8555, 7.3.5).
+    KeyChanged(u64, Jwk),
     /// The account ended, and each authorization of it that was pending or valid with it.
     AccountEnded(u64, Ending),
     /// An order of the account was made, for one to fifty different names (RFC 8555, 7.4).

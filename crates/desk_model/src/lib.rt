@@ -35,11 +35,11 @@ pub use limits::{
 };
 pub use moves::Move;
 pub use objects::{
-    Account, AccountEnd, Authorization, AuthorizationEnd, Challenge, EndKind, Kind, Nonce, Order,
-    Report,
+    Account, AccountEnd, Answer, Authorization, AuthorizationEnd, Challenge, EndKind, Kind, Nonce,
+    Order, Report,
 };
 pub use payload::{
-    AccountChange, AuthorizationChange, ChallengeChange, DNS, Identifier, NewAccount,
+    AccountChange, AuthorizationChange, ChallengeChange, DNS, Identifier, KeyChange, NewAccount,
 };
 pub use policy::Policy;
 pub use refusal::Refusal;

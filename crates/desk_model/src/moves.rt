@@ -1,6 +1,7 @@
 //! What moves rows that are there, and makes none.
 use crate::call::OrderProblem;
 use crate::entry::{Ending, Outcome};
+use crate::jwk::Jwk;
 use crate::sequence::Sequence;
 use crate::text::Text;
 
@@ -9,6 +10,8 @@ use crate::text::Text;
 pub enum Move {
     /// The account gets these contacts in the place of those that it has (RFC 8555, 7.3.2).
     ContactsChanged(u64, Sequence<Text>),
+    /// The account gets this key in the place of the one that it has (RFC 8555, 7.3.5).
+    KeyChanged(u64, Jwk),
     /// The account ends, and each authorization of it that is pending or valid with it (RFC 8555, 7.3.6).
     AccountEnded(u64, Ending),
     /// The client says that the challenge may be tried (RFC 8555, 7.5.1).

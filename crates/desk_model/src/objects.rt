@@ -28,7 +28,7 @@ pub struct Nonce {
 pub struct Account {
     /// Its place among all accounts of the desk, from 1, which its URL ends in.
     pub number: u64,
-    /// The key that its requests are signed with; no other account has it.
+    /// The key that it was opened with; it may get another (RFC 8555, 7.3.5).
     pub key: Jwk,
     /// The URLs that it was opened with, as received.
     pub contacts: Sequence<Text>,
@@ -109,6 +109,15 @@ impl Kind {
             _ => None,
         }
     }
+}
+
+/// When a challenge was answered, and under which key.
+#[derive(Clone, Copy)]
+pub struct Answer {
+    /// When it was recorded, in seconds since 1970-01-01T00:00:00Z.
+    pub date: u64,
+    /// The thumbprint of the key that the account had then (RFC 7638, 3), which the validator has to find (RFC 8555, 8.1).
+    pub thumb: [u8; 32],
 }
 
 /// When a challenge was reported, and what the report showed.

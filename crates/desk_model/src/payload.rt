@@ -1,4 +1,5 @@
 //! What the payloads of signed requests say.
+use crate::jwk::Jwk;
 use crate::sequence::Sequence;
 use crate::text::Text;
 
@@ -20,6 +21,17 @@ pub enum AccountChange {
     Deactivate,
     /// Its contacts are replaced, if others are given.
     Update(Option<Sequence<Text>>),
+}
+
+/// A keyChange payload, as the front hands it in once it checked both signatures (RFC 8555, 7.3.5).
+#[derive(Drop)]
+pub struct KeyChange {
+    /// The URL of the account, as received.
+    pub account: Text,
+    /// The key that it is to get, `None` where it is of no kind that the desk accepts.
+    pub new_key: Option<Jwk>,
+    /// The key that it has, `None` where it is of no kind that the desk accepts.
+    pub old_key: Option<Jwk>,
 }
 
 /// What a request to an authorization asks (RFC 8555, 7.5, 7.5.2).

@@ -37,10 +37,12 @@ pub enum Refusal {
     ServerInternal,
     /// The request is too large.
     TooLarge,
+    /// An account has the key that another is to get (RFC 8555, 7.3.5).
+    KeyInUse,
 }
 
 impl Refusal {
-    /// The number of the refusal, 1 to 16.
+    /// The number of the refusal, 1 to 17.
     pub fn number(self) -> u8
         ensures { result ≡ (refusal_of self).number }
     {
@@ -61,6 +63,7 @@ impl Refusal {
             Refusal::Conflict => 14,
             Refusal::ServerInternal => 15,
             Refusal::TooLarge => 16,
+            Refusal::KeyInUse => 17,
         }
     }
 
@@ -85,6 +88,7 @@ impl Refusal {
             Refusal::Conflict => 409,
             Refusal::ServerInternal => 500,
             Refusal::TooLarge => 413,
+            Refusal::KeyInUse => 409,
         }
     }
 
@@ -109,6 +113,7 @@ impl Refusal {
             Refusal::Conflict => "malformed",
             Refusal::ServerInternal => "serverInternal",
             Refusal::TooLarge => "malformed",
+            Refusal::KeyInUse => "malformed",
         }
     }
 
@@ -133,6 +138,7 @@ impl Refusal {
             Refusal::Conflict => "the report does not fit the records",
             Refusal::ServerInternal => "the desk could not act",
             Refusal::TooLarge => "the request is too large",
+            Refusal::KeyInUse => "the key has an account",
         }
     }
 }

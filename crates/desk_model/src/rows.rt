@@ -1,11 +1,12 @@
 //! The rows of a desk's tables, and changes of them.
 ghost use Rattle.std.specs.Prelude.{◌≡◌};
+ghost use Rattle.desk_model.specs.Document.{answer_thumb};
 
 use crate::call::OrderProblem;
 use crate::clock::Clock;
 use crate::dns_name::DnsName;
 use crate::jwk::Jwk;
-use crate::objects::{AccountEnd, AuthorizationEnd, Kind, Nonce, Report};
+use crate::objects::{AccountEnd, Answer, AuthorizationEnd, Kind, Nonce, Report};
 use crate::policy::Policy;
 use crate::sequence::Sequence;
 use crate::status::{AccountStatus, AuthzStatus, ChallengeStatus, OrderStatus};
@@ -54,7 +55,7 @@ impl Clone for Meta {
 pub struct AccountRow {
     /// The key of the table, from 1.
     pub number: u64,
-    /// What its requests are known by; no other row has it.
+    /// What its requests are known by now; no other row has it.
     pub key: Jwk,
     /// Its URLs, as received when it was opened or last changed.
     pub contacts: Sequence<Text>,
@@ -90,12 +91,24 @@ pub struct ChallengeRow {
     pub kind: Kind,
     /// Random bytes, which its document shows in base64url (RFC 8555, 8.1).
     pub token: [u8; 16],
-    /// When its client said that it may be tried, in seconds since 1970-01-01T00:00:00Z.
-    pub answered: Option<u64>,
+    /// When its client said that it may be tried, and under which key; the file keeps the key's thumbprint in a table of its own.
+    pub answered: Option<Answer>,
     /// What the validator found, and when.
     pub reported: Option<Report>,
     /// The stored status, which no passing of time moves.
     pub status: ChallengeStatus,
+}
+
+impl ChallengeRow {
+    /// The thumbprint of the key under which it was answered, empty where it was not (RFC 8555, 8.1).
+    pub fn answer_thumb(&self) -> &[u8]
+        ensures { result.now ≡ answer_thumb self.now.answered }
+    {
+        match &self.answered {
+            Some(answer) => &answer.thumb,
+            None => &[],
+        }
+    }
 }
 
 /// An authorization with its challenges.

@@ -17,6 +17,8 @@ pub enum Verdict {
         /// One for each identifier that is refused, else none (RFC 8555, 6.7.1).
         subproblems: Sequence<Subproblem>,
     },
+    /// Refused since this account has the key that is asked for, with its Location (RFC 8555, 7.3.5).
+    KeyTaken(u64),
     /// The request reads, or says what is recorded already: nothing is recorded but nonces, and this is shown.
     Answers(Shows),
     /// An account is opened, with this key and these contacts, and shown with status 201 and its Location.

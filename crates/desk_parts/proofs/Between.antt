@@ -2,7 +2,7 @@
 use Rattle.std.proofs.Common.{◌≡◌, ◌≤◌, ℕ, ◌+◌, max, List, [], ◌∷◌, map, filter, refl, sym, ap, subst, ◌∙◌, true, false, Bool, cond}
 use Rattle.std.specs.Prelude.{◌==◌, ◌&&◌, ◌||◌}
 use Rattle.std.specs.List.{list_any}
-use Rattle.std.proofs.lemmas.Bool.{and_from, and_parts, or_left, or_right}
+use Rattle.std.proofs.lemmas.Bool.{and_from, and_parts, eqb-true, or_left, or_right}
 use Rattle.std.proofs.lemmas.Simd.{map-map}
 use Rattle.desk_model.specs.Decide.{entries_of}
 use Rattle.desk_model.specs.Derived.{restated_order}
@@ -10,7 +10,7 @@ use Rattle.desk_model.specs.Effect.{effect, effects, falls, fresh_order, moved_o
 use Rattle.desk_model.specs.Order.{ordered_by}
 use Rattle.desk_model.specs.Rules.{office_verdict, signed_verdict}
 use Rattle.desk_model.specs.Tables.{Tables}
-use Rattle.desk_model.specs.Kept.{EachOf, IsClosed, Kept, restricted}
+use Rattle.desk_model.specs.Kept.{EachOf, HoldersKept, IsClosed, Kept, restricted}
 use Rattle.desk_model.specs.declared.call.Ask.{Ask}
 use Rattle.desk_model.specs.declared.call.Ask.TheVariants as ask
 use Rattle.desk_model.specs.declared.call.OfficeAsk.{OfficeAsk}
@@ -26,7 +26,7 @@ use Rattle.desk_model.specs.declared.rows.AuthorizationRow.{AuthorizationRow}
 use Rattle.desk_model.specs.declared.rows.OrderRow.{OrderRow}
 use Rattle.desk_model.specs.declared.status.OrderStatus.TheVariants as order
 use Rattle.desk_model.specs.declared.verdict.Verdict.{Verdict}
-use Rattle.desk_model.specs.declared.verdict.Verdict.TheVariants.{Refused as refused, Answers as answers, Opens as opens, Orders as orders, Moves as moves}
+use Rattle.desk_model.specs.declared.verdict.Verdict.TheVariants.{Refused as refused, KeyTaken as key_taken, Answers as answers, Opens as opens, Orders as orders, Moves as moves}
 use Rattle.desk_laws.specs.Ordered.{IsOrdered}
 use Rattle.desk_laws.proofs.Basics.{each, each_after, each_all, each_both, each-append, each-map, each_of_map, each_parts}
 use Rattle.desk_laws.proofs.Chain.{effect_part}
@@ -41,10 +41,12 @@ use Rattle.desk_model.specs.Touched.{is_own_authorization, is_own_order, is_past
 use Rattle.desk_model.specs.Touched.{is_touched_authorization, is_touched_nonce, is_touched_order, lists, only_meta, touched_at}
 use Rattle.desk_model.specs.Touched.{touched_rows}
 use Rattle.desk_parts.proofs.Cut.{kept_by, no_part, no_rows, numbered, same_authorizations, touched_kept, touched_listed}
-use Rattle.desk_parts.proofs.Enough.{answers_at, restricted_ordered, work_as}
+use Rattle.desk_parts.proofs.Enough.{answers_at, ready_by, restricted_ordered, work_as}
+use Rattle.desk_parts.proofs.Ready.{IsAnswered, IsReady}
+use Rattle.desk_parts.proofs.Walks.{IsNoWork, office_answered, signed_answered}
 use Rattle.desk_parts.proofs.Grown.{grown, grown_closed, grown_part}
 use Rattle.desk_parts.proofs.Listed.{KeepsListed}
-use Rattle.desk_parts.proofs.Lists.{each_filtered, filtered_each, or_cases}
+use Rattle.desk_parts.proofs.Lists.{any_gives, each_filtered, filtered_each, or_cases}
 use Rattle.desk_laws.proofs.Plain.{fresh_kept}
 
 -- ---- what a call touches in a part it touches in the whole
@@ -174,22 +176,72 @@ open_kept k T = grown k (bare T)
 swept_bare : (k : Kept) (T : Tables) (m : ℕ) → IsOrdered T → swept m (restricted k (bare T)) ≡ restricted (open_kept k T) (swept m (bare T))
 swept_bare k T m h = ap (swept m) (sym (grown_part k (bare T))) ∙ swept_part (open_kept k T) (bare T) m (grown_closed k (bare T) (bare_ordered T h) tt)
 
-entry_stands : (k : Kept) (T : Tables) (m : ℕ) (e : Entry) → IsOrdered T →
+-- the accounts of what the verdict's entry touches are kept
+abbrev HoldersOf : Kept → Tables → Verdict → Type 0
+HoldersOf k S (moves move) = HoldersKept k S (entry_of move)
+HoldersOf k S _ = Unit {0}
+
+-- each ask: those of what its verdict records
+abbrev HoldersFor : Kept → Tables → ℕ → Ask → Type 0
+HoldersFor k T m (ask.NewNonce head) = Unit {0}
+HoldersFor k T m (ask.Signed s) = (r : List ℕ) → HoldersOf (open_kept k T) (swept m T) (signed_verdict (swept m T) r s)
+HoldersFor k T m (ask.Office a) = HoldersOf (open_kept k T) (swept m T) (office_verdict (swept m T) a)
+
+-- an account that the touched rows keep, or that is not there, is kept by a part that holds them
+open_wider : (k : Kept) (T : Tables) (m : ℕ) (a : Ask) → Keeps k (touched_rows T m a) → (n : ℕ) →
+    (grown (kept_by T m a) T).accounts n ≡ true → (open_kept k T).accounts n ≡ true
+open_wider k T m a holds n h =
+    or_cases ((kept_by T m a).accounts n) _ h
+    (λ e. or_left _ _ (any_gives (λ (x : AccountRow). (x.number == n) && is_touched_account T m a x) T.accounts e
+    (each _ _ T.accounts (λ x f both.
+    let p = and_parts (x.number == n) _ both in subst (λ j. k.accounts j ≡ true) (eqb-true x.number n p.0) (f p.1))
+    (each_filtered _ (is_touched_account T m a) T.accounts holds.accounts))))
+    (λ e. or_right (k.accounts n) _ e)
+
+-- where the touched rows answer, a part that holds them has the accounts
+holders_of : (k : Kept) (T : Tables) (m : ℕ) (a : Ask) (v : Verdict) → Keeps k (touched_rows T m a) →
+    IsAnswered (grown (kept_by T m a) T) m (swept m T) v → HoldersOf (open_kept k T) (swept m T) v
+holders_of k T m a (refused why ss) holds h = tt
+holders_of k T m a (key_taken account) holds h = tt
+holders_of k T m a (answers what) holds h = tt
+holders_of k T m a (opens key contacts) holds h = tt
+holders_of k T m a (orders account wanted) holds h = tt
+holders_of k T m a (moves move) holds h =
+    each _ _ (swept m T).authorizations (λ r f yes. open_wider k T m a holds r.account (f yes)) h.0.holders
+
+touched_ready : (T : Tables) (m : ℕ) (a : Ask) → IsOrdered T → IsReady (grown (kept_by T m a) T) T m a
+touched_ready T m a h = ready_by (kept_by T m a) T m a h (touched_listed T m a h) (touched_kept T m a h)
+
+signed_holders : (k : Kept) (T : Tables) (m : ℕ) (s : Signed) → IsOrdered T → Keeps k (touched_rows T m (ask.Signed s)) → HoldersFor k T m (ask.Signed s)
+signed_holders k T m s h holds r =
+    let a : Ask = ask.Signed s in
+    holders_of k T m a (signed_verdict (swept m T) r s) holds (signed_answered (grown (kept_by T m a) T) T m r s (touched_ready T m a h))
+
+office_holders : (k : Kept) (T : Tables) (m : ℕ) (a : OfficeAsk) → IsNoWork a → IsOrdered T → Keeps k (touched_rows T m (ask.Office a)) →
+    HoldersFor k T m (ask.Office a)
+office_holders k T m a none h holds =
+    holders_of k T m (ask.Office a) (office_verdict (swept m T) a) holds
+    (office_answered (grown (kept_by T m (ask.Office a)) T) T m a none (touched_ready T m (ask.Office a) h))
+
+entry_stands : (k : Kept) (T : Tables) (m : ℕ) (e : Entry) → IsOrdered T → HoldersKept (open_kept k T) (swept m T) e →
     (effect m (swept m (restricted k T)) e).authorizations ≡ filter (λ r. (open_kept k T).authorizations r.number) (effect m (swept m T) e).authorizations
-entry_stands k T m e h =
+entry_stands k T m e h holders =
     let closed : IsClosed (open_kept k T) (swept m (bare T)) = swept_closed (open_kept k T) (bare T) m (grown_closed k (bare T) (bare_ordered T h) tt) in
     ap (λ (E : Tables). (effect m E e).authorizations) (swept_bare k T m h)
     ∙ ap (λ (E : Tables). E.authorizations)
-    (effect_part (open_kept k T) (swept m (bare T)) m e closed (fresh_kept (open_kept k T) (swept m (bare T)) m e closed))
+    (effect_part (open_kept k T) (swept m (bare T)) m e closed holders (fresh_kept (open_kept k T) (swept m (bare T)) m e closed))
 
-authorizations_stand : (k : Kept) (T : Tables) (m : ℕ) (v : Verdict) → IsOrdered T →
+authorizations_stand : (k : Kept) (T : Tables) (m : ℕ) (v : Verdict) → IsOrdered T → HoldersOf (open_kept k T) (swept m T) v →
     (effects m (swept m (restricted k T)) (entries_of v)).authorizations
     ≡ filter (λ r. (open_kept k T).authorizations r.number) (effects m (swept m T) (entries_of v)).authorizations
-authorizations_stand k T m (refused n ss) h = ap (λ (E : Tables). E.authorizations) (swept_bare k T m h)
-authorizations_stand k T m (answers what) h = ap (λ (E : Tables). E.authorizations) (swept_bare k T m h)
-authorizations_stand k T m (opens key contacts) h = entry_stands k T m (opened key contacts) h
-authorizations_stand k T m (orders account wanted) h = entry_stands k T m (ordered account wanted) h
-authorizations_stand k T m (moves move) h = entry_stands k T m (entry_of move) h
+authorizations_stand k T m (refused n ss) h holders = ap (λ (E : Tables). E.authorizations) (swept_bare k T m h)
+authorizations_stand k T m (key_taken account) h holders = ap (λ (E : Tables). E.authorizations) (swept_bare k T m h)
+authorizations_stand k T m (answers what) h holders = ap (λ (E : Tables). E.authorizations) (swept_bare k T m h)
+authorizations_stand k T m (opens key contacts) h holders =
+    entry_stands k T m (opened key contacts) h (each_all _ (swept m T).authorizations (λ a yes. cc))
+authorizations_stand k T m (orders account wanted) h holders =
+    entry_stands k T m (ordered account wanted) h (each_all _ (swept m T).authorizations (λ a yes. cc))
+authorizations_stand k T m (moves move) h holders = entry_stands k T m (entry_of move) h holders
 
 -- the ends of orders
 
@@ -250,6 +302,9 @@ orders_end : (k : Kept) (T : Tables) (m : ℕ) (v : Verdict) (n : ℕ) → EachO
 orders_end k T m (refused j ss) n h =
     ends_kept n (swept_order m T.authorizations) (swept_order m (restricted k T).authorizations)
     (λ o. k.orders o.number) T.orders (swept_end m T.authorizations) (swept_end m (restricted k T).authorizations) h
+orders_end k T m (key_taken account) n h =
+    ends_kept n (swept_order m T.authorizations) (swept_order m (restricted k T).authorizations)
+    (λ o. k.orders o.number) T.orders (swept_end m T.authorizations) (swept_end m (restricted k T).authorizations) h
 orders_end k T m (answers what) n h =
     ends_kept n (swept_order m T.authorizations) (swept_order m (restricted k T).authorizations)
     (λ o. k.orders o.number) T.orders (swept_end m T.authorizations) (swept_end m (restricted k T).authorizations) h
@@ -259,12 +314,12 @@ orders_end k T m (moves move) n h = entry_ends k T m (entry_of move) n h
 
 -- ---- from the touched rows to the part
 
-carries_between : (k : Kept) (T Q : Tables) (m : ℕ) (v : Verdict) → IsOrdered T → CarriesOutAs m T Q v → CarriesOutAs m (restricted k T) Q v
+carries_between : (k : Kept) (T Q : Tables) (m : ℕ) (v : Verdict) → IsOrdered T → HoldersOf (open_kept k T) (swept m T) v → CarriesOutAs m T Q v → CarriesOutAs m (restricted k T) Q v
     → CarriesOutAs m T (restricted k T) v
-carries_between k T Q m v h low high =
+carries_between k T Q m v h holders low high =
     record {
       standing = λ r. (open_kept k T).authorizations r.number;
-      authorizations = authorizations_stand k T m v h;
+      authorizations = authorizations_stand k T m v h holders;
       ends = orders_end k T m v;
       shows = λ index. sym (high.shows index) ∙ low.shows index;
     }
@@ -272,25 +327,25 @@ carries_between k T Q m v h low high =
 issues_between : (k : Kept) (T Q : Tables) (m : ℕ) → IssuesAs m T Q → IssuesAs m (restricted k T) Q → IssuesAs m T (restricted k T)
 issues_between k T Q m low high = record { records = λ r. sym (high.records r) ∙ low.records r }
 
-settles_between : (k : Kept) (T Q : Tables) (m : ℕ) (a : OfficeAsk) → IsOrdered T → SettlesAs m a T Q → SettlesAs m a (restricted k T) Q
+settles_between : (k : Kept) (T Q : Tables) (m : ℕ) (a : OfficeAsk) → IsOrdered T → HoldersFor k T m (ask.Office a) → SettlesAs m a T Q → SettlesAs m a (restricted k T) Q
     → SettlesAs m a T (restricted k T)
-settles_between k T Q m a h low high =
+settles_between k T Q m a h holders low high =
     let judged : office_verdict (swept m (restricted k T)) a ≡ office_verdict (swept m T) a = sym high.judged ∙ low.judged in
     record {
       judged = judged;
-      verdict = carries_between k T Q m (office_verdict (swept m T) a) h low.verdict (subst (CarriesOutAs m (restricted k T) Q) judged high.verdict);
+      verdict = carries_between k T Q m (office_verdict (swept m T) a) h holders low.verdict (subst (CarriesOutAs m (restricted k T) Q) judged high.verdict);
       records = sym (subst (λ v. recorded_changes m Q (entries_of v) ≡ recorded_changes m (restricted k T) (entries_of v)) judged high.records) ∙ low.records;
     }
 
-passes_between : (k : Kept) (T Q : Tables) (m : ℕ) (s : Signed) → IsOrdered T → PassesAs m s T Q → PassesAs m s (restricted k T) Q
+passes_between : (k : Kept) (T Q : Tables) (m : ℕ) (s : Signed) → IsOrdered T → HoldersFor k T m (ask.Signed s) → PassesAs m s T Q → PassesAs m s (restricted k T) Q
     → PassesAs m s T (restricted k T)
-passes_between k T Q m s h low high =
+passes_between k T Q m s h holders low high =
     let judged : (r : List ℕ) → signed_verdict (swept m (restricted k T)) r s ≡ signed_verdict (swept m T) r s = λ r. sym (high.judged r) ∙ low.judged r in
     record {
       nonce = sym high.nonce ∙ low.nonce;
       issues = issues_between k T Q m low.issues high.issues;
       judged = judged;
-      verdict = λ r. carries_between k T Q m (signed_verdict (swept m T) r s) h (low.verdict r)
+      verdict = λ r. carries_between k T Q m (signed_verdict (swept m T) r s) h (holders r) (low.verdict r)
           (subst (CarriesOutAs m (restricted k T) Q) (judged r) (high.verdict r));
       records = λ r n fresh.
           sym (subst (λ v. recorded_changes m Q (spent n ∷ issued fresh ∷ entries_of v)
@@ -298,11 +353,11 @@ passes_between k T Q m s h low high =
           ∙ low.records r n fresh;
     }
 
-answers_between : (k : Kept) (T Q : Tables) (m : ℕ) (a : Ask) → IsOrdered T → AnswersAs m a T Q → AnswersAs m a (restricted k T) Q
+answers_between : (k : Kept) (T Q : Tables) (m : ℕ) (a : Ask) → IsOrdered T → HoldersFor k T m a → AnswersAs m a T Q → AnswersAs m a (restricted k T) Q
     → AnswersAs m a T (restricted k T)
-answers_between k T Q m (ask.NewNonce head) h low high = issues_between k T Q m low high
-answers_between k T Q m (ask.Signed s) h low high = passes_between k T Q m s h low high
-answers_between k T Q m (ask.Office a) h low high = settles_between k T Q m a h low high
+answers_between k T Q m (ask.NewNonce head) h holders low high = issues_between k T Q m low high
+answers_between k T Q m (ask.Signed s) h holders low high = passes_between k T Q m s h holders low high
+answers_between k T Q m (ask.Office a) h holders low high = settles_between k T Q m a h holders low high
 
 -- ---- a part for a call
 
@@ -310,11 +365,11 @@ answers_between k T Q m (ask.Office a) h low high = settles_between k T Q m a h 
 none_listed : (T : Tables) → KeepsListed no_rows T
 none_listed T = each_all _ T.orders (λ o kept. cc)
 
-rows_answer : (k : Kept) (T : Tables) (m : ℕ) (a : Ask) → IsOrdered T → Keeps k (touched_rows T m a) → touched_at T m a ≡ touched_rows T m a →
+rows_answer : (k : Kept) (T : Tables) (m : ℕ) (a : Ask) → IsOrdered T → HoldersFor k T m a → Keeps k (touched_rows T m a) → touched_at T m a ≡ touched_rows T m a →
     touched_at (restricted k T) m a ≡ touched_rows (restricted k T) m a → AnswersAs m a T (restricted k T)
-rows_answer k T m a h holds here there =
+rows_answer k T m a h holders holds here there =
     let listed : KeepsListed (kept_by T m a) T = touched_listed T m a h in
-    answers_between k T (restricted (kept_by T m a) T) m a h
+    answers_between k T (restricted (kept_by T m a) T) m a h holders
     (answers_at (kept_by T m a) T m a h listed (subst (Keeps (kept_by T m a)) (sym here) (touched_kept T m a h)))
     (subst (AnswersAs m a (restricted k T)) (same_touched k T m a h holds)
     (answers_at (kept_by T m a) (restricted k T) m a (restricted_ordered k T h) (listed_part (kept_by T m a) k T listed)
@@ -323,20 +378,20 @@ rows_answer k T m a h holds here there =
 part_answers : (k : Kept) (T : Tables) (m : ℕ) (a : Ask) → IsOrdered T → Keeps k (touched_at T m a) → AnswersAs m a T (restricted k T)
 part_answers k T m (ask.Office office.Directory) h holds =
     let none : Keeps no_rows (only_meta T) = record { nonces = tt; accounts = tt; authorizations = tt; orders = tt } in
-    answers_between k T (restricted no_rows T) m (ask.Office office.Directory) h
+    answers_between k T (restricted no_rows T) m (ask.Office office.Directory) h tt
     (answers_at no_rows T m (ask.Office office.Directory) h (none_listed T) none)
     (subst (SettlesAs m office.Directory (restricted k T)) (sym (no_part (restricted k T)) ∙ no_part T)
     (answers_at no_rows (restricted k T) m (ask.Office office.Directory) (restricted_ordered k T h) (none_listed (restricted k T)) none))
-part_answers k T m (ask.NewNonce head) h holds = rows_answer k T m (ask.NewNonce head) h holds refl refl
-part_answers k T m (ask.Signed s) h holds = rows_answer k T m (ask.Signed s) h holds refl refl
-part_answers k T m (ask.Office (office.Report n finding)) h holds = rows_answer k T m (ask.Office (office.Report n finding)) h holds refl refl
-part_answers k T m (ask.Office (office.Certify n bytes)) h holds = rows_answer k T m (ask.Office (office.Certify n bytes)) h holds refl refl
-part_answers k T m (ask.Office (office.FailOrder n problem)) h holds = rows_answer k T m (ask.Office (office.FailOrder n problem)) h holds refl refl
-part_answers k T m (ask.Office (office.RevokeAuthz n)) h holds = rows_answer k T m (ask.Office (office.RevokeAuthz n)) h holds refl refl
-part_answers k T m (ask.Office (office.RevokeAccount n)) h holds = rows_answer k T m (ask.Office (office.RevokeAccount n)) h holds refl refl
+part_answers k T m (ask.NewNonce head) h holds = rows_answer k T m (ask.NewNonce head) h tt holds refl refl
+part_answers k T m (ask.Signed s) h holds = rows_answer k T m (ask.Signed s) h (signed_holders k T m s h holds) holds refl refl
+part_answers k T m (ask.Office (office.Report n finding)) h holds = rows_answer k T m (ask.Office (office.Report n finding)) h (office_holders k T m (office.Report n finding) tt h holds) holds refl refl
+part_answers k T m (ask.Office (office.Certify n bytes)) h holds = rows_answer k T m (ask.Office (office.Certify n bytes)) h (office_holders k T m (office.Certify n bytes) tt h holds) holds refl refl
+part_answers k T m (ask.Office (office.FailOrder n problem)) h holds = rows_answer k T m (ask.Office (office.FailOrder n problem)) h (office_holders k T m (office.FailOrder n problem) tt h holds) holds refl refl
+part_answers k T m (ask.Office (office.RevokeAuthz n)) h holds = rows_answer k T m (ask.Office (office.RevokeAuthz n)) h (office_holders k T m (office.RevokeAuthz n) tt h holds) holds refl refl
+part_answers k T m (ask.Office (office.RevokeAccount n)) h holds = rows_answer k T m (ask.Office (office.RevokeAccount n)) h (office_holders k T m (office.RevokeAccount n) tt h holds) holds refl refl
 part_answers k T m (ask.Office office.ChallengeWork) h holds = work_as k T m office.ChallengeWork holds
 part_answers k T m (ask.Office office.OrderWork) h holds = work_as k T m office.OrderWork holds
-part_answers k T m (ask.Office (office.KeyOf n)) h holds = rows_answer k T m (ask.Office (office.KeyOf n)) h holds refl refl
+part_answers k T m (ask.Office (office.KeyOf n)) h holds = rows_answer k T m (ask.Office (office.KeyOf n)) h (office_holders k T m (office.KeyOf n) tt h holds) holds refl refl
 
 -- a part for a call answers it as the whole
 pub parts_answer : (T P : Tables) (call : Call) → IsOrdered T → IsPartFor call T P → AnswersAs (max call.at T.meta.counters.clock) call.ask T P

@@ -19,7 +19,7 @@ use Rattle.desk_model.specs.declared.rows.AccountRow.{AccountRow}
 use Rattle.desk_model.specs.declared.rows.AuthorizationRow.{AuthorizationRow}
 use Rattle.desk_model.specs.declared.rows.OrderRow.{OrderRow}
 use Rattle.desk_model.specs.declared.verdict.Verdict.{Verdict}
-use Rattle.desk_model.specs.declared.verdict.Verdict.TheVariants.{Refused as refused, Answers as answers, Opens as opens, Orders as orders, Moves as moves}
+use Rattle.desk_model.specs.declared.verdict.Verdict.TheVariants.{Refused as refused, KeyTaken as key_taken, Answers as answers, Opens as opens, Orders as orders, Moves as moves}
 use Rattle.desk_laws.specs.Ordered.{IsOrdered, IsTable}
 use Rattle.desk_laws.specs.Parts.{CoversAll}
 use Rattle.desk_laws.proofs.Basics.{each, each_all}
@@ -65,6 +65,7 @@ entry_covered k m S e closed covers = (closed, covers, fresh_kept k S m e closed
 -- what the verdict's entry touches is kept
 verdict_covered : (k : Kept) (m : ℕ) (S : Tables) (v : Verdict) → IsClosed k S → IsAnswered k m S v → CoversAll k m S (entries_of v)
 verdict_covered k m S (refused n ss) closed h = tt
+verdict_covered k m S (key_taken account) closed h = tt
 verdict_covered k m S (answers what) closed h = tt
 verdict_covered k m S (opens key contacts) closed h = entry_covered k m S (opened key contacts) closed h.0
 verdict_covered k m S (orders account wanted) closed h = entry_covered k m S (ordering account wanted) closed h.0
@@ -81,6 +82,7 @@ later_covered k m S n r e closed covers =
 nonce_covered : (k : Kept) (m : ℕ) (S : Tables) (n : ℕ) (r : List ℕ) (v : Verdict) → IsClosed k S → IsAnswered k m S v →
     CoversAll k m S (spent n ∷ issued r ∷ entries_of v)
 nonce_covered k m S n r (refused j ss) closed h = nonces_covered k m S n r [] closed tt
+nonce_covered k m S n r (key_taken account) closed h = nonces_covered k m S n r [] closed tt
 nonce_covered k m S n r (answers what) closed h = nonces_covered k m S n r [] closed tt
 nonce_covered k m S n r (opens key contacts) closed h = later_covered k m S n r (opened key contacts) closed h.0
 nonce_covered k m S n r (orders account wanted) closed h = later_covered k m S n r (ordering account wanted) closed h.0
@@ -90,6 +92,7 @@ nonce_covered k m S n r (moves move) closed h = later_covered k m S n r (entry_o
 reply_same : (k : Kept) (m : ℕ) (S : Tables) (v : Verdict) (index : Bool) → IsAnswered k m S v →
     verdict_reply index (restricted k (effects m S (entries_of v))) v ≡ verdict_reply index (effects m S (entries_of v)) v
 reply_same k m S (refused n ss) index h = refl
+reply_same k m S (key_taken account) index h = refl
 reply_same k m S (answers what) index h = h
 reply_same k m S (opens key contacts) index h = h.1
 reply_same k m S (orders account wanted) index h = h.1
@@ -191,7 +194,7 @@ work_as k T m a h = subst (SettlesAs m a T) (sym (restricted_all k T h)) (whole_
 
 -- ---- a part for a call
 
-ready_by : (k : Kept) (T : Tables) (m : ℕ) (a : Ask) → IsOrdered T → KeepsListed k T → Keeps k (touched_rows T m a) → IsReady (grown k T) T m a
+pub ready_by : (k : Kept) (T : Tables) (m : ℕ) (a : Ask) → IsOrdered T → KeepsListed k T → Keeps k (touched_rows T m a) → IsReady (grown k T) T m a
 ready_by k T m a ordered listed h =
     let touched : KeepsTouched (grown k T) T m a = keeps_touched k T m a h in
     record { closed = grown_closed k T ordered listed; touched = touched; named = keeps_named k T m a touched }

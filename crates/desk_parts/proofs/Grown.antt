@@ -17,7 +17,7 @@ use Rattle.desk_model.specs.declared.rows.OrderRow.{OrderRow}
 use Rattle.desk_laws.specs.Ordered.{Below, IsOrdered}
 use Rattle.desk_laws.proofs.Basics.{each, each_both, less_differs}
 use Rattle.desk_laws.proofs.Finds.{each_found, found_passes}
-use Rattle.desk_model.specs.Asked.{carries, has_key, names_account, names_order, names_authorization, names_owner, asks_orders}
+use Rattle.desk_model.specs.Asked.{carries, has_key, has_new_key, names_account, names_order, names_authorization, names_owner, asks_orders}
 use Rattle.desk_model.specs.Touched.{is_touched_nonce, is_touched_account, is_touched_authorization, is_touched_order}
 use Rattle.desk_model.specs.Touched.{is_named_account, is_named_order, is_named_authorization, is_own_order, is_own_authorization}
 use Rattle.desk_model.specs.Touched.{is_first_authorization, lists, touched_rows}
@@ -101,16 +101,7 @@ pub record KeepsTouched (k : Kept) (T : Tables) (m : ℕ) (a : Ask) : Type 0 whe
   pub accounts : EachOf (λ x. is_touched_account T m a x ≡ true → k.accounts x.number ≡ true) T.accounts
   pub authorizations : EachOf (λ r. is_touched_authorization T m a r ≡ true → k.authorizations r.number ≡ true) T.authorizations
   pub orders : EachOf (λ o. is_touched_order T m a o ≡ true → k.orders o.number ≡ true) T.orders
-
-pub keeps_touched : (k : Kept) (T : Tables) (m : ℕ) (a : Ask) → Keeps k (touched_rows T m a) → KeepsTouched (grown k T) T m a
-keeps_touched k T m a h =
-    record {
-      nonces = each _ _ T.nonces (λ x f yes. or_left _ _ (f yes)) (each_filtered _ (is_touched_nonce T m a) T.nonces h.nonces);
-      accounts = each _ _ T.accounts (λ x f yes. or_left _ _ (f yes)) (each_filtered _ (is_touched_account T m a) T.accounts h.accounts);
-      authorizations = each _ _ T.authorizations (λ x f yes. or_left _ _ (f yes))
-          (each_filtered _ (is_touched_authorization T m a) T.authorizations h.authorizations);
-      orders = each _ _ T.orders (λ x f yes. or_left _ _ (f yes)) (each_filtered _ (is_touched_order T m a) T.orders h.orders);
-    }
+  pub holders : EachOf (λ r. is_touched_authorization T m a r ≡ true → k.accounts r.account ≡ true) T.authorizations
 
 -- a number whose rows are kept, where no row has it or not
 kept_number : {X : Type 0} (number : X → ℕ) (xs : List X) (kept : ℕ → Bool) (test : ℕ → Bool) →
@@ -125,15 +116,34 @@ kept_number number xs kept test h n so = by (stands number xs n) refl
         subst (λ j. with_others number xs kept j ≡ true) same (f (ap test same ∙ so))) h)
     by false e = or_right (kept n) (not (stands number xs n)) (ap not e)
 
+pub keeps_touched : (k : Kept) (T : Tables) (m : ℕ) (a : Ask) → Keeps k (touched_rows T m a) → KeepsTouched (grown k T) T m a
+keeps_touched k T m a h =
+    record {
+      nonces = each _ _ T.nonces (λ x f yes. or_left _ _ (f yes)) (each_filtered _ (is_touched_nonce T m a) T.nonces h.nonces);
+      accounts = accounts;
+      authorizations = each _ _ T.authorizations (λ x f yes. or_left _ _ (f yes))
+          (each_filtered _ (is_touched_authorization T m a) T.authorizations h.authorizations);
+      orders = each _ _ T.orders (λ x f yes. or_left _ _ (f yes)) (each_filtered _ (is_touched_order T m a) T.orders h.orders);
+      holders =
+          each _ _ T.authorizations
+          (λ r member yes. kept_number (λ (x : AccountRow). x.number) T.accounts k.accounts (λ n. r.account == n)
+          (each _ _ T.accounts (λ x f same. f (or_right (is_named_account a x) _ (or_right _ _
+          (member (λ y. is_touched_authorization T m a y && (y.account == x.number)) (and_from _ _ yes same))))) accounts)
+          r.account (same_number r.account)) (each_member T.authorizations);
+    }
+  where
+    accounts : EachOf (λ x. is_touched_account T m a x ≡ true → (grown k T).accounts x.number ≡ true) T.accounts
+    accounts = each _ _ T.accounts (λ x f yes. or_left _ _ (f yes)) (each_filtered _ (is_touched_account T m a) T.accounts h.accounts)
+
 -- what an ask names is kept
 pub record KeepsNamed (k : Kept) (T : Tables) (a : Ask) : Type 0 where
   pub nonce : (n : ℕ) → carries a n ≡ true → k.nonces n ≡ true
   pub key : EachOf (λ x. has_key a x.key ≡ true → k.accounts x.number ≡ true) T.accounts
+  pub new_key : EachOf (λ x. has_new_key a x.key ≡ true → k.accounts x.number ≡ true) T.accounts
   pub account : (n : ℕ) → names_account a n ≡ true → k.accounts n ≡ true
   pub order : (n : ℕ) → names_order a n ≡ true → k.orders n ≡ true
   pub authorization : (n : ℕ) → names_authorization a n ≡ true → k.authorizations n ≡ true
   pub owner : EachOf (λ r. names_owner a r ≡ true → k.authorizations r.number ≡ true) T.authorizations
-  pub holder : EachOf (λ r. names_owner a r ≡ true → k.accounts r.account ≡ true) T.authorizations
   pub orders : EachOf (λ x. is_named_account a x ≡ true → EachOf
       (λ o. asks_orders a ≡ true → (o.account == x.number) ≡ true → k.orders o.number ≡ true) T.orders) T.accounts
 
@@ -142,9 +152,10 @@ keeps_named k T m a h =
     record {
       nonce = kept_number (λ (n : Nonce). n.serial) T.nonces k.nonces (carries a) (each _ _ T.nonces (λ x f yes. f (or_left _ _ yes)) h.nonces);
       key = each _ _ T.accounts (λ x f yes. f (or_left _ _ (or_left _ _ yes))) h.accounts;
+      new_key = each _ _ T.accounts (λ x f yes. f (or_left _ _ (or_right (has_key a x.key) _ (or_left _ _ yes)))) h.accounts;
       account =
           kept_number (λ (x : AccountRow). x.number) T.accounts k.accounts (names_account a)
-          (each _ _ T.accounts (λ x f yes. f (or_left _ _ (or_right (has_key a x.key) _ yes))) h.accounts);
+          (each _ _ T.accounts (λ x f yes. f (or_left _ _ (or_right (has_key a x.key) _ (or_right (has_new_key a x.key) _ yes)))) h.accounts);
       order =
           kept_number (λ (o : OrderRow). o.number) T.orders k.orders (names_order a)
           (each _ _ T.orders (λ o f yes. f (or_left _ _ (or_left _ _ yes))) h.orders);
@@ -152,13 +163,6 @@ keeps_named k T m a h =
           kept_number (λ (r : AuthorizationRow). r.number) T.authorizations k.authorizations (names_authorization a)
           (each _ _ T.authorizations (λ r f yes. f (or_left _ _ (or_left _ _ (or_left _ _ yes)))) h.authorizations);
       owner = each _ _ T.authorizations (λ r f yes. f (or_left _ _ (or_left _ _ (or_right (names_authorization a r.number) _ yes)))) h.authorizations;
-      holder =
-          each _ _ T.authorizations
-          (λ r member yes. kept_number (λ (x : AccountRow). x.number) T.accounts k.accounts (λ n. r.account == n)
-          (each _ _ T.accounts (λ x f same. f (or_right (is_named_account a x) _ (or_right _ _
-          (member (λ y. is_touched_authorization T m a y && (y.account == x.number))
-          (and_from _ _ (or_left _ _ (or_left _ _ (or_right (names_authorization a r.number) _ yes))) same))))) h.accounts)
-          r.account (same_number r.account)) (each_member T.authorizations);
       orders =
           each _ _ T.accounts
           (λ x member named. each _ _ T.orders (λ o f asked same. f (or_left _ _ (or_right (is_named_order a o) _ (or_left _ _
@@ -235,4 +239,5 @@ keeps_entry k T m a e h named =
       authorizations = each _ _ T.authorizations (λ r f yes. f (named.authorization r yes)) (keeps_first k T m a h);
       orders = each _ _ T.orders (λ o f yes. or_cases _ _ yes (λ n. f.0 (or_left _ _ (or_left _ _ (named.order o.number n)))) f.1)
           (each_both _ _ T.orders h.orders (keeps_listing k T m a h (touches_authorization e) named.authorization));
+      holders = each _ _ T.authorizations (λ r f yes. f (or_left _ _ (named.authorization r yes))) h.holders;
     }

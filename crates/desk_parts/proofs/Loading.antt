@@ -32,6 +32,7 @@ use Rattle.desk_laws.specs.Ordered.{IsOrdered}
 use Rattle.desk_laws.proofs.Basics.{each, each_all, eq_turn, list_any-map, list_any-same}
 use Rattle.desk_parts.specs.Loaded.{accounts_once, authorizations_once, orders_once, account_numbers, authorization_numbers}
 use Rattle.desk_parts.specs.Loaded.{challenge_numbers, first_authorizations, found_accounts, found_authorizations, found_nonces}
+use Rattle.desk_parts.specs.Loaded.{new_keys, of_key, target_new_keys}
 use Rattle.desk_parts.specs.Loaded.{found_orders, keys, listed_authorizations, listing_orders, loaded, loaded_at, loaded_rows}
 use Rattle.desk_parts.specs.Loaded.{named_accounts, named_authorizations, named_orders, of_text, order_numbers}
 use Rattle.desk_parts.specs.Loaded.{own_authorizations, own_orders, past_authorizations, past_orders, serials, target_accounts}
@@ -39,6 +40,8 @@ use Rattle.desk_parts.specs.Loaded.{target_authorization_numbers, target_challen
 use Rattle.desk_parts.specs.LookUps.{accounts_numbered, accounts_with_key, authorizations_numbered, authorizations_of, challenges}
 use Rattle.desk_parts.specs.LookUps.{nonces_numbered, orders_listing, orders_numbered, orders_of, orders_past}
 use Rattle.desk_parts.specs.LookUps.{owners_of, places}
+use Rattle.desk_model.specs.Payload.{key_change}
+use Rattle.desk_model.specs.Asked.{has_new_key, target_new_key}
 use Rattle.desk_model.specs.Asked.{asks_authorizations, asks_orders, carries, has_key, names_account, names_authorization}
 use Rattle.desk_model.specs.Asked.{names_order, names_owner, target_account, target_authorization, target_order, target_owner}
 use Rattle.desk_model.specs.Touched.{is_first_authorization, is_named_account, is_named_authorization, is_named_order}
@@ -93,6 +96,19 @@ keyed (ask.Signed s) text = by s.key
     by (Ok key) = or-false (bytes_eq text key)
 keyed (ask.NewNonce head) text = refl
 keyed (ask.Office a) text = refl
+
+new_keyed : (a : Ask) (text : List ℕ) → list_any (λ k. bytes_eq text k) (new_keys a) ≡ has_new_key a text
+new_keyed (ask.Signed s) text = by s.target
+  where
+    one : (o : Option (List ℕ)) → list_any (λ k. bytes_eq text k) (of_key o) ≡ holds (bytes_eq text) o
+    one None = refl
+    one (Some key) = or-false (bytes_eq text key)
+
+    by : (t : Target) → list_any (λ k. bytes_eq text k) (target_new_keys t s.payload) ≡ target_new_key t s.payload text
+    by to.KeyChange = one (option_and_then (λ c. c.new_key) (key_change s.payload))
+    by _ = refl
+new_keyed (ask.NewNonce head) text = refl
+new_keyed (ask.Office a) text = refl
 
 account_listed : (a : Ask) (n : ℕ) → list_any (λ k. n == k) (account_numbers a) ≡ names_account a n
 account_listed (ask.Signed s) n = by s.target
@@ -199,12 +215,20 @@ nonces_found T m a h =
 accounts_named : (T : Tables) (a : Ask) → IsOrdered T → IsFound of_account (is_named_account a) T.accounts (named_accounts T a)
 accounts_named T a h =
     found_same of_account _ (is_named_account a) T.accounts (named_accounts T a)
-    (each_all _ T.accounts (λ x i. keyed a x.key i || account_listed a x.number i))
-    (found_both of_account (λ x. list_any (λ k. bytes_eq x.key k) (keys a)) (λ x. list_any (λ k. x.number == k) (account_numbers a)) T.accounts _ _
-    (found_by of_account (λ k x. bytes_eq x.key k) (accounts_with_key T) T.accounts
-    (λ k. found_filter of_account (λ x. bytes_eq x.key k) 1 T.accounts h.accounts.0) (keys a))
+    (each_all _ T.accounts (λ x i. keyed a x.key i || (new_keyed a x.key i || account_listed a x.number i)))
+    (found_both of_account (λ x. list_any (λ k. bytes_eq x.key k) (keys a))
+    (λ x. list_any (λ k. bytes_eq x.key k) (new_keys a) || list_any (λ k. x.number == k) (account_numbers a)) T.accounts _ _
+    (keys_found (keys a))
+    (found_both of_account (λ x. list_any (λ k. bytes_eq x.key k) (new_keys a)) (λ x. list_any (λ k. x.number == k) (account_numbers a)) T.accounts _ _
+    (keys_found (new_keys a))
     (found_by of_account (λ k x. x.number == k) (accounts_numbered T) T.accounts
-    (λ k. found_filter of_account (λ x. x.number == k) 1 T.accounts h.accounts.0) (account_numbers a)))
+    (λ k. found_filter of_account (λ x. x.number == k) 1 T.accounts h.accounts.0) (account_numbers a))))
+  where
+    keys_found : (texts : List (List ℕ)) →
+        IsFound of_account (λ x. list_any (λ k. bytes_eq x.key k) texts) T.accounts (flat_map (accounts_with_key T) texts)
+    keys_found texts =
+        found_by of_account (λ k x. bytes_eq x.key k) (accounts_with_key T) T.accounts
+        (λ k. found_filter of_account (λ x. bytes_eq x.key k) 1 T.accounts h.accounts.0) texts
 
 accounts_once_named : (T : Tables) (a : Ask) → IsOrdered T → IsFound of_account (is_named_account a) T.accounts (accounts_once (named_accounts T a))
 accounts_once_named T a h = found_once of_account (is_named_account a) 1 T.accounts (named_accounts T a) h.accounts.0 (accounts_named T a h)

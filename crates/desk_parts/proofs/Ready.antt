@@ -20,7 +20,7 @@ use Rattle.desk_model.specs.declared.rows.OrderRow.{OrderRow}
 use Rattle.desk_model.specs.declared.status.AuthzStatus.TheVariants as authz
 use Rattle.desk_model.specs.declared.status.OrderStatus.TheVariants as order
 use Rattle.desk_model.specs.declared.verdict.Verdict.{Verdict}
-use Rattle.desk_model.specs.declared.verdict.Verdict.TheVariants.{Refused as refused, Answers as answers, Opens as opens, Orders as orders, Moves as moves}
+use Rattle.desk_model.specs.declared.verdict.Verdict.TheVariants.{Refused as refused, KeyTaken as key_taken, Answers as answers, Opens as opens, Orders as orders, Moves as moves}
 use Rattle.desk_laws.proofs.Basics.{each, each-map}
 use Rattle.desk_laws.proofs.Local.{swept_number, swept_order_number}
 use Rattle.desk_laws.proofs.SweptParts.{swept_covers}
@@ -51,13 +51,6 @@ swept_named a m r = by (is_overdue m r)
     by true = by_ask a
     by false = refl
 
-swept_account : (m : ℕ) (r : AuthorizationRow) → (swept_authorization m r).account ≡ r.account
-swept_account m r = by (is_overdue m r)
-  where
-    by : (b : Bool) → (cond b (record r { status = authz.Expired }) r).account ≡ r.account
-    by true = refl
-    by false = refl
-
 swept_order_account : (m : ℕ) (rows : List AuthorizationRow) (o : OrderRow) → (swept_order m rows o).account ≡ o.account
 swept_order_account m rows o = by (falls m rows o)
   where
@@ -71,13 +64,12 @@ swept_names k T m a h =
     record {
       nonce = h.nonce;
       key = h.key;
+      new_key = h.new_key;
       account = h.account;
       order = h.order;
       authorization = h.authorization;
       owner = each-map _ (swept_authorization m) T.authorizations
           (each _ _ T.authorizations (λ r f named. ap k.authorizations (swept_number m r) ∙ f (sym (swept_named a m r) ∙ named)) h.owner);
-      holder = each-map _ (swept_authorization m) T.authorizations
-          (each _ _ T.authorizations (λ r f named. ap k.accounts (swept_account m r) ∙ f (sym (swept_named a m r) ∙ named)) h.holder);
       orders = each _ _ T.accounts
           (λ x f named. each-map _ (swept_order m T.authorizations) T.orders
           (each _ _ T.orders (λ o g asked own. ap k.orders (swept_order_number m T.authorizations o)
@@ -91,6 +83,7 @@ IsCarried k m S e reply = Covers k S e × (reply (restricted k (effect m S e)) �
 
 abbrev pub IsAnswered : Kept → ℕ → Tables → Verdict → Type 0
 IsAnswered k m S (refused why subproblems) = Unit {0}
+IsAnswered k m S (key_taken account) = Unit {0}
 IsAnswered k m S (answers what) = reply_of (restricted k S) what ≡ reply_of S what
 IsAnswered k m S (opens key contacts) = IsCarried k m S (opened key contacts) made_account
 IsAnswered k m S (orders account wanted) = IsCarried k m S (ordered account wanted) made_order

@@ -60,9 +60,9 @@ pub owner_after : (k : Kept) (S : Tables) (m : ℕ) (e : Entry) (n : ℕ) → Is
     → EachOf (λ r. has_row n r ≡ true → k.authorizations r.number ≡ true) S.authorizations →
     EachOf (λ r. has_row n r ≡ true → k.authorizations r.number ≡ true) (effect m S e).authorizations
 owner_after k S m e n closed h =
-    each-append _ (map (moved_authorization e m) S.authorizations) _
-    (each-map _ (moved_authorization e m) S.authorizations
-    (each _ _ S.authorizations (λ r f has. ap k.authorizations (moved_number e m r) ∙ f (sym (has_row-moved n e m r) ∙ has)) h))
+    each-append _ (map (moved_authorization e m S.accounts) S.authorizations) _
+    (each-map _ (moved_authorization e m S.accounts) S.authorizations
+    (each _ _ S.authorizations (λ r f has. ap k.authorizations (moved_number e m S.accounts r) ∙ f (sym (has_row-moved n e m S.accounts r) ∙ has)) h))
     (each _ _ (map (λ a. restated_authorization m (fresh_authorization a)) (new_authorizations S e m)) (λ r f has. f)
     (up_kept (λ (a : AuthorizationRow). a.number) k.authorizations S.meta.counters.authorizations closed.new_authorizations
     (S.meta.counters.authorizations + 1) (omega arith) _

@@ -7,8 +7,9 @@ use Rattle.desk_model.specs.Authorization.{is_live, is_pending}
 use Rattle.desk_model.specs.declared.refusal.Refusal.TheVariants as refusal
 use Rattle.desk_model.specs.Account.{is_valid as is_valid_account}
 use Rattle.desk_model.specs.Contact.{contacts_fault}
-use Rattle.desk_model.specs.Document.{expected}
-use Rattle.desk_model.specs.Effect.{effect, has_row, swept, touches_account, touches_authorization, names_order as entry_names_order}
+use Rattle.desk_model.specs.Derived.{numbers_of}
+use Rattle.desk_model.specs.Document.{account_url, expected}
+use Rattle.desk_model.specs.Effect.{effect, has_row, lists_one, swept, touches_account, touches_authorization, names_order as entry_names_order}
 use Rattle.desk_model.specs.declared.call.OrderProblem.{OrderProblem}
 use Rattle.desk_model.specs.declared.entry.Ending.{Ending}
 use Rattle.desk_model.specs.declared.entry.Ending.TheVariants.{Deactivated as deactivated, Revoked as revoked}
@@ -17,15 +18,15 @@ use Rattle.desk_model.specs.Legal.{has_length, is_pending_challenge, is_problem,
 use Rattle.desk_model.specs.Limits.{longest_certificate, most_names}
 use Rattle.desk_model.specs.Lookup.{holds}
 use Rattle.desk_model.specs.Order.{is_processing, is_ready}
-use Rattle.desk_model.specs.Payload.{account_change, authorization_change, challenge_change, finalize, new_account, new_order}
+use Rattle.desk_model.specs.Payload.{account_change, authorization_change, challenge_change, finalize, key_change, new_account, new_order}
 use Rattle.desk_model.specs.Questions.{account_on, account_with_key, authorization_on, challenge_of, order_on, owner_on}
 use Rattle.desk_model.specs.Rules.{account_verdict, authorization_verdict, certify_verdict, challenge_verdict, csr_in}
 use Rattle.desk_model.specs.Rules.{fail_verdict, finalize_verdict, is_revoked, is_revoked_status, key_verdict}
 use Rattle.desk_model.specs.Rules.{nothing, office_verdict, open_account, order_of, outcome_of, own}
-use Rattle.desk_model.specs.Rules.{report_verdict, revoke_account, revoke_authorization, same_outcome, same_problem}
+use Rattle.desk_model.specs.Rules.{has_this_key, rekey_verdict, report_verdict, revoke_account, revoke_authorization, same_outcome, same_problem}
 use Rattle.desk_model.specs.Rules.{signed_verdict, stands_open, subproblems, target_verdict, wanted, kept, names_in}
 use Rattle.desk_model.specs.Tables.{Tables}
-use Rattle.desk_model.specs.Kept.{EachOf, IsClosed, Kept}
+use Rattle.desk_model.specs.Kept.{Covers, EachOf, IsClosed, Kept}
 use Rattle.desk_model.specs.declared.call.Ask.{Ask}
 use Rattle.desk_model.specs.declared.call.Ask.TheVariants as ask
 use Rattle.desk_model.specs.declared.call.OfficeAsk.{OfficeAsk}
@@ -36,7 +37,7 @@ use Rattle.desk_model.specs.declared.call.Signed.{Signed}
 use Rattle.desk_model.specs.declared.call.Target.{Target}
 use Rattle.desk_model.specs.declared.call.Target.TheVariants as to
 use Rattle.desk_model.specs.declared.entry.Entry.{Entry}
-use Rattle.desk_model.specs.declared.entry.Entry.TheVariants.{Opened as opened, ContactsChanged as contacts_changed}
+use Rattle.desk_model.specs.declared.entry.Entry.TheVariants.{Opened as opened, ContactsChanged as contacts_changed, KeyChanged as key_changed}
 use Rattle.desk_model.specs.declared.entry.Entry.TheVariants.{AccountEnded as account_ended, Ordered as ordered}
 use Rattle.desk_model.specs.declared.entry.Entry.TheVariants.{Answered as answered, Reported as reported}
 use Rattle.desk_model.specs.declared.entry.Entry.TheVariants.{AuthorizationEnded as authorization_ended, Finalized as finalized}
@@ -53,7 +54,7 @@ use Rattle.desk_model.specs.declared.reply.Subproblem.{Subproblem}
 use Rattle.desk_model.specs.declared.rows.AccountRow.{AccountRow}
 use Rattle.desk_model.specs.declared.rows.AuthorizationRow.{AuthorizationRow}
 use Rattle.desk_model.specs.declared.rows.OrderRow.{OrderRow}
-use Rattle.desk_laws.proofs.Basics.{each}
+use Rattle.desk_laws.proofs.Basics.{each, each_all}
 use Rattle.desk_laws.proofs.SweptParts.{swept_closed}
 use Rattle.desk_model.specs.Asked.{asks_authorizations, asks_orders, names_account, names_authorization, names_order, names_owner}
 use Rattle.desk_model.specs.Touched.{is_first_authorization, is_named_account, is_named_authorization, is_own_authorization}
@@ -61,7 +62,7 @@ use Rattle.desk_lives.proofs.Steps.{check_keeps, either_keeps, given_keeps, no_f
 use Rattle.desk_parts.proofs.Listed.{KeepsListed}
 use Rattle.desk_parts.proofs.Grown.{IsNamedBy}
 use Rattle.desk_parts.proofs.Lists.{each_member, same_number, turned}
-use Rattle.desk_laws.proofs.Plain.{fresh_kept}
+use Rattle.desk_laws.proofs.Plain.{fresh_kept, nothing_touched}
 use Rattle.desk_laws.proofs.Finds.{each_found, found_passes}
 use Rattle.desk_parts.proofs.Ready.{IsAnswered, IsReady, covered, swept_names}
 use Rattle.desk_parts.proofs.Verdicts.{is_key, verdict_by}
@@ -83,14 +84,14 @@ ordered_named T m a n ws = record { account = λ x h. cc; authorization = λ r h
 
 contacts_named : (T : Tables) (m : ℕ) (a : Ask) (n : ℕ) (contacts : List (List ℕ)) → names_account a n ≡ true → IsNamedBy T m a (contacts_changed n contacts)
 contacts_named T m a n contacts named =
-    record { account = λ x h. or_right _ _ (subst (λ j. names_account a j ≡ true) (eqb-true n x.number h) named); authorization = λ r h. cc; order = λ j h. cc }
+    record { account = λ x h. or_right _ _ (or_right _ _ (subst (λ j. names_account a j ≡ true) (eqb-true n x.number h) named)); authorization = λ r h. cc; order = λ j h. cc }
 
 -- an account that is there, with its authorizations
 ended_named : (T : Tables) (m : ℕ) (a : Ask) (n : ℕ) (ending : Ending) → names_account a n ≡ true →
     ((r : AuthorizationRow) → (n == r.account) ≡ true → is_own_authorization T a r ≡ true) → IsNamedBy T m a (account_ended n ending)
 ended_named T m a n ending named owned =
     record {
-      account = λ x h. or_right _ _ (subst (λ j. names_account a j ≡ true) (eqb-true n x.number h) named);
+      account = λ x h. or_right _ _ (or_right _ _ (subst (λ j. names_account a j ≡ true) (eqb-true n x.number h) named));
       authorization = λ r h. or_right (is_named_authorization a r) _ (or_left _ _ (owned r h));
       order = λ j h. cc;
     }
@@ -151,7 +152,7 @@ report_answered k T m n finding ready =
     let owner = (swept_names k T m (ask.Office (office.Report n finding)) ready.named).owner in
     given_keeps (IsAnswered k m S) (owner_on S n) refusal.NotFound _ tt (λ a found.
     given_keeps (IsAnswered k m S) (challenge_of n a) refusal.NotFound _ tt (λ c there.
-    given_keeps (IsAnswered k m S) (outcome_of c.kind (expected S a c) finding) refusal.Malformed _ tt (λ o is.
+    given_keeps (IsAnswered k m S) (outcome_of c.kind (expected c) finding) refusal.Malformed _ tt (λ o is.
     either_keeps (IsAnswered k m S) (holds (λ r. same_outcome r.outcome o) c.reported) _ _ (challenge_shown k S n owner)
     (check_keeps (IsAnswered k m S) (is_pending a.status && is_processing_challenge c.status) refusal.Conflict _ tt (λ stands. (
       covered k T m (ask.Office (office.Report n finding)) (reported n o) ready (reported_named T m (ask.Office (office.Report n finding)) n o (λ r h. h)),
@@ -276,6 +277,24 @@ account_answered k T m s j x (change.Update (Some contacts)) ready kept named me
       account_shown k (effect m (swept m T) (contacts_changed x.number contacts)) x.number kept,
     )
 
+-- an account that is kept gets another key
+rekeyed_covered : (k : Kept) (T : Tables) (m n : ℕ) (key : List ℕ) → k.accounts n ≡ true → Covers k (swept m T) (key_changed n key)
+rekeyed_covered k T m n key kept =
+    let S : Tables = swept m T in
+    record {
+      accounts = each_all _ S.accounts (λ a h. subst (λ j. k.accounts j ≡ true) (eqb-true n a.number h) kept);
+      authorizations = each_all _ S.authorizations (λ a h. cc);
+      orders =
+          each_all _ S.orders (λ o h. let no : lists_one (λ a. false) S.authorizations (numbers_of o.listed)
+          ≡ false = nothing_touched S.authorizations (numbers_of o.listed) in cc);
+      holders = each_all _ S.authorizations (λ a h. cc);
+    }
+
+rekey_answered : (k : Kept) (T : Tables) (m n : ℕ) (key : List ℕ) → k.accounts n ≡ true → (o : Option AccountRow) →
+    IsAnswered k m (swept m T) (rekey_verdict n key o)
+rekey_answered k T m n key kept None = (rekeyed_covered k T m n key kept, account_shown k (effect m (swept m T) (key_changed n key)) n kept)
+rekey_answered k T m n key kept (Some holder) = tt
+
 new_order_answered : (k : Kept) (T : Tables) (m : ℕ) (a : Ask) (r : List ℕ) (n : ℕ) (ids : List Identifier) → IsReady k T m a → (ss : List Subproblem) →
     IsAnswered k m (swept m T) (order_of r n ids ss)
 new_order_answered k T m a r n ids ready (s ∷ ss) = tt
@@ -326,6 +345,12 @@ target_answered : (k : Kept) (T : Tables) (m : ℕ) (s : Signed) (r : List ℕ) 
     IsAnswered k m (swept m T) (target_verdict (swept m T) r x.number p t)
 target_answered k T m s r x p to.NewAccount ready kept named member owned =
     given_keeps (IsAnswered k m (swept m T)) (new_account p) refusal.Malformed _ tt (λ q is. known_shown k (swept m T) x.number kept)
+target_answered k T m s r x p to.KeyChange ready kept named member owned =
+    given_keeps (IsAnswered k m (swept m T)) (key_change p) refusal.Malformed _ tt (λ c is.
+    check_keeps (IsAnswered k m (swept m T))
+    (bytes_eq c.account (account_url T.meta.policy x.number) && holds (has_this_key (swept m T) x.number) c.old_key) refusal.Malformed _ tt (λ own.
+    given_keeps (IsAnswered k m (swept m T)) c.new_key refusal.BadPublicKey _ tt
+    (λ key there. rekey_answered k T m x.number key kept (account_with_key (swept m T) key))))
 target_answered k T m s r x p to.NewOrder ready kept named member owned =
     given_keeps (IsAnswered k m (swept m T)) (new_order p) refusal.Malformed _ tt (λ ids is.
     check_keeps (IsAnswered k m (swept m T)) (has_length 1 most_names ids) refusal.Malformed _ tt

@@ -3,6 +3,7 @@ use Rattle.std.specs.Prelude.{ℕ, ◌-◌, max, List, [], ◌∷◌, ◌++◌, 
 use Rattle.std.specs.List.{flat_map}
 use Rattle.desk_laws.specs.Placing.{puts}
 use Rattle.desk_model.specs.Derived.{numbers_of}
+use Rattle.desk_model.specs.Payload.{key_change}
 use Rattle.desk_model.specs.Tables.{Tables}
 use Rattle.desk_model.specs.Tokens.{NonceText, nonce_in}
 use Rattle.desk_model.specs.declared.call.Ask.{Ask}
@@ -36,6 +37,18 @@ serials _ = []
 abbrev pub keys : Ask → List (List ℕ)
 keys (ask.Signed s) = elim s.key [ Err e ↦ [] | Ok own ↦ own ∷ [] ]
 keys _ = []
+
+abbrev pub of_key : Option (List ℕ) → List (List ℕ)
+of_key None = []
+of_key (Some key) = key ∷ []
+
+abbrev pub target_new_keys : Target → List ℕ → List (List ℕ)
+target_new_keys to.KeyChange payload = of_key (option_and_then (λ c. c.new_key) (key_change payload))
+target_new_keys _ payload = []
+
+abbrev pub new_keys : Ask → List (List ℕ)
+new_keys (ask.Signed s) = target_new_keys s.target s.payload
+new_keys _ = []
 
 abbrev pub target_accounts : Target → List ℕ
 target_accounts (to.Account k) = k ∷ []
@@ -95,7 +108,9 @@ abbrev pub found_nonces : Tables → ℕ → Ask → List Nonce
 found_nonces T m a = flat_map (nonces_numbered T) (serials a) ++ nonces_before T (m - T.meta.policy.nonce_life)
 
 abbrev pub named_accounts : Tables → Ask → List AccountRow
-named_accounts T a = flat_map (accounts_with_key T) (keys a) ++ flat_map (accounts_numbered T) (account_numbers a)
+named_accounts T a =
+    flat_map (accounts_with_key T) (keys a)
+    ++ (flat_map (accounts_with_key T) (new_keys a) ++ flat_map (accounts_numbered T) (account_numbers a))
 
 abbrev pub named_orders : Tables → Ask → List OrderRow
 named_orders T a = flat_map (orders_numbered T) (order_numbers a)

@@ -4,6 +4,7 @@ use Rattle.desk_laws.proofs.Keeps.{row_keys_formed, row_names_formed}
 use Rattle.desk_laws.proofs.Numbers.{all_named}
 use Rattle.desk_laws.proofs.RowFacts.{proved_by}
 use Rattle.desk_laws.proofs.TextFacts.{hold_texts}
+use Rattle.desk_laws.proofs.FirstKeys.{rows_under}
 use Rattle.desk_laws.proofs.legal_histories_keep.Goals as goal
 
 pub returns-clause-named : goal.returns-clause-named
@@ -44,3 +45,6 @@ returns-clause-clock c = clock_in_time
 
 pub returns-clause-texts : goal.returns-clause-texts
 returns-clause-texts c = hold_texts
+
+pub returns-clause-first : goal.returns-clause-first
+returns-clause-first c = rows_under

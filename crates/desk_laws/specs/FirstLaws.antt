@@ -1,0 +1,32 @@
+-- Histories in which no account got another key: those of a file of format 1.
+use Rattle.std.specs.Prelude.{ℕ, List, ◌≡◌, IfSome}
+use Rattle.desk_model.specs.Effect.{key_numbered}
+use Rattle.desk_model.specs.Entry.{History}
+use Rattle.desk_model.specs.declared.entry.Entry.{Entry}
+use Rattle.desk_model.specs.declared.entry.Entry.TheVariants.{KeyChanged as key_changed}
+use Rattle.desk_model.specs.Keys.{thumbprint}
+use Rattle.desk_model.specs.Kept.{EachOf}
+use Rattle.desk_model.specs.Legal.{EachFollows}
+use Rattle.desk_model.specs.Tables.{Tables, tables_at}
+use Rattle.desk_model.specs.declared.rows.ChallengeRow.{ChallengeRow}
+
+-- the entry gives no account another key
+abbrev pub IsNoKeyChange : Entry → Type 0
+IsNoKeyChange (key_changed account key) = ⊥
+IsNoKeyChange _ = Unit {0}
+
+-- no entry does
+abbrev pub KeepsKeys : History → Type 0
+KeepsKeys F = EachOf (λ d. IsNoKeyChange d.entry) F
+
+-- where the challenge was answered, it was under this key
+abbrev pub IsUnder : List ℕ → ChallengeRow → Type 0
+IsUnder key c = IfSome c.answered (λ a. a.thumb ≡ thumbprint key)
+
+-- each answer was under the key that its account has now
+abbrev pub AreUnderKeysNow : Tables → Type 0
+AreUnderKeysNow T = EachOf (λ a. EachOf (IsUnder (key_numbered a.account T.accounts)) a.challenges) T.authorizations
+
+-- so it is in the tables of a history in which no account got another key
+abbrev pub KeptKeysAnswer : Type 0
+KeptKeysAnswer = (F : History) → EachFollows F → KeepsKeys F → (t : ℕ) → AreUnderKeysNow (tables_at F t)
