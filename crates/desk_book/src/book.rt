@@ -5,9 +5,7 @@ ghost use Rattle.desk_model.specs.Legal.{Legal};
 ghost use Rattle.desk_model.specs.Tables.{Tables, picture};
 ghost use Rattle.desk_model.specs.Questions.{nonce_on, account_on, account_with_key, order_on, authorization_on, owner_on};
 ghost use Rattle.desk_model.specs.Change.{applied_one, applied};
-ghost use Rattle.desk_model.specs.Document.{answer_key};
-ghost use Rattle.desk_model.specs.Effect.{has_row};
-ghost use Rattle.desk_model.specs.declared.rows.ChallengeRow.{ChallengeRow};
+ghost use Rattle.desk_model.specs.Effect.{has_row, key_numbered};
 
 use crate::table::Table;
 use desk_model::{
@@ -155,12 +153,11 @@ impl Book {
         row_with_challenge(&self.authorizations, challenge)
     }
 
-    /// The key under which the challenges of an authorization are answered, by its canonical text; empty where its
-    /// account is not there.
-    pub fn answer_key(&self, row: &AuthorizationRow) -> &str
-        ensures { (c : ChallengeRow) → result.now ≡ answer_key self.now row.now c }
+    /// The key of the account of this number, by its canonical text; empty where there is none.
+    pub fn account_key(&self, number: u64) -> &str
+        ensures { result.now ≡ key_numbered number self.now.accounts }
     {
-        match self.account(row.account) {
+        match self.account(number) {
             Some(account) => account.key.canonical(),
             None => "",
         }

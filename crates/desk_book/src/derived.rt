@@ -30,7 +30,7 @@ pub fn derived_challenge(row: &ChallengeRow) -> ChallengeStatus
     ensures { result ≡ derived_challenge row.now }
 {
     match row.reported {
-        Some(report) => reported_status(report, row.answered),
+        Some(report) => reported_status(report, row.answered.is_some()),
         None => match row.answered {
             Some(_) => ChallengeStatus::Processing,
             None => ChallengeStatus::Pending,
@@ -38,7 +38,7 @@ pub fn derived_challenge(row: &ChallengeRow) -> ChallengeStatus
     }
 }
 
-fn reported_status(report: Report, answered: Option<u64>) -> ChallengeStatus
+fn reported_status(report: Report, answered: bool) -> ChallengeStatus
     ensures { result ≡ challenge_status_by (Some report) answered }
 {
     if report.outcome.is_good() {

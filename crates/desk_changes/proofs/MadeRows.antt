@@ -63,11 +63,11 @@ find-after {X} p (x ∷ xs) ys none = by (p x) none (find-after p xs ys)
 -- the authorizations that stood have none of the new numbers
 pub stood_before : (T : Tables) (m account n : ℕ) (wanted : List Wanted)
     → Below (λ a. a.number) (T.meta.counters.authorizations + 1) T.authorizations → T.meta.counters.authorizations + 1 ≤ n →
-    authorization_numbered n (map (moved_authorization (ordered account wanted) m) T.authorizations) ≡ None
+    authorization_numbered n (map (moved_authorization (ordered account wanted) m T.accounts) T.authorizations) ≡ None
 stood_before T m account n wanted is le =
-    find-moved (λ a. a.number == n) (moved_authorization (ordered account wanted) m) T.authorizations
-    (λ a. ap (λ k. k == n) (moved_number (ordered account wanted) m a))
-    ∙ ap (option_map (moved_authorization (ordered account wanted) m))
+    find-moved (λ a. a.number == n) (moved_authorization (ordered account wanted) m T.accounts) T.authorizations
+    (λ a. ap (λ k. k == n) (moved_number (ordered account wanted) m T.accounts a))
+    ∙ ap (option_map (moved_authorization (ordered account wanted) m T.accounts))
     (none_below (λ a. a.number) (T.meta.counters.authorizations + 1) n T.authorizations le is)
 
 -- look-ups of these numbers agree
@@ -78,10 +78,10 @@ SameFor rows others ns = EachOf (λ n. authorization_numbered n rows ≡ authori
 own_alone : (T : Tables) (m account : ℕ) (wanted : List Wanted)
     → Below (λ a. a.number) (T.meta.counters.authorizations + 1) T.authorizations → (rows : List AuthorizationRow) →
     EachOf (λ r. T.meta.counters.authorizations < r.number) rows → (more : List AuthorizationRow) →
-    SameFor (map (moved_authorization (ordered account wanted) m) T.authorizations ++ more) more (map (λ r. r.number) rows)
+    SameFor (map (moved_authorization (ordered account wanted) m T.accounts) T.authorizations ++ more) more (map (λ r. r.number) rows)
 own_alone T m account wanted is [] h more = tt
 own_alone T m account wanted is (r ∷ rows) h more = (
-  find-after (λ a. a.number == r.number) (map (moved_authorization (ordered account wanted) m) T.authorizations) more
+  find-after (λ a. a.number == r.number) (map (moved_authorization (ordered account wanted) m T.accounts) T.authorizations) more
       (stood_before T m account r.number wanted is (let lt : T.meta.counters.authorizations < r.number = h.0 in omega arith)),
   own_alone T m account wanted is rows h.1 more,
 )

@@ -56,6 +56,14 @@ makes_nothing m T (move.ContactsChanged n contacts) = record {
   authorizations = refl;
   orders = λ made. refl;
 }
+makes_nothing m T (move.KeyChanged n key) = record {
+  policy = refl;
+  unspent = refl;
+  nonces = refl;
+  accounts = refl;
+  authorizations = refl;
+  orders = λ made. refl;
+}
 makes_nothing m T (move.AccountEnded n ending) = record {
   policy = refl;
   unspent = refl;
@@ -123,19 +131,19 @@ moving_counters m T v =
     }
 
 -- the authorizations after it are those that stood, moved
-pub moving_after : (m : ℕ) (T : Tables) (v : Move) → authorizations_after T (entry_of v) m ≡ map (moved_authorization (entry_of v) m) T.authorizations
+pub moving_after : (m : ℕ) (T : Tables) (v : Move) → authorizations_after T (entry_of v) m ≡ map (moved_authorization (entry_of v) m T.accounts) T.authorizations
 moving_after m T v =
-    ap (λ l. map (moved_authorization (entry_of v) m) T.authorizations ++ map (λ a. restated_authorization m (fresh_authorization a)) l)
+    ap (λ l. map (moved_authorization (entry_of v) m T.accounts) T.authorizations ++ map (λ a. restated_authorization m (fresh_authorization a)) l)
     (makes_nothing m T v).authorizations
-    ∙ append-nil (map (moved_authorization (entry_of v) m) T.authorizations)
+    ∙ append-nil (map (moved_authorization (entry_of v) m T.accounts) T.authorizations)
 
 -- the rows that it moves, one table after the other
 abbrev pub moves : ℕ → Tables → Entry → List Change
 moves m T e =
     map PutAccount (moved_rows (touches_account e) account_differs (noted_account e m) T.accounts)
-    ++ (map PutAuthorization (moved_rows (touches_authorization e) authorization_differs (stated_authorization e m) T.authorizations)
+    ++ (map PutAuthorization (moved_rows (touches_authorization e) authorization_differs (stated_authorization e m T.accounts) T.authorizations)
     ++ map PutOrder (moved_rows (touches_order e T.authorizations) order_differs
-    (λ r. restated_order m (map (moved_authorization e m) T.authorizations) (noted_order e m r)) T.orders))
+    (λ r. restated_order m (map (moved_authorization e m T.accounts) T.authorizations) (noted_order e m r)) T.orders))
 
 -- and nothing else is recorded of it
 pub moving_changes : (m : ℕ) (T : Tables) (v : Move) → changes m T (entry_of v) ≡ moves m T (entry_of v)
@@ -154,17 +162,17 @@ moving_changes m T v =
         ≡ moved_rows (touches_account e) account_differs (noted_account e m) T.accounts
     accounts = ap (λ l. moved_rows (touches_account e) account_differs (noted_account e m) T.accounts ++ map fresh_account l) none.accounts ∙ append-nil _
 
-    authorizations : moved_rows (touches_authorization e) authorization_differs (stated_authorization e m) T.authorizations
+    authorizations : moved_rows (touches_authorization e) authorization_differs (stated_authorization e m T.accounts) T.authorizations
         ++ map (λ a. restated_authorization m (fresh_authorization a)) (new_authorizations T e m)
-        ≡ moved_rows (touches_authorization e) authorization_differs (stated_authorization e m) T.authorizations
-    authorizations = ap (λ l. moved_rows (touches_authorization e) authorization_differs (stated_authorization e m) T.authorizations
+        ≡ moved_rows (touches_authorization e) authorization_differs (stated_authorization e m T.accounts) T.authorizations
+    authorizations = ap (λ l. moved_rows (touches_authorization e) authorization_differs (stated_authorization e m T.accounts) T.authorizations
         ++ map (λ a. restated_authorization m (fresh_authorization a)) l) none.authorizations ∙ append-nil _
 
     orders : moved_rows (touches_order e T.authorizations) order_differs (λ r. restated_order m (authorizations_after T e m) (noted_order e m r)) T.orders
         ++ map (λ o. restated_order m (authorizations_after T e m) (fresh_order o))
         (ordered_by e m T.meta.policy (new_authorizations T e m) (T.meta.counters.orders + 1))
         ≡ moved_rows (touches_order e T.authorizations) order_differs
-        (λ r. restated_order m (map (moved_authorization e m) T.authorizations) (noted_order e m r)) T.orders
+        (λ r. restated_order m (map (moved_authorization e m T.accounts) T.authorizations) (noted_order e m r)) T.orders
     orders =
         ap (λ l. moved_rows (touches_order e T.authorizations) order_differs (λ r. restated_order m (authorizations_after T e m) (noted_order e m r)) T.orders
         ++ map (λ o. restated_order m (authorizations_after T e m) (fresh_order o)) l) (none.orders (new_authorizations T e m))
@@ -175,9 +183,9 @@ moving_changes m T v =
 same_moves : (m : ℕ) (B : Tables) (es : List Entry) (e : Entry) → IsUntouched m B es → moves m (effects m (swept m B) es) e ≡ book_moves m B e
 same_moves m B es e h =
     λ i. map PutAccount (moved_rows (touches_account e) account_differs (noted_account e m) (h.accounts i))
-    ++ (map PutAuthorization (moved_rows (touches_authorization e) authorization_differs (stated_authorization e m) (h.authorizations i))
+    ++ (map PutAuthorization (moved_rows (touches_authorization e) authorization_differs (stated_authorization e m (h.accounts i)) (h.authorizations i))
     ++ map PutOrder (moved_rows (touches_order e (h.authorizations i)) order_differs
-    (λ r. restated_order m (map (moved_authorization e m) (h.authorizations i)) (noted_order e m r)) (h.orders i)))
+    (λ r. restated_order m (map (moved_authorization e m (h.accounts i)) (h.authorizations i)) (noted_order e m r)) (h.orders i)))
 
 -- a move is recorded
 pub and_moved : (m : ℕ) (B : Tables) (es : List Entry) (v : Move) (done : List Change) (counters : Counters) → IsUntouched m B es

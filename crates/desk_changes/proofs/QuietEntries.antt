@@ -106,7 +106,7 @@ quiet_changes m T e no_account no_authorization no_order =
     ++ (map PutAccount (unmoved_rows (touches_account e) account_differs (noted_account e m) T.accounts no_account i
     ++ map fresh_account (opened_by e m (T.meta.counters.accounts + 1)))
     ++ (map PutAuthorization (unmoved_rows (touches_authorization e) authorization_differs
-    (λ r. restated_authorization m (noted_authorization e m r)) T.authorizations no_authorization i
+    (λ r. restated_authorization m (noted_authorization e m T.accounts r)) T.authorizations no_authorization i
     ++ map (λ a. restated_authorization m (fresh_authorization a)) (new_authorizations T e m))
     ++ map PutOrder (unmoved_rows (touches_order e T.authorizations) order_differs
     (λ r. restated_order m (authorizations_after T e m) (noted_order e m r)) T.orders

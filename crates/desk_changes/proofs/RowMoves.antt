@@ -9,6 +9,7 @@ use Rattle.desk_model.specs.Derived.{and_status, authorization_numbered, numbers
 use Rattle.desk_model.specs.Effect.{swept_authorization, swept_order, touches_authorization, touches_order, names_order, lists_one, moved_authorization}
 use Rattle.desk_model.specs.Change.{moved_rows}
 use Rattle.desk_model.specs.declared.entry.Entry.{Entry}
+use Rattle.desk_model.specs.declared.rows.AccountRow.{AccountRow}
 use Rattle.desk_model.specs.declared.rows.AuthorizationRow.{AuthorizationRow}
 use Rattle.desk_model.specs.declared.rows.OrderRow.{OrderRow}
 use Rattle.desk_model.specs.declared.rows.Listed.{Listed}
@@ -36,15 +37,15 @@ standing_numbered m n rows =
     (λ a. ap (λ k. k == n) (sym (ap (λ (r : AuthorizationRow). r.number) (swept_authorization-status m a))))
 
 -- and after the entry
-pub after_numbered : (e : Entry) (m n : ℕ) (rows : List AuthorizationRow) →
-    authorization_numbered n (rows_after e m rows) ≡ option_map (λ r. moved_authorization e m (swept_authorization m r)) (authorization_numbered n rows)
-after_numbered e m n rows =
-    find-moved (λ a. a.number == n) (moved_authorization e m) (standing_rows m rows) (λ a. ap (λ k. k == n) (moved_number e m a))
-    ∙ ap (option_map (moved_authorization e m)) (standing_numbered m n rows)
+pub after_numbered : (e : Entry) (m n : ℕ) (accounts : List AccountRow) (rows : List AuthorizationRow) →
+    authorization_numbered n (rows_after e m accounts rows) ≡ option_map (λ r. moved_authorization e m accounts (swept_authorization m r)) (authorization_numbered n rows)
+after_numbered e m n accounts rows =
+    find-moved (λ a. a.number == n) (moved_authorization e m accounts) (standing_rows m rows) (λ a. ap (λ k. k == n) (moved_number e m accounts a))
+    ∙ ap (option_map (moved_authorization e m accounts)) (standing_numbered m n rows)
     ∙ twice (authorization_numbered n rows)
   where
-    twice : (o : Option AuthorizationRow) → option_map (moved_authorization e m) (option_map (swept_authorization m) o)
-        ≡ option_map (λ r. moved_authorization e m (swept_authorization m r)) o
+    twice : (o : Option AuthorizationRow) → option_map (moved_authorization e m accounts) (option_map (swept_authorization m) o)
+        ≡ option_map (λ r. moved_authorization e m accounts (swept_authorization m r)) o
     twice None = refl
     twice (Some r) = refl
 
@@ -164,30 +165,30 @@ puts-step F touched differs move x xs before after whole put kept =
     ∙ kept
 
 -- the status of an authorization that is not there, after the entry
-pub status-none : (e : Entry) (m n : ℕ) (rows : List AuthorizationRow) → authorization_numbered n rows ≡ None
-    → None ≡ option_map (λ r. r.status) (authorization_numbered n (rows_after e m rows))
-status-none e m n rows none =
-    sym (ap (option_map (λ r. r.status)) (after_numbered e m n rows ∙ ap (option_map (λ r. moved_authorization e m (swept_authorization m r))) none))
+pub status-none : (e : Entry) (m n : ℕ) (accounts : List AccountRow) (rows : List AuthorizationRow) → authorization_numbered n rows ≡ None
+    → None ≡ option_map (λ r. r.status) (authorization_numbered n (rows_after e m accounts rows))
+status-none e m n accounts rows none =
+    sym (ap (option_map (λ r. r.status)) (after_numbered e m n accounts rows ∙ ap (option_map (λ r. moved_authorization e m accounts (swept_authorization m r))) none))
 
 -- that of one that is found: its own at the moment, where the entry does not touch it
-pub status-untouched : (e : Entry) (m n : ℕ) (rows : List AuthorizationRow) (row : AuthorizationRow)
+pub status-untouched : (e : Entry) (m n : ℕ) (accounts : List AccountRow) (rows : List AuthorizationRow) (row : AuthorizationRow)
     → authorization_numbered n rows ≡ Some row → touches_authorization e row ≡ false →
-    Some (swept_authorization m row).status ≡ option_map (λ r. r.status) (authorization_numbered n (rows_after e m rows))
-status-untouched e m n rows row is none =
-    ap (λ b. Some (cond b (stated_authorization e m (swept_authorization m row)) (swept_authorization m row)).status) (sym (touches_swept e m row ∙ none))
-    ∙ sym (ap (option_map (λ r. r.status)) (after_numbered e m n rows ∙ ap (option_map (λ r. moved_authorization e m (swept_authorization m r))) is))
+    Some (swept_authorization m row).status ≡ option_map (λ r. r.status) (authorization_numbered n (rows_after e m accounts rows))
+status-untouched e m n accounts rows row is none =
+    ap (λ b. Some (cond b (stated_authorization e m accounts (swept_authorization m row)) (swept_authorization m row)).status) (sym (touches_swept e m row ∙ none))
+    ∙ sym (ap (option_map (λ r. r.status)) (after_numbered e m n accounts rows ∙ ap (option_map (λ r. moved_authorization e m accounts (swept_authorization m r))) is))
 
 -- and that of the row that it leaves, where it is
-pub status-touched : (e : Entry) (m n : ℕ) (rows : List AuthorizationRow) (row : AuthorizationRow) (found : Option AuthorizationRow)
+pub status-touched : (e : Entry) (m n : ℕ) (accounts : List AccountRow) (rows : List AuthorizationRow) (row : AuthorizationRow) (found : Option AuthorizationRow)
     → authorization_numbered n rows ≡ Some row →
-    touches_authorization e row ≡ true → found ≡ authorization_numbered n (authorizations_moved e m rows) →
-    option_map (λ r. r.status) found ≡ option_map (λ r. r.status) (authorization_numbered n (rows_after e m rows))
-status-touched e m n rows row found is moves looked =
+    touches_authorization e row ≡ true → found ≡ authorization_numbered n (authorizations_moved e m accounts rows) →
+    option_map (λ r. r.status) found ≡ option_map (λ r. r.status) (authorization_numbered n (rows_after e m accounts rows))
+status-touched e m n accounts rows row found is moves looked =
     ap (option_map (λ r. r.status)) (looked
-    ∙ find-touched-at (λ a. a.number == n) (touches_authorization e) (stated_authorization e m) (λ a. refl) (standing_rows m rows) (swept_authorization m row)
+    ∙ find-touched-at (λ a. a.number == n) (touches_authorization e) (stated_authorization e m accounts) (λ a. refl) (standing_rows m rows) (swept_authorization m row)
     (standing_numbered m n rows ∙ ap (option_map (swept_authorization m)) is) (touches_swept e m row ∙ moves)
-    ∙ ap (λ b. Some (cond b (stated_authorization e m (swept_authorization m row)) (swept_authorization m row))) (sym (touches_swept e m row ∙ moves))
-    ∙ sym (after_numbered e m n rows ∙ ap (option_map (λ r. moved_authorization e m (swept_authorization m r))) is))
+    ∙ ap (λ b. Some (cond b (stated_authorization e m accounts (swept_authorization m row)) (swept_authorization m row))) (sym (touches_swept e m row ∙ moves))
+    ∙ sym (after_numbered e m n accounts rows ∙ ap (option_map (λ r. moved_authorization e m accounts (swept_authorization m r))) is))
 
 -- what comes of rows, by one more of them
 pub maps-step : {X Y : Type 0} (f : X → Y) (xs : List X) (index : ℕ) (d : X) (y : Y) (before after whole : List Y) →

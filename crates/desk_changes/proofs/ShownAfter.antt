@@ -29,7 +29,7 @@ moving_accounts m T v =
     ∙ append-nil (map (moved_account (entry_of v) m) T.accounts)
 
 moving_orders : (m : ℕ) (T : Tables) (v : Move) → (let e : Entry = entry_of v in
-    (effect m T e).orders ≡ map (moved_order e m T.authorizations (map (moved_authorization e m) T.authorizations)) T.orders)
+    (effect m T e).orders ≡ map (moved_order e m T.authorizations (map (moved_authorization e m T.accounts) T.authorizations)) T.orders)
 moving_orders m T v =
     let e : Entry = entry_of v in
     ap (λ l. map (moved_order e m T.authorizations (effect m T e).authorizations) T.orders
@@ -68,13 +68,13 @@ pub names_moved : (m : ℕ) (B : Tables) (v : Move) (row : OrderRow) →
     map (λ a. a.name) (listed_rows (effect m (swept m B) (entry_of v)) row) ≡ map (λ a. a.name) (listed_rows B row)
 names_moved m B v row =
     ap (λ rows. map (λ a. a.name) (rows_of rows (numbers_of row.listed))) (moving_after m (swept m B) v)
-    ∙ names_kept (moved_authorization (entry_of v) m) (moved_number (entry_of v) m) name_moved (standing_rows m B.authorizations) (numbers_of row.listed)
+    ∙ names_kept (moved_authorization (entry_of v) m B.accounts) (moved_number (entry_of v) m B.accounts) name_moved (standing_rows m B.authorizations) (numbers_of row.listed)
     ∙ names_at m B row
   where
-    name_moved : (a : AuthorizationRow) → (moved_authorization (entry_of v) m a).name ≡ a.name
+    name_moved : (a : AuthorizationRow) → (moved_authorization (entry_of v) m B.accounts a).name ≡ a.name
     name_moved a = by (touches_authorization (entry_of v) a)
       where
-        by : (b : Bool) → (cond b (restated_authorization m (noted_authorization (entry_of v) m a)) a).name ≡ a.name
+        by : (b : Bool) → (cond b (restated_authorization m (noted_authorization (entry_of v) m B.accounts a)) a).name ≡ a.name
         by true = refl
         by false = refl
 
@@ -90,24 +90,24 @@ account_moved m B v n those =
 -- the authorization of a number
 pub authorization_moved : (m : ℕ) (B : Tables) (v : Move) (n : ℕ)
     → ((a : AuthorizationRow) → (a.number == n) ≡ true → touches_authorization (entry_of v) a ≡ true) →
-    authorization_on (effect m (swept m B) (entry_of v)) n ≡ find (λ a. a.number == n) (authorizations_moved (entry_of v) m B.authorizations)
+    authorization_on (effect m (swept m B) (entry_of v)) n ≡ find (λ a. a.number == n) (authorizations_moved (entry_of v) m B.accounts B.authorizations)
 authorization_moved m B v n those =
     ap (find (λ a. a.number == n)) (moving_after m (swept m B) v)
-    ∙ sym (find-touched (λ a. a.number == n) (touches_authorization (entry_of v)) (stated_authorization (entry_of v) m) those
+    ∙ sym (find-touched (λ a. a.number == n) (touches_authorization (entry_of v)) (stated_authorization (entry_of v) m B.accounts) those
     (standing_rows m B.authorizations))
 
 -- the authorization that a challenge is of
 pub owner_moved : (m : ℕ) (B : Tables) (v : Move) (n : ℕ) → ((a : AuthorizationRow) → has_row n a ≡ true → touches_authorization (entry_of v) a ≡ true) →
-    owner_on (effect m (swept m B) (entry_of v)) n ≡ find (has_row n) (authorizations_moved (entry_of v) m B.authorizations)
+    owner_on (effect m (swept m B) (entry_of v)) n ≡ find (has_row n) (authorizations_moved (entry_of v) m B.accounts B.authorizations)
 owner_moved m B v n those =
     ap (find (has_row n)) (moving_after m (swept m B) v)
-    ∙ sym (find-touched (has_row n) (touches_authorization (entry_of v)) (stated_authorization (entry_of v) m) those (standing_rows m B.authorizations))
+    ∙ sym (find-touched (has_row n) (touches_authorization (entry_of v)) (stated_authorization (entry_of v) m B.accounts) those (standing_rows m B.authorizations))
 
 -- the order of a number, which the move names
 pub order_moved : (m : ℕ) (B : Tables) (v : Move) (n : ℕ) → ((k : ℕ) → (k == n) ≡ true → names_order (entry_of v) k ≡ true) →
-    order_on (effect m (swept m B) (entry_of v)) n ≡ find (λ o. o.number == n) (orders_moved (entry_of v) m B.authorizations B.orders)
+    order_on (effect m (swept m B) (entry_of v)) n ≡ find (λ o. o.number == n) (orders_moved (entry_of v) m B.accounts B.authorizations B.orders)
 order_moved m B v n those =
     ap (find (λ o. o.number == n)) (moving_orders m (swept m B) v)
-    ∙ sym (find-touched (λ o. o.number == n) (touches_order (entry_of v) (standing_rows m B.authorizations)) (stated_order (entry_of v) m B.authorizations)
+    ∙ sym (find-touched (λ o. o.number == n) (touches_order (entry_of v) (standing_rows m B.authorizations)) (stated_order (entry_of v) m B.accounts B.authorizations)
     (λ o is. ap (λ b. b || lists_one (touches_authorization (entry_of v)) (standing_rows m B.authorizations) (numbers_of o.listed))
     (those o.number is)) (swept m B).orders)

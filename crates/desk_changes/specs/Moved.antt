@@ -14,8 +14,8 @@ use Rattle.desk_model.specs.declared.rows.OrderRow.{OrderRow}
 abbrev pub standing_rows : ℕ → List AuthorizationRow → List AuthorizationRow
 standing_rows m rows = map (swept_authorization m) rows
 
-abbrev pub rows_after : Entry → ℕ → List AuthorizationRow → List AuthorizationRow
-rows_after e m rows = map (moved_authorization e m) (standing_rows m rows)
+abbrev pub rows_after : Entry → ℕ → List AccountRow → List AuthorizationRow → List AuthorizationRow
+rows_after e m accounts rows = map (moved_authorization e m accounts) (standing_rows m rows)
 
 -- the moved row, where it is touched and differs then
 abbrev pub moved_one : {X : Type 0} → (touched : X → Bool) → (differs : X → X → Bool) → (move : X → X) → X → List X
@@ -31,27 +31,27 @@ row_of None = []
 row_of (Some x) = x ∷ []
 
 -- an authorization as the entry leaves it, with the status that it ought to have
-abbrev pub stated_authorization : Entry → ℕ → AuthorizationRow → AuthorizationRow
-stated_authorization e m row = restated_authorization m (noted_authorization e m row)
+abbrev pub stated_authorization : Entry → ℕ → List AccountRow → AuthorizationRow → AuthorizationRow
+stated_authorization e m accounts row = restated_authorization m (noted_authorization e m accounts row)
 
 -- an order as the entry leaves it, beside these authorizations
-abbrev pub stated_order : Entry → ℕ → List AuthorizationRow → OrderRow → OrderRow
-stated_order e m rows row = restated_order m (rows_after e m rows) (noted_order e m row)
+abbrev pub stated_order : Entry → ℕ → List AccountRow → List AuthorizationRow → OrderRow → OrderRow
+stated_order e m accounts rows row = restated_order m (rows_after e m accounts rows) (noted_order e m row)
 
 -- ---- the rows that the entry touches, as it leaves them, whether they differ then or not
 
 abbrev pub accounts_moved : Entry → ℕ → List AccountRow → List AccountRow
 accounts_moved e m rows = map (noted_account e m) (filter (touches_account e) rows)
 
-abbrev pub authorizations_moved : Entry → ℕ → List AuthorizationRow → List AuthorizationRow
-authorizations_moved e m rows = map (stated_authorization e m) (filter (touches_authorization e) (standing_rows m rows))
+abbrev pub authorizations_moved : Entry → ℕ → List AccountRow → List AuthorizationRow → List AuthorizationRow
+authorizations_moved e m accounts rows = map (stated_authorization e m accounts) (filter (touches_authorization e) (standing_rows m rows))
 
-abbrev pub orders_moved : Entry → ℕ → List AuthorizationRow → List OrderRow → List OrderRow
-orders_moved e m rows orders =
-    map (stated_order e m rows) (filter (touches_order e (standing_rows m rows)) (map (swept_order m rows) orders))
+abbrev pub orders_moved : Entry → ℕ → List AccountRow → List AuthorizationRow → List OrderRow → List OrderRow
+orders_moved e m accounts rows orders =
+    map (stated_order e m accounts rows) (filter (touches_order e (standing_rows m rows)) (map (swept_order m rows) orders))
 
 -- these are the rows of a book that the entry touches, as it leaves them
 pub record AreMoved (m : ℕ) (B : Tables) (e : Entry) (xs : List AccountRow) (ys : List AuthorizationRow) (zs : List OrderRow) : Type 0 where
   pub accounts : xs ≡ accounts_moved e m B.accounts
-  pub authorizations : ys ≡ authorizations_moved e m B.authorizations
-  pub orders : zs ≡ orders_moved e m B.authorizations B.orders
+  pub authorizations : ys ≡ authorizations_moved e m B.accounts B.authorizations
+  pub orders : zs ≡ orders_moved e m B.accounts B.authorizations B.orders

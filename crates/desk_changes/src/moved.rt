@@ -15,12 +15,16 @@ ghost use Rattle.desk_changes.specs.Recorded.{book_moves};
 ghost use Rattle.desk_changes.specs.Moved.{standing_rows, stated_authorization, stated_order, row_of, touched_one};
 
 use crate::differing::{challenges_differ, is_gained, same_texts};
-use crate::noted::{account_end_by, end_after, note_contacts, note_dates, noted_challenges};
+use crate::noted::{
+    account_end_by, end_after, note_contacts, note_dates, note_key, noted_challenges,
+};
 use crate::touched::{touches_authorization, touches_order};
 use desk_book::{
     Book, Row, Table, derived_account, derived_authorization, derived_order, has_challenge,
 };
-use desk_model::{AccountRow, AuthorizationRow, AuthzStatus, Change, Listed, Move, OrderRow};
+use desk_model::{
+    AccountRow, AuthorizationRow, AuthzStatus, Change, Listed, Move, OrderRow, is_same_text,
+};
 use std::alloc::{AllocError, Global};
 use swept_rows::{authorization_status, order_status};
 
@@ -269,6 +273,7 @@ impl Movable for AccountRow {
     fn is_touched(&self, _book: &Book, moved: &Move) -> bool {
         match moved {
             Move::ContactsChanged(number, _) => *number == self.number,
+            Move::KeyChanged(number, _) => *number == self.number,
             Move::AccountEnded(number, _) => *number == self.number,
             _ => false,
         }
@@ -285,13 +290,15 @@ impl Movable for AccountRow {
         moment: u64,
     ) -> Result<(), AllocError> {
         note_contacts(self, moved)?;
+        note_key(self, moved)?;
         self.ended = self.ended.or(account_end_by(moved, moment, self.number));
         self.status = derived_account(self);
         Ok(())
     }
 
     fn differs(&self, after: &AccountRow) -> bool {
-        !same_texts(self.contacts.as_slice(), after.contacts.as_slice())
+        !is_same_text(self.key.canonical(), after.key.canonical())
+            || !same_texts(self.contacts.as_slice(), after.contacts.as_slice())
             || is_gained(&self.ended, &after.ended)
             || self.status != after.status
     }
@@ -333,7 +340,7 @@ impl Movable for AuthorizationRow {
 
     ghost standing = { λ m B. swept_authorization m };
 
-    ghost stated = { λ e m B. stated_authorization e m };
+    ghost stated = { λ e m B. stated_authorization e m B.accounts };
 
     ghost differs = { authorization_differs };
 
@@ -352,12 +359,13 @@ impl Movable for AuthorizationRow {
     fn note(
         &mut self,
         alloc: Global,
-        _book: &Book,
+        book: &Book,
         moved: &Move,
         _after: &[AuthorizationRow],
         moment: u64,
     ) -> Result<(), AllocError> {
-        let challenges = noted_challenges(alloc, moved, moment, self.challenges.as_slice())?;
+        let key = book.account_key(self.account);
+        let challenges = noted_challenges(alloc, moved, moment, key, self.challenges.as_slice())?;
         self.ended = end_after(moved, moment, self);
         self.challenges = challenges;
         self.status = derived_authorization(moment, self);
@@ -386,8 +394,8 @@ fn put_authorizations(
 ) -> Result<(), AllocError>
     ensures changes { OnOk result (changes.new.items ≡ changes.old.items
         ++ map PutAuthorization (moved_rows (touches_authorization (entry_of moved.now)) authorization_differs
-        (stated_authorization (entry_of moved.now) moment) (standing_rows moment book.now.authorizations))) }
-    ensures rows { OnOk result (rows.new.items ≡ rows.old.items ++ authorizations_moved (entry_of moved.now) moment book.now.authorizations) }
+        (stated_authorization (entry_of moved.now) moment book.now.accounts) (standing_rows moment book.now.authorizations))) }
+    ensures rows { OnOk result (rows.new.items ≡ rows.old.items ++ authorizations_moved (entry_of moved.now) moment book.now.accounts book.now.authorizations) }
 {
     put_moved(
         changes,
@@ -411,8 +419,8 @@ fn status_after(
     moment: u64,
     number: u64,
 ) -> Option<AuthzStatus>
-    requires { after.now ≡ authorizations_moved (entry_of moved.now) moment book.now.authorizations }
-    ensures { result ≡ option_map (λ r. r.status) (authorization_numbered number (rows_after (entry_of moved.now) moment book.now.authorizations)) }
+    requires { after.now ≡ authorizations_moved (entry_of moved.now) moment book.now.accounts book.now.authorizations }
+    ensures { result ≡ option_map (λ r. r.status) (authorization_numbered number (rows_after (entry_of moved.now) moment book.now.accounts book.now.authorizations)) }
 {
     let row = book.authorization(number)?;
     if !touches_authorization(moved, row) {
@@ -430,8 +438,8 @@ fn statuses_after(
     moment: u64,
     listed: &[Listed],
 ) -> Result<Vec<AuthzStatus>, AllocError>
-    requires { after.now ≡ authorizations_moved (entry_of moved.now) moment book.now.authorizations }
-    ensures { IfOk result (λ v. v.items ≡ stored_statuses (rows_after (entry_of moved.now) moment book.now.authorizations) (numbers_of listed.now)) }
+    requires { after.now ≡ authorizations_moved (entry_of moved.now) moment book.now.accounts book.now.authorizations }
+    ensures { IfOk result (λ v. v.items ≡ stored_statuses (rows_after (entry_of moved.now) moment book.now.accounts book.now.authorizations) (numbers_of listed.now)) }
 {
     let mut statuses = Vec::new(alloc);
     for listed in listed {
@@ -446,13 +454,13 @@ impl Movable for OrderRow {
 
     ghost standing = { λ m B. swept_order m B.authorizations };
 
-    ghost stated = { λ e m B. stated_order e m B.authorizations };
+    ghost stated = { λ e m B. stated_order e m B.accounts B.authorizations };
 
     ghost differs = { order_differs };
 
     ghost puts = { PutOrder };
 
-    ghost Knows = { λ e m B after. after ≡ authorizations_moved e m B.authorizations };
+    ghost Knows = { λ e m B after. after ≡ authorizations_moved e m B.accounts B.authorizations };
 
     fn is_touched(&self, book: &Book, moved: &Move) -> bool {
         touches_order(moved, book, self)
@@ -498,11 +506,11 @@ fn put_orders(
     after: &[AuthorizationRow],
     moment: u64,
 ) -> Result<(), AllocError>
-    requires { after.now ≡ authorizations_moved (entry_of moved.now) moment book.now.authorizations }
+    requires { after.now ≡ authorizations_moved (entry_of moved.now) moment book.now.accounts book.now.authorizations }
     ensures changes { OnOk result (changes.new.items ≡ changes.old.items
         ++ map PutOrder (moved_rows (touches_order (entry_of moved.now) (standing_rows moment book.now.authorizations)) order_differs
-        (stated_order (entry_of moved.now) moment book.now.authorizations) (map (swept_order moment book.now.authorizations) book.now.orders))) }
-    ensures rows { OnOk result (rows.new.items ≡ rows.old.items ++ orders_moved (entry_of moved.now) moment book.now.authorizations book.now.orders) }
+        (stated_order (entry_of moved.now) moment book.now.accounts book.now.authorizations) (map (swept_order moment book.now.authorizations) book.now.orders))) }
+    ensures rows { OnOk result (rows.new.items ≡ rows.old.items ++ orders_moved (entry_of moved.now) moment book.now.accounts book.now.authorizations book.now.orders) }
 {
     put_moved(
         changes,

@@ -2,16 +2,17 @@
 ghost use Rattle.std.specs.Prelude.{◌≡◌, if◌then◌else◌, None, Some, map, unwrap_or, IfOk, OnOk};
 ghost use Rattle.desk_model.specs.Entry.{entry_of};
 ghost use Rattle.desk_model.specs.History.{earlier};
-ghost use Rattle.desk_model.specs.Account.{changing, ends as account_ends};
+ghost use Rattle.desk_model.specs.Account.{changing, rekeying, ends as account_ends};
 ghost use Rattle.desk_model.specs.Authorization.{in_time};
 ghost use Rattle.desk_model.specs.declared.entry.Entry.TheVariants.{Reported as reported};
 ghost use Rattle.desk_model.specs.Effect.{noted_challenge, noted_order, answered_challenge, reported_challenge, row_ends};
 
 use desk_book::{derived_challenge, has_challenge};
 use desk_model::{
-    AccountEnd, AccountRow, AuthorizationEnd, AuthorizationRow, ChallengeRow, DatedBytes,
+    AccountEnd, AccountRow, Answer, AuthorizationEnd, AuthorizationRow, ChallengeRow, DatedBytes,
     DatedProblem, EndKind, Move, OrderProblem, OrderRow, Outcome, Report, Sequence,
 };
+use keys::text_thumbprint;
 use std::alloc::{AllocError, Global};
 
 // ---- accounts
@@ -23,6 +24,18 @@ pub(crate) fn note_contacts(row: &mut AccountRow, moved: &Move) -> Result<(), Al
     if let Move::ContactsChanged(number, contacts) = moved {
         if *number == row.number {
             row.contacts = contacts.clone()?;
+        }
+    }
+    Ok(())
+}
+
+/// Notes the key of a move in the row of an account.
+pub(crate) fn note_key(row: &mut AccountRow, moved: &Move) -> Result<(), AllocError>
+    ensures { OnOk result (row.new ≡ record row.old { key = unwrap_or (rekeying row.old.number (entry_of moved.now)) row.old.key }) }
+{
+    if let Move::KeyChanged(number, key) = moved {
+        if *number == row.number {
+            row.key = key.clone()?;
         }
     }
     Ok(())
@@ -48,11 +61,15 @@ pub(crate) fn account_end_by(moved: &Move, moment: u64, number: u64) -> Option<A
 
 // ---- challenges
 
-fn answered_challenge(moment: u64, row: &ChallengeRow) -> ChallengeRow
-    ensures { result ≡ answered_challenge moment row.now }
+// The row of a challenge that is answered under a key.
+fn answered_challenge(moment: u64, key: &str, row: &ChallengeRow) -> ChallengeRow
+    ensures { result ≡ answered_challenge moment key.now row.now }
 {
     let mut answered = *row;
-    answered.answered = row.answered.or(Some(moment));
+    answered.answered = row.answered.or(Some(Answer {
+        date: moment,
+        thumb: text_thumbprint(key),
+    }));
     answered.status = derived_challenge(&answered);
     answered
 }
@@ -69,14 +86,14 @@ fn reported_challenge(outcome: Outcome, moment: u64, row: &ChallengeRow) -> Chal
     reported
 }
 
-// The row of a challenge after a move.
-fn noted_challenge(moved: &Move, moment: u64, row: &ChallengeRow) -> ChallengeRow
-    ensures { result ≡ noted_challenge (entry_of moved.now) moment row.now }
+// The row of a challenge after a move, whose account has a key.
+fn noted_challenge(moved: &Move, moment: u64, key: &str, row: &ChallengeRow) -> ChallengeRow
+    ensures { result ≡ noted_challenge (entry_of moved.now) moment key.now row.now }
 {
     match moved {
         Move::Answered(number) => {
             if *number == row.number {
-                return answered_challenge(moment, row);
+                return answered_challenge(moment, key, row);
             }
             *row
         }
@@ -90,18 +107,19 @@ fn noted_challenge(moved: &Move, moment: u64, row: &ChallengeRow) -> ChallengeRo
     }
 }
 
-/// The rows of challenges after a move.
+/// The rows of challenges after a move, whose account has a key.
 pub(crate) fn noted_challenges(
     alloc: Global,
     moved: &Move,
     moment: u64,
+    key: &str,
     rows: &[ChallengeRow],
 ) -> Result<Sequence<ChallengeRow>, AllocError>
-    ensures { IfOk result (λ s. s ≡ map (noted_challenge (entry_of moved.now) moment) rows.now) }
+    ensures { IfOk result (λ s. s ≡ map (noted_challenge (entry_of moved.now) moment key.now) rows.now) }
 {
     let mut noted = Vec::new(alloc);
     for row in rows {
-        noted.push(noted_challenge(moved, moment, row))?;
+        noted.push(noted_challenge(moved, moment, key, row))?;
     }
     Ok(Sequence::new(noted))
 }

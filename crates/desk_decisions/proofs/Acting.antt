@@ -12,7 +12,7 @@ use Rattle.desk_model.specs.declared.moves.Move.{Move}
 use Rattle.desk_model.specs.declared.reply.Reply.{Reply}
 use Rattle.desk_model.specs.declared.rows.Change.{Change}
 use Rattle.desk_model.specs.declared.verdict.Verdict.{Verdict}
-use Rattle.desk_model.specs.declared.verdict.Verdict.TheVariants.{Refused as refused, Answers as answers, Opens as opens, Orders as orders, Moves as moves}
+use Rattle.desk_model.specs.declared.verdict.Verdict.TheVariants.{Refused as refused, KeyTaken as key_taken, Answers as answers, Opens as opens, Orders as orders, Moves as moves}
 use Rattle.desk_changes.specs.Recorded.{IsAt, IsRecorded, IsUntouched}
 use Rattle.desk_decisions.specs.HasTexts.{HasTexts}
 use Rattle.desk_decisions.proofs.ActingRows.{same_entries}
@@ -51,6 +51,7 @@ replies_move B C v r said m at ordered =
 -- the link to the directory is no matter where something is recorded
 pub linked : (T : Tables) (v : Verdict) (e : Entry) (es : List Entry) → entries_of v ≡ e ∷ es → verdict_reply true T v ≡ verdict_reply false T v
 linked T (refused why subproblems) e es is = cc is
+linked T (key_taken account) e es is = cc is
 linked T (answers what) e es is = refl
 linked T (opens key contacts) e es is = refl
 linked T (orders account wanted) e es is = refl

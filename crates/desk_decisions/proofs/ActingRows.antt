@@ -115,10 +115,10 @@ rows_found all (r ∷ rows) h = λ i. and_row (h.0 i) (rows_found all rows h.1 i
 made_found : (T : Tables) (m account : ℕ) (wanted : List Wanted) → Below (λ a. a.number) (T.meta.counters.authorizations + 1) T.authorizations →
     (all rows : List AuthorizationRow) → EachOf (λ r. T.meta.counters.authorizations < r.number) rows
     → EachOf (λ r. authorization_numbered r.number all ≡ Some r) rows →
-    EachOf (λ r. authorization_numbered r.number (map (moved_authorization (ordered account wanted) m) T.authorizations ++ all) ≡ Some r) rows
+    EachOf (λ r. authorization_numbered r.number (map (moved_authorization (ordered account wanted) m T.accounts) T.authorizations ++ all) ≡ Some r) rows
 made_found T m account wanted below all [] h k = tt
 made_found T m account wanted below all (r ∷ rows) h k = (
-  find-after (λ a. a.number == r.number) (map (moved_authorization (ordered account wanted) m) T.authorizations) all
+  find-after (λ a. a.number == r.number) (map (moved_authorization (ordered account wanted) m T.accounts) T.authorizations) all
       (stood_before T m account r.number wanted below (let lt : T.meta.counters.authorizations < r.number = h.0 in omega arith)) ∙ k.0,
   made_found T m account wanted below all rows h.1 k.1,
 )

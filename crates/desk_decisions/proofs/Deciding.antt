@@ -23,7 +23,7 @@ use Rattle.desk_model.specs.declared.rows.Counters.{Counters}
 use Rattle.desk_model.specs.declared.entry.Entry.{Entry}
 use Rattle.desk_model.specs.declared.entry.Entry.TheVariants.{Issued as issued, Spent as spent}
 use Rattle.desk_model.specs.declared.verdict.Verdict.{Verdict}
-use Rattle.desk_model.specs.declared.verdict.Verdict.TheVariants.{Refused as refused, Answers as answers, Opens as opens, Orders as ordering, Moves as moves}
+use Rattle.desk_model.specs.declared.verdict.Verdict.TheVariants.{Refused as refused, KeyTaken as key_taken, Answers as answers, Opens as opens, Orders as ordering, Moves as moves}
 use Rattle.desk_laws.specs.News.{AreNews, AreKept, AreNewChildren}
 use Rattle.desk_laws.proofs.KeptInOrder.{records_keep}
 use Rattle.desk_laws.proofs.NewChildren.{records_bring_new_children}
@@ -98,6 +98,7 @@ left_same C D v a o z c h =
     still : (v : Verdict) → NumbersLeft D v
         → NumbersLeft (record C { accounts = D.accounts; orders = D.orders; authorizations = D.authorizations; challenges = D.challenges }) v
     still (refused why ss) h = tt
+    still (key_taken account) h = tt
     still (answers what) h = tt
     still (opens key contacts) h = h
     still (ordering account wanted) h = h
@@ -113,6 +114,7 @@ spent_same C D v a o z c h =
     still : (v : Verdict) → NumbersSpent D v
         → NumbersSpent (record C { accounts = D.accounts; orders = D.orders; authorizations = D.authorizations; challenges = D.challenges }) v
     still (refused why ss) h = absurd h
+    still (key_taken account) h = absurd h
     still (answers what) h = absurd h
     still (opens key contacts) h = h
     still (ordering account wanted) h = h

@@ -23,7 +23,7 @@ use Rattle.desk_model.specs.declared.call.Ask.{Ask}
 use Rattle.desk_model.specs.declared.call.Ask.TheVariants as ask
 use Rattle.desk_model.specs.declared.call.Signed.{Signed}
 use Rattle.desk_model.specs.declared.verdict.Verdict.{Verdict}
-use Rattle.desk_model.specs.declared.verdict.Verdict.TheVariants.{Refused as refused, Answers as answers, Opens as opens, Orders as ordering, Moves as moves}
+use Rattle.desk_model.specs.declared.verdict.Verdict.TheVariants.{Refused as refused, KeyTaken as key_taken, Answers as answers, Opens as opens, Orders as ordering, Moves as moves}
 use Rattle.desk_laws.proofs.Recorded.{tables_ordered}
 use Rattle.desk_laws.specs.Ordered.{IsOrdered}
 use Rattle.desk_decisions.specs.Decided.{IsFaultOf}
@@ -102,6 +102,7 @@ entry_grows G m e = omega (arith, length-append (nonces G) (issued_by e m (lengt
 
 nonces_grow : (G : History) (m : ℕ) (v : Verdict) → length (nonces G) ≤ length (nonces (record_all m (entries_of v) G))
 nonces_grow G m (refused why ss) = omega arith
+nonces_grow G m (key_taken account) = omega arith
 nonces_grow G m (answers what) = omega arith
 nonces_grow G m (opens key contacts) = entry_grows G m (opened key contacts)
 nonces_grow G m (ordering account wanted) = entry_grows G m (ordered account wanted)

@@ -24,19 +24,19 @@ account_there m B v n xs touched is =
 -- the authorization that it is of
 pub authorization_there : (m : ℕ) (B : Tables) (v : Move) (n : ℕ) (xs : List AuthorizationRow)
     → ((a : AuthorizationRow) → touches_authorization (entry_of v) a ≡ (n == a.number)) →
-    xs ≡ authorizations_moved (entry_of v) m B.authorizations → find (λ a. a.number == n) xs ≡ authorization_on (effect m (swept m B) (entry_of v)) n
+    xs ≡ authorizations_moved (entry_of v) m B.accounts B.authorizations → find (λ a. a.number == n) xs ≡ authorization_on (effect m (swept m B) (entry_of v)) n
 authorization_there m B v n xs touched is =
     ap (find (λ a. a.number == n)) is ∙ sym (authorization_moved m B v n (λ a same. touched a ∙ eq_turn n a.number ∙ same))
 
 -- that of the challenge that it is of
 pub owner_there : (m : ℕ) (B : Tables) (v : Move) (n : ℕ) (xs : List AuthorizationRow)
     → ((a : AuthorizationRow) → touches_authorization (entry_of v) a ≡ has_row n a) →
-    xs ≡ authorizations_moved (entry_of v) m B.authorizations → find (has_row n) xs ≡ owner_on (effect m (swept m B) (entry_of v)) n
+    xs ≡ authorizations_moved (entry_of v) m B.accounts B.authorizations → find (has_row n) xs ≡ owner_on (effect m (swept m B) (entry_of v)) n
 owner_there m B v n xs touched is = ap (find (has_row n)) is ∙ sym (owner_moved m B v n (λ a same. touched a ∙ same))
 
 -- the order that it is of
 pub order_there : (m : ℕ) (B : Tables) (v : Move) (n : ℕ) (xs : List OrderRow) → ((k : ℕ) → names_order (entry_of v) k ≡ (n == k)) →
-    xs ≡ orders_moved (entry_of v) m B.authorizations B.orders → find (λ o. o.number == n) xs ≡ order_on (effect m (swept m B) (entry_of v)) n
+    xs ≡ orders_moved (entry_of v) m B.accounts B.authorizations B.orders → find (λ o. o.number == n) xs ≡ order_on (effect m (swept m B) (entry_of v)) n
 order_there m B v n xs named is =
     ap (find (λ o. o.number == n)) is ∙ sym (order_moved m B v n (λ k same. named k ∙ eq_turn n k ∙ same))
 

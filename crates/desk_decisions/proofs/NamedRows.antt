@@ -27,6 +27,8 @@ use Rattle.desk_model.specs.declared.payload.AccountChange.{AccountChange}
 use Rattle.desk_model.specs.declared.payload.AccountChange.TheVariants as change
 use Rattle.desk_model.specs.declared.payload.AuthorizationChange.{AuthorizationChange}
 use Rattle.desk_model.specs.declared.payload.AuthorizationChange.TheVariants as authz_change
+use Rattle.desk_model.specs.Rules.{key_change_verdict, rekey_verdict}
+use Rattle.desk_model.specs.declared.payload.KeyChange.{KeyChange}
 use Rattle.desk_model.specs.declared.payload.ChallengeChange.{ChallengeChange}
 use Rattle.desk_model.specs.declared.payload.ChallengeChange.TheVariants as chall_change
 use Rattle.desk_model.specs.declared.payload.Identifier.{Identifier}
@@ -94,6 +96,15 @@ account_there T n change.Deactivate h = h
 account_there T n (change.Update None) h = h
 account_there T n (change.Update (Some contacts)) h = step.fault_keeps (NamesRows T) (contacts_fault contacts) _ (λ _. tt) (λ _. h)
 
+-- a key is changed
+rekey_there : (T : Tables) (n : ℕ) (key : List ℕ) (o : Option AccountRow) → IsSome (account_on T n) → NamesRows T (rekey_verdict n key o)
+rekey_there T n key None h = h
+rekey_there T n key (Some holder) h = tt
+
+key_change_there : (T : Tables) (n : ℕ) (c : KeyChange) → IsSome (account_on T n) → NamesRows T (key_change_verdict T n c)
+key_change_there T n c h = check_there T _ refusal.Malformed _
+    (given_there T c.new_key refusal.BadPublicKey _ (λ key _. rekey_there T n key (account_with_key T key) h))
+
 -- an order is made
 order_there : (T : Tables) (r : List ℕ) (n : ℕ) (ids : List Identifier) (ss : List Subproblem) → NamesRows T (order_of r n ids ss)
 order_there T r n ids (s ∷ ss) = tt
@@ -130,6 +141,7 @@ own_there account n o x is = there o x (own_found account n o x is)
 -- a request of an account
 target_there : (T : Tables) (r : List ℕ) (n : ℕ) (p : List ℕ) (t : Target) → IsSome (account_on T n) → NamesRows T (target_verdict T r n p t)
 target_there T r n p to.NewAccount h = given_there T _ refusal.Malformed _ (λ _ _. h)
+target_there T r n p to.KeyChange h = given_there T _ refusal.Malformed _ (λ c _. key_change_there T n c h)
 target_there T r n p to.NewOrder h = given_there T _ refusal.Malformed _ (λ ids _. new_order_there T r n ids)
 target_there T r n p (to.Account k) h = check_there T _ refusal.NotFound _ (given_there T _ refusal.Malformed _ (λ x _. account_there T n x h))
 target_there T r n p (to.Orders k) h = check_there T _ refusal.NotFound _ (check_there T _ refusal.Malformed _ tt)

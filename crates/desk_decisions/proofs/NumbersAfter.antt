@@ -23,7 +23,7 @@ use Rattle.desk_model.specs.declared.entry.Wanted.TheVariants.{New}
 use Rattle.desk_model.specs.declared.objects.Authorization.{Authorization}
 use Rattle.desk_model.specs.declared.objects.Kind.{Kind}
 use Rattle.desk_model.specs.declared.verdict.Verdict.{Verdict}
-use Rattle.desk_model.specs.declared.verdict.Verdict.TheVariants.{Refused as refused, Answers as answers, Opens as opens, Orders as ordering, Moves as moves}
+use Rattle.desk_model.specs.declared.verdict.Verdict.TheVariants.{Refused as refused, KeyTaken as key_taken, Answers as answers, Opens as opens, Orders as ordering, Moves as moves}
 use Rattle.desk_laws.specs.LegalLaws.{CountersFit}
 use Rattle.desk_laws.proofs.Numbers.{count-append}
 use Rattle.desk_rules.specs.Needs.{HasTokens, IsSpaced, NumbersLeft, NumbersSpent}
@@ -137,6 +137,7 @@ fits_moved : (G : History) (m : ℕ) (v : Move) → CountersFit (picture G).meta
     → CountersFit (picture (record { date = m; entry = entry_of v } ∷ G)).meta.counters
 fits_moved G m (move.ContactsChanged n contacts) h =
     fits_same (record { date = m; entry = entry_of (move.ContactsChanged n contacts) } ∷ G) G refl refl refl refl h
+fits_moved G m (move.KeyChanged n key) h = fits_same (record { date = m; entry = entry_of (move.KeyChanged n key) } ∷ G) G refl refl refl refl h
 fits_moved G m (move.AccountEnded n ending) h = fits_same (record { date = m; entry = entry_of (move.AccountEnded n ending) } ∷ G) G refl refl refl refl h
 fits_moved G m (move.Answered n) h = fits_same (record { date = m; entry = entry_of (move.Answered n) } ∷ G) G refl refl refl refl h
 fits_moved G m (move.Reported n outcome) h = fits_same (record { date = m; entry = entry_of (move.Reported n outcome) } ∷ G) G refl refl refl refl h
@@ -150,6 +151,7 @@ fits_moved G m (move.Failed n problem) h = fits_same (record { date = m; entry =
 pub numbers_left : (G : History) (m : ℕ) (v : Verdict) → CountersFit (picture G).meta.counters → IsSpaced v → NumbersLeft (picture G).meta.counters v →
     IsTrue (numbers_fit (record_all m (entries_of v) G))
 numbers_left G m (refused why ss) h spaced left = fitting G h
+numbers_left G m (key_taken account) h spaced left = fitting G h
 numbers_left G m (answers what) h spaced left = fitting G h
 numbers_left G m (opens key contacts) h spaced left =
     fitting (record { date = m; entry = opened key contacts } ∷ G) (fits_account G m key contacts h left)
@@ -214,6 +216,7 @@ challenges_over G h =
 pub numbers_spent : (G : History) (m : ℕ) (v : Verdict) → IsSpaced v → NumbersSpent (picture G).meta.counters v →
     numbers_fit (record_all m (entries_of v) G) ≡ false
 numbers_spent G m (refused why ss) spaced spent = absurd spent
+numbers_spent G m (key_taken account) spaced spent = absurd spent
 numbers_spent G m (answers what) spaced spent = absurd spent
 numbers_spent G m (opens key contacts) spaced spent =
     accounts_over (record { date = m; entry = opened key contacts } ∷ G)

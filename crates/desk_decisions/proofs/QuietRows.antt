@@ -3,7 +3,7 @@ use Rattle.std.proofs.Common.{◌≡◌, ℕ, ◌+◌, List, [], ◌∷◌, ◌+
 use Rattle.desk_model.specs.Entry.{History}
 use Rattle.desk_model.specs.History.{latest, record_all}
 use Rattle.desk_model.specs.Nonce.{nonces}
-use Rattle.desk_model.specs.Account.{accounts, changing}
+use Rattle.desk_model.specs.Account.{accounts, changing, rekeying}
 use Rattle.desk_model.specs.Authorization.{authorizations, count_challenges}
 use Rattle.desk_model.specs.Order.{orders}
 use Rattle.desk_model.specs.Tables.{account_row, authorization_row, order_row, tables_at}
@@ -21,6 +21,7 @@ nonce_rows F m serial r =
     record {
       accounts =
           λ i. map (λ a. record (account_row F a) {
+            key = unwrap_or (none_earlier (none_earlier (latest (λ d. rekeying a.number d.entry) F) i) i) a.key;
             contacts = unwrap_or (none_earlier (none_earlier (latest (λ d. changing a.number d.entry) F) i) i) a.contacts;
           }) (twice_nil (accounts F) i);
       authorizations = ap (map (authorization_row F m)) (twice_nil (authorizations F));

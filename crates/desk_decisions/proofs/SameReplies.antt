@@ -2,14 +2,14 @@
 use Rattle.std.proofs.Common.{◌≡◌, ℕ, ◌+◌, List, [], ◌∷◌, ◌++◌, Bool, refl, ap, ◌∙◌}
 use Rattle.desk_model.specs.Tables.{Tables}
 use Rattle.desk_model.specs.Effect.{effect, effects}
-use Rattle.desk_model.specs.Shown.{made_account, made_order, moved_reply, reply_of}
+use Rattle.desk_model.specs.Shown.{made_account, made_order, moved_reply, reply_of, taken_reply}
 use Rattle.desk_model.specs.Decide.{entries_of, verdict_reply}
 use Rattle.desk_model.specs.Entry.{entry_of}
 use Rattle.desk_model.specs.declared.entry.Entry.{Entry}
 use Rattle.desk_model.specs.declared.entry.Entry.TheVariants.{Issued as issued, Opened as opened, Ordered as ordered, Spent as spent}
 use Rattle.desk_model.specs.declared.rows.Counters.{Counters}
 use Rattle.desk_model.specs.declared.verdict.Verdict.{Verdict}
-use Rattle.desk_model.specs.declared.verdict.Verdict.TheVariants.{Refused as refused, Answers as answers, Opens as opens, Orders as orders, Moves as moves}
+use Rattle.desk_model.specs.declared.verdict.Verdict.TheVariants.{Refused as refused, KeyTaken as key_taken, Answers as answers, Opens as opens, Orders as orders, Moves as moves}
 use Rattle.desk_laws.proofs.Plain.{issued_effect, spent_effect}
 use Rattle.desk_decisions.specs.SameRows.{SameRows}
 use Rattle.desk_changes.proofs.QuietEntries.{issued_counters, spent_counters}
@@ -35,6 +35,7 @@ entry_same m T U e h =
 -- so does what a verdict records
 pub verdict_same : (m : ℕ) (T U : Tables) (v : Verdict) → SameRows T U → SameRows (effects m T (entries_of v)) (effects m U (entries_of v))
 verdict_same m T U (refused why subproblems) h = h
+verdict_same m T U (key_taken account) h = h
 verdict_same m T U (answers what) h = h
 verdict_same m T U (opens key contacts) h = entry_same m T U (opened key contacts) h
 verdict_same m T U (orders account wanted) h = entry_same m T U (ordered account wanted) h
@@ -44,6 +45,7 @@ verdict_same m T U (moves move) h = entry_same m T U (entry_of move) h
 pub verdict_reply_same : (index : Bool) (m : ℕ) (T U : Tables) (v : Verdict) → SameRows T U →
     verdict_reply index (effects m T (entries_of v)) v ≡ verdict_reply index (effects m U (entries_of v)) v
 verdict_reply_same index m T U (refused why subproblems) h = refl
+verdict_reply_same index m T U (key_taken account) h = ap (λ X. taken_reply index X account) (same_beside T U h)
 verdict_reply_same index m T U (answers what) h = ap (λ X. reply_of X what) (same_beside T U h)
 verdict_reply_same index m T U (opens key contacts) h =
     ap made_account (same_beside (effect m T (opened key contacts)) (effect m U (opened key contacts)) (entry_same m T U (opened key contacts) h))

@@ -16,6 +16,7 @@ use Rattle.desk_model.specs.Run.{count_pieces}
 use Rattle.desk_model.specs.Tables.{Tables}
 use Rattle.desk_model.specs.Kept.{EachOf}
 use Rattle.desk_model.specs.Verdict.{check, given}
+use Rattle.desk_model.specs.Rules.{key_change_verdict, rekey_verdict}
 use Rattle.desk_model.specs.Rules.{open_account, account_verdict, kept, names_in, wanted, order_of}
 use Rattle.desk_model.specs.Rules.{new_order_verdict, subproblems, csr_in, finalize_verdict, authorization_verdict, stands_open}
 use Rattle.desk_model.specs.Rules.{challenge_verdict, target_verdict, key_verdict, signed_verdict}
@@ -37,6 +38,7 @@ use Rattle.desk_model.specs.declared.payload.AccountChange.{AccountChange}
 use Rattle.desk_model.specs.declared.payload.AccountChange.TheVariants as change
 use Rattle.desk_model.specs.declared.payload.AuthorizationChange.{AuthorizationChange}
 use Rattle.desk_model.specs.declared.payload.AuthorizationChange.TheVariants as authz_change
+use Rattle.desk_model.specs.declared.payload.KeyChange.{KeyChange}
 use Rattle.desk_model.specs.declared.payload.ChallengeChange.{ChallengeChange}
 use Rattle.desk_model.specs.declared.payload.ChallengeChange.TheVariants as chall_change
 use Rattle.desk_model.specs.declared.payload.Identifier.{Identifier}
@@ -48,7 +50,7 @@ use Rattle.desk_model.specs.declared.rows.ChallengeRow.{ChallengeRow}
 use Rattle.desk_model.specs.declared.rows.Counters.{Counters}
 use Rattle.desk_model.specs.declared.rows.OrderRow.{OrderRow}
 use Rattle.desk_model.specs.declared.verdict.Verdict.{Verdict}
-use Rattle.desk_model.specs.declared.verdict.Verdict.TheVariants.{Refused as refused, Answers as answers, Opens as opens, Orders as orders, Moves as moves}
+use Rattle.desk_model.specs.declared.verdict.Verdict.TheVariants.{Refused as refused, KeyTaken as key_taken, Answers as answers, Opens as opens, Orders as orders, Moves as moves}
 use Rattle.desk_lives.proofs.Steps as step
 use Rattle.desk_lives.proofs.Steps.{either_keeps, no_fault_keeps}
 use Rattle.desk_rules.specs.Needs.{HasTokens, IsSpaced, NumbersLeft, BytesLeft}
@@ -77,6 +79,15 @@ account_spaced n change.Read = tt
 account_spaced n change.Deactivate = tt
 account_spaced n (change.Update None) = tt
 account_spaced n (change.Update (Some contacts)) = no_fault_keeps IsSpaced (contacts_fault contacts) _ (λ _. tt) tt
+
+-- a key that is changed
+rekey_spaced : (n : ℕ) (key : List ℕ) (o : Option AccountRow) → IsSpaced (rekey_verdict n key o)
+rekey_spaced n key None = tt
+rekey_spaced n key (Some holder) = tt
+
+key_change_spaced : (T : Tables) (n : ℕ) (c : KeyChange) → IsSpaced (key_change_verdict T n c)
+key_change_spaced T n c = check_keeps IsSpaced _ refusal.Malformed _ tt
+    (given_keeps IsSpaced c.new_key refusal.BadPublicKey _ tt (λ key. rekey_spaced n key (account_with_key T key)))
 
 -- names that are wanted have their tokens, however many bytes there are
 pub wanted_spaced : (ns : List Name) (r : List ℕ) → EachOf HasTokens (wanted ns r)
@@ -110,6 +121,7 @@ challenge_spaced n a chall_change.Answer = either_keeps IsSpaced (stands_open (�
 -- a request of an account
 target_spaced : (T : Tables) (r : List ℕ) (n : ℕ) (p : List ℕ) (t : Target) → IsSpaced (target_verdict T r n p t)
 target_spaced T r n p to.NewAccount = given_keeps IsSpaced _ refusal.Malformed _ tt (λ _. tt)
+target_spaced T r n p to.KeyChange = given_keeps IsSpaced _ refusal.Malformed _ tt (key_change_spaced T n)
 target_spaced T r n p to.NewOrder = given_keeps IsSpaced _ refusal.Malformed _ tt (new_order_spaced r n)
 target_spaced T r n p (to.Account k) = check_keeps IsSpaced _ refusal.NotFound _ tt (given_keeps IsSpaced _ refusal.Malformed _ tt (account_spaced n))
 target_spaced T r n p (to.Orders k) = check_keeps IsSpaced _ refusal.NotFound _ tt (check_keeps IsSpaced _ refusal.Malformed _ tt tt)
@@ -191,6 +203,7 @@ office_quiet T (office.KeyOf n) = given_keeps IsQuiet _ refusal.NotFound _ tt (�
 -- such a verdict takes no tokens
 quiet_spaced : (v : Verdict) → IsQuiet v → IsSpaced v
 quiet_spaced (refused why ss) h = tt
+quiet_spaced (key_taken account) h = tt
 quiet_spaced (answers what) h = tt
 quiet_spaced (opens key contacts) h = absurd h
 quiet_spaced (orders account wanted) h = absurd h
@@ -199,6 +212,7 @@ quiet_spaced (moves move) h = tt
 -- no numbers
 quiet_numbers : (C : Counters) (v : Verdict) → IsQuiet v → NumbersLeft C v
 quiet_numbers C (refused why ss) h = tt
+quiet_numbers C (key_taken account) h = tt
 quiet_numbers C (answers what) h = tt
 quiet_numbers C (opens key contacts) h = absurd h
 quiet_numbers C (orders account wanted) h = absurd h
@@ -207,6 +221,7 @@ quiet_numbers C (moves move) h = tt
 -- a move takes no random bytes
 no_pieces : (v : Move) → count_pieces (entry_of v ∷ []) ≡ 0
 no_pieces (move.ContactsChanged n contacts) = refl
+no_pieces (move.KeyChanged n key) = refl
 no_pieces (move.AccountEnded n ending) = refl
 no_pieces (move.Answered n) = refl
 no_pieces (move.Reported n outcome) = refl
@@ -218,6 +233,7 @@ no_pieces (move.Failed n problem) = refl
 -- and no random bytes
 quiet_bytes : (v : Verdict) → IsQuiet v → count_pieces (entries_of v) ≡ 0
 quiet_bytes (refused why ss) h = refl
+quiet_bytes (key_taken account) h = refl
 quiet_bytes (answers what) h = refl
 quiet_bytes (opens key contacts) h = absurd h
 quiet_bytes (orders account wanted) h = absurd h
@@ -240,6 +256,7 @@ no_bytes a T = quiet_bytes (office_verdict T a) (office_quiet T a)
 -- where there are bytes for the tokens of an order, and for a nonce, there are for both
 bytes_enough : (random : List ℕ) (v : Verdict) → IsSpaced v → BytesLeft random v → 16 ≤ length random → 16 * (1 + count_pieces (entries_of v)) ≤ length random
 bytes_enough random (refused why ss) spaced left enough = enough
+bytes_enough random (key_taken account) spaced left enough = enough
 bytes_enough random (answers what) spaced left enough = enough
 bytes_enough random (opens key contacts) spaced left enough = enough
 bytes_enough random (orders account wanted) spaced left enough = left

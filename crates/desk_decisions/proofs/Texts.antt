@@ -43,7 +43,7 @@ have_texts F h t =
           (each _ _ (authorizations F)
           (λ a ends. record {
             ends = ends;
-            reports = each-map _ (challenge_row F) a.challenges (each_all _ a.challenges (λ c. reports_dated F h c.number));
+            reports = each-map _ (challenge_row F a.account) a.challenges (each_all _ a.challenges (λ c. reports_dated F h c.number));
           }) (authorizations_end F h));
       orders = (all_end F h t).orders;
     }

@@ -28,6 +28,7 @@ IsThere T (show.ClientChallenge n) = IsSome (owner_on T n)
 -- the object that a move names, among these accounts, authorizations and orders
 abbrev pub IsAmong : Move → List AccountRow → List AuthorizationRow → List OrderRow → Type 0
 IsAmong (move.ContactsChanged n contacts) xs ys zs = IsSome (find (λ a. a.number == n) xs)
+IsAmong (move.KeyChanged n key) xs ys zs = IsSome (find (λ a. a.number == n) xs)
 IsAmong (move.AccountEnded n ending) xs ys zs = IsSome (find (λ a. a.number == n) xs)
 IsAmong (move.Answered n) xs ys zs = IsSome (find (has_row n) ys)
 IsAmong (move.Reported n outcome) xs ys zs = IsSome (find (has_row n) ys)

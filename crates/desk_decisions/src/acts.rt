@@ -22,7 +22,7 @@ use crate::showing::{show, show_moved};
 use desk_book::Book;
 use desk_changes::Recording;
 use desk_model::{DnsName, Jwk, Move, OrderRow, Policy, Reply, Sequence, Text, Verdict, Wanted};
-use desk_replies::{located_account, located_order, refusal_reply};
+use desk_replies::{located_account, located_order, refusal_reply, taken_reply};
 use std::alloc::{AllocError, Global};
 
 // Moves rows, and shows what is named.
@@ -133,6 +133,7 @@ pub(crate) fn act(
             refusal,
             subproblems,
         } => Ok(refusal_reply(refusal, subproblems, true)),
+        Verdict::KeyTaken(account) => taken_reply(alloc, &book.meta().policy, account, true),
         Verdict::Answers(shows) => show(alloc, book, recording.counters.clock.moment(), shows),
         Verdict::Opens(key, contacts) => act_on_account(alloc, book, recording, key, contacts),
         Verdict::Orders(account, wanted) => {

@@ -30,7 +30,7 @@ use desk_changes::Recording;
 use desk_model::{
     Ask, Call, Change, LAST_MOMENT, OfficeAsk, Refusal, Reply, Sequence, Signed, Verdict, keep_form,
 };
-use desk_replies::{nonce_reply, refusal_reply, with_nonce};
+use desk_replies::{nonce_reply, refusal_reply, taken_reply, with_nonce};
 use desk_rules::{CoreFault, first_random, has_room, judge_office, judge_signed, open_nonce};
 use std::alloc::{AllocError, Global};
 use swept_rows::At;
@@ -281,6 +281,10 @@ fn settled(alloc: Global, book: &Book, moment: u64, verdict: Verdict) -> Result<
             refusal,
             subproblems,
         } => Ok(unrecorded(alloc, refusal_reply(refusal, subproblems, false))),
+        Verdict::KeyTaken(account) => {
+            let taken = taken_reply(alloc, &book.meta().policy, account, false)?;
+            Ok(unrecorded(alloc, taken))
+        }
         Verdict::Answers(shows) => {
             let reply = show(alloc, book, moment, shows)?;
             Ok(unrecorded(alloc, reply))

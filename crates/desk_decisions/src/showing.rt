@@ -200,6 +200,9 @@ pub(crate) fn show_moved(
         Move::ContactsChanged(number, _) => {
             account_reply(alloc, policy, rows.account(*number).unwrap())
         }
+        Move::KeyChanged(number, _) => {
+            account_reply(alloc, policy, rows.account(*number).unwrap())
+        }
         Move::AccountEnded(number, _) => {
             account_reply(alloc, policy, rows.account(*number).unwrap())
         }

@@ -8,6 +8,7 @@ pub mod FiftyNames
 pub mod Following
 pub mod Formed
 pub mod Hashing
+pub mod KeyChanges
 pub mod Keys
 pub mod Large
 pub mod Many

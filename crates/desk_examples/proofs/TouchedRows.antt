@@ -4,6 +4,7 @@ use Rattle.desk_examples.proofs.Computing.{computing}
 use Rattle.desk_examples.specs.TouchedRows.{Directory, ChallengeWork, OrderWork, NewNonce, NewAccount, BadKey, GuessedNonce}
 use Rattle.desk_examples.specs.TouchedRows.{UnknownNonce, NoNonceText, AccountEnds, AccountOfAnother, AccountRevoked}
 use Rattle.desk_examples.specs.TouchedRows.{OrdersOfAccount, OrdersOfAnother, KeyOfAccount, NewOrder, OneOrder, WholeRows}
+use Rattle.desk_examples.specs.TouchedRows.{NewKeyTaken, NewKeyFree, NewKeyAlone}
 use Rattle.desk_examples.specs.TouchedRows.{OrderOfAnother, UnknownOrder, Finalize, Certificate, Certifies, Fails}
 use Rattle.desk_examples.specs.TouchedRows.{OneAuthorization, OneChallenge, AuthorizationRevoked, Report, SharedReport}
 use Rattle.desk_examples.specs.TouchedRows.{SharedOrder, SharedAccount, NoOrders, LastSecond, OrdersEnd, RequestAtEnd}
@@ -83,6 +84,21 @@ orders_of_another = refl
 pub key_of_account : KeyOfAccount
 unfolding computing
 key_of_account = refl
+
+-- a change of keys touches the account that has the new key
+pub new_key_taken : NewKeyTaken
+unfolding computing
+new_key_taken = refl
+
+-- and no other where none has it
+pub new_key_free : NewKeyFree
+unfolding computing
+new_key_free = refl
+
+-- a payload that gives no account names no key
+pub new_key_alone : NewKeyAlone
+unfolding computing
+new_key_alone = refl
 
 -- newOrder touches the account and the nonce, and no order
 pub new_order : NewOrder

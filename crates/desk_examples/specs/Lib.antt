@@ -8,6 +8,7 @@ pub mod Entries
 pub mod Fifty
 pub mod Following
 pub mod Formed
+pub mod KeyChanges
 pub mod Keys
 pub mod Large
 pub mod Many

@@ -246,7 +246,7 @@ KeyOfUnknown = Turns waiting_desk (office.KeyOf 2) 404 nothing_here
 abbrev pub Directory : Type 0
 Directory =
     Repeats new_desk office.Directory
-    (codes "{\"newAccount\":\"https://ca.example/new-account\",\"newNonce\":\"https://ca.example/new-nonce\",\"newOrder\":\"https://ca.example/new-order\"}")
+    (codes "{\"keyChange\":\"https://ca.example/key-change\",\"newAccount\":\"https://ca.example/new-account\",\"newNonce\":\"https://ca.example/new-nonce\",\"newOrder\":\"https://ca.example/new-order\"}")
 
 -- ---- repeats of failed reports, and keys of several accounts
 

@@ -44,6 +44,9 @@ bad_csr = codes "{\"detail\":\"the CSR is not accepted\",\"status\":400,\"type\"
 abbrev pub unfit_report : List ℕ
 unfit_report = codes "{\"detail\":\"the report does not fit the records\",\"status\":409,\"type\":\"urn:ietf:params:acme:error:malformed\"}"
 
+abbrev pub key_in_use : List ℕ
+key_in_use = codes "{\"detail\":\"the key has an account\",\"status\":409,\"type\":\"urn:ietf:params:acme:error:malformed\"}"
+
 abbrev pub could_not_act : List ℕ
 could_not_act = codes "{\"detail\":\"the desk could not act\",\"status\":500,\"type\":\"urn:ietf:params:acme:error:serverInternal\"}"
 

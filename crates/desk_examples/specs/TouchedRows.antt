@@ -1,5 +1,5 @@
 -- The rows that a call touches, by their numbers.
-use Rattle.std.specs.Prelude.{◌≡◌, ℕ, ◌+◌, List, [], ◌∷◌, map, take, false, Some, Err, codes}
+use Rattle.std.specs.Prelude.{◌≡◌, ℕ, ◌+◌, List, [], ◌∷◌, ◌++◌, map, take, false, Some, Err, codes}
 use Rattle.std.specs.List.{flat_map}
 use Rattle.desk_model.specs.Tables.{Tables, picture, tables_at}
 use Rattle.desk_model.specs.Touched.{touched}
@@ -171,6 +171,23 @@ OrdersOfAnother = Touches client_rows (request (to.Orders 2) []) both_accounts_r
 -- the key of an account: its row alone
 abbrev pub KeyOfAccount : Type 0
 KeyOfAccount = Touches client_rows (handed (office.KeyOf 2)) (record no_rows { accounts = 2 ∷ [] })
+
+-- the text of a payload for another key, by these texts of keys
+abbrev pub rekey : (next old : List ℕ) → List ℕ
+rekey next old = codes "{\"account\":\"https://ca.example/account/1\",\"newKey\":" ++ (next ++ (codes ",\"oldKey\":" ++ (old ++ codes "}")))
+
+-- a change of keys touches the account that has the new key
+abbrev pub NewKeyTaken : Type 0
+NewKeyTaken = Touches client_rows (request to.KeyChange (rekey second_key first_key)) (record no_rows { nonces = 1 ∷ []; accounts = 1 ∷ 2 ∷ [] })
+
+-- and no other where none has it
+abbrev pub NewKeyFree : Type 0
+NewKeyFree = Touches client_rows (request to.KeyChange (rekey rsa_key first_key)) (record no_rows { nonces = 1 ∷ []; accounts = 1 ∷ [] })
+
+-- a payload that gives no account names no key
+abbrev pub NewKeyAlone : Type 0
+NewKeyAlone =
+    Touches client_rows (request to.KeyChange (codes "{\"newKey\":" ++ (second_key ++ codes "}"))) (record no_rows { nonces = 1 ∷ []; accounts = 1 ∷ [] })
 
 -- ---- orders
 

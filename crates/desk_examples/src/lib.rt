@@ -3,6 +3,7 @@
 
 mod histories;
 mod lives;
+mod rekeying;
 mod requests;
 mod texts;
 mod touched;
@@ -12,6 +13,7 @@ pub use lives::{
     accounts_end, certificates_have_limits, fifty_names_are_ordered, first_order_holds,
     identifiers_are_counted, offices_are_served, statuses_are_derived,
 };
+pub use rekeying::{keys_are_changed, keys_are_free};
 pub use requests::{
     contacts_are_tested, moments_are_kept, nonces_and_accounts_hold, payloads_are_refused,
     requests_are_refused,

@@ -2,6 +2,7 @@
 ghost use Rattle.desk_examples.specs.TouchedRows.{Directory, ChallengeWork, OrderWork, NewNonce, NewAccount, BadKey};
 ghost use Rattle.desk_examples.specs.TouchedRows.{GuessedNonce, UnknownNonce, NoNonceText, AccountEnds, AccountOfAnother};
 ghost use Rattle.desk_examples.specs.TouchedRows.{AccountRevoked, OrdersOfAccount, OrdersOfAnother, KeyOfAccount, NewOrder};
+ghost use Rattle.desk_examples.specs.TouchedRows.{NewKeyTaken, NewKeyFree, NewKeyAlone};
 ghost use Rattle.desk_examples.specs.TouchedRows.{OneOrder, WholeRows, OrderOfAnother, UnknownOrder, Finalize, Certificate};
 ghost use Rattle.desk_examples.specs.TouchedRows.{Certifies, Fails, OneAuthorization, OneChallenge, AuthorizationRevoked, Report};
 ghost use Rattle.desk_examples.specs.TouchedRows.{SharedReport, SharedOrder, SharedAccount, NoOrders, LastSecond, OrdersEnd};
@@ -24,6 +25,9 @@ pub fn rows_are_touched()
     ensures orders_of_account { OrdersOfAccount }
     ensures orders_of_another { OrdersOfAnother }
     ensures key_of_account { KeyOfAccount }
+    ensures new_key_taken { NewKeyTaken }
+    ensures new_key_free { NewKeyFree }
+    ensures new_key_alone { NewKeyAlone }
     ensures new_order { NewOrder }
     ensures one_order { OneOrder }
     ensures whole_rows { WholeRows }

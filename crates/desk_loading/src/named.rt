@@ -1,12 +1,13 @@
 //! What an ask names, by numbers.
-ghost use Rattle.std.specs.Prelude.{◌≡◌, option_to_list};
+ghost use Rattle.std.specs.Prelude.{◌≡◌, option_to_list, IfOk};
 ghost use Rattle.desk_model.specs.Asked.{asks_authorizations, asks_orders, target_authorizations, target_orders};
-ghost use Rattle.desk_parts.specs.Loaded.{account_numbers, authorization_numbers, challenge_numbers, order_numbers, serials};
+ghost use Rattle.desk_parts.specs.Loaded.{account_numbers, authorization_numbers, challenge_numbers, new_keys, of_key, order_numbers, serials};
 ghost use Rattle.desk_parts.specs.Loaded.{target_accounts, target_authorization_numbers, target_challenge_numbers, target_order_numbers};
 ghost use Rattle.desk_loading.specs.Naming.{Names};
 
-use desk_model::{Ask, OfficeAsk, Target};
-use keys::read_nonce;
+use desk_model::{Ask, Jwk, OfficeAsk, Target};
+use keys::{new_key, read_nonce};
+use std::alloc::{AllocError, Global};
 
 /// What an ask names, by number.
 #[derive(Clone, Copy)]
@@ -43,6 +44,19 @@ pub(crate) fn serial(ask: &Ask) -> Option<u64>
     match read_nonce(text.as_str()) {
         Some((serial, _)) => Some(serial),
         None => None,
+    }
+}
+
+/// The key that a request asks for.
+pub(crate) fn new_key_of(alloc: Global, ask: &Ask) -> Result<Option<Jwk>, AllocError>
+    ensures { IfOk result (λ key. of_key key ≡ new_keys ask.now) }
+{
+    match ask {
+        Ask::Signed(request) => match request.target {
+            Target::KeyChange => new_key(alloc, request.payload.as_str()),
+            _ => Ok(None),
+        },
+        _ => Ok(None),
     }
 }
 

@@ -4,12 +4,12 @@ ghost use Rattle.std.specs.List.{flat_map};
 ghost use Rattle.desk_laws.specs.Placing.{puts};
 ghost use Rattle.desk_loading.specs.Finding.{Finds};
 ghost use Rattle.desk_loading.specs.Naming.{authorizations_first, orders_first};
-ghost use Rattle.desk_parts.specs.Loaded.{keys as keys_of, listed_authorizations, listing_orders};
+ghost use Rattle.desk_parts.specs.Loaded.{keys as keys_of, listed_authorizations, listing_orders, new_keys};
 ghost use Rattle.desk_parts.specs.LookUps.{accounts_numbered, accounts_with_key, authorizations_numbered, owners_of};
 
 use crate::gathering::{LeadsTo, put_each, put_found, put_linked};
 use crate::look_ups::LookUps;
-use crate::named::Named;
+use crate::named::{Named, new_key_of};
 use desk_book::{Row, Table};
 use desk_model::{AccountRow, Ask, AuthorizationRow, AuthzStatus, OrderRow, OrderStatus};
 use desk_storage::StorageFault;
@@ -33,6 +33,22 @@ pub(crate) fn put_keyed<S: LookUps>(
             Err(_) => Ok(()),
         },
         _ => Ok(()),
+    }
+}
+
+/// Puts the account that has the key that a request asks for into a table.
+pub(crate) fn put_new_keyed<S: LookUps>(
+    alloc: Global,
+    source: &mut S,
+    accounts: &mut Table<AccountRow>,
+    ask: &Ask,
+) -> Result<(), StorageFault>
+    ensures { Finds S.sight source.old source.new result (λ T.
+        accounts.new ≡ puts (λ x. x.number) (flat_map (accounts_with_key T) (new_keys ask.now)) accounts.old) }
+{
+    match new_key_of(alloc, ask)? {
+        Some(key) => put_found(accounts, source.accounts_with_key(alloc, &key)),
+        None => Ok(()),
     }
 }
 

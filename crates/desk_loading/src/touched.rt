@@ -11,7 +11,9 @@ ghost use Rattle.desk_storage.specs.Storing.{Loads};
 use crate::gathering::{put_each, put_found};
 use crate::look_ups::LookUps;
 use crate::named::{named_in, serial};
-use crate::objects::{put_first_authorizations, put_first_orders, put_further, put_keyed};
+use crate::objects::{
+    put_first_authorizations, put_first_orders, put_further, put_keyed, put_new_keyed,
+};
 use desk_book::{Book, Table};
 use desk_model::{
     AccountRow, Ask, AuthorizationRow, Call, Meta, Nonce, OfficeAsk, OrderRow, Policy,
@@ -62,6 +64,7 @@ fn put_touched<S: LookUps>(
     let named = named_in(ask);
     put_nonces(alloc, source, &mut rows.nonces, policy, moment, ask)?;
     put_keyed(alloc, source, &mut rows.accounts, ask)?;
+    put_new_keyed(alloc, source, &mut rows.accounts, ask)?;
     put_each(alloc, source, &mut rows.accounts, named.account.as_slice())?;
     put_first_authorizations(
         alloc,

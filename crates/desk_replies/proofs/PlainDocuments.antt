@@ -111,18 +111,18 @@ joined_plain n (x ∷ xs) ys p q = by (is_plain n x) p (λ r. joined_plain n xs 
     by true p more = more p
     by false p more = p
 
-work_plain : (T : Tables) (rows : List AuthorizationRow) → items_are_plain 6 (items_of (flat_map (work_of T) rows)) ≡ true
-work_plain T [] = refl
-work_plain T (a ∷ rows) = joined_plain 6 (work_of T a) (flat_map (work_of T) rows) (by (is_pending a.status)) (work_plain T rows)
+work_plain : (rows : List AuthorizationRow) → items_are_plain 6 (items_of (flat_map work_of rows)) ≡ true
+work_plain [] = refl
+work_plain (a ∷ rows) = joined_plain 6 (work_of a) (flat_map work_of rows) (by (is_pending a.status)) (work_plain rows)
   where
     by : (b : Bool)
-        → items_are_plain 6 (items_of (if b then map (work_document T a) (filter (λ c. is_processing_challenge c.status) a.challenges) else [])) ≡ true
-    by true = each_plain 6 (work_document T a) (λ c. refl) (filter (λ c. is_processing_challenge c.status) a.challenges)
+        → items_are_plain 6 (items_of (if b then map (work_document a) (filter (λ c. is_processing_challenge c.status) a.challenges) else [])) ≡ true
+    by true = each_plain 6 (work_document a) (λ c. refl) (filter (λ c. is_processing_challenge c.status) a.challenges)
     by false = refl
 
 -- what waits for the validator
 pub challenge_work_plain : (T : Tables) → is_document (challenge_work T) ≡ true
-challenge_work_plain T = ap (λ b. b && true) (work_plain T T.authorizations)
+challenge_work_plain T = ap (λ b. b && true) (work_plain T.authorizations)
 
 order_work_document_plain : (T : Tables) (o : OrderRow) → is_plain 6 (order_work_document T o) ≡ true
 order_work_document_plain T o =

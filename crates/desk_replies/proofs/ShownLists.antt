@@ -30,10 +30,10 @@ shows-orders r m account T S rows those then =
 
 -- what waits for the validator
 pub shows-challenges : {E : Type 0} (r : Result Value E) (m : ℕ) (T S : Tables) (rows : List AuthorizationRow) → rows ≡ T.authorizations → swept m T ≡ S →
-    IfOk r (λ v. view v ≡ document ((codes "challenges", list (flat_map (work_at m T) rows)) ∷ [])) → IfOk r (λ v. view v ≡ challenge_work S)
+    IfOk r (λ v. view v ≡ document ((codes "challenges", list (flat_map (work_at m) rows)) ∷ [])) → IfOk r (λ v. view v ≡ challenge_work S)
 shows-challenges r m T S rows those then =
     shows-same r _ _
-    (ap (λ waiting. document ((codes "challenges", list (flat_map (work_at m T) waiting)) ∷ [])) those
+    (ap (λ waiting. document ((codes "challenges", list (flat_map (work_at m) waiting)) ∷ [])) those
     ∙ ap (λ work. document ((codes "challenges", list work) ∷ [])) (sym (challenges-waiting m T))
     ∙ ap challenge_work then)
 

@@ -88,17 +88,17 @@ orders-listed m account T =
     (λ o. is_listed account (swept_order m T.authorizations o)) T.orders)
 
 -- those of a pending authorization
-pub answered-waiting : (m : ℕ) (T : Tables) (a : AuthorizationRow) → is_pending (swept_authorization m a).status ≡ true →
-    flat_map (answered T a) a.challenges ≡ work_at m T a
-answered-waiting m T a pending =
-    passing-show-one (work_document T a) (λ c. is_processing_challenge c.status) a.challenges
-    ∙ sym (ap (λ b. cond b (map (work_document T a) (filter (λ c. is_processing_challenge c.status) a.challenges)) []) pending)
+pub answered-waiting : (m : ℕ) (a : AuthorizationRow) → is_pending (swept_authorization m a).status ≡ true →
+    flat_map (answered a) a.challenges ≡ work_at m a
+answered-waiting m a pending =
+    passing-show-one (work_document a) (λ c. is_processing_challenge c.status) a.challenges
+    ∙ sym (ap (λ b. cond b (map (work_document a) (filter (λ c. is_processing_challenge c.status) a.challenges)) []) pending)
 
 -- the challenges that wait for the validator
-pub challenges-waiting : (m : ℕ) (T : Tables) → flat_map (work_of (swept m T)) (swept m T).authorizations ≡ flat_map (work_at m T) T.authorizations
+pub challenges-waiting : (m : ℕ) (T : Tables) → flat_map work_of (swept m T).authorizations ≡ flat_map (work_at m) T.authorizations
 challenges-waiting m T =
-    flat_map-map (work_of (swept m T)) (swept_authorization m) (work_at m T)
-    (λ a. sym (ap (work_of (swept m T)) (swept_authorization-status m a))) T.authorizations
+    flat_map-map work_of (swept_authorization m) (work_at m)
+    (λ a. sym (ap work_of (swept_authorization-status m a))) T.authorizations
 
 -- the names of an order that waits for the signing office
 names-waiting : (m : ℕ) (T : Tables) (o : OrderRow) →

@@ -66,7 +66,8 @@ with_members (m ∷ ms) others = with_members ms (put m.0 m.1 others)
 
 abbrev pub directory_members : Terms → List (List ℕ × Data)
 directory_members t =
-    (codes "newAccount", string (url t (codes "/new-account")))
+    (codes "keyChange", string (url t (codes "/key-change")))
+    ∷ (codes "newAccount", string (url t (codes "/new-account")))
     ∷ (codes "newNonce", string (url t (codes "/new-nonce")))
     ∷ (codes "newOrder", string (url t (codes "/new-order")))
     ∷ []
@@ -131,17 +132,17 @@ listed_name (Some a) = string (shown_name a.name) ∷ []
 -- ---- work
 
 -- a challenge that waits for the validator, if its authorization is pending
-abbrev pub answered : Tables → AuthorizationRow → ChallengeRow → List Data
-answered T a c = if is_processing_challenge c.status then work_document T a c ∷ [] else []
+abbrev pub answered : AuthorizationRow → ChallengeRow → List Data
+answered a c = if is_processing_challenge c.status then work_document a c ∷ [] else []
 
 -- an order that waits for the signing office at a moment
 abbrev pub order_work_at : ℕ → Tables → OrderRow → List Data
 order_work_at m T o = if is_processing (swept_order m T.authorizations o).status then order_work_document T o ∷ [] else []
 
-abbrev pub work_members : Tables → AuthorizationRow → ChallengeRow → List (List ℕ × Data)
-work_members T a c =
+abbrev pub work_members : AuthorizationRow → ChallengeRow → List (List ℕ × Data)
+work_members a c =
     (codes "challenge", number (unsigned c.number))
-    ∷ (codes "expected", string (expected T a c))
+    ∷ (codes "expected", string (expected c))
     ∷ (codes "name", string a.name.base)
     ∷ (codes "token", string (token_text c.token))
     ∷ (codes "type", string (kind_text c.kind))
@@ -155,7 +156,7 @@ order_work_members T o =
     ∷ []
 
 -- the challenges of an authorization that wait for the validator at a moment
-abbrev pub work_at : ℕ → Tables → AuthorizationRow → List Data
-work_at m T a =
-    if is_pending (swept_authorization m a).status then map (work_document T a) (filter (λ c. is_processing_challenge c.status) a.challenges)
+abbrev pub work_at : ℕ → AuthorizationRow → List Data
+work_at m a =
+    if is_pending (swept_authorization m a).status then map (work_document a) (filter (λ c. is_processing_challenge c.status) a.challenges)
     else []

@@ -18,6 +18,7 @@ impl ShowsObject<()> for Policy {
         alloc: Global,
         _by: &(),
     ) -> Result<(), AllocError> {
+        let change = put_text(members, alloc, "keyChange", url(alloc, self, "/key-change"));
         let account = put_text(
             members,
             alloc,
@@ -26,7 +27,7 @@ impl ShowsObject<()> for Policy {
         );
         let nonce = put_text(members, alloc, "newNonce", url(alloc, self, "/new-nonce"));
         let order = put_text(members, alloc, "newOrder", url(alloc, self, "/new-order"));
-        account.and(nonce).and(order)
+        change.and(account).and(nonce).and(order)
     }
 }
 

@@ -16,7 +16,7 @@ mod work_documents;
 pub use list_replies::list_reply;
 pub use object_replies::{
     account_reply, authorization_reply, certificate_reply, challenge_reply, client_challenge_reply,
-    key_reply, located_account, located_order, order_reply,
+    key_reply, located_account, located_order, order_reply, taken_reply,
 };
 pub use order_documents::order_names;
 pub use replies::{nonce_reply, refusal_reply, with_nonce};

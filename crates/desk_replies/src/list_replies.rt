@@ -26,8 +26,7 @@ pub fn list_reply(alloc: Global, at: &At, listing: Listing) -> Result<Reply, All
             json_reply(alloc, orders)
         }
         Listing::ChallengeWork => {
-            let by = (book, moment);
-            let work = listing_value(alloc, "challenges", book.authorizations(), &by);
+            let work = listing_value(alloc, "challenges", book.authorizations(), &moment);
             json_reply(alloc, work)
         }
         Listing::OrderWork => {

@@ -6,15 +6,16 @@ ghost use Rattle.desk_model.specs.Limits.{last_end};
 ghost use Rattle.desk_model.specs.Document.{authorization_url, key_document, listed_rows};
 ghost use Rattle.desk_model.specs.Plain.{is_document};
 ghost use Rattle.desk_model.specs.Shown.{account_reply, at, authorization_reply, below, certificate_reply, challenge_reply};
-ghost use Rattle.desk_model.specs.Shown.{located_account, located_order, ok, order_reply};
+ghost use Rattle.desk_model.specs.Shown.{located_account, located_order, ok, order_reply, taken_reply};
 ghost use Rattle.desk_model.specs.Tables.{Tables};
 ghost use Rattle.desk_replies.specs.Shown.{HasDatedReport, HasMoments};
 
 use crate::document_values::shown_object;
+use crate::replies::refusal_reply;
 use crate::urls::numbered_url;
 use desk_model::{
     AccountRow, AuthorizationRow, Body, ChallengeRow, DatedBytes, DnsName, Document, OrderRow,
-    Policy, Reply, Text,
+    Policy, Refusal, Reply, Sequence, Text,
 };
 use serde_json::Value;
 use std::alloc::{AllocError, Global};
@@ -99,6 +100,26 @@ pub fn located_account(
     let url = numbered_url(alloc, policy, "/account/", row.number);
     let account = shown_object(alloc, row, policy);
     located_reply(alloc, status, url, account)
+}
+
+/// The refusal of a key that an account has, with the Location of that account (RFC 8555, 7.3.5).
+///
+/// # Errors
+///
+/// Where there is no memory for the URL.
+pub fn taken_reply(
+    alloc: Global,
+    policy: &Policy,
+    number: u64,
+    index: bool,
+) -> Result<Reply, AllocError>
+    ensures { IfOk result (λ r. (T : Tables) → T.meta.policy ≡ policy.now → r ≡ taken_reply index T number) }
+{
+    let url = numbered_url(alloc, policy, "/account/", number)?;
+    let none = Sequence::new(Vec::new(alloc));
+    let mut reply = refusal_reply(Refusal::KeyInUse, none, index);
+    reply.location = Some(Text::new(url));
+    Ok(reply)
 }
 
 /// The reply with an order whose authorizations have these names (RFC 8555, 7.1.3).

@@ -16,20 +16,19 @@ use std::alloc::{AllocError, Global};
 use swept_rows::{authorization_status, order_status};
 
 // A challenge that waits for the validator, told its authorization: with what has to be found (RFC 8555, 8.3, 8.4).
-impl<'a> ShowsObject<(&'a Book, &'a AuthorizationRow)> for ChallengeRow {
-    ghost document = { λ by c. work_document by.0.now by.1.now c };
+impl ShowsObject<AuthorizationRow> for ChallengeRow {
+    ghost document = { work_document };
 
     fn put_members(
         &self,
         members: &mut Map<String, Value>,
         alloc: Global,
-        by: &(&'a Book, &'a AuthorizationRow),
+        by: &AuthorizationRow,
     ) -> Result<(), AllocError> {
-        let (book, row) = *by;
         let challenge = put(members, alloc, "challenge", Value::from(self.number));
-        let answer = expected_text(alloc, self.kind, self.token, book.answer_key(row));
+        let answer = expected_text(alloc, self.kind, self.token, self.answer_thumb());
         let expected = put_text(members, alloc, "expected", answer);
-        let name = put_str(members, alloc, "name", row.name.base());
+        let name = put_str(members, alloc, "name", by.name.base());
         let text = keys::token_text(alloc, self.token);
         let token = put_text(members, alloc, "token", text);
         let kind = put_str(members, alloc, "type", self.kind.as_str());
@@ -38,14 +37,14 @@ impl<'a> ShowsObject<(&'a Book, &'a AuthorizationRow)> for ChallengeRow {
 }
 
 // A challenge of an authorization that was answered and not yet reported.
-impl<'a> ListItem<(&'a Book, &'a AuthorizationRow)> for ChallengeRow {
-    ghost values = { λ by c. answered by.0.now by.1.now c };
+impl ListItem<AuthorizationRow> for ChallengeRow {
+    ghost values = { answered };
 
     fn push_shown(
         &self,
         shown: &mut Vec<Value>,
         alloc: Global,
-        by: &(&'a Book, &'a AuthorizationRow),
+        by: &AuthorizationRow,
     ) -> Result<(), AllocError> {
         if !self.status.is_processing() {
             return Ok(());
@@ -55,20 +54,19 @@ impl<'a> ListItem<(&'a Book, &'a AuthorizationRow)> for ChallengeRow {
 }
 
 // What waits for the validator of an authorization, where it is pending at a moment.
-impl<'a> ListItem<(&'a Book, u64)> for AuthorizationRow {
-    ghost values = { λ by a. work_at by.1 by.0.now a };
+impl ListItem<u64> for AuthorizationRow {
+    ghost values = { work_at };
 
     fn push_shown(
         &self,
         shown: &mut Vec<Value>,
         alloc: Global,
-        by: &(&'a Book, u64),
+        by: &u64,
     ) -> Result<(), AllocError> {
-        let (book, moment) = *by;
-        if !authorization_status(moment, self).is_pending() {
+        if !authorization_status(*by, self).is_pending() {
             return Ok(());
         }
-        push_each(shown, alloc, self.challenges.as_slice(), &(book, self))
+        push_each(shown, alloc, self.challenges.as_slice(), self)
     }
 }
 

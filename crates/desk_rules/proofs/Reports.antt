@@ -13,11 +13,11 @@ use Rattle.desk_model.specs.declared.rows.ChallengeRow.{ChallengeRow}
 
 -- a report on a challenge that is there, which shows an outcome
 pub report-by : (T : Tables) (n : ℕ) (finding : Finding) (a : AuthorizationRow) (c : ChallengeRow) (text : List ℕ) (o : Outcome) →
-    owner_on T n ≡ Some a → challenge_of n a ≡ Some c → text ≡ expected T a c → outcome_of c.kind text finding ≡ Some o →
+    owner_on T n ≡ Some a → challenge_of n a ≡ Some c → text ≡ expected c → outcome_of c.kind text finding ≡ Some o →
     report_verdict T n finding ≡ outcome_verdict n a.status c o
 unfolding given
 report-by T n finding a c text o owner there wanted shown =
-    ap (λ x. given x refusal.NotFound (λ row. given (challenge_of n row) refusal.NotFound (finding_verdict T n finding row))) owner
-    ∙ ap (λ x. given x refusal.NotFound (finding_verdict T n finding a)) there
+    ap (λ x. given x refusal.NotFound (λ row. given (challenge_of n row) refusal.NotFound (finding_verdict n finding row))) owner
+    ∙ ap (λ x. given x refusal.NotFound (finding_verdict n finding a)) there
     ∙ ap (λ t. given (outcome_of c.kind t finding) refusal.Malformed (outcome_verdict n a.status c)) (sym wanted)
     ∙ ap (λ x. given x refusal.Malformed (outcome_verdict n a.status c)) shown

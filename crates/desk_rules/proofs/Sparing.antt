@@ -1,6 +1,8 @@
 -- Verdicts that need no numbers and no random bytes.
 use Rattle.std.proofs.Common.{◌≡◌, ℕ, List, Bool, true, false, Option, Some, None, Result, Ok, Err, MatchResult, drop, sym, ap, subst, ◌∙◌}
 use Rattle.desk_model.specs.declared.refusal.Refusal.{Refusal}
+use Rattle.desk_model.specs.Questions.{account_with_key}
+use Rattle.desk_model.specs.Rules.{key_change_verdict, rekey_verdict}
 use Rattle.desk_model.specs.Rules.{account_verdict, authorization_verdict, certificate_verdict, challenge_verdict, finalize_verdict, target_verdict}
 use Rattle.desk_model.specs.Tables.{Tables}
 use Rattle.desk_model.specs.declared.rows.AuthorizationRow.{AuthorizationRow}
@@ -12,6 +14,8 @@ use Rattle.desk_model.specs.declared.payload.AccountChange.{AccountChange}
 use Rattle.desk_model.specs.declared.payload.AccountChange.TheVariants as account
 use Rattle.desk_model.specs.declared.payload.AuthorizationChange.{AuthorizationChange}
 use Rattle.desk_model.specs.declared.payload.AuthorizationChange.TheVariants as authz
+use Rattle.desk_model.specs.declared.payload.KeyChange.{KeyChange}
+use Rattle.desk_model.specs.declared.rows.AccountRow.{AccountRow}
 use Rattle.desk_model.specs.declared.payload.ChallengeChange.{ChallengeChange}
 use Rattle.desk_model.specs.declared.payload.ChallengeChange.TheVariants as chall
 use Rattle.desk_model.specs.declared.rows.Counters.{Counters}
@@ -65,7 +69,17 @@ finalize-spares n o text = check-spares _ _ _ (given-spares _ _ _ (λ csr C rand
 certificate-spares : (n : ℕ) (o : OrderRow) → Spares (certificate_verdict n o)
 certificate-spares n o = given-spares _ _ _ (λ k C random. (tt, tt))
 
+rekey-spares : (n : ℕ) (key : List ℕ) (o : Option AccountRow) → Spares (rekey_verdict n key o)
+rekey-spares n key None = λ C random. (tt, tt)
+rekey-spares n key (Some holder) = λ C random. (tt, tt)
+
+key_change-spares : (T : Tables) (n : ℕ) (c : KeyChange) → Spares (key_change_verdict T n c)
+key_change-spares T n c = check-spares _ _ _ (given-spares _ _ _ (λ key. rekey-spares n key (account_with_key T key)))
+
 -- ---- by target, for account n
+
+pub key_change_target-spares : (T : Tables) (r : List ℕ) (n : ℕ) (p : List ℕ) → Spares (target_verdict T r n p to.KeyChange)
+key_change_target-spares T r n p = given-spares _ _ _ (key_change-spares T n)
 
 pub new_account_target-spares : (T : Tables) (r : List ℕ) (n : ℕ) (p : List ℕ) → Spares (target_verdict T r n p to.NewAccount)
 new_account_target-spares T r n p = given-spares _ _ _ (λ asked C random. (tt, tt))

@@ -13,7 +13,7 @@ use crate::new_orders::new_order_verdict;
 use crate::payload::{Payload, new_order};
 use crate::targets::{
     account_target, authorization_target, certificate_target, challenge_target, finalize_target,
-    new_account_target, order_target, orders_target,
+    key_change_target, new_account_target, order_target, orders_target,
 };
 use crate::verdicts::refused;
 use desk_model::{Jwk, Refusal, Signed, Target, Verdict};
@@ -59,6 +59,7 @@ fn target_verdict(
 {
     match target {
         Target::NewAccount => new_account_target(alloc, sender, payload),
+        Target::KeyChange => key_change_target(alloc, at, sender, payload),
         Target::NewOrder => new_order_target(alloc, at, random, sender, payload),
         Target::Account(number) => account_target(alloc, sender, number, payload),
         Target::Orders(number) => Ok(orders_target(alloc, sender, number, payload.text)),

@@ -8,6 +8,7 @@ mod contacts;
 mod fault;
 mod identified;
 mod judging;
+mod key_rules;
 mod limits;
 mod new_orders;
 mod nonces;

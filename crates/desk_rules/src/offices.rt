@@ -26,12 +26,11 @@ fn report_verdict(
 ) -> Result<Verdict, AllocError>
     ensures { IfOk result (λ v. v ≡ report_verdict at.now number finding.now) }
 {
-    let Some((row, status, challenge)) = at.challenge(number) else {
+    let Some((_row, status, challenge)) = at.challenge(number) else {
         return Ok(refused(alloc, Refusal::NotFound));
     };
-    let (book, _moment) = at.parts();
-    let key = book.answer_key(row);
-    let wanted = expected_text(alloc, challenge.kind, challenge.token, key)?;
+    let thumb = challenge.answer_thumb();
+    let wanted = expected_text(alloc, challenge.kind, challenge.token, thumb)?;
     match outcome_of(challenge.kind, wanted.as_str(), finding) {
         Some(outcome) => Ok(outcome_verdict(alloc, number, status, challenge, outcome)),
         None => Ok(refused(alloc, Refusal::Malformed)),

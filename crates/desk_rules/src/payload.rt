@@ -2,16 +2,18 @@
 ghost use Rattle.std.specs.Prelude.{◌≡◌, Some, Option, option_map, option_and_then, IfOk};
 ghost use Rattle.serde_json.specs.View.{view, items_view};
 ghost use Rattle.desk_model.specs.Payload.{object_in, each_in, texts_in, optional, new_account};
-ghost use Rattle.desk_model.specs.Payload.{says_deactivated, account_change};
+ghost use Rattle.desk_model.specs.Payload.{says_deactivated, account_change, key_change};
 ghost use Rattle.desk_model.specs.Payload.{authorization_change, challenge_change, identifier_in};
 ghost use Rattle.desk_model.specs.Payload.{new_order, finalize};
 ghost use Rattle.serde_json.specs.Find.{get, as_bool, as_str};
 ghost use Rattle.serde_json.specs.Read.{read};
 
 use desk_model::{
-    AccountChange, AuthorizationChange, ChallengeChange, Identifier, NewAccount, Sequence, Text,
+    AccountChange, AuthorizationChange, ChallengeChange, Identifier, KeyChange, NewAccount,
+    Sequence, Text,
 };
 use json_values::{text_of, texts_in};
+use keys::key_change_of;
 use serde_json::Value;
 use std::alloc::{AllocError, Global};
 
@@ -121,6 +123,17 @@ pub(crate) fn account_change(
         Some(contacts) => Ok(Some(AccountChange::Update(contacts))),
         None => Ok(None),
     }
+}
+
+/// What a keyChange payload asks, `None` where it has another form (RFC 8555, 7.3.5).
+pub(crate) fn key_change(alloc: Global, payload: Payload) -> Result<Option<KeyChange>, AllocError>
+    requires { option_map (λ v. view v.now) payload.object ≡ object_in payload.text.now }
+    ensures { IfOk result (λ o. o ≡ key_change payload.entry.text.now) }
+{
+    let Some(value) = payload.object else {
+        return Ok(None);
+    };
+    key_change_of(alloc, value)
 }
 
 /// What a request to an authorization asks, `None` where the payload has another form (RFC 8555, 7.5.2).

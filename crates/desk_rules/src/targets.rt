@@ -1,9 +1,9 @@
 //! Signed requests, by their targets (RFC 8555, 6.2, 6.3).
 ghost use Rattle.std.specs.Prelude.{◌≡◌, ◌==◌, MatchResult, option_map};
 ghost use Rattle.serde_json.specs.View.{view};
-ghost use Rattle.desk_model.specs.Payload.{account_change, authorization_change, challenge_change, finalize, new_account, object_in};
+ghost use Rattle.desk_model.specs.Payload.{account_change, authorization_change, challenge_change, finalize, key_change, new_account, object_in};
 ghost use Rattle.desk_model.specs.Questions.{authorization_on, order_on, owner_on};
-ghost use Rattle.desk_model.specs.Rules.{account_verdict, authorization_verdict, certificate_verdict, challenge_verdict, finalize_verdict, nothing, own};
+ghost use Rattle.desk_model.specs.Rules.{account_verdict, authorization_verdict, certificate_verdict, challenge_verdict, finalize_verdict, key_change_verdict, nothing, own};
 ghost use Rattle.desk_model.specs.Verdict.{check, given};
 ghost use Rattle.desk_model.specs.declared.verdict.Verdict.TheVariants.{Answers as answers};
 ghost use Rattle.desk_model.specs.declared.verdict.Shows.TheVariants as show;
@@ -14,9 +14,11 @@ use crate::accounts::account_verdict;
 use crate::authorization_rules::authorization_verdict;
 use crate::challenge_rules::challenge_verdict;
 use crate::fault::CoreFault;
+use crate::key_rules::key_change_verdict;
 use crate::order_rules::finalize_verdict;
 use crate::payload::{
-    Payload, account_change, authorization_change, challenge_change, finalize, new_account,
+    Payload, account_change, authorization_change, challenge_change, finalize, key_change,
+    new_account,
 };
 use crate::verdicts::refused;
 use desk_model::{
@@ -73,6 +75,24 @@ pub(crate) fn new_account_target(
 {
     match new_account(alloc, payload)? {
         Some(_) => Ok(Verdict::Answers(Shows::KnownAccount(sender))),
+        None => Ok(refused(alloc, Refusal::Malformed)),
+    }
+}
+
+/// A request for another key of an account (RFC 8555, 7.3.5).
+#[tactic(auto, unfolding(desk_model::specs::Verdict::given))]
+pub(crate) fn key_change_target(
+    alloc: Global,
+    at: &At,
+    sender: u64,
+    payload: Payload,
+) -> Result<Verdict, CoreFault>
+    requires { option_map (λ v. view v.now) payload.object ≡ object_in payload.text.now }
+    ensures { MatchResult result
+        (λ v. v ≡ given (key_change payload.entry.text.now) Refusal.Malformed (key_change_verdict at.now sender)) (λ e. e ≡ Memory) }
+{
+    match key_change(alloc, payload)? {
+        Some(asked) => key_change_verdict(alloc, at, sender, asked),
         None => Ok(refused(alloc, Refusal::Malformed)),
     }
 }

@@ -1,4 +1,5 @@
 pub mod Blanks
+pub mod KeyReadings
 pub mod Matches
 pub mod Members
 pub mod NonceTexts

@@ -14,7 +14,14 @@ use std::alloc::{AllocError, Global};
 pub fn thumbprint(key: &Jwk) -> [u8; 32]
     ensures { result ≡ sha256 key.now }
 {
-    Sha256::digest(key.canonical())
+    text_thumbprint(key.canonical())
+}
+
+/// The thumbprint of the key that has this canonical text.
+pub fn text_thumbprint(key: &str) -> [u8; 32]
+    ensures { result ≡ sha256 key.now }
+{
+    Sha256::digest(key)
 }
 
 /// The key authorization of a token's text under a thumbprint (RFC 8555, 8.1).
@@ -23,6 +30,13 @@ pub fn thumbprint(key: &Jwk) -> [u8; 32]
 ///
 /// Where there is no memory for it.
 pub fn key_authorization(alloc: Global, token: &str, thumb: &[u8; 32]) -> Result<String, AllocError>
+    ensures { IfOk result (λ t. string_bytes t ≡ authorization_of token.now thumb.now) }
+{
+    authorization(alloc, token, thumb)
+}
+
+/// The key authorization of a token's text under these bytes, which are a thumbprint where the challenge was answered.
+pub(crate) fn authorization(alloc: Global, token: &str, thumb: &[u8]) -> Result<String, AllocError>
     ensures { IfOk result (λ t. string_bytes t ≡ authorization_of token.now thumb.now) }
 {
     let digest = url_safe(alloc, thumb)?;

@@ -3,6 +3,7 @@ ghost use Rattle.std.specs.Prelude.{◌≡◌, ◌≢◌, ◌↔◌, Option, Som
 ghost use Rattle.std.specs.Int.{is_in_range};
 ghost use Rattle.std.specs.List.{list_all};
 ghost use Rattle.serde_json.specs.View.{view};
+ghost use Rattle.desk_model.specs.Payload.{key_text_in};
 ghost use Rattle.desk_model.specs.Keys.{Key, IsKeyOf, IsEc, IsRsa, IsOkp, IsCurve, number_member, canonical_text, ec, rsa, okp};
 
 use desk_model::{Jwk, is_number, is_same_text};
@@ -30,6 +31,21 @@ impl From<AllocError> for KeyFault {
 
     fn from(_refused: AllocError) -> KeyFault {
         KeyFault::Memory
+    }
+}
+
+/// The key that a value spells, if it spells one (RFC 7638, 3.2).
+///
+/// # Errors
+///
+/// Where there is no memory.
+pub fn key_of(alloc: Global, value: &Value) -> Result<Option<Jwk>, AllocError>
+    ensures { IfOk result (λ key. key ≡ key_text_in (view value.now)) }
+{
+    match read_jwk(alloc, value) {
+        Ok(key) => Ok(Some(key)),
+        Err(KeyFault::Bad) => Ok(None),
+        Err(KeyFault::Memory) => Err(AllocError),
     }
 }
 

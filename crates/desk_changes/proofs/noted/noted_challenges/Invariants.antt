@@ -4,5 +4,5 @@ use Rattle.desk_model.specs.Effect.{noted_challenge}
 use Rattle.desk_changes.proofs.noted.noted_challenges.Given as goal
 
 abbrev pub invariant-loop-row : goal.invariant-loop-row
-invariant-loop-row l = l.noted.items ++ map (noted_challenge (entry_of l.moved) l.moment) (drop l.row-index l.rows)
-    ≡ map (noted_challenge (entry_of l.moved) l.moment) l.rows
+invariant-loop-row l = l.noted.items ++ map (noted_challenge (entry_of l.moved) l.moment l.key) (drop l.row-index l.rows)
+    ≡ map (noted_challenge (entry_of l.moved) l.moment l.key) l.rows

@@ -1,7 +1,8 @@
 use Rattle.std.proofs.Common.{◌≡◌, ◌∙◌, IfOk, OnOk, ap, append-nil, subst, sym}
 use Rattle.desk_model.specs.Effect.{swept}
 use Rattle.desk_model.specs.Shown.{reply_of}
-use Rattle.desk_model.specs.declared.verdict.Verdict.TheVariants.{Answers as answers, Orders as orders, Refused as refused}
+use Rattle.desk_model.specs.declared.verdict.Verdict.TheVariants.{Answers as answers, KeyTaken as key_taken, Orders as orders, Refused as refused}
+use Rattle.desk_model.specs.declared.rows.Meta.{Meta}
 use Rattle.desk_decisions.specs.HasTexts.{HasTexts}
 use Rattle.desk_decisions.proofs.Acting.{Records, Replies, clock_at, records_nothing, replies_move, where_answered}
 use Rattle.desk_replies.proofs.Results.{ok_so}
@@ -18,6 +19,20 @@ pub returns-in-Refused-clause-reply : goal.returns-in-Refused-clause-reply
 returns-in-Refused-clause-reply c =
     subst (λ v. Replies c.args.book.now c.args.recording.now.counters v c.refusal_reply.result) (sym c.in-Refused.is)
     (λ m at ordered texts. c.refusal_reply.ensures)
+
+pub returns-in-KeyTaken-clause-recorded : goal.returns-in-KeyTaken-clause-recorded
+returns-in-KeyTaken-clause-recorded c =
+    let done = c.args.recording.now.changes.items in
+    let counters = c.args.recording.now.counters in
+    where_answered c.taken_reply.result
+    (subst (Records c.args.book.now done counters done counters) (sym c.in-KeyTaken.is)
+    (records_nothing c.args.book.now done counters (key_taken c.in-KeyTaken.account) append-nil))
+
+pub returns-in-KeyTaken-clause-reply : goal.returns-in-KeyTaken-clause-reply
+returns-in-KeyTaken-clause-reply c =
+    let book = c.args.book.now in
+    subst (λ v. IfOk c.taken_reply.result (Replies book c.args.recording.now.counters v)) (sym c.in-KeyTaken.is)
+    (ok_so c.taken_reply.result (λ r said m at ordered texts. said (swept m book) (ap (λ (x : Meta). x.policy) (sym c.meta.ensures))) c.taken_reply.ensures)
 
 pub returns-in-Answers-clause-recorded : goal.returns-in-Answers-clause-recorded
 returns-in-Answers-clause-recorded c =

@@ -35,6 +35,17 @@ returns-in-ContactsChanged c =
     ∙ ap (moved_reply T) (sym c.in-ContactsChanged.is))
     c.account_reply.ensures
 
+pub returns-in-KeyChanged : goal.returns-in-KeyChanged
+returns-in-KeyChanged c =
+    ok_so c.account_reply-in-KeyChanged.result (λ r said m rows texts.
+    let T : Tables = effect m (swept m c.args.book.now) (entry_of c.args.moved.now) in
+    said T (policy_moved m c.args.book.now c.args.moved.now ∙ ap (λ (x : Meta). x.policy) (sym c.meta.ensures))
+    ∙ ap (shown (account_reply 200 T)) (ap option_copied (sym c.unwrap-in-KeyChanged.ensures) ∙ c.account-in-KeyChanged.ensures
+    ∙ account_there m c.args.book.now c.args.moved.now c.in-KeyChanged.number _
+    (λ a. ap (λ v. touches_account (entry_of v) a) c.in-KeyChanged.is) rows.accounts)
+    ∙ ap (moved_reply T) (sym c.in-KeyChanged.is))
+    c.account_reply-in-KeyChanged.ensures
+
 pub returns-in-AccountEnded : goal.returns-in-AccountEnded
 returns-in-AccountEnded c =
     ok_so c.account_reply-in-AccountEnded.result (λ r said m rows texts.

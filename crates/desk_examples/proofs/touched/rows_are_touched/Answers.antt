@@ -1,5 +1,6 @@
 use Rattle.desk_examples.proofs.touched.rows_are_touched.Goals as goal
 use Rattle.desk_examples.proofs.TouchedRows.{directory, challenge_work, order_work, new_nonce, new_account, bad_key}
+use Rattle.desk_examples.proofs.TouchedRows.{new_key_taken, new_key_free, new_key_alone}
 use Rattle.desk_examples.proofs.TouchedRows.{guessed_nonce, unknown_nonce, no_nonce_text, account_ends, account_of_another}
 use Rattle.desk_examples.proofs.TouchedRows.{account_revoked, orders_of_account, orders_of_another, key_of_account, new_order}
 use Rattle.desk_examples.proofs.TouchedRows.{one_order, whole_rows, order_of_another, unknown_order, finalize, certificate}
@@ -123,3 +124,12 @@ returns-clause-authorizations_last c = authorizations_last
 
 pub returns-clause-authorizations_end : goal.returns-clause-authorizations_end
 returns-clause-authorizations_end c = authorizations_end
+
+pub returns-clause-new_key_taken : goal.returns-clause-new_key_taken
+returns-clause-new_key_taken c = new_key_taken
+
+pub returns-clause-new_key_free : goal.returns-clause-new_key_free
+returns-clause-new_key_free c = new_key_free
+
+pub returns-clause-new_key_alone : goal.returns-clause-new_key_alone
+returns-clause-new_key_alone c = new_key_alone

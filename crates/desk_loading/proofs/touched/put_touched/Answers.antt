@@ -10,13 +10,13 @@ use Rattle.desk_model.specs.declared.rows.AccountRow.{AccountRow}
 use Rattle.desk_model.specs.declared.rows.AuthorizationRow.{AuthorizationRow}
 use Rattle.desk_model.specs.declared.rows.OrderRow.{OrderRow}
 use Rattle.desk_parts.specs.Loaded.{account_numbers, authorizations_once, first_authorizations, found_authorizations, found_nonces, found_orders}
-use Rattle.desk_parts.specs.Loaded.{keys, listed_authorizations, listing_orders, named_accounts, named_orders, orders_once, own_orders, past_orders}
+use Rattle.desk_parts.specs.Loaded.{keys, listed_authorizations, listing_orders, named_accounts, named_orders, new_keys, orders_once, own_orders, past_orders}
 use Rattle.desk_parts.specs.LookUps.{accounts_numbered, accounts_with_key}
 
 pub returns : goal.returns
 returns g c =
     finds_fourth c.put_further.result
-    (finds_both _ (finds_both _ c.in_ok-put_nonces.ensures c.in_ok-put_keyed.ensures) c.in_ok-put_each.ensures)
+    (finds_both _ (finds_both _ (finds_both _ c.in_ok-put_nonces.ensures c.in_ok-put_keyed.ensures) c.in_ok-put_new_keyed.ensures) c.in_ok-put_each.ensures)
     c.in_ok-put_first_authorizations.ensures c.in_ok-put_first_orders.ensures c.put_further.ensures
     (λ T so_far authorizations_put orders_put further same none.
     let ask = c.args.ask.now in
@@ -31,8 +31,10 @@ returns g c =
     ++ flat_map (λ a. accounts_numbered T a.account) rows in
     let accounts =
     put_into_none account (named_accounts T ask) _ _
-    (put_then account (flat_map (accounts_with_key T) (keys ask)) (flat_map (accounts_numbered T) (account_numbers ask)) _ _ _ so_far.0.1
-    (put_by account (flat_map (accounts_numbered T)) _ _ _ _ so_far.1 (listed_as _ _ _ c.as_slice.ensures c.named_in-named.ensures.account)))
+    (put_then account (flat_map (accounts_with_key T) (keys ask))
+    (flat_map (accounts_with_key T) (new_keys ask) ++ flat_map (accounts_numbered T) (account_numbers ask)) _ _ _ so_far.0.0.1
+    (put_then account (flat_map (accounts_with_key T) (new_keys ask)) (flat_map (accounts_numbered T) (account_numbers ask)) _ _ _ so_far.0.1
+    (put_by account (flat_map (accounts_numbered T)) _ _ _ _ so_far.1 (listed_as _ _ _ c.as_slice.ensures c.named_in-named.ensures.account))))
     none.accounts in
     let authorizations =
     put_into_none authorization first _ _
@@ -49,7 +51,7 @@ returns g c =
     put_then authorization first (listed_authorizations T (orders_once (found_orders T moment ask))) [] _ _ authorizations
     (put_by authorization (listed_authorizations T) _ _ _ _ further.1 orders) in
     record {
-      nonces = put_into_none (λ (n : Nonce). n.serial) (found_nonces T moment ask) _ _ (so_far.0.0 same) none.nonces;
+      nonces = put_into_none (λ (n : Nonce). n.serial) (found_nonces T moment ask) _ _ (so_far.0.0.0 same) none.nonces;
       accounts = put_then account (named_accounts T ask)
           (holders (orders_once (found_orders T moment ask)) (authorizations_once (found_authorizations T moment ask))) [] _ _ accounts
           (put_by_both account holders _ _ _ _ _ _ further.2 orders all_authorizations);
@@ -63,19 +65,24 @@ returns-in_err-put_nonces g c = finds_failing _ c.in_err-put_nonces.ensures c.fr
 pub returns-in_err-put_keyed : goal.returns-in_err-put_keyed
 returns-in_err-put_keyed g c = fails_behind _ c.in_ok-put_nonces.ensures c.in_err-put_keyed.ensures c.from_residual-in_err-put_keyed.ensures.1
 
+pub returns-in_err-put_new_keyed : goal.returns-in_err-put_new_keyed
+returns-in_err-put_new_keyed g c =
+    fails_behind _ (finds_both _ c.in_ok-put_nonces.ensures c.in_ok-put_keyed.ensures) c.in_err-put_new_keyed.ensures
+    c.from_residual-in_err-put_new_keyed.ensures.1
+
 pub returns-in_err-put_each : goal.returns-in_err-put_each
 returns-in_err-put_each g c =
-    fails_behind _ (finds_both _ c.in_ok-put_nonces.ensures c.in_ok-put_keyed.ensures) c.in_err-put_each.ensures
+    fails_behind _ (finds_both _ (finds_both _ c.in_ok-put_nonces.ensures c.in_ok-put_keyed.ensures) c.in_ok-put_new_keyed.ensures) c.in_err-put_each.ensures
     c.from_residual-in_err-put_each.ensures.1
 
 pub returns-in_err-put_first_authorizations : goal.returns-in_err-put_first_authorizations
 returns-in_err-put_first_authorizations g c =
-    fails_behind _ (finds_both _ (finds_both _ c.in_ok-put_nonces.ensures c.in_ok-put_keyed.ensures) c.in_ok-put_each.ensures)
+    fails_behind _ (finds_both _ (finds_both _ (finds_both _ c.in_ok-put_nonces.ensures c.in_ok-put_keyed.ensures) c.in_ok-put_new_keyed.ensures) c.in_ok-put_each.ensures)
     c.in_err-put_first_authorizations.ensures c.from_residual-in_err-put_first_authorizations.ensures.1
 
 pub returns-in_err-put_first_orders : goal.returns-in_err-put_first_orders
 returns-in_err-put_first_orders g c =
     fails_behind _
-    (finds_both _ (finds_both _ (finds_both _ c.in_ok-put_nonces.ensures c.in_ok-put_keyed.ensures) c.in_ok-put_each.ensures)
+    (finds_both _ (finds_both _ (finds_both _ (finds_both _ c.in_ok-put_nonces.ensures c.in_ok-put_keyed.ensures) c.in_ok-put_new_keyed.ensures) c.in_ok-put_each.ensures)
     c.in_ok-put_first_authorizations.ensures)
     c.in_err-put_first_orders.ensures c.from_residual-in_err-put_first_orders.ensures.1

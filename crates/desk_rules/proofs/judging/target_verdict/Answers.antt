@@ -1,7 +1,7 @@
 use Rattle.std.proofs.Common.{drop}
 use Rattle.desk_model.specs.declared.call.Target.TheVariants as to
 use Rattle.desk_rules.proofs.Sparing.{account_target-spares, authorization_target-spares, certificate_target-spares}
-use Rattle.desk_rules.proofs.Sparing.{challenge_target-spares, finalize_target-spares, new_account_target-spares, order_target-spares, orders_target-spares}
+use Rattle.desk_rules.proofs.Sparing.{challenge_target-spares, finalize_target-spares, key_change_target-spares, new_account_target-spares, order_target-spares, orders_target-spares}
 use Rattle.desk_rules.proofs.Sparing.{target-made, target-spared}
 use Rattle.desk_rules.proofs.judging.target_verdict.Goals as goal
 
@@ -52,3 +52,9 @@ returns-in-Chall c =
     target-spared c.args.at.now.meta.counters c.args.at.now c.args.random.now c.args.sender c.args.payload.text.now c.args.target
     (to.Chall c.in-Chall.number) c.challenge_target.result c.in-Chall.is c.challenge_target.ensures
     (challenge_target-spares c.args.at.now (drop 16 c.args.random.now) c.args.sender c.args.payload.text.now c.in-Chall.number)
+
+pub returns-in-KeyChange : goal.returns-in-KeyChange
+returns-in-KeyChange c =
+    target-made c.args.at.now.meta.counters c.args.at.now c.args.random.now c.args.sender c.args.payload.text.now c.args.target
+    to.KeyChange c.key_change_target.result c.in-KeyChange.is c.key_change_target.ensures
+    (key_change_target-spares c.args.at.now (drop 16 c.args.random.now) c.args.sender c.args.payload.text.now)

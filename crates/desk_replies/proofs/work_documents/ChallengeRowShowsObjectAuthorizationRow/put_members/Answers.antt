@@ -2,18 +2,17 @@ use Rattle.std.proofs.Common.{◌≡◌, ap, subst, ◌∙◌}
 use Rattle.std.specs.Prelude.{codes, IfOk, string_bytes, ◌∷◌, []}
 use Rattle.serde_json.specs.Data.{object, string}
 use Rattle.serde_json.specs.View.{members_view}
-use Rattle.sha2.specs.Sha256.{sha256}
 use Rattle.desk_model.specs.Document.{expected_by}
 use Rattle.desk_model.specs.Tokens.{authorization_of, token_text}
 use Rattle.desk_replies.specs.Shown.{with_members, work_members}
 use Rattle.desk_replies.proofs.Results.{on_ok}
 use Rattle.desk_replies.proofs.ShownOrders.{and_puts, member_then}
-use Rattle.desk_replies.proofs.work_documents.ChallengeRowShowsObjectTuple2RefBookRefAuthorizationRow.put_members.Goals as goal
+use Rattle.desk_replies.proofs.work_documents.ChallengeRowShowsObjectAuthorizationRow.put_members.Goals as goal
 
 pub returns : goal.returns
 returns c =
     on_ok c.and-4.result
-    (λ put none. ap object (and_puts (work_members c.args.by.now.0.now c.args.by.now.1.now c.args.self.now) _ _ _ put none))
+    (λ put none. ap object (and_puts (work_members c.args.by.now c.args.self.now) _ _ _ put none))
     (member_then c.and-3.result c.put_str-kind.result c.and-4.result c.and-4.ensures _ _ _ _
     (member_then c.and-2.result c.put_text-token.result c.and-3.result c.and-3.ensures _ _ _ _
     (member_then c.and.result c.put_str-name.result c.and-2.result c.and-2.ensures _ _ _ _
@@ -22,9 +21,9 @@ returns c =
     ∙ ap (λ shown. with_members ((codes "challenge", shown) ∷ []) (members_view c.args.members.now.entries)) c.from.ensures)
     c.put-challenge.ensures.ok)
     (on_ok c.put_text-expected.result (λ put. put _
-    (subst (λ key. IfOk c.expected_text-answer.result
-    (λ t. string_bytes t ≡ expected_by c.args.self.now.kind (authorization_of (token_text c.args.self.now.token) (sha256 key))))
-    (c.answer_key.ensures c.args.self.now) c.expected_text-answer.ensures))
+    (subst (λ thumb. IfOk c.expected_text-answer.result
+    (λ t. string_bytes t ≡ expected_by c.args.self.now.kind (authorization_of (token_text c.args.self.now.token) thumb)))
+    c.answer_thumb.ensures c.expected_text-answer.ensures))
     c.put_text-expected.ensures))
     (on_ok c.put_str-name.result (λ put. put
     ∙ ap (λ text. with_members ((codes "name", string text) ∷ []) (members_view c.put_text-expected.new.members.entries)) c.base.ensures.base)
