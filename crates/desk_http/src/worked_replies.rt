@@ -11,9 +11,10 @@ const ASKS_DIRECTORY: &[u8] = b"GET /directory HTTP/1.1\r\n\r\n";
 
 const DIRECTORY: &[u8] = b"HTTP/1.1 200 OK\r\n\
     Connection: close\r\n\
-    Content-Length: 131\r\n\
+    Content-Length: 175\r\n\
     Content-Type: application/json\r\n\r\n\
-    {\"newAccount\":\"https://ca.example/new-account\",\
+    {\"keyChange\":\"https://ca.example/key-change\",\
+    \"newAccount\":\"https://ca.example/new-account\",\
     \"newNonce\":\"https://ca.example/new-nonce\",\
     \"newOrder\":\"https://ca.example/new-order\"}";
 

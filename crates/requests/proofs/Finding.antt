@@ -96,6 +96,11 @@ new_account : IsPlain route.NewAccount
 unfolding add_route scan seek param_step
 new_account = refl
 
+-- `/key-change` is
+key_change : IsPlain route.KeyChange
+unfolding add_route scan seek param_step
+key_change = refl
+
 -- `/new-order` is
 new_order : IsPlain route.NewOrder
 unfolding add_route scan seek param_step
@@ -151,6 +156,7 @@ unfolding seek param_step
 desk_routes_are_found path route.Directory n h = rw (h.0) directory
 desk_routes_are_found path route.NewNonce n h = rw (h.0) new_nonce
 desk_routes_are_found path route.NewAccount n h = rw (h.0) new_account
+desk_routes_are_found path route.KeyChange n h = rw (h.0) key_change
 desk_routes_are_found path route.NewOrder n h = rw (h.0) new_order
 desk_routes_are_found path route.Account n h =
     ap (option_map value_of) (shorter desk_routes (codes "/account/") (kept route.Orders) (kept route.Account) (codes "orders") accounts path n h)

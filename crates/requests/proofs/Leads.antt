@@ -18,6 +18,10 @@ to_new_nonce = record { route = route.NewNonce; number = 0; text = (refl, refl);
 pub to_new_account : IsResourceAt (codes "/new-account") (resource.Signed target.NewAccount)
 to_new_account = record { route = route.NewAccount; number = 0; text = (refl, refl); leads = refl }
 
+-- `/key-change`
+pub to_key_change : IsResourceAt (codes "/key-change") (resource.Signed target.KeyChange)
+to_key_change = record { route = route.KeyChange; number = 0; text = (refl, refl); leads = refl }
+
 -- `/new-order`
 pub to_new_order : IsResourceAt (codes "/new-order") (resource.Signed target.NewOrder)
 to_new_order = record { route = route.NewOrder; number = 0; text = (refl, refl); leads = refl }

@@ -31,7 +31,7 @@ with_routes rows (r ∷ rest) = with_routes (add_route rows r) rest
 
 -- the routes of the directory and of what is made (RFC 8555, 7.1)
 abbrev pub first_routes : RowsOf (RouteOf Route)
-first_routes = add_route (add_route (add_route (add_route [] route.Directory) route.NewNonce) route.NewAccount) route.NewOrder
+first_routes = add_route (add_route (add_route (add_route (add_route [] route.Directory) route.NewNonce) route.NewAccount) route.KeyChange) route.NewOrder
 
 -- and of the objects of clients
 abbrev pub client_routes : RowsOf (RouteOf Route)

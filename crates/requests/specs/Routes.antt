@@ -33,6 +33,7 @@ abbrev pub prefix : Route → List ℕ
 prefix route.Directory = codes "/directory"
 prefix route.NewNonce = codes "/new-nonce"
 prefix route.NewAccount = codes "/new-account"
+prefix route.KeyChange = codes "/key-change"
 prefix route.NewOrder = codes "/new-order"
 prefix route.Account = codes "/account/"
 prefix route.Orders = codes "/account/"
@@ -59,6 +60,7 @@ abbrev pub is_numbered : Route → Bool
 is_numbered route.Directory = false
 is_numbered route.NewNonce = false
 is_numbered route.NewAccount = false
+is_numbered route.KeyChange = false
 is_numbered route.NewOrder = false
 is_numbered route.ChallengeWork = false
 is_numbered route.OrderWork = false
@@ -82,6 +84,7 @@ abbrev pub resource_of : Route → ℕ → Resource
 resource_of route.Directory n = resource.Directory
 resource_of route.NewNonce n = resource.NewNonce
 resource_of route.NewAccount n = resource.Signed target.NewAccount
+resource_of route.KeyChange n = resource.Signed target.KeyChange
 resource_of route.NewOrder n = resource.Signed target.NewOrder
 resource_of route.Account n = resource.Signed (target.Account n)
 resource_of route.Orders n = resource.Signed (target.Orders n)

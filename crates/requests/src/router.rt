@@ -8,10 +8,11 @@ use matchit::Router;
 use std::alloc::{AllocError, Global};
 
 // The routes of the desk.
-const ROUTES: [Route; 17] = [
+const ROUTES: [Route; 18] = [
     Route::Directory,
     Route::NewNonce,
     Route::NewAccount,
+    Route::KeyChange,
     Route::NewOrder,
     Route::Account,
     Route::Orders,

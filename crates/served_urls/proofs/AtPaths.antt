@@ -4,7 +4,7 @@ use Rattle.desk_model.specs.Terms.{Terms}
 use Rattle.requests.specs.Routes.{IsResourceAt}
 use Rattle.requests.specs.declared.routes.Resource.{Resource}
 use Rattle.requests.proofs.Leads.{to_account, to_authorization, to_certificate, to_challenge, to_directory, to_finalize}
-use Rattle.requests.proofs.Leads.{to_new_account, to_new_nonce, to_new_order, to_order, to_orders}
+use Rattle.requests.proofs.Leads.{to_key_change, to_new_account, to_new_nonce, to_new_order, to_order, to_orders}
 use Rattle.requests.proofs.Resources.{one_resource}
 use Rattle.served_urls.specs.Laws.{ShownUrlsAreServed}
 use Rattle.served_urls.specs.Served.{IsServed}
@@ -28,6 +28,7 @@ are_served t n first last =
       directory = at_path t _ _ to_directory;
       new_account = at_path t _ _ to_new_account;
       new_nonce = at_path t _ _ to_new_nonce;
+      key_change = at_path t _ _ to_key_change;
       new_order = at_path t _ _ to_new_order;
       account = at_path t _ _ (to_account n first last);
       orders = goes_on t n (codes "/account/") (codes "/orders") _ (to_orders n first last);

@@ -16,7 +16,7 @@ use Rattle.served_urls.specs.Shown.{HasDirectoryUrls, HasOrderUrls}
 
 -- the directory has its URLs
 directory_urls : (t : Terms) → HasDirectoryUrls t
-directory_urls t = record { new_account = refl; new_nonce = refl; new_order = refl }
+directory_urls t = record { new_account = refl; new_nonce = refl; key_change = refl; new_order = refl }
 
 -- an order has its URLs, whatever became of it
 order_urls : (T : Tables) (o : OrderRow) (k : Option DatedBytes) (f : Option DatedProblem) → HasOrderUrls T (record o { certified = k; failed = f })

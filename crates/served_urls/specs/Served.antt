@@ -28,6 +28,10 @@ new_account_url t = url t (codes "/new-account")
 abbrev pub new_nonce_url : Terms → List ℕ
 new_nonce_url t = url t (codes "/new-nonce")
 
+-- of keyChange
+abbrev pub key_change_url : Terms → List ℕ
+key_change_url t = url t (codes "/key-change")
+
 -- of newOrder
 abbrev pub new_order_url : Terms → List ℕ
 new_order_url t = url t (codes "/new-order")
@@ -39,6 +43,7 @@ pub record AreServed (t : Terms) (n : ℕ) : Type 0 where
   pub directory : IsServed t resource.Directory (directory_url t)
   pub new_account : IsServed t (resource.Signed target.NewAccount) (new_account_url t)
   pub new_nonce : IsServed t resource.NewNonce (new_nonce_url t)
+  pub key_change : IsServed t (resource.Signed target.KeyChange) (key_change_url t)
   pub new_order : IsServed t (resource.Signed target.NewOrder) (new_order_url t)
   pub account : IsServed t (resource.Signed (target.Account n)) (account_url t n)
   pub orders : IsServed t (resource.Signed (target.Orders n)) (orders_url t n)

@@ -17,12 +17,13 @@ use Rattle.desk_model.specs.declared.rows.AccountRow.{AccountRow}
 use Rattle.desk_model.specs.declared.rows.AuthorizationRow.{AuthorizationRow}
 use Rattle.desk_model.specs.declared.rows.ChallengeRow.{ChallengeRow}
 use Rattle.desk_model.specs.declared.rows.OrderRow.{OrderRow}
-use Rattle.served_urls.specs.Served.{directory_url, new_account_url, new_nonce_url, new_order_url}
+use Rattle.served_urls.specs.Served.{directory_url, key_change_url, new_account_url, new_nonce_url, new_order_url}
 
 -- the URLs of the directory (RFC 8555, 7.1.1)
 pub record HasDirectoryUrls (t : Terms) : Type 0 where
   pub new_account : text_member (codes "newAccount") (directory t) ≡ Some (new_account_url t)
   pub new_nonce : text_member (codes "newNonce") (directory t) ≡ Some (new_nonce_url t)
+  pub key_change : text_member (codes "keyChange") (directory t) ≡ Some (key_change_url t)
   pub new_order : text_member (codes "newOrder") (directory t) ≡ Some (new_order_url t)
 
 -- the URLs of an order, one of them where it is certified (RFC 8555, 7.1.3)

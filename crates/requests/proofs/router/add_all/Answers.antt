@@ -8,7 +8,7 @@ use Rattle.requests.proofs.router.add_all.Goals as goal
 -- all routes, in their order
 abbrev routes : List Route
 routes =
-    route.Directory ∷ route.NewNonce ∷ route.NewAccount ∷ route.NewOrder ∷ route.Account ∷ route.Orders ∷ route.Order ∷ route.Finalize ∷
+    route.Directory ∷ route.NewNonce ∷ route.NewAccount ∷ route.KeyChange ∷ route.NewOrder ∷ route.Account ∷ route.Orders ∷ route.Order ∷ route.Finalize ∷
     route.Cert ∷ route.Authz ∷ route.Chall ∷ route.Key ∷ route.ChallengeWork ∷ route.OrderWork ∷ route.Report ∷ route.Certify ∷ route.FailOrder ∷ []
 
 pub loop-route-init : goal.loop-route-init
