@@ -13,10 +13,10 @@ use Rattle.desk_model.specs.declared.objects.Report.{Report}
 use Rattle.desk_model.specs.declared.rows.DatedBytes.{DatedBytes}
 use Rattle.desk_model.specs.declared.rows.DatedProblem.{DatedProblem}
 use Rattle.desk_columns.specs.Columns.{account_columns, account_end_columns, authorization_columns, authorization_end_columns}
-use Rattle.desk_columns.specs.Columns.{challenge_columns, dated_bytes_columns, dated_columns, dated_problem_columns, listed_columns}
+use Rattle.desk_columns.specs.Columns.{challenge_columns, dated_bytes_columns, dated_columns, dated_problem_columns, key_columns, listed_columns}
 use Rattle.desk_columns.specs.Columns.{meta_columns, nonce_columns, order_columns, report_columns, rows_columns}
 use Rattle.desk_columns.specs.Laws.{AreToldApart, ColumnsTellRowsApart}
-use Rattle.desk_columns.specs.Limits.{AreStored, IsStoredAccount, IsStoredAuthorization, IsStoredChallenge, IsStoredListed}
+use Rattle.desk_columns.specs.Limits.{AreStored, IsStoredAccount, IsStoredAuthorization, IsStoredChallenge, IsStoredKey, IsStoredListed}
 use Rattle.desk_columns.specs.Limits.{IsStoredMeta, IsStoredNonce, IsStoredOrder}
 use Rattle.desk_model.specs.Facts.{ending_text, end_kind_text, outcome_text}
 use Rattle.desk_columns.specs.Spelling.{contacts_text, problem_text}
@@ -185,6 +185,9 @@ challenges-apart row other kept kept2 same =
       };
     }
 
+pub keys-apart : AreToldApart key_columns IsStoredKey
+keys-apart row other kept kept2 same = λ i. record { challenge = pos-apart _ _ (ap (λ c. c.chall) same) i; thumb = ap (λ c. c.thumb) same i }
+
 -- a table's rows are told apart where each row is
 pub table-apart : {C R : Type 0} (write : R → C) (P : R → Type 0) → AreToldApart write P
     → (rows others : List R) → EachOf P rows → EachOf P others → map write rows ≡ map write others → rows ≡ others
@@ -210,6 +213,7 @@ rows-apart rows others kept kept2 same =
       listed = table-apart listed_columns IsStoredListed listed-apart rows.listed others.listed kept.listed kept2.listed (ap (λ c. c.order_authzs) same) i;
       challenges = table-apart challenge_columns IsStoredChallenge challenges-apart rows.challenges others.challenges kept.challenges
           kept2.challenges (ap (λ c. c.challs) same) i;
+      keys = table-apart key_columns IsStoredKey keys-apart rows.keys others.keys kept.keys kept2.keys (ap (λ c. c.chall_keys) same) i;
     }
 
 pub all_apart : ColumnsTellRowsApart
@@ -222,5 +226,6 @@ all_apart =
       authorizations = authorizations-apart;
       listed = listed-apart;
       challenges = challenges-apart;
+      keys = keys-apart;
       rows = rows-apart;
     }

@@ -25,7 +25,6 @@ use Rattle.desk_model.specs.declared.objects.Kind.{Kind}
 use Rattle.desk_model.specs.declared.objects.Kind.TheVariants as kind
 use Rattle.desk_model.specs.declared.rows.AccountRow.{AccountRow}
 use Rattle.desk_model.specs.declared.rows.AuthorizationRow.{AuthorizationRow}
-use Rattle.desk_model.specs.declared.rows.ChallengeRow.{ChallengeRow}
 use Rattle.desk_model.specs.declared.rows.DatedProblem.{DatedProblem}
 use Rattle.desk_model.specs.declared.rows.OrderRow.{OrderRow}
 use Rattle.desk_model.specs.declared.status.AccountStatus.{AccountStatus}
@@ -41,6 +40,7 @@ use Rattle.desk_columns.specs.Laws.{TextsAreWritten}
 use Rattle.desk_model.specs.Facts.{ending_text, end_kind_text, outcome_text}
 use Rattle.desk_columns.specs.Spelling.{contacts_text, problem_document, problem_text}
 use Rattle.desk_columns.specs.TextColumns.{HasTextAccount, HasTextAuthorization, HasTextChallenge, HasTextMeta, HasTextOrder, ColumnsAreTexts, RowsHoldTexts}
+use Rattle.desk_columns.specs.declared.flat_rows.BareChallenge.{BareChallenge}
 use Rattle.desk_columns.specs.declared.flat_rows.FlatRows.{FlatRows}
 use Rattle.desk_columns.specs.declared.flat_rows.Owned.{Owned}
 
@@ -176,7 +176,7 @@ authorization_written row h =
     record { name = h; end_kind = worded _ (λ e. end_kind_is_text e.kind) row.ended; status = authorization_status_is_text row.status }
 
 -- a row of `chall`
-challenge_written : (row : Owned ChallengeRow) → HasTextChallenge (challenge_columns row)
+challenge_written : (row : Owned BareChallenge) → HasTextChallenge (challenge_columns row)
 challenge_written row =
     record {
       kind = kind_is_text row.row.kind;

@@ -1,5 +1,5 @@
--- The columns of each row, in format 1. What stands in a table of its own is left out: the challenges of an
--- authorization, and what an order lists.
+-- The columns of each row, in format 2. What stands in a table of its own is left out: the challenges of an
+-- authorization, what an order lists, and the keys of answers.
 use Rattle.std.specs.Prelude.{ℕ, ℤ, pos, List, map, Bool, if◌then◌else◌, Option, option_map}
 use Rattle.desk_model.specs.Document.{account_status_text, authorization_status_text, challenge_status_text, kind_text, order_status_text}
 use Rattle.desk_model.specs.Facts.{ending_text, end_kind_text, outcome_text}
@@ -9,7 +9,6 @@ use Rattle.desk_model.specs.declared.objects.Nonce.{Nonce}
 use Rattle.desk_model.specs.declared.objects.Report.{Report}
 use Rattle.desk_model.specs.declared.rows.AccountRow.{AccountRow}
 use Rattle.desk_model.specs.declared.rows.AuthorizationRow.{AuthorizationRow}
-use Rattle.desk_model.specs.declared.rows.ChallengeRow.{ChallengeRow}
 use Rattle.desk_model.specs.declared.rows.DatedBytes.{DatedBytes}
 use Rattle.desk_model.specs.declared.rows.DatedProblem.{DatedProblem}
 use Rattle.desk_model.specs.declared.rows.Listed.{Listed}
@@ -19,11 +18,14 @@ use Rattle.desk_columns.specs.Spelling.{contacts_text, problem_text}
 use Rattle.desk_columns.specs.declared.columns.AccountColumns.{AccountColumns}
 use Rattle.desk_columns.specs.declared.columns.AuthzColumns.{AuthzColumns}
 use Rattle.desk_columns.specs.declared.columns.ChallColumns.{ChallColumns}
+use Rattle.desk_columns.specs.declared.columns.ChallKeyColumns.{ChallKeyColumns}
 use Rattle.desk_columns.specs.declared.columns.MetaColumns.{MetaColumns}
 use Rattle.desk_columns.specs.declared.columns.NonceColumns.{NonceColumns}
 use Rattle.desk_columns.specs.declared.columns.OrderAuthzColumns.{OrderAuthzColumns}
 use Rattle.desk_columns.specs.declared.columns.OrderColumns.{OrderColumns}
 use Rattle.desk_columns.specs.declared.columns.StoredRows.{StoredRows}
+use Rattle.desk_columns.specs.declared.flat_rows.AnswerKey.{AnswerKey}
+use Rattle.desk_columns.specs.declared.flat_rows.BareChallenge.{BareChallenge}
 use Rattle.desk_columns.specs.declared.flat_rows.FlatRows.{FlatRows}
 use Rattle.desk_columns.specs.declared.flat_rows.Owned.{Owned}
 
@@ -57,7 +59,11 @@ report_columns report = dated_columns (λ r. r.date) (λ r. outcome_text r.outco
 
 -- the format of the tables
 abbrev pub known_format : ℤ
-known_format = pos 1
+known_format = pos 2
+
+-- the one before it
+abbrev pub first_format : ℤ
+first_format = pos 1
 
 -- those of `meta`
 abbrev pub meta_columns : Meta → MetaColumns
@@ -135,7 +141,7 @@ abbrev pub listed_columns : Owned Listed → OrderAuthzColumns
 listed_columns row = record { ord = pos row.owner; place = pos row.row.place; authz = pos row.row.authorization }
 
 -- those of `chall`
-abbrev pub challenge_columns : Owned ChallengeRow → ChallColumns
+abbrev pub challenge_columns : Owned BareChallenge → ChallColumns
 challenge_columns row =
     record {
       num = pos row.row.number;
@@ -148,6 +154,10 @@ challenge_columns row =
       status = challenge_status_text row.row.status;
     }
 
+-- those of `chall_key`
+abbrev pub key_columns : AnswerKey → ChallKeyColumns
+key_columns row = record { chall = pos row.challenge; thumb = row.thumb }
+
 -- the columns of the rows of all tables
 abbrev pub rows_columns : FlatRows → StoredRows
 rows_columns rows =
@@ -159,4 +169,5 @@ rows_columns rows =
       authzs = map authorization_columns rows.authorizations;
       order_authzs = map listed_columns rows.listed;
       challs = map challenge_columns rows.challenges;
+      chall_keys = map key_columns rows.keys;
     }

@@ -1,5 +1,5 @@
 -- The rows of a book, table by table.
-use Rattle.std.specs.Prelude.{ℕ, List, [], ◌∷◌, map}
+use Rattle.std.specs.Prelude.{ℕ, List, [], ◌∷◌, map, Option, option_map, filter_map}
 use Rattle.std.specs.List.{flat_map}
 use Rattle.std.specs.List.Sorted.{IsPermutation}
 use Rattle.desk_model.specs.Tables.{Tables}
@@ -7,6 +7,8 @@ use Rattle.desk_model.specs.declared.rows.AuthorizationRow.{AuthorizationRow}
 use Rattle.desk_model.specs.declared.rows.ChallengeRow.{ChallengeRow}
 use Rattle.desk_model.specs.declared.rows.Listed.{Listed}
 use Rattle.desk_model.specs.declared.rows.OrderRow.{OrderRow}
+use Rattle.desk_columns.specs.declared.flat_rows.AnswerKey.{AnswerKey}
+use Rattle.desk_columns.specs.declared.flat_rows.BareChallenge.{BareChallenge}
 use Rattle.desk_columns.specs.declared.flat_rows.Owned.{Owned}
 use Rattle.desk_columns.specs.declared.flat_rows.FlatRows.{FlatRows}
 
@@ -30,6 +32,30 @@ listed_rows rows = flat_map (λ o. owned_by o.number o.listed) rows
 abbrev pub challenge_rows : List AuthorizationRow → List (Owned ChallengeRow)
 challenge_rows rows = flat_map (λ a. owned_by a.number a.challenges) rows
 
+-- a challenge without the key of its answer
+abbrev pub bare : ChallengeRow → BareChallenge
+bare c =
+    record {
+      number = c.number;
+      kind = c.kind;
+      token = c.token;
+      answered = option_map (λ a. a.date) c.answered;
+      reported = c.reported;
+      status = c.status;
+    }
+
+-- the same, under its authorization
+abbrev pub bare_row : Owned ChallengeRow → Owned BareChallenge
+bare_row c = record { owner = c.owner; row = bare c.row }
+
+-- the key of its answer
+abbrev pub answer_key : ChallengeRow → Option AnswerKey
+answer_key c = option_map (λ a. record { challenge = c.number; thumb = a.thumb }) c.answered
+
+-- the keys of the answers of challenges, in their order
+abbrev pub key_rows : List (Owned ChallengeRow) → List AnswerKey
+key_rows rows = filter_map (λ c. answer_key c.row) rows
+
 -- the rows of these tables
 abbrev pub flat : Tables → FlatRows
 flat T =
@@ -40,7 +66,8 @@ flat T =
       orders = map without_listed T.orders;
       authorizations = map without_challenges T.authorizations;
       listed = listed_rows T.orders;
-      challenges = challenge_rows T.authorizations;
+      challenges = map bare_row (challenge_rows T.authorizations);
+      keys = key_rows (challenge_rows T.authorizations);
     }
 
 -- the same rows in each table, in any order
@@ -52,3 +79,4 @@ pub record AreReordered (rows others : FlatRows) : Type 0 where
   pub authorizations : IsPermutation rows.authorizations others.authorizations
   pub listed : IsPermutation rows.listed others.listed
   pub challenges : IsPermutation rows.challenges others.challenges
+  pub keys : IsPermutation rows.keys others.keys

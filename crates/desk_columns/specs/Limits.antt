@@ -13,12 +13,13 @@ use Rattle.desk_model.specs.declared.objects.Nonce.{Nonce}
 use Rattle.desk_model.specs.declared.objects.Report.{Report}
 use Rattle.desk_model.specs.declared.rows.AccountRow.{AccountRow}
 use Rattle.desk_model.specs.declared.rows.AuthorizationRow.{AuthorizationRow}
-use Rattle.desk_model.specs.declared.rows.ChallengeRow.{ChallengeRow}
 use Rattle.desk_model.specs.declared.rows.DatedBytes.{DatedBytes}
 use Rattle.desk_model.specs.declared.rows.DatedProblem.{DatedProblem}
 use Rattle.desk_model.specs.declared.rows.Listed.{Listed}
 use Rattle.desk_model.specs.declared.rows.Meta.{Meta}
 use Rattle.desk_model.specs.declared.rows.OrderRow.{OrderRow}
+use Rattle.desk_columns.specs.declared.flat_rows.AnswerKey.{AnswerKey}
+use Rattle.desk_columns.specs.declared.flat_rows.BareChallenge.{BareChallenge}
 use Rattle.desk_columns.specs.declared.flat_rows.FlatRows.{FlatRows}
 use Rattle.desk_columns.specs.declared.flat_rows.Owned.{Owned}
 
@@ -41,6 +42,10 @@ IsExpiry n = n ≤ last_end
 -- the random bytes of a nonce, or a token
 abbrev pub IsSixteen : List ℕ → Type 0
 IsSixteen bytes = length bytes ≡ 16
+
+-- a thumbprint
+abbrev pub IsThirtyTwo : List ℕ → Type 0
+IsThirtyTwo bytes = length bytes ≡ 32
 
 -- a fact that is recorded keeps this
 abbrev pub IfRecorded : {X : Type 0} → (X → Type 0) → Option X → Type 0
@@ -122,12 +127,17 @@ pub record IsStoredListed (row : Owned Listed) : Type 0 where
   pub authorization : IsNumber row.row.authorization
 
 -- a row of `chall`
-pub record IsStoredChallenge (row : Owned ChallengeRow) : Type 0 where
+pub record IsStoredChallenge (row : Owned BareChallenge) : Type 0 where
   pub number : IsNumber row.row.number
   pub authorization : IsNumber row.owner
   pub token : IsSixteen row.row.token
   pub answered : IfRecorded IsMoment row.row.answered
   pub reported : IfRecorded IsReport row.row.reported
+
+-- a row of `chall_key`
+pub record IsStoredKey (row : AnswerKey) : Type 0 where
+  pub challenge : IsNumber row.challenge
+  pub thumb : IsThirtyTwo row.thumb
 
 -- each row of each table is in its limits
 pub record AreStored (rows : FlatRows) : Type 0 where
@@ -138,3 +148,4 @@ pub record AreStored (rows : FlatRows) : Type 0 where
   pub authorizations : EachOf IsStoredAuthorization rows.authorizations
   pub listed : EachOf IsStoredListed rows.listed
   pub challenges : EachOf IsStoredChallenge rows.challenges
+  pub keys : EachOf IsStoredKey rows.keys

@@ -45,7 +45,7 @@ pub record HasTextChallenge (columns : ChallColumns) : Type 0 where
   pub outcome : IfSome columns.outcome IsUtf8
   pub status : IsUtf8 columns.status
 
--- each TEXT column of each row is UTF-8; `nonce` and `ord_authz` have none
+-- each TEXT column of each row is UTF-8; `nonce`, `ord_authz` and `chall_key` have none
 pub record ColumnsAreTexts (columns : StoredRows) : Type 0 where
   pub metas : EachOf HasTextMeta columns.metas
   pub accounts : EachOf HasTextAccount columns.accounts

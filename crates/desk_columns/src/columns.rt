@@ -1,9 +1,12 @@
-//! The columns of the tables of a file, format 1: INTEGER is `i64`, TEXT is `Text`, BLOB is a `Sequence<u8>`, and
+//! The columns of the tables of a file, format 2: INTEGER is `i64`, TEXT is `Text`, BLOB is a `Sequence<u8>`, and
 //! `None` is NULL.
 use desk_model::{Sequence, Text};
 
 /// The format of the tables.
-pub const FORMAT: i64 = 1;
+pub const FORMAT: i64 = 2;
+
+/// The format before it, which has no table `chall_key`.
+pub const FIRST_FORMAT: i64 = 1;
 
 /// A row of the table `meta`, of which there is one. Counters are the last numbers given.
 #[derive(Drop)]
@@ -146,7 +149,16 @@ pub struct ChallColumns {
     pub status: Text,
 }
 
-/// The rows of the seven tables, in any order.
+/// A row of the table `chall_key`, one for each answered challenge.
+#[derive(Drop)]
+pub struct ChallKeyColumns {
+    /// The key, the number of the challenge.
+    pub chall: i64,
+    /// The thumbprint of the key that its account had at the answer (RFC 7638, 3), 32 bytes.
+    pub thumb: Sequence<u8>,
+}
+
+/// The rows of the eight tables, in any order.
 #[derive(Drop)]
 pub struct StoredRows {
     pub metas: Sequence<MetaColumns>,
@@ -156,4 +168,5 @@ pub struct StoredRows {
     pub authzs: Sequence<AuthzColumns>,
     pub order_authzs: Sequence<OrderAuthzColumns>,
     pub challs: Sequence<ChallColumns>,
+    pub chall_keys: Sequence<ChallKeyColumns>,
 }

@@ -1,7 +1,7 @@
 //! The facts that several columns record: all of them hold something, or all are NULL.
 ghost use Rattle.std.specs.Prelude.{pos, option_map, IfOk};
 ghost use Rattle.desk_columns.specs.Columns.{account_end_columns, authorization_end_columns, dated_bytes_columns, dated_problem_columns, report_columns};
-ghost use Rattle.desk_columns.specs.Limits.{AreDatedBytes, IfRecorded, IsAccountEnd, IsAuthorizationEnd, IsDatedProblem, IsMoment, IsReport, IsSixteen};
+ghost use Rattle.desk_columns.specs.Limits.{AreDatedBytes, IfRecorded, IsAccountEnd, IsAuthorizationEnd, IsDatedProblem, IsMoment, IsReport, IsSixteen, IsThirtyTwo};
 ghost use Rattle.desk_columns.specs.Reading.{IsRead};
 
 use crate::numbers::read_moment;
@@ -121,4 +121,11 @@ pub(crate) fn read_sixteen(bytes: &[u8]) -> Option<[u8; 16]>
     ensures { IsRead (λ b. b) IsSixteen bytes.now result }
 {
     bytes.as_array::<16>().copied()
+}
+
+/// The bytes of a thumbprint.
+pub(crate) fn read_thirty_two(bytes: &[u8]) -> Option<[u8; 32]>
+    ensures { IsRead (λ b. b) IsThirtyTwo bytes.now result }
+{
+    bytes.as_array::<32>().copied()
 }

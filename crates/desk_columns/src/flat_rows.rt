@@ -1,6 +1,7 @@
 //! The rows of a desk, table by table.
 use desk_model::{
-    AccountRow, AuthorizationRow, ChallengeRow, Listed, Meta, Nonce, OrderRow, Sequence,
+    AccountRow, AuthorizationRow, ChallengeStatus, Kind, Listed, Meta, Nonce, OrderRow, Report,
+    Sequence,
 };
 
 /// A row that belongs to another, and the number of that other row.
@@ -10,6 +11,32 @@ pub struct Owned<T> {
     pub owner: u64,
     /// The row without that number.
     pub row: T,
+}
+
+/// A challenge as its table has it: when it was answered, and not under which key.
+#[derive(Clone, Copy)]
+pub struct BareChallenge {
+    /// The key of the table, from 1, over all authorizations.
+    pub number: u64,
+    /// What the validator has to look at.
+    pub kind: Kind,
+    /// Random bytes.
+    pub token: [u8; 16],
+    /// When its client said that it may be tried.
+    pub answered: Option<u64>,
+    /// What the validator found, and when.
+    pub reported: Option<Report>,
+    /// The stored status.
+    pub status: ChallengeStatus,
+}
+
+/// The key under which a challenge was answered.
+#[derive(Clone, Copy)]
+pub struct AnswerKey {
+    /// The number of the challenge.
+    pub challenge: u64,
+    /// The thumbprint of the key that its account had then (RFC 7638, 3).
+    pub thumb: [u8; 32],
 }
 
 /// The rows of each table, in any order.
@@ -27,6 +54,8 @@ pub struct FlatRows {
     pub authorizations: Sequence<AuthorizationRow>,
     /// The authorizations that orders list.
     pub listed: Sequence<Owned<Listed>>,
-    /// The challenges of authorizations.
-    pub challenges: Sequence<Owned<ChallengeRow>>,
+    /// The challenges of authorizations, without the keys of their answers.
+    pub challenges: Sequence<Owned<BareChallenge>>,
+    /// The keys of answers.
+    pub keys: Sequence<AnswerKey>,
 }

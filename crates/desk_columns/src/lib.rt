@@ -20,10 +20,10 @@ mod table;
 mod values;
 
 pub use columns::{
-    AccountColumns, AuthzColumns, ChallColumns, FORMAT, MetaColumns, NonceColumns,
-    OrderAuthzColumns, OrderColumns, StoredRows,
+    AccountColumns, AuthzColumns, ChallColumns, ChallKeyColumns, FIRST_FORMAT, FORMAT, MetaColumns,
+    NonceColumns, OrderAuthzColumns, OrderColumns, StoredRows,
 };
-pub use flat_rows::{FlatRows, Owned};
+pub use flat_rows::{AnswerKey, BareChallenge, FlatRows, Owned};
 pub use laws::{columns_tell_rows_apart, texts_are_written};
 pub use problem::problem_text;
 pub use stored::read_rows;

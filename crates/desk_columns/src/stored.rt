@@ -56,10 +56,14 @@ pub fn read_rows(alloc: Global, stored: StoredRows) -> Result<Option<FlatRows>, 
             (stored.metas, stored.nonces),
             (stored.accounts, stored.orders),
         ),
-        ((stored.authzs, stored.challs), stored.order_authzs),
+        (
+            (stored.authzs, stored.challs),
+            (stored.order_authzs, stored.chall_keys),
+        ),
     );
-    let Some((((metas, nonces), (accounts, orders)), ((authorizations, challenges), listed))) =
-        tables.read(alloc)?
+    let Some(
+        (((metas, nonces), (accounts, orders)), ((authorizations, challenges), (listed, keys))),
+    ) = tables.read(alloc)?
     else {
         return Ok(None);
     };
@@ -71,5 +75,6 @@ pub fn read_rows(alloc: Global, stored: StoredRows) -> Result<Option<FlatRows>, 
         authorizations,
         listed,
         challenges,
+        keys,
     }))
 }

@@ -9,7 +9,7 @@ use Rattle.sqlite_schema.specs.declared.command.Command.TheVariants.{CreateTable
 use Rattle.sqlite.specs.Compile.{table_defined_by, index_defined_by}
 use Rattle.sqlite.specs.Change.{created, indexed, next_tree, KeepsRows}
 use Rattle.sqlite.specs.Does.{Tally, Does, lacks_sequence}
-use Rattle.sqlite.specs.Effect.{Database}
+use Rattle.sqlite.specs.Effect.{Database, IsDatabase}
 use Rattle.sqlite.specs.Listing.{understood}
 use Rattle.sqlite.specs.State.{State, mode_of, Writes, Executes}
 use Rattle.sqlite.proofs.Callers.{IsPlain, command_of, statement_of, runs_as}
@@ -65,10 +65,17 @@ one_more : (P : Table → Type 0) (tables : List Table) (t : Table) → AllByRec
 one_more P [] t all own = (own, tt)
 one_more P (x ∷ xs) t all own = (all.0, one_more P xs t all.1 own)
 
--- CREATE TABLE
-makes_table : (schema next : Schema) (text : List ℕ) → MakesTable schema next text → (old new : State) (count : ℕ)
-    → Executes text [] old new (Ok count) → MovesOn schema next old.now new.now
-makes_table schema next text m old new count h has empty =
+-- the table is there, without a row, and each table of the old schema has its rows
+pub record IsWider (schema next : Schema) (old new : Database) : Type 0 where
+  pub sound : IsDatabase new
+  pub schema_is : new.schema ≡ next
+  pub empty : new.trees (next_tree schema) ≡ []
+  pub kept : KeepsRows schema.tables old.trees new.trees
+
+-- CREATE TABLE, whatever rows there are
+pub widens : (schema next : Schema) (text : List ℕ) → MakesTable schema next text → (old new : State) (count : ℕ)
+    → Executes text [] old new (Ok count) → old.now.schema ≡ schema → IsWider schema next old.now new.now
+widens schema next text m old new count h has =
     let w = subst (λ t. Writes old new None CreateTable t [] count) m.statement (runs_as text [] old new schema has CreateTable m.command m.plain count h) in
     let all = went w.changed in
     let first = went all.1 in
@@ -80,13 +87,22 @@ makes_table schema next text m old new count h has empty =
     let now : new.now ≡ first.0 = ap (λ (p : Tally × Database). p.1) (same_value all.2) ∙ same_value (rw plain at first.2) in
     let others = subst (λ s. KeepsRows s.tables old.now.trees first.0.trees) has made.others in
     let own : first.0.trees (next_tree schema) ≡ [] = subst (λ s. first.0.trees (next_tree s) ≡ []) has made.empty in
-    let kept = kept_empty schema.tables old.now.trees first.0.trees others empty in
-    let all_empty : AreEmpty (created schema m.table) first.0.trees =
-    one_more (λ t. first.0.trees t.tree ≡ []) schema.tables (record m.table { tree = next_tree schema }) kept own in (
-      ap (λ (d : Database). d.schema) now ∙ is ∙ m.next_is,
-      subst
-          (λ (d : Database). AreEmpty next d.trees) (sym now) (subst (λ s. AreEmpty s first.0.trees) m.next_is all_empty),
-    )
+    record {
+      sound = w.sound;
+      schema_is = ap (λ (d : Database). d.schema) now ∙ is ∙ m.next_is;
+      empty = subst (λ (d : Database). d.trees (next_tree schema) ≡ []) (sym now) own;
+      kept = subst (λ (d : Database). KeepsRows schema.tables old.now.trees d.trees) (sym now) others;
+    }
+
+-- CREATE TABLE, where there are none
+makes_table : (schema next : Schema) (text : List ℕ) → MakesTable schema next text → (old new : State) (count : ℕ)
+    → Executes text [] old new (Ok count) → MovesOn schema next old.now new.now
+makes_table schema next text m old new count h has empty =
+    let wide = widens schema next text m old new count h has in
+    let kept = kept_empty schema.tables old.now.trees new.now.trees wide.kept empty in
+    let all_empty : AreEmpty (created schema m.table) new.now.trees =
+    one_more (λ t. new.now.trees t.tree ≡ []) schema.tables (record m.table { tree = next_tree schema }) kept wide.empty in
+    (wide.schema_is, subst (λ s. AreEmpty s new.now.trees) m.next_is all_empty)
 
 -- CREATE INDEX
 makes_index : (schema next : Schema) (text : List ℕ) → MakesIndex schema next text → (old new : State) (count : ℕ)

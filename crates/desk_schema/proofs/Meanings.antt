@@ -2,11 +2,11 @@
 use Rattle.std.proofs.Common.{[], ◌∷◌, codes, refl}
 use Rattle.sqlite.specs.Listing.{understood}
 use Rattle.sqlite_tied.specs.Compute.{everything}
-use Rattle.desk_schema.specs.Schema.{schema_at, index_as, meta_table, nonce_table, account_table, ord_table, authz_table, ord_authz_table, chall_table}
+use Rattle.desk_schema.specs.Schema.{schema_at, index_as, meta_table, nonce_table, account_table, ord_table, authz_table, ord_authz_table, chall_table, chall_key_table}
 use Rattle.desk_schema.specs.Definitions.{create_meta, create_nonce, create_account, create_ord, create_authz, create_ord_authz}
 use Rattle.desk_schema.specs.Definitions.{create_chall, create_nonce_issued, create_ord_account, create_ord_status_expires}
 use Rattle.desk_schema.specs.Definitions.{create_authz_account_name, create_authz_status_expires, create_ord_authz_authz}
-use Rattle.desk_schema.specs.Definitions.{create_chall_authz, create_chall_status}
+use Rattle.desk_schema.specs.Definitions.{create_chall_authz, create_chall_status, create_chall_key}
 use Rattle.desk_schema.proofs.Making.{MakesTable, MakesIndex}
 
 -- the table `meta`
@@ -186,3 +186,17 @@ create_chall_status_makes = record {
   defined = refl;
   next_is = refl;
 }
+
+-- the table `chall_key`
+pub create_chall_key_makes : MakesTable (schema_at 15) (schema_at 16) create_chall_key
+unfolding understood everything
+create_chall_key_makes =
+    record {
+      table = record chall_key_table { tree = 0 };
+      command = refl;
+      statement = refl;
+      plain = (refl, refl);
+      defined = refl;
+      next_is = refl;
+      uncounted = refl;
+    }

@@ -3,19 +3,19 @@ use Rattle.std.proofs.Common.{◌<◌, ◌+◌, inl, inr, ℕ, zero, suc, [], Ok
 use Rattle.sqlite.specs.Effect.{Database}
 use Rattle.sqlite.specs.State.{State, Survives}
 use Rattle.desk_schema.specs.Advances.{Advances, Performs}
-use Rattle.desk_schema.specs.Defined.{Defines}
-use Rattle.desk_schema.specs.Definitions.{definition_at}
+use Rattle.desk_schema.specs.Defined.{AddsKeyTable, Defines}
+use Rattle.desk_schema.specs.Definitions.{create_chall_key, definition_at}
 use Rattle.desk_schema.specs.Schema.{schema_at}
 use Rattle.desk_schema.proofs.AdvanceLemmas.{advances_then, performs_advances}
-use Rattle.desk_schema.proofs.Making.{Makes, MovesOn, makes}
+use Rattle.desk_schema.proofs.Making.{Makes, MovesOn, makes, widens}
 use Rattle.desk_schema.proofs.Meanings.{create_meta_makes, create_nonce_makes, create_account_makes, create_ord_makes}
 use Rattle.desk_schema.proofs.Meanings.{create_authz_makes, create_ord_authz_makes, create_chall_makes, create_nonce_issued_makes}
 use Rattle.desk_schema.proofs.Meanings.{create_ord_account_makes, create_ord_status_expires_makes}
 use Rattle.desk_schema.proofs.Meanings.{create_authz_account_name_makes, create_authz_status_expires_makes}
-use Rattle.desk_schema.proofs.Meanings.{create_ord_authz_authz_makes, create_chall_authz_makes, create_chall_status_makes}
+use Rattle.desk_schema.proofs.Meanings.{create_ord_authz_authz_makes, create_chall_authz_makes, create_chall_status_makes, create_chall_key_makes}
 
 -- what the statement at each place makes
-each_makes : (step : ℕ) → step < 15 → Makes (schema_at step) (schema_at (step + 1)) (definition_at step)
+each_makes : (step : ℕ) → step < 16 → Makes (schema_at step) (schema_at (step + 1)) (definition_at step)
 each_makes zero low = inl create_meta_makes
 each_makes (suc zero) low = inl create_nonce_makes
 each_makes (suc (suc zero)) low = inl create_account_makes
@@ -31,7 +31,8 @@ each_makes (suc (suc (suc (suc (suc (suc (suc (suc (suc (suc (suc zero))))))))))
 each_makes (suc (suc (suc (suc (suc (suc (suc (suc (suc (suc (suc (suc zero)))))))))))) low = inr create_ord_authz_authz_makes
 each_makes (suc (suc (suc (suc (suc (suc (suc (suc (suc (suc (suc (suc (suc zero))))))))))))) low = inr create_chall_authz_makes
 each_makes (suc (suc (suc (suc (suc (suc (suc (suc (suc (suc (suc (suc (suc (suc zero)))))))))))))) low = inr create_chall_status_makes
-each_makes (suc (suc (suc (suc (suc (suc (suc (suc (suc (suc (suc (suc (suc (suc (suc n))))))))))))))) low = absurd (omega arith)
+each_makes (suc (suc (suc (suc (suc (suc (suc (suc (suc (suc (suc (suc (suc (suc (suc zero))))))))))))))) low = inl create_chall_key_makes
+each_makes (suc (suc (suc (suc (suc (suc (suc (suc (suc (suc (suc (suc (suc (suc (suc (suc n)))))))))))))))) low = absurd (omega arith)
 
 -- one more definition, where there was nothing before the first
 defines_next : (step : ℕ) (first old new : Database) → Defines step first old → MovesOn (schema_at step) (schema_at (step + 1)) old new
@@ -42,7 +43,7 @@ defines_next step first old new before on none =
     record { schema = it.0; empty = it.1 }
 
 -- one more statement of the transaction
-pub defines_more : (first old new : State) (step count : ℕ) → step < 15 → Survives old new (λ _. ⊥) → Advances first old (Defines step)
+pub defines_more : (first old new : State) (step count : ℕ) → step < 16 → Survives old new (λ _. ⊥) → Advances first old (Defines step)
     → Performs (definition_at step) [] old new (Ok count)
     → Advances first new (Defines (step + 1))
 defines_more first old new step count low on before ran =
@@ -50,3 +51,10 @@ defines_more first old new step count low on before ran =
     let last = performs_advances (definition_at step) [] old new count Next
     (makes (schema_at step) (schema_at (step + 1)) (definition_at step) (each_makes step low) old new count) ran in
     advances_then first old new (Defines step) Next (Defines (step + 1)) (defines_next step first.now old.now new.now) on before last
+
+-- the table that format 1 lacks, made where there is format 1
+pub adds_key_table : (old new : State) (count : ℕ) → Performs create_chall_key [] old new (Ok count) → Advances old new AddsKeyTable
+adds_key_table old new count ran =
+    performs_advances create_chall_key [] old new count AddsKeyTable (λ executes has.
+    let wide = widens (schema_at 15) (schema_at 16) create_chall_key create_chall_key_makes old new count executes has in
+    record { sound = wide.sound; schema = wide.schema_is; empty = wide.empty; kept = wide.kept }) ran

@@ -1,4 +1,4 @@
--- The statements that make the tables and indexes of format 1, in their order.
+-- The statements that make the tables and indexes of format 2, in their order: first those of format 1.
 use Rattle.std.specs.Prelude.{ℕ, List, [], ◌∷◌, codes, slice_index_or}
 
 -- ---- the tables
@@ -71,9 +71,15 @@ create_chall_authz = codes "CREATE INDEX chall_authz ON chall (authz)"
 abbrev pub create_chall_status : List ℕ
 create_chall_status = codes "CREATE INDEX chall_status ON chall (status)"
 
+-- ---- what format 2 adds
+
+-- the keys of answers
+abbrev pub create_chall_key : List ℕ
+create_chall_key = codes "CREATE TABLE chall_key (chall INTEGER PRIMARY KEY REFERENCES chall (num), thumb BLOB NOT NULL) STRICT"
+
 -- ---- all of them
 
--- tables before those that refer to them, indexes last
+-- tables before those that refer to them; what format 2 adds is made last, as it is where there is format 1
 abbrev pub definitions : List (List ℕ)
 definitions =
     create_meta
@@ -91,6 +97,7 @@ definitions =
     ∷ create_ord_authz_authz
     ∷ create_chall_authz
     ∷ create_chall_status
+    ∷ create_chall_key
     ∷ []
 
 -- the one at this place, from 0

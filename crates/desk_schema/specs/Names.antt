@@ -5,9 +5,14 @@ use Rattle.sqlite.specs.Schema.{Schema}
 use Rattle.sqlite_schema.specs.Names.{index_named}
 use Rattle.sqlite.specs.Change.{is_used}
 
--- the seven tables
+-- the table that format 1 lacks
+abbrev pub key_table_name : List ℕ
+key_table_name = codes "chall_key"
+
+-- the eight tables
 abbrev pub table_names : List (List ℕ)
-table_names = codes "meta" ∷ codes "nonce" ∷ codes "account" ∷ codes "ord" ∷ codes "authz" ∷ codes "ord_authz" ∷ codes "chall" ∷ []
+table_names = codes "meta" ∷ codes "nonce" ∷ codes "account" ∷ codes "ord" ∷ codes "authz" ∷ codes "ord_authz" ∷ codes "chall"
+    ∷ key_table_name ∷ []
 
 -- the eight indexes of CREATE INDEX
 abbrev pub index_names : List (List ℕ)
@@ -29,6 +34,10 @@ uses_one schema names = list_any (λ name. is_used schema name) names
 -- one of them has a name of the desk
 abbrev pub uses_names : Schema → Bool
 uses_names schema = uses_one schema table_names || uses_one schema index_names
+
+-- a table, an index or a view has the name of the table that format 1 lacks
+abbrev pub uses_key_table : Schema → Bool
+uses_key_table schema = is_used schema key_table_name
 
 -- each of the eight names is that of an index
 abbrev pub has_all_indexes : Schema → Bool

@@ -1,4 +1,4 @@
--- The schema of format 1: seven tables and ten indexes.
+-- The schemas of format 1, seven tables and ten indexes, and of format 2, which has one table more.
 use Rattle.std.specs.Prelude.{ℕ, true, false, List, [], ◌∷◌, take, Some, None, codes, slice_index_or}
 use Rattle.sqlite.specs.Collation.TheVariants.{Binary}
 use Rattle.sqlite.specs.declared.types.Value.TheVariants.{Null}
@@ -22,7 +22,7 @@ nullable name kind = record { name = name; kind = kind; is_strict = true; not_nu
 abbrev pub filled : List ℕ → Kind → Column
 filled name kind = record (nullable name kind) { not_null = true }
 
--- the column at this place has a number of the parent, as a foreign key without actions
+-- the column at this place, 0 for the INTEGER PRIMARY KEY, has a number of the parent, as a foreign key without actions
 abbrev pub refers : ℕ → List ℕ → Reference
 refers place parent =
     record { columns = place ∷ []; parent = parent; parent_columns = codes "num" ∷ []; on_delete = NoAction; on_update = NoAction; is_deferred = false }
@@ -149,9 +149,21 @@ chall_table =
     ∷ filled (codes "status") Text
     ∷ [])) { references = refers 2 (codes "authz") ∷ [] }
 
--- in the order in which they are made
+-- a row an answered challenge; its tree comes after those of all indexes
+abbrev pub chall_key_table : Table
+chall_key_table =
+    record (table_as (codes "chall_key") 17 (nullable (codes "chall") Integer ∷ filled (codes "thumb") Blob ∷ [])) {
+      references = refers 0 (codes "chall") ∷ [];
+    }
+
+-- those of format 1, in the order in which they are made
+abbrev pub first_tables : List Table
+first_tables = meta_table ∷ nonce_table ∷ account_table ∷ ord_table ∷ authz_table ∷ ord_authz_table ∷ chall_table ∷ []
+
+-- those of format 2
 abbrev pub desk_tables : List Table
-desk_tables = meta_table ∷ nonce_table ∷ account_table ∷ ord_table ∷ authz_table ∷ ord_authz_table ∷ chall_table ∷ []
+desk_tables =
+    meta_table ∷ nonce_table ∷ account_table ∷ ord_table ∷ authz_table ∷ ord_authz_table ∷ chall_table ∷ chall_key_table ∷ []
 
 -- ---- the indexes
 
@@ -179,14 +191,22 @@ schema_of tables indexes = record { tables = tables; indexes = indexes; views = 
 abbrev pub no_schema : Schema
 no_schema = schema_of [] []
 
--- these tables and indexes, and no other object
+-- the tables and indexes of format 1, and no other object
+abbrev pub first_schema : Schema
+first_schema = schema_of first_tables desk_indexes
+
+-- those of format 2, and no other object
 abbrev pub desk_schema : Schema
 desk_schema = schema_of desk_tables desk_indexes
 
 -- how many indexes there are before each of the statements that make the schema, and after all
 abbrev indexes_before : List ℕ
-indexes_before = 0 ∷ 0 ∷ 0 ∷ 1 ∷ 1 ∷ 1 ∷ 2 ∷ 2 ∷ 3 ∷ 4 ∷ 5 ∷ 6 ∷ 7 ∷ 8 ∷ 9 ∷ 10 ∷ []
+indexes_before = 0 ∷ 0 ∷ 0 ∷ 1 ∷ 1 ∷ 1 ∷ 2 ∷ 2 ∷ 3 ∷ 4 ∷ 5 ∷ 6 ∷ 7 ∷ 8 ∷ 9 ∷ 10 ∷ 10 ∷ []
+
+-- how many tables there are then
+abbrev tables_before : List ℕ
+tables_before = 0 ∷ 1 ∷ 2 ∷ 3 ∷ 4 ∷ 5 ∷ 6 ∷ 7 ∷ 7 ∷ 7 ∷ 7 ∷ 7 ∷ 7 ∷ 7 ∷ 7 ∷ 7 ∷ 8 ∷ []
 
 -- the schema after so many of the statements
 abbrev pub schema_at : ℕ → Schema
-schema_at steps = schema_of (take steps desk_tables) (take (slice_index_or indexes_before steps 10) desk_indexes)
+schema_at steps = schema_of (take (slice_index_or tables_before steps 8) desk_tables) (take (slice_index_or indexes_before steps 10) desk_indexes)

@@ -3,12 +3,15 @@ ghost use Rattle.std.specs.Prelude.{◌≡◌, is_some};
 ghost use Rattle.std.specs.List.{list_all, list_any};
 ghost use Rattle.sqlite.specs.Change.{is_used};
 ghost use Rattle.sqlite_schema.specs.Names.{index_named};
-ghost use Rattle.desk_schema.specs.Names.{has_all_indexes, uses_names};
+ghost use Rattle.desk_schema.specs.Names.{has_all_indexes, uses_key_table, uses_names};
 
 use sqlite_schema::schema::Schema;
 
-// The names of the seven tables.
-const TABLES: [&str; 7] = [
+// The name of the table that format 1 lacks.
+const KEY_TABLE: &str = "chall_key";
+
+// The names of the eight tables.
+const TABLES: [&str; 8] = [
     "meta",
     "nonce",
     "account",
@@ -16,6 +19,7 @@ const TABLES: [&str; 7] = [
     "authz",
     "ord_authz",
     "chall",
+    "chall_key",
 ];
 
 // The names of the eight indexes.
@@ -56,6 +60,13 @@ pub fn uses_names(schema: &Schema) -> bool
     ensures { result ≡ uses_names schema.now }
 {
     uses_one(schema, &TABLES) || uses_one(schema, &INDEXES)
+}
+
+/// Whether a table, an index or a view has the name of the table that format 1 lacks, in any case of its ASCII letters.
+pub fn uses_key_table(schema: &Schema) -> bool
+    ensures { result ≡ uses_key_table schema.now }
+{
+    uses(schema, KEY_TABLE)
 }
 
 // Whether an index has this name.

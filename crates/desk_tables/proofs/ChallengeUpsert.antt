@@ -5,6 +5,7 @@ use Rattle.sqlite_sql.specs.Term.{lit, col}
 use Rattle.sqlite_tied.specs.Compute.{everything}
 use Rattle.sqlite.specs.Listing.{understood}
 use Rattle.desk_columns.specs.Columns.{challenge_columns}
+use Rattle.desk_columns.specs.Flat.{bare_row}
 use Rattle.desk_schema.specs.Schema.{chall_table}
 use Rattle.desk_tables.specs.Images.{challenge_image, challenge_params}
 use Rattle.desk_tables.specs.Layouts.{challenge_layout}
@@ -14,7 +15,7 @@ use Rattle.desk_tables.proofs.Clashes.{clash_by_key}
 use Rattle.desk_tables.proofs.UpsertStatement.{IsUpsert}
 
 -- what the text means, and what its table is
-pub challenge_upsert : IsUpsert challenge_layout (λ row. challenge_params (challenge_columns row)) upsert_challenge
+pub challenge_upsert : IsUpsert challenge_layout (λ row. challenge_params (challenge_columns (bare_row row))) upsert_challenge
 unfolding understood everything
 challenge_upsert = record {
   place = 6;

@@ -15,7 +15,7 @@ use Rattle.desk_columns.specs.Flat.{challenge_rows}
 use Rattle.desk_tables.specs.Effects.{Puts}
 use Rattle.desk_tables.specs.Holds.{Holds}
 use Rattle.desk_tables.specs.Layouts.{HasRows, account_layout, authorization_layout, challenge_layout, listed_layout, meta_layout, nonce_layout, order_layout}
-use Rattle.desk_tables.proofs.NoIndexes.{no_index_account, no_index_authorization, no_index_challenge, no_index_listed, no_index_nonce, no_index_order}
+use Rattle.desk_tables.proofs.NoIndexes.{no_index_account, no_index_authorization, no_index_challenge, no_index_key, no_index_listed, no_index_nonce, no_index_order}
 
 -- ---- table by table
 
@@ -68,7 +68,7 @@ holds_again old found T same sound has = subst (λ db. Holds db T) (same_databas
 -- ---- a new desk
 
 -- the definitions, then the row of `meta`
-pub holds_first : (old mid new : Database) (meta : Meta) → Defines 15 old mid → Puts meta_layout meta mid new → old.schema ≡ no_schema
+pub holds_first : (old mid new : Database) (meta : Meta) → Defines 16 old mid → Puts meta_layout meta mid new → old.schema ≡ no_schema
     → Holds new (record { meta = meta; nonces = []; accounts = []; authorizations = []; orders = [] })
 holds_first old mid new meta defines puts none =
     let it = defines none in
@@ -84,5 +84,6 @@ holds_first old mid new meta defines puts none =
       authorizations = p.others 5 (λ e. cc) no_index_authorization ∙ e.1.1.1.1.0;
       listed = record { numbered = []; has = p.others 6 (λ e. cc) no_index_listed ∙ e.1.1.1.1.1.0; rising = tt; same = IsPermutation-refl [] };
       challenges = p.others 8 (λ e. cc) no_index_challenge ∙ e.1.1.1.1.1.1.0;
+      keys = p.others 17 (λ e. cc) no_index_key ∙ e.1.1.1.1.1.1.1.0;
       rising = record { nonces = tt; accounts = tt; orders = tt; authorizations = tt; challenges = tt; listed = tt };
     }

@@ -7,6 +7,7 @@ pub mod Found
 pub mod HiddenUpsert
 pub mod Holding
 pub mod Inserts
+pub mod KeyUpsert
 pub mod Keyed
 pub mod ListedUpsert
 pub mod MetaUpsert

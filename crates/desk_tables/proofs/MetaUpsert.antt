@@ -1,20 +1,24 @@
 -- The upsert into `meta`.
-use Rattle.std.proofs.Common.{pos, [], ◌∷◌, drop, refl, ap}
+use Rattle.std.proofs.Common.{pos, List, [], ◌∷◌, drop, refl, ap, arith}
+use Rattle.sqlite.specs.Effect.{Database}
 use Rattle.sqlite.specs.declared.types.Value.TheVariants.{Int, Null}
 use Rattle.sqlite_sql.specs.Term.{lit, col}
 use Rattle.sqlite_tied.specs.Compute.{everything}
 use Rattle.sqlite.specs.Listing.{understood}
-use Rattle.desk_columns.specs.Columns.{meta_columns}
+use Rattle.desk_columns.specs.Columns.{known_format}
 use Rattle.desk_schema.specs.Schema.{meta_table}
-use Rattle.desk_tables.specs.Images.{meta_image, meta_params}
-use Rattle.desk_tables.specs.Layouts.{meta_layout}
+use Rattle.desk_model.specs.Change.{put}
+use Rattle.desk_model.specs.declared.rows.Meta.{Meta}
+use Rattle.desk_tables.specs.Effects.{BecomesRows, Puts}
+use Rattle.desk_tables.specs.Images.{formatted_columns, formatted_image, meta_params}
+use Rattle.desk_tables.specs.Layouts.{HasRows, formatted_layout, meta_layout}
 use Rattle.desk_tables.specs.Texts.{upsert_meta}
 use Rattle.desk_tables.proofs.Casts.{cast_int, cast_null, row_kept}
 use Rattle.desk_tables.proofs.Clashes.{clash_by_key}
 use Rattle.desk_tables.proofs.UpsertStatement.{IsUpsert}
 
--- what the text means, and what its table is
-pub meta_upsert : IsUpsert meta_layout (λ row. meta_params (meta_columns row)) upsert_meta
+-- what the text means, and what its table is, whatever the format
+pub meta_upsert : IsUpsert formatted_layout (λ row. meta_params (formatted_columns row)) upsert_meta
 unfolding understood everything
 meta_upsert = record {
   place = 0;
@@ -36,8 +40,21 @@ meta_upsert = record {
       (refl, (cast_int _, (cast_int _, (cast_int _, (cast_int _, (cast_int _, (cast_int _, (cast_int _, (cast_int _, (cast_int _, tt)))))))))),
     ),
   );
-  clash = λ x y. clash_by_key meta_layout.key meta_image (λ _. refl) meta_table x y;
+  clash = λ x y. clash_by_key formatted_layout.key formatted_image (λ _. refl) meta_table x y;
   given = λ _. refl;
-  sets = λ x y same. ap (λ k. Int (pos (meta_layout.key y)) ∷ Int (pos k) ∷ drop 1 (meta_image x)) same;
+  sets = λ x y same. ap (λ k. Int (pos (formatted_layout.key y)) ∷ Int (pos k) ∷ drop 1 (formatted_image x)) same;
   source = λ _. refl;
 }
+
+-- a row in the format of a desk, in the place of such a row
+pub puts_known : (x : Meta) (old new : Database) → Puts formatted_layout (known_format, x) old new → Puts meta_layout x old new
+puts_known x old new puts rows has = go rows has
+  where
+    go : (rows : List Meta) → HasRows meta_layout old rows → BecomesRows meta_layout (put meta_layout.key x rows) old new
+    go [] has =
+        let p = puts [] (record { schema = has.schema; rows_are = has.rows_are; rising = tt }) in
+        record { sound = p.sound; has = record { schema = p.has.schema; rows_are = p.has.rows_are; rising = (omega arith, tt) }; others = p.others }
+    go (y ∷ []) has =
+        let p = puts ((known_format, y) ∷ []) (record { schema = has.schema; rows_are = has.rows_are; rising = (omega arith, tt) }) in
+        record { sound = p.sound; has = record { schema = p.has.schema; rows_are = p.has.rows_are; rising = (omega arith, tt) }; others = p.others }
+    go (y ∷ z ∷ zs) has = absurd (omega (arith, has.rising.1.0))

@@ -29,3 +29,7 @@ no_index_listed = (λ e. cc, (λ e. cc, (λ e. cc, (λ e. cc, (λ e. cc, (λ e. 
 -- that of `chall`
 pub no_index_challenge : IsNoIndex desk_schema 8
 no_index_challenge = (λ e. cc, (λ e. cc, (λ e. cc, (λ e. cc, (λ e. cc, (λ e. cc, (λ e. cc, (λ e. cc, (λ e. cc, (λ e. cc, tt))))))))))
+
+-- that of `chall_key`
+pub no_index_key : IsNoIndex desk_schema 17
+no_index_key = (λ e. cc, (λ e. cc, (λ e. cc, (λ e. cc, (λ e. cc, (λ e. cc, (λ e. cc, (λ e. cc, (λ e. cc, (λ e. cc, tt))))))))))

@@ -7,11 +7,12 @@ use Rattle.desk_columns.specs.declared.flat_rows.Owned.{Owned}
 use Rattle.desk_model.specs.Kept.{EachOf}
 use Rattle.desk_model.specs.Tables.{Tables}
 use Rattle.desk_model.specs.declared.rows.Listed.{Listed}
-use Rattle.desk_schema.specs.Schema.{desk_schema}
-use Rattle.desk_columns.specs.Flat.{challenge_rows, listed_rows}
+use Rattle.desk_schema.specs.Schema.{desk_schema, first_schema}
+use Rattle.desk_columns.specs.Columns.{first_format}
+use Rattle.desk_columns.specs.Flat.{challenge_rows, key_rows, listed_rows}
 use Rattle.desk_tables.specs.Effects.{is_same_place}
 use Rattle.desk_tables.specs.Hidden.{hidden, number, row_of}
-use Rattle.desk_tables.specs.Images.{account_image, authorization_image, challenge_image, listed_cells, meta_image, nonce_image, order_image}
+use Rattle.desk_tables.specs.Images.{account_image, authorization_image, challenge_image, formatted_image, key_image, listed_cells, meta_image, nonce_image, order_image}
 use Rattle.desk_tables.specs.Layouts.{IsRising, account_layout, authorization_layout, challenge_layout, nonce_layout, order_layout}
 
 -- no place of an order stands twice
@@ -35,11 +36,25 @@ pub record HoldsListed (tree : List Row) (listed : List (Owned Listed)) : Type 0
   pub rising : IsRising number numbered
   pub same : IsPermutation (map row_of numbered) listed
 
--- the tables and indexes of format 1 and no other object, with exactly the rows of these tables
+-- the tables and indexes of format 2 and no other object, with exactly the rows of these tables
 pub record Holds (db : Database) (T : Tables) : Type 0 where
   pub sound : IsDatabase db
   pub schema : db.schema ≡ desk_schema
   pub meta : db.trees 0 ≡ meta_image T.meta ∷ []
+  pub nonces : db.trees 1 ≡ map nonce_image T.nonces
+  pub accounts : db.trees 2 ≡ map account_image T.accounts
+  pub orders : db.trees 4 ≡ map order_image T.orders
+  pub authorizations : db.trees 5 ≡ map authorization_image T.authorizations
+  pub listed : HoldsListed (db.trees 6) (listed_rows T.orders)
+  pub challenges : db.trees 8 ≡ map challenge_image (challenge_rows T.authorizations)
+  pub keys : db.trees 17 ≡ map key_image (key_rows (challenge_rows T.authorizations))
+  pub rising : AreRising T
+
+-- the same of format 1, which tells no keys of answers: whatever keys these tables have, they are not looked at
+pub record HoldsFirst (db : Database) (T : Tables) : Type 0 where
+  pub sound : IsDatabase db
+  pub schema : db.schema ≡ first_schema
+  pub meta : db.trees 0 ≡ formatted_image (first_format, T.meta) ∷ []
   pub nonces : db.trees 1 ≡ map nonce_image T.nonces
   pub accounts : db.trees 2 ≡ map account_image T.accounts
   pub orders : db.trees 4 ≡ map order_image T.orders

@@ -4,14 +4,17 @@ use Rattle.sqlite.specs.declared.types.Value.{Value}
 use Rattle.sqlite.specs.declared.types.Value.TheVariants.{Null, Int, Text, Blob}
 use Rattle.sqlite.specs.Order.{Row}
 use Rattle.sqlite.specs.Values.{or_null}
-use Rattle.desk_columns.specs.Columns.{account_columns, authorization_columns, challenge_columns, listed_columns, meta_columns, nonce_columns, order_columns}
+use Rattle.desk_columns.specs.Columns.{account_columns, authorization_columns, challenge_columns, key_columns, listed_columns, meta_columns, nonce_columns, order_columns}
+use Rattle.desk_columns.specs.Flat.{bare_row}
 use Rattle.desk_columns.specs.declared.columns.AccountColumns.{AccountColumns}
 use Rattle.desk_columns.specs.declared.columns.AuthzColumns.{AuthzColumns}
 use Rattle.desk_columns.specs.declared.columns.ChallColumns.{ChallColumns}
+use Rattle.desk_columns.specs.declared.columns.ChallKeyColumns.{ChallKeyColumns}
 use Rattle.desk_columns.specs.declared.columns.MetaColumns.{MetaColumns}
 use Rattle.desk_columns.specs.declared.columns.NonceColumns.{NonceColumns}
 use Rattle.desk_columns.specs.declared.columns.OrderAuthzColumns.{OrderAuthzColumns}
 use Rattle.desk_columns.specs.declared.columns.OrderColumns.{OrderColumns}
+use Rattle.desk_columns.specs.declared.flat_rows.AnswerKey.{AnswerKey}
 use Rattle.desk_columns.specs.declared.flat_rows.Owned.{Owned}
 use Rattle.desk_model.specs.declared.objects.Nonce.{Nonce}
 use Rattle.desk_model.specs.declared.rows.AccountRow.{AccountRow}
@@ -60,6 +63,14 @@ meta_params c =
 
 abbrev pub meta_image : Meta → Row
 meta_image row = keyed (meta_params (meta_columns row))
+
+-- the columns of a row of this format
+abbrev pub formatted_columns : ℤ × Meta → MetaColumns
+formatted_columns row = record (meta_columns row.1) { format = row.0 }
+
+-- the row in this format
+abbrev pub formatted_image : ℤ × Meta → Row
+formatted_image row = keyed (meta_params (formatted_columns row))
 
 -- ---- `nonce`
 
@@ -140,4 +151,12 @@ challenge_params c =
     ∷ []
 
 abbrev pub challenge_image : Owned ChallengeRow → Row
-challenge_image row = keyed (challenge_params (challenge_columns row))
+challenge_image row = keyed (challenge_params (challenge_columns (bare_row row)))
+
+-- ---- `chall_key`
+
+abbrev pub key_params : ChallKeyColumns → Row
+key_params c = Int c.chall ∷ Blob c.thumb ∷ []
+
+abbrev pub key_image : AnswerKey → Row
+key_image row = keyed (key_params (key_columns row))

@@ -1,8 +1,9 @@
 -- How the rows of each table are kept.
-use Rattle.std.specs.Prelude.{◌≡◌, ℕ, List, map}
+use Rattle.std.specs.Prelude.{◌≡◌, ℕ, ℤ, List, map}
 use Rattle.sqlite.specs.Effect.{Database}
 use Rattle.sqlite.specs.Order.{Row}
 use Rattle.sqlite_schema.specs.declared.schema.Table.{Table}
+use Rattle.desk_columns.specs.declared.flat_rows.AnswerKey.{AnswerKey}
 use Rattle.desk_columns.specs.declared.flat_rows.Owned.{Owned}
 use Rattle.desk_laws.specs.Ordered.{Ascends}
 use Rattle.desk_model.specs.declared.objects.Nonce.{Nonce}
@@ -12,9 +13,9 @@ use Rattle.desk_model.specs.declared.rows.ChallengeRow.{ChallengeRow}
 use Rattle.desk_model.specs.declared.rows.Listed.{Listed}
 use Rattle.desk_model.specs.declared.rows.Meta.{Meta}
 use Rattle.desk_model.specs.declared.rows.OrderRow.{OrderRow}
-use Rattle.desk_schema.specs.Schema.{account_table, authz_table, chall_table, desk_schema, meta_table, nonce_table, ord_authz_table, ord_table}
+use Rattle.desk_schema.specs.Schema.{account_table, authz_table, chall_key_table, chall_table, desk_schema, meta_table, nonce_table, ord_authz_table, ord_table}
 use Rattle.desk_tables.specs.Hidden.{hidden, number}
-use Rattle.desk_tables.specs.Images.{account_image, authorization_image, challenge_image, listed_cells, meta_image, nonce_image, order_image}
+use Rattle.desk_tables.specs.Images.{account_image, authorization_image, challenge_image, formatted_image, key_image, listed_cells, meta_image, nonce_image, order_image}
 
 -- the table of these rows, the number that is the key, and a row as the engine keeps it
 pub record Layout (X : Type 0) : Type 0 where
@@ -37,6 +38,10 @@ pub record HasRows {X : Type 0} (L : Layout X) (db : Database) (rows : List X) :
 -- its one row
 abbrev pub meta_layout : Layout Meta
 meta_layout = record { table = meta_table; key = λ _. 1; image = meta_image }
+
+-- its one row, in any format
+abbrev pub formatted_layout : Layout (ℤ × Meta)
+formatted_layout = record { table = meta_table; key = λ _. 1; image = formatted_image }
 
 -- nonces, by serial
 abbrev pub nonce_layout : Layout Nonce
@@ -61,3 +66,7 @@ listed_layout = record { table = ord_authz_table; key = number; image = hidden l
 -- challenges, by number
 abbrev pub challenge_layout : Layout (Owned ChallengeRow)
 challenge_layout = record { table = chall_table; key = λ c. c.row.number; image = challenge_image }
+
+-- keys of answers, by the number of the challenge
+abbrev pub key_layout : Layout AnswerKey
+key_layout = record { table = chall_key_table; key = λ k. k.challenge; image = key_image }

@@ -35,6 +35,11 @@ abbrev pub upsert_challenge : List ℕ
 upsert_challenge =
     codes "INSERT INTO chall (num, authz, kind, token, answered, reported, outcome, status) VALUES (?1, ?2, ?3, ?4, ?5, ?6, ?7, ?8) ON CONFLICT (num) DO UPDATE SET authz = excluded.authz, kind = excluded.kind, token = excluded.token, answered = excluded.answered, reported = excluded.reported, outcome = excluded.outcome, status = excluded.status"
 
+-- puts the key of an answer
+abbrev pub upsert_key : List ℕ
+upsert_key =
+    codes "INSERT INTO chall_key (chall, thumb) VALUES (?1, ?2) ON CONFLICT (chall) DO UPDATE SET thumb = excluded.thumb"
+
 -- removes a nonce
 abbrev pub delete_nonce : List ℕ
 delete_nonce = codes "DELETE FROM nonce WHERE serial = ?1"

@@ -8,8 +8,7 @@ use Rattle.desk_laws.proofs.Numbers.{AreNumbered, challenges_count}
 use Rattle.desk_laws.proofs.OrderFacts.{IsFound, listed_found}
 use Rattle.desk_laws.proofs.Recorded.{below_map, challenges_ordered, numbered_below, tables_ordered}
 use Rattle.desk_laws.proofs.References.{authorizations_have_accounts, orders_have_accounts}
-use Rattle.desk_laws.proofs.RowLists.{ascends_above, ascends_from}
-use Rattle.desk_laws.specs.Distinct.{Distinct}
+use Rattle.desk_laws.proofs.RowLists.{ascends_from}
 use Rattle.desk_laws.specs.Ordered.{Ascends, Below}
 use Rattle.desk_model.specs.Account.{accounts}
 use Rattle.desk_model.specs.Authorization.{authorizations, count_challenges}
@@ -80,7 +79,7 @@ keep_counters F t =
       authorizations = ordered.authorizations.1;
       challenges = each-map _ (authorization_row F t) (authorizations F)
           (each _ _ (authorizations F)
-          (λ a. below_map (λ c. c.number) (λ (c : ChallengeRow). c.number) (challenge_row F) (λ c. refl) (count_challenges (authorizations F) + 1) a.challenges)
+          (λ a. below_map (λ c. c.number) (λ (c : ChallengeRow). c.number) (challenge_row F a.account) (λ c. refl) (count_challenges (authorizations F) + 1) a.challenges)
           (counted_below 1 (count_challenges (authorizations F) + 1) (authorizations F) (omega arith) (challenges_count F)));
       orders = ordered.orders.1;
     }

@@ -6,9 +6,9 @@ use Rattle.std.proofs.Math.ListN.{get_or-map}
 use Rattle.std.proofs.lemmas.List.{length-map, map-set}
 use Rattle.std.proofs.lemmas.List.Elements.{All-from_recursion, recursion_from_All}
 use Rattle.std.proofs.lemmas.List.Sorted.{All-permutation, IsPermutation-keeps, IsPermutation-refl, IsPermutation-swap, IsPermutation-sym, IsPermutation-trans}
-use Rattle.desk_columns.specs.Columns.{account_columns, authorization_columns, challenge_columns, listed_columns, meta_columns}
+use Rattle.desk_columns.specs.Columns.{account_columns, authorization_columns, challenge_columns, key_columns, listed_columns, meta_columns}
 use Rattle.desk_columns.specs.Columns.{nonce_columns, order_columns, rows_columns}
-use Rattle.desk_columns.specs.Limits.{AreStored, IsStoredAccount, IsStoredAuthorization, IsStoredChallenge, IsStoredListed}
+use Rattle.desk_columns.specs.Limits.{AreStored, IsStoredAccount, IsStoredAuthorization, IsStoredChallenge, IsStoredKey, IsStoredListed}
 use Rattle.desk_columns.specs.Limits.{IsStoredMeta, IsStoredNonce, IsStoredOrder}
 use Rattle.desk_columns.specs.declared.columns.StoredRows.{StoredRows}
 use Rattle.desk_model.specs.Entry.{History}
@@ -19,9 +19,9 @@ use Rattle.desk_model.specs.Tables.{picture, Tables}
 use Rattle.stored_laws.proofs.Books.{tables_book}
 use Rattle.stored_laws.proofs.Rows.{picture_stored}
 use Rattle.stored_laws.specs.Told.{AreReorderedColumns, IsOnlyBookOf}
-use Rattle.stored_rows.proofs.SoundBooks.{same-tables, stored-told}
-use Rattle.desk_columns.specs.Flat.{AreReordered, flat}
-use Rattle.stored_rows.specs.IsBook.{IsBook, IsBookOfStored}
+use Rattle.stored_rows.proofs.SoundBooks.{same-books, stored-told}
+use Rattle.desk_columns.specs.Flat.{flat}
+use Rattle.stored_rows.specs.IsBook.{IsBook, IsBookOf, IsBookOfStored}
 
 -- ---- one table
 
@@ -78,9 +78,10 @@ book_of T is_book limits stored order =
     let z = rows_of authorization_columns rows.authorizations stored.authzs order.authzs in
     let l = rows_of listed_columns rows.listed stored.order_authzs order.order_authzs in
     let c = rows_of challenge_columns rows.challenges stored.challs order.challs in
+    let k = rows_of key_columns rows.keys stored.chall_keys order.chall_keys in
     record {
-      flat_rows = record { metas = m.0; nonces = n.0; accounts = a.0; orders = o.0; authorizations = z.0; listed = l.0; challenges = c.0 };
-      spelled = λ i. record { metas = m.2 i; nonces = n.2 i; accounts = a.2 i; orders = o.2 i; authzs = z.2 i; order_authzs = l.2 i; challs = c.2 i };
+      flat_rows = record { metas = m.0; nonces = n.0; accounts = a.0; orders = o.0; authorizations = z.0; listed = l.0; challenges = c.0; keys = k.0 };
+      spelled = λ i. record { metas = m.2 i; nonces = n.2 i; accounts = a.2 i; orders = o.2 i; authzs = z.2 i; order_authzs = l.2 i; challs = c.2 i; chall_keys = k.2 i };
       in_limits = record {
         metas = each_reordered IsStoredMeta _ _ m.1 limits.metas;
         nonces = each_reordered IsStoredNonce _ _ n.1 limits.nonces;
@@ -89,6 +90,7 @@ book_of T is_book limits stored order =
         authorizations = each_reordered IsStoredAuthorization _ _ z.1 limits.authorizations;
         listed = each_reordered IsStoredListed _ _ l.1 limits.listed;
         challenges = each_reordered IsStoredChallenge _ _ c.1 limits.challenges;
+        keys = each_reordered IsStoredKey _ _ k.1 limits.keys;
       };
       book = record {
         is_book = is_book;
@@ -100,6 +102,7 @@ book_of T is_book limits stored order =
           authorizations = IsPermutation-sym _ _ z.1;
           listed = IsPermutation-sym _ _ l.1;
           challenges = IsPermutation-sym _ _ c.1;
+          keys = IsPermutation-sym _ _ k.1;
         };
       };
     }
@@ -108,8 +111,7 @@ book_of T is_book limits stored order =
 same_book : (stored : StoredRows) (T U : Tables) → IsBookOfStored stored T → IsBookOfStored stored U → T ≡ U
 same_book stored T U b c =
     let same : b.flat_rows ≡ c.flat_rows = stored-told stored b.flat_rows c.flat_rows b.in_limits b.spelled c.in_limits c.spelled in
-    same-tables c.flat_rows T U b.book.is_book.in_order (subst (λ rows. AreReordered rows (flat T)) same b.book.has_rows)
-    c.book.is_book.in_order c.book.has_rows
+    same-books c.flat_rows T U (subst (λ rows. IsBookOf rows T) same b.book) c.book
 
 -- the columns of a book's rows, in any order, tell the book
 pub book_told : (T : Tables) → IsBook T → AreStored (flat T) → (stored : StoredRows) → AreReorderedColumns stored (rows_columns (flat T)) →

@@ -1,3 +1,4 @@
+pub mod BlankBooks
 pub mod Books
 pub mod Columns
 pub mod FlatTexts

@@ -1,10 +1,15 @@
 -- The rows of a legal history are in the limits of their columns.
-use Rattle.std.proofs.Common.{◌≡◌, ◌≤◌, ◌<◌, ℕ, ◌+◌, List, [], ◌∷◌, length, Option, Some, None, refl, true, false, Bool, cond, arith}
+use Rattle.std.proofs.Common.{◌≡◌, ◌≤◌, ◌<◌, ℕ, ◌+◌, List, [], ◌∷◌, length, Option, Some, None, option_map, refl, sym, subst, true, false, Bool, cond, arith}
 use Rattle.std.specs.Prelude.{◌==◌, IfSome, IsSome, IsTrue, find}
-use Rattle.std.specs.List.{flat_map}
+use Rattle.std.specs.List.{cons_option, flat_map}
+use Rattle.std.proofs.lemmas.List.Elements.{filter_map-append}
+use Rattle.sha2.proofs.Facts256.{length-sha256}
 use Rattle.std.proofs.lemmas.Bool.{and_parts, eqb-true}
 use Rattle.desk_columns.specs.Limits.{AreStored, IfRecorded, IsDatedProblem, IsMoment, IsNumber, IsStoredAccount}
-use Rattle.desk_columns.specs.Limits.{IsStoredChallenge, IsStoredListed, IsStoredMeta, IsStoredNonce}
+use Rattle.desk_columns.specs.Limits.{IsStoredChallenge, IsStoredKey, IsStoredListed, IsStoredMeta, IsStoredNonce}
+use Rattle.desk_columns.specs.declared.flat_rows.Owned.{Owned}
+use Rattle.desk_model.specs.Account.{account_key}
+use Rattle.desk_model.specs.declared.objects.Answer.{Answer}
 use Rattle.desk_laws.proofs.Basics.{each, each-append, each-map, each_all, each_both}
 use Rattle.desk_laws.proofs.Dates.{clock_in_time, no_date_later}
 use Rattle.desk_laws.proofs.Forms.{HasTokens, nonces_drawn, problem_formed, tokens_drawn}
@@ -15,11 +20,11 @@ use Rattle.desk_laws.proofs.References.{there}
 use Rattle.desk_laws.proofs.RowLists.{ascends_above, numbered_ascends}
 use Rattle.desk_laws.specs.DateLaws.{IsAuthorizationDatedBy, IsChallengeDatedBy, IsOrderDatedBy}
 use Rattle.desk_laws.specs.Ordered.{Ascends, Below}
-use Rattle.desk_model.specs.Authorization.{authorizations}
+use Rattle.desk_model.specs.Authorization.{answer, answer_by, answering, authorizations}
 use Rattle.desk_model.specs.BaseName.{is_base_name}
 use Rattle.desk_model.specs.Change.{spent_by}
 use Rattle.desk_model.specs.Entry.{History}
-use Rattle.desk_model.specs.History.{clock}
+use Rattle.desk_model.specs.History.{clock, earlier}
 use Rattle.desk_model.specs.Kept.{EachOf, Kept, restricted}
 use Rattle.desk_model.specs.Legal.{has_length, is_problem, is_problem_kind, Legal, may_follow}
 use Rattle.desk_model.specs.Limits.{last_end, last_moment, last_number, longest_detail}
@@ -36,7 +41,7 @@ use Rattle.desk_model.specs.declared.rows.Listed.{Listed}
 use Rattle.desk_model.specs.declared.rows.OrderRow.{OrderRow}
 use Rattle.stored_laws.proofs.Books.{tables_book}
 use Rattle.stored_laws.specs.InLimits.{AreInLimits, IsAuthorizationInLimits, IsOrderInLimits}
-use Rattle.desk_columns.specs.Flat.{flat, owned_by, without_challenges, without_listed}
+use Rattle.desk_columns.specs.Flat.{answer_key, bare_row, challenge_rows, flat, key_rows, owned_by, without_challenges, without_listed}
 use Rattle.stored_rows.specs.IsBook.{ListsFound}
 
 -- ---- numbers
@@ -149,17 +154,54 @@ authorization_numbers F h t =
     numbers_in_limits (λ a. a.number) T.meta.counters.authorizations T.authorizations book.in_order.authorizations book.sound.counters.authorizations
     (counters_fit F h.numbered t).authorizations
 
+-- the date of an answer, in a column of its own
+date_recorded : (o : Option Answer) → IfRecorded (λ a. IsMoment a.date) o → IfRecorded IsMoment (option_map (λ a. a.date) o)
+date_recorded None h = tt
+date_recorded (Some a) h = h
+
+-- the thumbprint of an answer has 32 bytes
+abbrev HasThumb : Option Answer → Type 0
+HasThumb o = IfSome o (λ a. length a.thumb ≡ 32)
+
+first_thumb : (key : List ℕ) (before : Option Answer) (now : Option ℕ) → HasThumb before → HasThumb (earlier before (answer_by key now))
+first_thumb key before None h = h
+first_thumb key None (Some date) h = length-sha256 key
+first_thumb key (Some a) (Some date) h = h
+
+answer_thumbs : (account n : ℕ) (F : History) → HasThumb (answer account n F)
+answer_thumbs account n [] = tt
+answer_thumbs account n (e ∷ F) =
+    first_thumb (account_key account F) (answer account n F) (answering n e.entry e.date) (answer_thumbs account n F)
+
+-- so it is row by row
+row_thumbs : (F : History) (t : ℕ) → EachOf (λ a. EachOf (λ c. HasThumb c.answered) a.challenges) (tables_at F t).authorizations
+row_thumbs F t =
+    each-map _ (authorization_row F t) (authorizations F)
+    (each_all _ (authorizations F) (λ a. each-map (λ c. HasThumb c.answered) (challenge_row F a.account) a.challenges
+    (each_all _ a.challenges (λ c. answer_thumbs a.account c.number F))))
+
+-- the keys of the answers of challenges whose numbers are in their limits
+keys_stored : (owner : ℕ) (cs : List ChallengeRow) → EachOf (λ c. IsNumber c.number) cs → EachOf (λ c. HasThumb c.answered) cs
+    → EachOf IsStoredKey (key_rows (owned_by owner cs))
+keys_stored owner [] numbers thumbs = tt
+keys_stored owner (c ∷ cs) numbers thumbs = by c.answered thumbs.0 (keys_stored owner cs numbers.1 thumbs.1)
+  where
+    by : (o : Option Answer) → HasThumb o → EachOf IsStoredKey (key_rows (owned_by owner cs))
+        → EachOf IsStoredKey (cons_option (option_map (λ a. record { challenge = c.number; thumb = a.thumb }) o) (key_rows (owned_by owner cs)))
+    by None long rest = rest
+    by (Some a) long rest = (record { challenge = numbers.0; thumb = long }, rest)
+
 -- challenges of an authorization whose number is in its limits
 challenges_stored : (F : History) → Legal F → (owner last : ℕ) → IsNumber owner → last ≤ last_number → (cs : List ChallengeRow) →
     Ascends (λ c. c.number) 1 cs → Below (λ c. c.number) (last + 1) cs → EachOf (λ c. length c.token ≡ 16) cs →
-    EachOf (IsChallengeDatedBy (clock F)) cs → EachOf IsStoredChallenge (owned_by owner cs)
+    EachOf (IsChallengeDatedBy (clock F)) cs → EachOf (λ c. IsStoredChallenge (bare_row c)) (owned_by owner cs)
 challenges_stored F h owner last is fits cs up below tokens dates =
-    each-map IsStoredChallenge (λ c. record { owner = owner; row = c }) cs
+    each-map (λ c. IsStoredChallenge (bare_row c)) (λ c. record { owner = owner; row = c }) cs
     (each _ _ cs (λ c p. record {
       number = p.0;
       authorization = is;
       token = p.1.0;
-      answered = dated F h (λ date. date) c.answered p.1.1.answered;
+      answered = date_recorded c.answered (dated F h (λ a. a.date) c.answered p.1.1.answered);
       reported = dated F h (λ r. r.date) c.reported p.1.1.reported;
     }) (each_both _ _ cs (numbers_in_limits (λ c. c.number) last cs up below fits) (each_both _ _ cs tokens dates)))
 
@@ -167,7 +209,7 @@ challenges_stored F h owner last is fits cs up below tokens dates =
 row_tokens : (F : History) → Legal F → (t : ℕ) → EachOf (λ a. EachOf (λ c. length c.token ≡ 16) a.challenges) (tables_at F t).authorizations
 row_tokens F h t =
     each-map _ (authorization_row F t) (authorizations F)
-    (each HasTokens _ (authorizations F) (λ a. each-map (λ c. length c.token ≡ 16) (challenge_row F) a.challenges) (tokens_drawn F h.each))
+    (each HasTokens _ (authorizations F) (λ a. each-map (λ c. length c.token ≡ 16) (challenge_row F a.account) a.challenges) (tokens_drawn F h.each))
 
 -- what is known of an authorization
 record AreAuthorizationFacts (F : History) (last : ℕ) (row : AuthorizationRow) : Type 0 where
@@ -179,6 +221,7 @@ record AreAuthorizationFacts (F : History) (last : ℕ) (row : AuthorizationRow)
   up : Ascends (λ c. c.number) 1 row.challenges
   below : Below (λ c. c.number) (last + 1) row.challenges
   tokens : EachOf (λ c. length c.token ≡ 16) row.challenges
+  thumbs : EachOf (λ c. HasThumb c.answered) row.challenges
 
 -- these are enough for an authorization and its challenges
 authorization_stored : (F : History) → Legal F → (last : ℕ) → last ≤ last_number → (row : AuthorizationRow) → AreAuthorizationFacts F last row →
@@ -195,6 +238,7 @@ authorization_stored F h last fits row k =
         challenges = refl;
       };
       challenges = challenges_stored F h row.number last k.number fits row.challenges k.up k.below k.tokens k.dates.challenges;
+      keys = keys_stored row.number row.challenges (numbers_in_limits (λ c. c.number) last row.challenges k.up k.below fits) k.thumbs;
     }
 
 -- each authorization
@@ -212,7 +256,8 @@ authorizations_stored F h t =
       dates = p.1.1.1.1.0;
       up = p.1.1.1.1.1.0;
       below = p.1.1.1.1.1.1.0;
-      tokens = p.1.1.1.1.1.1.1;
+      tokens = p.1.1.1.1.1.1.1.0;
+      thumbs = p.1.1.1.1.1.1.1.1;
     }))
     (both _ _ (authorization_numbers F h t)
     (both _ _ book.sound.references.authorizations
@@ -220,7 +265,8 @@ authorizations_stored F h t =
     (both _ _ (all_end F h.each t).authorizations
     (both _ _ (no_date_later F t).authorizations
     (both _ _ book.in_order.challenges
-    (both _ _ book.sound.counters.challenges (row_tokens F h t))))))))
+    (both _ _ book.sound.counters.challenges
+    (both _ _ (row_tokens F h t) (row_thumbs F t)))))))))
 
 -- ---- orders
 
@@ -323,6 +369,14 @@ each_flat : {X Y : Type 0} (P : Y → Type 0) (part : X → List Y) (xs : List X
 each_flat P part [] h = tt
 each_flat P part (x ∷ xs) h = each-append P (part x) (flat_map part xs) h.0 (each_flat P part xs h.1)
 
+-- and of the keys of all answers
+keys_each : (rows : List AuthorizationRow) → EachOf (λ a. EachOf IsStoredKey (key_rows (owned_by a.number a.challenges))) rows
+    → EachOf IsStoredKey (key_rows (challenge_rows rows))
+keys_each [] h = tt
+keys_each (a ∷ rows) h =
+    subst (EachOf IsStoredKey) (sym (filter_map-append (λ (c : Owned ChallengeRow). answer_key c.row) (owned_by a.number a.challenges) (challenge_rows rows)))
+    (each-append IsStoredKey (key_rows (owned_by a.number a.challenges)) (key_rows (challenge_rows rows)) h.0 (keys_each rows h.1))
+
 -- rows in their limits are so table by table
 pub flat_stored : (T : Tables) → AreInLimits T → AreStored (flat T)
 flat_stored T h =
@@ -333,8 +387,10 @@ flat_stored T h =
       orders = each-map _ without_listed T.orders (each _ _ T.orders (λ o k. k.columns) h.orders);
       authorizations = each-map _ without_challenges T.authorizations (each _ _ T.authorizations (λ a k. k.columns) h.authorizations);
       listed = each_flat _ (λ (o : OrderRow). owned_by o.number o.listed) T.orders (each _ _ T.orders (λ o k. k.listed) h.orders);
-      challenges = each_flat _ (λ (a : AuthorizationRow). owned_by a.number a.challenges) T.authorizations
-          (each _ _ T.authorizations (λ a k. k.challenges) h.authorizations);
+      challenges = each-map IsStoredChallenge bare_row (challenge_rows T.authorizations)
+          (each_flat _ (λ (a : AuthorizationRow). owned_by a.number a.challenges) T.authorizations
+          (each _ _ T.authorizations (λ a k. k.challenges) h.authorizations));
+      keys = keys_each T.authorizations (each _ _ T.authorizations (λ a k. k.keys) h.authorizations);
     }
 
 -- and so are those of a desk's picture

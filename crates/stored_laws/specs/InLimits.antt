@@ -1,5 +1,5 @@
 -- Rows in the limits of their columns, each with the rows that belong to it, and changes that put such rows.
-use Rattle.desk_columns.specs.Limits.{IsNumber, IsStoredAccount, IsStoredAuthorization, IsStoredChallenge, IsStoredListed}
+use Rattle.desk_columns.specs.Limits.{IsNumber, IsStoredAccount, IsStoredAuthorization, IsStoredChallenge, IsStoredKey, IsStoredListed}
 use Rattle.desk_columns.specs.Limits.{IsStoredMeta, IsStoredNonce, IsStoredOrder}
 use Rattle.desk_model.specs.Kept.{EachOf}
 use Rattle.desk_model.specs.Tables.{Tables}
@@ -7,12 +7,13 @@ use Rattle.desk_model.specs.declared.rows.AuthorizationRow.{AuthorizationRow}
 use Rattle.desk_model.specs.declared.rows.Change.{Change}
 use Rattle.desk_model.specs.declared.rows.Change.TheVariants.{PutMeta, PutNonce, RemoveNonce, PutAccount, PutAuthorization, PutOrder}
 use Rattle.desk_model.specs.declared.rows.OrderRow.{OrderRow}
-use Rattle.desk_columns.specs.Flat.{owned_by, without_challenges, without_listed}
+use Rattle.desk_columns.specs.Flat.{bare_row, key_rows, owned_by, without_challenges, without_listed}
 
--- an authorization and its challenges
+-- an authorization, its challenges, and the keys of their answers
 pub record IsAuthorizationInLimits (row : AuthorizationRow) : Type 0 where
   pub columns : IsStoredAuthorization (without_challenges row)
-  pub challenges : EachOf IsStoredChallenge (owned_by row.number row.challenges)
+  pub challenges : EachOf (λ c. IsStoredChallenge (bare_row c)) (owned_by row.number row.challenges)
+  pub keys : EachOf IsStoredKey (key_rows (owned_by row.number row.challenges))
 
 -- an order and what it lists
 pub record IsOrderInLimits (row : OrderRow) : Type 0 where

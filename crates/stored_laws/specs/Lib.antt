@@ -1,3 +1,4 @@
+pub mod Blank
 pub mod InLimits
 pub mod Laws
 pub mod Told

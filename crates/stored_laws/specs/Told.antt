@@ -14,6 +14,7 @@ pub record AreReorderedColumns (stored others : StoredRows) : Type 0 where
   pub authzs : IsPermutation stored.authzs others.authzs
   pub order_authzs : IsPermutation stored.order_authzs others.order_authzs
   pub challs : IsPermutation stored.challs others.challs
+  pub chall_keys : IsPermutation stored.chall_keys others.chall_keys
 
 -- the tables are a book of these columns, and the only one
 pub record IsOnlyBookOf (stored : StoredRows) (T : Tables) : Type 0 where

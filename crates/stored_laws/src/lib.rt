@@ -1,6 +1,7 @@
 //! The tables of a desk's history as rows of a file: a book, in the limits of the columns, which the columns tell.
 #![tactic(auto)]
 
+ghost use Rattle.stored_laws.specs.Blank.{BlankBooks};
 ghost use Rattle.stored_laws.specs.Laws.{BooksAreTold, PartsAreInLimits, PicturesAreStored, PicturesAreTold, RecordsAreInLimits};
 ghost use Rattle.stored_laws.specs.Laws.{RowsAreStored, TablesAreBooks, TablesAreInLimits, TablesAreTexts};
 
@@ -16,4 +17,5 @@ pub fn pictures_are_books()
     ensures texts { TablesAreTexts }
     ensures told { BooksAreTold }
     ensures one_book { PicturesAreTold }
+    ensures blank { BlankBooks }
 {}

@@ -80,7 +80,7 @@ unfolding IsDistinct
 distinct-values e value equal [] h = tt
 distinct-values e value equal (k ∷ ks) h = (each-apart e value equal k ks h.0, distinct-values e value equal ks h.1)
 
-values-distinct : {K Y : Type 0} (e : K → K → Bool) (value : K → Y) → ((k l : K) → e k l ≡ true → value k ≡ value l) → (ks : List K)
+pub values-distinct : {K Y : Type 0} (e : K → K → Bool) (value : K → Y) → ((k l : K) → e k l ≡ true → value k ≡ value l) → (ks : List K)
     → Distinct value ks → IsDistinct e ks
 unfolding IsDistinct
 values-distinct e value same [] h = tt

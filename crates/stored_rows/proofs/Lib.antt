@@ -10,3 +10,5 @@ pub mod SortedFaults
 pub mod SortedLists
 pub mod SoundBooks
 pub mod StableSorts
+mod Joins
+mod Swapped

@@ -1,10 +1,10 @@
 -- The tests of a book's tables, and that one book at most has given rows.
-use Rattle.std.proofs.Common.{◌≡◌, ℕ, ◌+◌, ◌<◌, Bool, true, List, [], ◌∷◌, refl, sym, ◌∙◌, arith, subst}
+use Rattle.std.proofs.Common.{◌≡◌, ℕ, ◌+◌, ◌++◌, ◌<◌, Bool, true, List, [], ◌∷◌, map, refl, sym, ap, ◌∙◌, arith, subst}
 use Rattle.std.specs.Prelude.{◌&&◌, ◌↔◌, IsSome, IsTrue, nat_le}
 use Rattle.std.specs.List.{list_all}
 use Rattle.std.proofs.lemmas.Bool.Decides.{nat_tests}
 use Rattle.std.specs.List.Sorted.{IsPermutation}
-use Rattle.std.proofs.lemmas.List.Sorted.{IsPermutation-refl, IsPermutation-sym, IsPermutation-trans}
+use Rattle.std.proofs.lemmas.List.Sorted.{IsPermutation-map, IsPermutation-refl, IsPermutation-sym, IsPermutation-trans}
 use Rattle.desk_model.specs.Questions.{account_on, authorization_on}
 use Rattle.desk_model.specs.Tables.{Tables}
 use Rattle.desk_model.specs.declared.rows.AuthorizationRow.{AuthorizationRow}
@@ -17,8 +17,17 @@ use Rattle.desk_columns.specs.Columns.{rows_columns}
 use Rattle.desk_columns.specs.Limits.{AreStored, IsStoredAuthorization, IsStoredOrder}
 use Rattle.desk_columns.specs.declared.columns.StoredRows.{StoredRows}
 use Rattle.desk_laws.specs.Ordered.{Ascends, Below}
-use Rattle.desk_columns.specs.Flat.{AreReordered, flat}
-use Rattle.stored_rows.specs.IsBook.{AreDistinct, AreFlat, AreInOrder, HaveReferences, IsSound, KeepCounters, ListsFound}
+use Rattle.desk_columns.specs.Flat.{answer_key, bare_row, challenge_rows, key_rows, listed_rows, owned_by, without_challenges, without_listed}
+use Rattle.desk_columns.specs.declared.flat_rows.Owned.{Owned}
+use Rattle.desk_laws.proofs.Distinctness.{distinct-map, map-distinct}
+use Rattle.desk_laws.specs.Distinct.{Distinct}
+use Rattle.desk_model.specs.Kept.{EachOf}
+use Rattle.stored_rows.specs.FaultNumbers.{challenges_of}
+use Rattle.stored_rows.specs.Joined.{AreFlat, AreMoved, IsBookOfJoined, JoinsRows, joined}
+use Rattle.stored_rows.specs.declared.joined_rows.JoinedRows.{JoinedRows}
+use Rattle.stored_rows.proofs.Joins.{same_rows}
+use Rattle.stored_rows.proofs.Swapped.{picked-permutation}
+use Rattle.stored_rows.specs.IsBook.{AreDistinct, AreInOrder, HaveReferences, IsBook, IsBookOf, IsSound, KeepCounters, ListsFound}
 use Rattle.stored_rows.specs.Nesting.{IsNestOf}
 use Rattle.stored_rows.specs.Tests.{are_given, has_row_of, have_references, keep_counters}
 use Rattle.desk_columns.specs.declared.flat_rows.FlatRows.{FlatRows}
@@ -122,13 +131,13 @@ sound-answer T r a b d all counters references distinct = (
 -- ---- one book at most
 
 -- the authorizations of ordered tables, with their challenges
-pub authorizations-nest : (rows : FlatRows) (T : Tables) → AreInOrder T → AreReordered rows (flat T) →
+pub authorizations-nest : (rows : JoinedRows) (T : Tables) → AreInOrder T → AreMoved rows (joined T) →
     IsNestOf (λ (a : AuthorizationRow). a.number) (λ a. a.challenges) (λ (a : AuthorizationRow) cs. record a { challenges = cs })
     (λ (c : ChallengeRow). c.number) rows.authorizations rows.challenges T.authorizations
 authorizations-nest rows T o r = record { parents_are = r.authorizations; rows_are = r.challenges; ascends = o.authorizations; children_ascend = o.challenges }
 
 -- the orders, with what they list
-pub orders-nest : (rows : FlatRows) (T : Tables) → AreInOrder T → AreReordered rows (flat T) →
+pub orders-nest : (rows : JoinedRows) (T : Tables) → AreInOrder T → AreMoved rows (joined T) →
     IsNestOf (λ (a : OrderRow). a.number) (λ o. o.listed) (λ (o : OrderRow) ls. record o { listed = ls })
     (λ (l : Listed). l.place) rows.orders rows.listed T.orders
 orders-nest rows T o r = record { parents_are = r.orders; rows_are = r.listed; ascends = o.orders; children_ascend = o.places }
@@ -137,7 +146,7 @@ single-same : {X : Type 0} (xs : List X) (x y : X) → xs ≡ x ∷ [] → xs �
 single-same xs x y p q = cc
 
 -- ordered tables with the same rows are equal
-pub same-tables : (rows : FlatRows) (T U : Tables) → AreInOrder T → AreReordered rows (flat T) → AreInOrder U → AreReordered rows (flat U) → T ≡ U
+pub same-tables : (rows : JoinedRows) (T U : Tables) → AreInOrder T → AreMoved rows (joined T) → AreInOrder U → AreMoved rows (joined U) → T ≡ U
 same-tables rows T U o r p s =
     λ i. record {
       meta = single-same rows.metas T.meta U.meta (same_single rows.metas T.meta r.metas) (same_single rows.metas U.meta s.metas) i;
@@ -157,14 +166,14 @@ same-tables rows T U o r p s =
     }
 
 -- tables that are made of rows, each table by itself, are in order and have these rows
-pub in_order-from_tables : (rows : FlatRows) (T : Tables) → rows.metas ≡ T.meta ∷ [] →
+pub in_order-from_tables : (rows : JoinedRows) (T : Tables) → rows.metas ≡ T.meta ∷ [] →
     IsPermutation rows.nonces T.nonces × Ascends (λ n. n.serial) 1 T.nonces →
     IsPermutation rows.accounts T.accounts × Ascends (λ a. a.number) 1 T.accounts →
     IsNestOf (λ (a : AuthorizationRow). a.number) (λ a. a.challenges) (λ (a : AuthorizationRow) cs. record a { challenges = cs })
     (λ (c : ChallengeRow). c.number) rows.authorizations rows.challenges T.authorizations →
     IsNestOf (λ (a : OrderRow). a.number) (λ o. o.listed) (λ (o : OrderRow) ls. record o { listed = ls })
     (λ (l : Listed). l.place) rows.orders rows.listed T.orders →
-    AreInOrder T × AreReordered rows (flat T)
+    AreInOrder T × AreMoved rows (joined T)
 in_order-from_tables rows T meta nonces accounts authorizations orders = (
   record {
     nonces = nonces.1;
@@ -186,12 +195,96 @@ in_order-from_tables rows T meta nonces accounts authorizations orders = (
 )
 
 -- rows in their limits have no rows inside
-pub AreFlat-from_stored : (rows : FlatRows) → AreStored rows → AreFlat rows
-AreFlat-from_stored rows h =
+pub AreFlat-from_stored : (rows : FlatRows) (whole : JoinedRows) → AreStored rows → JoinsRows rows whole → AreFlat whole
+AreFlat-from_stored rows whole h joins =
     record {
-      orders = each IsStoredOrder (λ o. o.listed ≡ []) rows.orders (λ o k. k.listed) h.orders;
-      authorizations = each IsStoredAuthorization (λ a. a.challenges ≡ []) rows.authorizations (λ a k. k.challenges) h.authorizations;
+      orders = subst (EachOf (λ o. o.listed ≡ [])) (sym joins.orders) (each IsStoredOrder (λ o. o.listed ≡ []) rows.orders (λ o k. k.listed) h.orders);
+      authorizations = subst (EachOf (λ a. a.challenges ≡ [])) (sym joins.authorizations)
+          (each IsStoredAuthorization (λ a. a.challenges ≡ []) rows.authorizations (λ a k. k.challenges) h.authorizations);
     }
+
+-- the numbers of challenges, with or without their owner
+owned_numbers : (n : ℕ) (cs : List ChallengeRow) (rest : List (Owned ChallengeRow)) (more : List ChallengeRow)
+    → map (λ c. c.row.number) rest ≡ map (λ c. c.number) more
+    → map (λ c. c.row.number) (owned_by n cs ++ rest) ≡ map (λ c. c.number) (cs ++ more)
+owned_numbers n [] rest more same = same
+owned_numbers n (c ∷ cs) rest more same = ap (λ l. c.number ∷ l) (owned_numbers n cs rest more same)
+
+all_numbers : (rows : List AuthorizationRow) → map (λ c. c.row.number) (challenge_rows rows) ≡ map (λ c. c.number) (challenges_of rows)
+all_numbers [] = refl
+all_numbers (a ∷ rows) = owned_numbers a.number a.challenges (challenge_rows rows) (challenges_of rows) (all_numbers rows)
+
+-- a book has no number of a challenge twice
+pub rows_distinct : (T : Tables) → IsBook T → Distinct (λ (c : Owned ChallengeRow). c.row.number) (challenge_rows T.authorizations)
+rows_distinct T book =
+    map-distinct (λ (c : Owned ChallengeRow). c.row.number) (challenge_rows T.authorizations)
+    (subst (Distinct (λ n. n)) (sym (all_numbers T.authorizations))
+    (distinct-map (λ n. n) (λ (c : ChallengeRow). c.number) (challenges_of T.authorizations) book.sound.distinct.challenges))
+
+-- a book of the joined rows is one of the rows
+pub book_of_flat : (rows : FlatRows) (whole : JoinedRows) (T : Tables) → JoinsRows rows whole → IsBookOfJoined whole T → IsBookOf rows T
+book_of_flat rows whole T joins book =
+    let r = book.has_rows in
+    let c = joins.challenges in
+    let all = challenge_rows T.authorizations in
+    record {
+      is_book = book.is_book;
+      has_rows = record {
+        metas = subst (λ l. IsPermutation l (T.meta ∷ [])) joins.metas r.metas;
+        nonces = subst (λ l. IsPermutation l T.nonces) joins.nonces r.nonces;
+        accounts = subst (λ l. IsPermutation l T.accounts) joins.accounts r.accounts;
+        orders = subst (λ l. IsPermutation l (map without_listed T.orders)) joins.orders r.orders;
+        authorizations = subst (λ l. IsPermutation l (map without_challenges T.authorizations)) joins.authorizations r.authorizations;
+        listed = subst (λ l. IsPermutation l (listed_rows T.orders)) joins.listed r.listed;
+        challenges = IsPermutation-trans rows.challenges (map bare_row whole.challenges) (map bare_row all) c.challenges_are
+            (IsPermutation-map bare_row whole.challenges all r.challenges);
+        keys = IsPermutation-trans rows.keys (key_rows whole.challenges) (key_rows all) c.keys_are
+            (picked-permutation (λ (k : Owned ChallengeRow). answer_key k.row) whole.challenges all r.challenges);
+      };
+    }
+
+-- a book of the rows is one of the joined rows
+pub book_of_joined : (rows : FlatRows) (whole : JoinedRows) (T : Tables) → JoinsRows rows whole → IsBookOf rows T → IsBookOfJoined whole T
+book_of_joined rows whole T joins book =
+    let r = book.has_rows in
+    record {
+      is_book = book.is_book;
+      has_rows = record {
+        metas = subst (λ l. IsPermutation l (T.meta ∷ [])) (sym joins.metas) r.metas;
+        nonces = subst (λ l. IsPermutation l T.nonces) (sym joins.nonces) r.nonces;
+        accounts = subst (λ l. IsPermutation l T.accounts) (sym joins.accounts) r.accounts;
+        orders = subst (λ l. IsPermutation l (map without_listed T.orders)) (sym joins.orders) r.orders;
+        authorizations = subst (λ l. IsPermutation l (map without_challenges T.authorizations)) (sym joins.authorizations) r.authorizations;
+        listed = subst (λ l. IsPermutation l (listed_rows T.orders)) (sym joins.listed) r.listed;
+        challenges = joins.challenges.only (challenge_rows T.authorizations)
+            (record { distinct = rows_distinct T book.is_book; challenges_are = r.challenges; keys_are = r.keys });
+      };
+    }
+
+-- two books of the same rows are equal
+pub same-books : (rows : FlatRows) (T U : Tables) → IsBookOf rows T → IsBookOf rows U → T ≡ U
+same-books rows T U a b =
+    let p = a.has_rows in
+    let q = b.has_rows in
+    same-tables (joined T) T U a.is_book.in_order (record {
+      metas = IsPermutation-refl (T.meta ∷ []);
+      nonces = IsPermutation-refl T.nonces;
+      accounts = IsPermutation-refl T.accounts;
+      orders = IsPermutation-refl (map without_listed T.orders);
+      authorizations = IsPermutation-refl (map without_challenges T.authorizations);
+      listed = IsPermutation-refl (listed_rows T.orders);
+      challenges = IsPermutation-refl (challenge_rows T.authorizations);
+    }) b.is_book.in_order (record {
+      metas = IsPermutation-trans _ rows.metas _ (IsPermutation-sym rows.metas _ p.metas) q.metas;
+      nonces = IsPermutation-trans _ rows.nonces _ (IsPermutation-sym rows.nonces _ p.nonces) q.nonces;
+      accounts = IsPermutation-trans _ rows.accounts _ (IsPermutation-sym rows.accounts _ p.accounts) q.accounts;
+      orders = IsPermutation-trans _ rows.orders _ (IsPermutation-sym rows.orders _ p.orders) q.orders;
+      authorizations = IsPermutation-trans _ rows.authorizations _ (IsPermutation-sym rows.authorizations _ p.authorizations) q.authorizations;
+      listed = IsPermutation-trans _ rows.listed _ (IsPermutation-sym rows.listed _ p.listed) q.listed;
+      challenges = same_rows rows.challenges rows.keys (challenge_rows T.authorizations) (challenge_rows U.authorizations)
+          (record { distinct = rows_distinct T a.is_book; challenges_are = p.challenges; keys_are = p.keys })
+          (record { distinct = rows_distinct U b.is_book; challenges_are = q.challenges; keys_are = q.keys });
+    })
 
 -- the rows that columns spell, in their limits, are told by the columns
 pub stored-told : (stored : StoredRows) (rows others : FlatRows) → AreStored rows → stored ≡ rows_columns rows → AreStored others

@@ -1,5 +1,5 @@
 -- Which tables are a book.
-use Rattle.std.specs.Prelude.{◌+◌, ◌≡◌, [], IsSome}
+use Rattle.std.specs.Prelude.{◌+◌, ◌≡◌, IsSome}
 use Rattle.desk_model.specs.Questions.{account_on, authorization_on}
 use Rattle.desk_model.specs.Tables.{Tables}
 use Rattle.desk_model.specs.Kept.{EachOf}
@@ -60,11 +60,6 @@ pub record IsBook (T : Tables) : Type 0 where
 pub record IsBookOf (rows : FlatRows) (T : Tables) : Type 0 where
   pub is_book : IsBook T
   pub has_rows : AreReordered rows (flat T)
-
--- the orders list nothing and the authorizations have no challenges
-pub record AreFlat (rows : FlatRows) : Type 0 where
-  pub orders : EachOf (λ o. o.listed ≡ []) rows.orders
-  pub authorizations : EachOf (λ a. a.challenges ≡ []) rows.authorizations
 
 -- the tables are a book, and its rows are those, in their limits, that the columns spell
 pub record IsBookOfStored (stored : StoredRows) (T : Tables) : Type 0 where

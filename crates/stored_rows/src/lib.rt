@@ -2,6 +2,8 @@
 #![tactic(auto)]
 
 mod assembling;
+mod joined_rows;
+mod joining;
 mod nesting;
 mod parent;
 mod row_faults;

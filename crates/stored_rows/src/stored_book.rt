@@ -1,15 +1,17 @@
 //! The book of rows that stand in any order.
 ghost use Rattle.std.specs.Prelude.{◌≡◌, [], ◌∷◌, IfOk, IfErr, MatchResult};
 ghost use Rattle.desk_model.specs.Tables.{Tables};
-ghost use Rattle.desk_columns.specs.Flat.{AreReordered, flat};
 ghost use Rattle.desk_columns.specs.Columns.{rows_columns};
 ghost use Rattle.desk_columns.specs.Limits.{AreStored};
 ghost use Rattle.desk_columns.specs.declared.flat_rows.FlatRows.{FlatRows as Rows};
 ghost use Rattle.stored_rows.specs.Both.{both};
-ghost use Rattle.stored_rows.specs.IsBook.{AreFlat, AreInOrder, IsBookOf, IsBookOfStored, IsSound};
+ghost use Rattle.stored_rows.specs.IsBook.{AreInOrder, IsBookOf, IsBookOfStored, IsSound};
+ghost use Rattle.stored_rows.specs.Joined.{AreFlat, AreMoved, IsBookOfJoined, JoinsRows, joined};
 ghost use Rattle.stored_rows.specs.declared.rows_fault.RowsFault.TheVariants.{NotABook};
 
 use crate::assembling::{nested_table_of, table_of};
+use crate::joined_rows::JoinedRows;
+use crate::joining::join;
 use crate::rows_fault::RowsFault;
 use crate::soundness::is_sound;
 use desk_book::Book;
@@ -17,7 +19,7 @@ use desk_columns::{FlatRows, StoredRows, read_rows};
 use desk_model::{Meta, Sequence};
 use std::alloc::Global;
 
-/// The book whose rows the tables of a file hold, in any order (format 1).
+/// The book whose rows the tables of a file hold, in any order (format 2).
 ///
 /// # Errors
 ///
@@ -27,6 +29,7 @@ pub fn from_rows(alloc: Global, rows: StoredRows) -> Result<Book, RowsFault>
     ensures not_a_book { IfErr result (λ fault. fault ≡ NotABook → (T : Tables) → IsBookOfStored rows T → ⊥) }
 {
     let rows = rows_of_columns(alloc, rows)?;
+    let rows = join_rows(alloc, rows)?;
     book_of_rows(alloc, rows)
 }
 
@@ -42,12 +45,30 @@ fn rows_of_columns(alloc: Global, stored: StoredRows) -> Result<FlatRows, RowsFa
     }
 }
 
+// The rows, each challenge with the key of its answer.
+fn join_rows(alloc: Global, rows: FlatRows) -> Result<JoinedRows, RowsFault>
+    ensures { MatchResult result
+        (λ whole. JoinsRows rows whole)
+        (λ fault. fault ≡ NotABook → (T : Tables) → IsBookOf rows T → ⊥) }
+{
+    let challenges = join(alloc, rows.challenges, rows.keys)?;
+    Ok(JoinedRows {
+        metas: rows.metas,
+        nonces: rows.nonces,
+        accounts: rows.accounts,
+        orders: rows.orders,
+        authorizations: rows.authorizations,
+        listed: rows.listed,
+        challenges,
+    })
+}
+
 // The book of these rows.
-fn book_of_rows(alloc: Global, rows: FlatRows) -> Result<Book, RowsFault>
+fn book_of_rows(alloc: Global, rows: JoinedRows) -> Result<Book, RowsFault>
     requires { AreFlat rows }
     ensures { MatchResult result
-        (λ book. IsBookOf rows book)
-        (λ fault. fault ≡ NotABook → (T : Tables) → IsBookOf rows T → ⊥) }
+        (λ book. IsBookOfJoined rows book)
+        (λ fault. fault ≡ NotABook → (T : Tables) → IsBookOfJoined rows T → ⊥) }
 {
     let book = book_in_order(alloc, rows)?;
     check_soundness(alloc, &book).and(Ok(book))
@@ -90,11 +111,11 @@ fn both<A: Drop, B: Drop>(
 }
 
 // The book whose rows stand by number, with those that belong to them.
-fn book_in_order(alloc: Global, rows: FlatRows) -> Result<Book, RowsFault>
+fn book_in_order(alloc: Global, rows: JoinedRows) -> Result<Book, RowsFault>
     requires { AreFlat rows }
     ensures { MatchResult result
-        (λ book. AreInOrder book × AreReordered rows (flat book))
-        (λ fault. fault ≡ NotABook → (T : Tables) → AreInOrder T → AreReordered rows (flat T) → ⊥) }
+        (λ book. AreInOrder book × AreMoved rows (joined book))
+        (λ fault. fault ≡ NotABook → (T : Tables) → AreInOrder T → AreMoved rows (joined T) → ⊥) }
 {
     let meta = only_row(rows.metas);
     let numbered = both(table_of(alloc, rows.nonces), table_of(alloc, rows.accounts));

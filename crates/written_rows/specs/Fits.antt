@@ -8,6 +8,7 @@ use Rattle.desk_model.specs.declared.rows.Listed.{Listed}
 use Rattle.desk_model.specs.declared.rows.Meta.{Meta}
 use Rattle.desk_model.specs.declared.rows.OrderRow.{OrderRow}
 use Rattle.desk_columns.specs.Limits.{IfRecorded}
+use Rattle.desk_columns.specs.declared.flat_rows.AnswerKey.{AnswerKey}
 use Rattle.desk_columns.specs.declared.flat_rows.Owned.{Owned}
 
 -- a number
@@ -65,5 +66,9 @@ pub record FitsListed (row : Owned Listed) : Type 0 where
 pub record FitsChallenge (row : Owned ChallengeRow) : Type 0 where
   pub number : Fits row.row.number
   pub authorization : Fits row.owner
-  pub answered : IfRecorded Fits row.row.answered
+  pub answered : IfRecorded (λ a. Fits a.date) row.row.answered
   pub reported : IfRecorded (λ report. Fits report.date) row.row.reported
+
+-- a row of `chall_key`
+abbrev pub FitsKey : AnswerKey → Type 0
+FitsKey row = Fits row.challenge

@@ -9,7 +9,9 @@ use crate::fault::WriteFault;
 use crate::numbers::number_column;
 use crate::problem::problem_column;
 use crate::values::{bytes_column, text_column};
-use desk_model::{AccountEnd, AuthorizationEnd, DatedBytes, DatedProblem, Report, Sequence, Text};
+use desk_model::{
+    AccountEnd, Answer, AuthorizationEnd, DatedBytes, DatedProblem, Report, Sequence, Text,
+};
 use std::alloc::Global;
 
 // The columns of a fact that a date and a word tell.
@@ -104,14 +106,14 @@ pub(crate) fn dated_problem_columns(
     }
 }
 
-/// A moment that may be NULL.
-pub(crate) fn answered_column(answered: Option<u64>) -> Result<Option<i64>, WriteFault>
-    ensures column { IfOk result (λ c. c ≡ option_map (λ n. pos n) answered) }
-    ensures fits { IfRecorded Fits answered → IfErr result (λ why. why ≡ Memory) }
+/// When a challenge was answered; the key of the answer stands in a table of its own.
+pub(crate) fn answered_column(answered: Option<Answer>) -> Result<Option<i64>, WriteFault>
+    ensures column { IfOk result (λ c. c ≡ option_map (λ n. pos n) (option_map (λ a. a.date) answered)) }
+    ensures fits { IfRecorded (λ a. Fits a.date) answered → IfErr result (λ why. why ≡ Memory) }
 {
     match answered {
-        Some(date) => {
-            let column = number_column(date)?;
+        Some(answer) => {
+            let column = number_column(answer.date)?;
             Ok(Some(column))
         }
         None => Ok(None),

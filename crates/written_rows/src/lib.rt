@@ -1,4 +1,4 @@
-//! The rows of a desk, written as the columns of its tables, format 1.
+//! The rows of a desk, written as the columns of its tables, format 2.
 #![tactic(auto)]
 
 mod contacts;
@@ -12,6 +12,6 @@ mod values;
 pub use fault::WriteFault;
 pub use numbers::number_column;
 pub use rows::{
-    account_columns, authorization_columns, challenge_columns, listed_columns, meta_columns,
-    nonce_columns, order_columns,
+    account_columns, authorization_columns, challenge_columns, key_columns, listed_columns,
+    meta_columns, nonce_columns, order_columns,
 };

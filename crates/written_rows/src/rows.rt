@@ -1,8 +1,9 @@
 //! The columns of each row (docs/SPECIFICATION.md, 13).
 ghost use Rattle.std.specs.Prelude.{◌≡◌, IfOk, IfErr, IsOk};
 ghost use Rattle.desk_columns.specs.Columns.{meta_columns, nonce_columns, account_columns, order_columns, authorization_columns};
-ghost use Rattle.desk_columns.specs.Columns.{listed_columns, challenge_columns};
-ghost use Rattle.written_rows.specs.Fits.{FitsMeta, FitsNonce, FitsAccount, FitsOrder, FitsAuthorization, FitsListed, FitsChallenge};
+ghost use Rattle.desk_columns.specs.Columns.{listed_columns, challenge_columns, key_columns};
+ghost use Rattle.desk_columns.specs.Flat.{bare_row};
+ghost use Rattle.written_rows.specs.Fits.{FitsMeta, FitsNonce, FitsAccount, FitsOrder, FitsAuthorization, FitsListed, FitsChallenge, FitsKey};
 ghost use Rattle.written_rows.specs.declared.fault.WriteFault.TheVariants.{Memory};
 
 use crate::contacts::contacts_column;
@@ -14,8 +15,8 @@ use crate::fault::WriteFault;
 use crate::numbers::{number_column, two_columns, wildcard_column};
 use crate::values::{bytes_column, text_column, two_texts};
 use desk_columns::{
-    AccountColumns, AuthzColumns, ChallColumns, FORMAT, MetaColumns, NonceColumns,
-    OrderAuthzColumns, OrderColumns,
+    AccountColumns, AnswerKey, AuthzColumns, ChallColumns, ChallKeyColumns, FORMAT, MetaColumns,
+    NonceColumns, OrderAuthzColumns, OrderColumns,
 };
 use desk_model::{AccountRow, AuthorizationRow, ChallengeRow, Listed, Meta, Nonce, OrderRow};
 use std::alloc::Global;
@@ -177,7 +178,7 @@ pub fn challenge_columns(
     authorization: u64,
     row: &ChallengeRow,
 ) -> Result<ChallColumns, WriteFault>
-    ensures columns { IfOk result (λ c. c ≡ challenge_columns (record { owner = authorization; row = row.now })) }
+    ensures columns { IfOk result (λ c. c ≡ challenge_columns (bare_row (record { owner = authorization; row = row.now }))) }
     ensures fits { FitsChallenge (record { owner = authorization; row = row.now }) → IfErr result (λ why. why ≡ Memory) }
 {
     let answered = answered_column(row.answered)?;
@@ -195,4 +196,18 @@ pub fn challenge_columns(
         outcome,
         status,
     })
+}
+
+/// The columns of a row of `chall_key`.
+///
+/// # Errors
+///
+/// `Memory`, or `TooLarge` where a number is above 2^63 - 1.
+pub fn key_columns(alloc: Global, row: &AnswerKey) -> Result<ChallKeyColumns, WriteFault>
+    ensures columns { IfOk result (λ c. c ≡ key_columns row.now) }
+    ensures fits { FitsKey row.now → IfErr result (λ why. why ≡ Memory) }
+{
+    let chall = number_column(row.challenge)?;
+    let thumb = bytes_column(alloc, &row.thumb)?;
+    Ok(ChallKeyColumns { chall, thumb })
 }

@@ -1,3 +1,4 @@
+use Rattle.stored_laws.proofs.BlankBooks.{blank_books}
 use Rattle.stored_laws.proofs.Books.{tables_book}
 use Rattle.stored_laws.proofs.Columns.{book_told, picture_told}
 use Rattle.stored_laws.proofs.FlatTexts.{tables_are_texts}
@@ -31,3 +32,6 @@ returns-clause-told c = book_told
 
 pub returns-clause-one_book : goal.returns-clause-one_book
 returns-clause-one_book c = picture_told
+
+pub returns-clause-blank : goal.returns-clause-blank
+returns-clause-blank c = blank_books

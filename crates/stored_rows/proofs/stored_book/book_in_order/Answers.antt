@@ -1,7 +1,7 @@
 use Rattle.std.proofs.Common.{◌≡◌}
 use Rattle.std.proofs.lemmas.Result.{err_from_is_err_and}
 use Rattle.desk_model.specs.Tables.{Tables}
-use Rattle.desk_columns.specs.Flat.{AreReordered, flat}
+use Rattle.stored_rows.specs.Joined.{AreMoved, joined}
 use Rattle.stored_rows.specs.IsBook.{AreInOrder}
 use Rattle.stored_rows.specs.declared.rows_fault.RowsFault.{RowsFault}
 use Rattle.stored_rows.specs.declared.rows_fault.RowsFault.TheVariants.{NotABook}
@@ -12,7 +12,7 @@ use Rattle.stored_rows.proofs.stored_book.book_in_order.Goals as goal
 
 pub returns-in_err-meta : goal.returns-in_err-meta
 returns-in_err-meta c =
-    let none : RowsFault → Type 0 = λ fault. fault ≡ NotABook → (T : Tables) → AreInOrder T → AreReordered c.args.rows (flat T) → ⊥ in
+    let none : RowsFault → Type 0 = λ fault. fault ≡ NotABook → (T : Tables) → AreInOrder T → AreMoved c.args.rows (joined T) → ⊥ in
     let numbered = outcome_both _ _ _ _ none c.table_of.result c.table_of-2.result c.both-numbered.result c.both-numbered.ensures
     (λ fault no e T o r. no e T.nonces r.nonces o.nonces) (λ fault no e T o r. no e T.accounts r.accounts o.accounts)
     c.table_of.ensures c.table_of-2.ensures in
@@ -28,7 +28,7 @@ returns-in_err-meta c =
 
 pub returns : goal.returns
 returns c =
-    let none : RowsFault → Type 0 = λ fault. fault ≡ NotABook → (T : Tables) → AreInOrder T → AreReordered c.args.rows (flat T) → ⊥ in
+    let none : RowsFault → Type 0 = λ fault. fault ≡ NotABook → (T : Tables) → AreInOrder T → AreMoved c.args.rows (joined T) → ⊥ in
     let numbered = outcome_both _ _ _ _ none c.table_of.result c.table_of-2.result c.both-numbered.result c.both-numbered.ensures
     (λ fault no e T o r. no e T.nonces r.nonces o.nonces) (λ fault no e T o r. no e T.accounts r.accounts o.accounts)
     c.table_of.ensures c.table_of-2.ensures in

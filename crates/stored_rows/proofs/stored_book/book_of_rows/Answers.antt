@@ -1,7 +1,8 @@
 use Rattle.std.proofs.Common.{◌≡◌, subst}
 use Rattle.std.proofs.lemmas.Result.{err_from_is_err_and}
 use Rattle.desk_model.specs.Tables.{Tables}
-use Rattle.stored_rows.specs.IsBook.{IsBookOf, IsSound}
+use Rattle.stored_rows.specs.IsBook.{IsSound}
+use Rattle.stored_rows.specs.Joined.{IsBookOfJoined}
 use Rattle.stored_rows.specs.declared.rows_fault.RowsFault.TheVariants.{NotABook}
 use Rattle.stored_rows.proofs.Outcomes.{outcome_and}
 use Rattle.stored_rows.proofs.SoundBooks.{same-tables}
@@ -15,7 +16,7 @@ returns-in_err-book c =
 pub returns : goal.returns
 returns c =
     let made = c.in_ok-book in
-    outcome_and _ (λ book. IsBookOf c.args.rows book) _ (λ fault. fault ≡ NotABook → (T : Tables) → IsBookOf c.args.rows T → ⊥) made.book
+    outcome_and _ (λ book. IsBookOfJoined c.args.rows book) _ (λ fault. fault ≡ NotABook → (T : Tables) → IsBookOfJoined c.args.rows T → ⊥) made.book
     c.check_soundness.result c.and.result c.and.ensures
     (λ done sound. record { is_book = record { in_order = made.ensures.0; sound = sound }; has_rows = made.ensures.1 })
     (λ fault no e T book.
