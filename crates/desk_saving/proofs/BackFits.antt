@@ -1,6 +1,6 @@
 -- Changes that keep children fit one after the other, where the children stand in order after all of them.
 use Rattle.std.specs.Prelude.{IfSome, find, ◌==◌}
-use Rattle.std.proofs.Common.{◌≡◌, inl, inr, ℕ, ◌++◌, List, [], ◌∷◌, map, Option, Some, None, false, refl, sym, ap, subst, ◌∙◌, arith}
+use Rattle.std.proofs.Common.{◌≡◌, inl, inr, ℕ, ◌++◌, List, [], ◌∷◌, Option, Some, None, false, refl, sym, ap, subst, ◌∙◌, arith}
 use Rattle.std.proofs.lemmas.List.{append_assoc}
 use Rattle.sqlite.specs.Effect.{Database}
 use Rattle.desk_columns.specs.Flat.{challenge_rows, listed_rows, owned_by}
@@ -18,7 +18,7 @@ use Rattle.desk_model.specs.declared.rows.OrderRow.{OrderRow}
 use Rattle.desk_saving.specs.Fitting.{AreFit, InOrder, Saves}
 use Rattle.desk_saving.specs.Makes.{MakesAll}
 use Rattle.desk_saving.proofs.ListedAfter.{found_in}
-use Rattle.desk_saving.proofs.MadeChanges.{keys_owned}
+use Rattle.desk_saving.proofs.MadeChanges.{numbers_within}
 use Rattle.desk_saving.proofs.NestedRows.{children_put}
 use Rattle.desk_saving.proofs.Numbered.{find_here, find_later, puts_back}
 use Rattle.desk_tables.specs.Effects.{is_same_place}
@@ -37,11 +37,7 @@ challenges_back : (T : Tables) (x : AuthorizationRow) → KeepsChildren T (PutAu
     → IsRising challenge_layout.key (challenge_rows (put authorization_layout.key x T.authorizations))
     → IsRising challenge_layout.key (challenge_rows T.authorizations)
 challenges_back T x kept up =
-    let same = λ (a : AuthorizationRow) (found : find (λ (a : AuthorizationRow). a.number == x.number) T.authorizations ≡ Some a).
-    let keys : map (λ c. c.number) a.challenges ≡ map (λ c. c.number) x.challenges =
-    subst (λ o. IfSome o (λ (a : AuthorizationRow). map (λ c. c.number) a.challenges ≡ map (λ c. c.number) x.challenges)) found kept in
-    keys_owned a.number a.challenges ∙ keys ∙ sym (keys_owned x.number x.challenges) in
-    let is = children_put (λ a. a.number) (λ a. owned_by a.number a.challenges) challenge_layout.key 0 x T.authorizations same up in
+    let is = children_put (λ a. a.number) (λ a. owned_by a.number a.challenges) challenge_layout.key 0 x T.authorizations (numbers_within T x kept) up in
     puts_back challenge_layout.key 0 (owned_by x.number x.challenges) (challenge_rows T.authorizations) (subst (IsRising challenge_layout.key) (sym is) up)
 
 -- ---- places that are apart

@@ -1,5 +1,5 @@
 -- Calls inside a transaction, and what they leave behind a first one.
-use Rattle.std.proofs.Common.{◌≡◌, arith, ◌∙◌, ℕ, List, Result, Ok, Err, OnOk, refl, ap}
+use Rattle.std.proofs.Common.{◌≡◌, arith, ◌∙◌, ℕ, List, Result, Ok, Err, OnOk, ap}
 use Rattle.std.specs.Prelude.{is_ok}
 use Rattle.std.specs.Result.{result_and}
 use Rattle.sqlite.specs.Order.{Row}

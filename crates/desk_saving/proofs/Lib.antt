@@ -1,10 +1,12 @@
 pub mod Numbered
 pub mod NestedRows
 pub mod PlacedRows
-pub mod ListedAfter
+pub mod KeyRows
+mod ListedAfter
 pub mod RowsInTurn
 pub mod MadeChanges
 pub mod BackFits
 pub mod PicturesFit
 pub mod Leaving
 pub mod Exits
+mod Upgraded

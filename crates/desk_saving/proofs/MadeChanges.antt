@@ -2,7 +2,12 @@
 use Rattle.std.specs.Prelude.{IfSome, find, ◌==◌}
 use Rattle.std.proofs.Common.{◌≡◌, ℕ, List, [], ◌∷◌, map, Some, refl, sym, ap, subst, ◌∙◌}
 use Rattle.sqlite.specs.Effect.{Database}
-use Rattle.desk_columns.specs.Flat.{challenge_rows, listed_rows, owned_by}
+use Rattle.desk_columns.specs.Columns.{known_format}
+use Rattle.desk_columns.specs.Flat.{challenge_rows, key_rows, listed_rows, owned_by}
+use Rattle.desk_laws.specs.News.{KeepChallenges, KeepsChildren}
+use Rattle.desk_laws.specs.Ordered.{Ascends}
+use Rattle.desk_laws.specs.Placing.{puts}
+use Rattle.desk_model.specs.Change.{put}
 use Rattle.desk_model.specs.Tables.{Tables}
 use Rattle.desk_model.specs.declared.objects.Nonce.{Nonce}
 use Rattle.desk_model.specs.declared.rows.AccountRow.{AccountRow}
@@ -11,15 +16,18 @@ use Rattle.desk_model.specs.declared.rows.ChallengeRow.{ChallengeRow}
 use Rattle.desk_model.specs.declared.rows.Meta.{Meta}
 use Rattle.desk_model.specs.declared.rows.OrderRow.{OrderRow}
 use Rattle.desk_model.specs.declared.rows.Change.TheVariants.{PutMeta, PutNonce, RemoveNonce, PutAccount, PutAuthorization, PutOrder}
-use Rattle.desk_saving.specs.Makes.{Makes, PlacesAll, PutsAll}
+use Rattle.desk_saving.specs.Makes.{Makes, PlacesAll, PutsAll, PutsChallenges}
+use Rattle.desk_saving.proofs.KeyRows.{keys_flat, keys_rise, keys_within}
 use Rattle.desk_saving.proofs.ListedAfter.{listed_after}
 use Rattle.desk_saving.proofs.NestedRows.{children_put}
+use Rattle.desk_saving.proofs.Numbered.{AreWithin, within_same}
 use Rattle.desk_tables.specs.Effects.{Puts, Removes}
 use Rattle.desk_tables.specs.Holds.{HoldsListed}
-use Rattle.desk_tables.specs.Images.{challenge_image}
-use Rattle.desk_tables.specs.Layouts.{HasRows, account_layout, authorization_layout, challenge_layout, listed_layout, meta_layout, nonce_layout, order_layout}
+use Rattle.desk_tables.specs.Images.{challenge_image, key_image}
+use Rattle.desk_tables.specs.Layouts.{HasRows, IsRising, account_layout, authorization_layout, challenge_layout, formatted_layout, key_layout, listed_layout, nonce_layout, order_layout}
 use Rattle.desk_tables.proofs.Holding.{accounts_held, authorizations_held, meta_held, nonces_held, orders_held}
-use Rattle.desk_tables.proofs.NoIndexes.{no_index_account, no_index_authorization, no_index_challenge, no_index_listed}
+use Rattle.desk_tables.proofs.MetaUpsert.{puts_known}
+use Rattle.desk_tables.proofs.NoIndexes.{no_index_account, no_index_authorization, no_index_challenge, no_index_key, no_index_listed}
 use Rattle.desk_tables.proofs.NoIndexes.{no_index_meta, no_index_nonce, no_index_order}
 
 -- what orders list, in a table that is as it was
@@ -35,9 +43,9 @@ keys_owned n (c ∷ cs) = ap (λ ks. c.number ∷ ks) (keys_owned n cs)
 -- ---- one row
 
 -- the row of `meta`
-pub makes_meta : (x : Meta) (old new : Database) → Puts meta_layout x old new → Makes (PutMeta x) old new
+pub makes_meta : (x : Meta) (old new : Database) → Puts formatted_layout (known_format, x) old new → Makes (PutMeta x) old new
 makes_meta x old new puts T has fits =
-    let p = puts (T.meta ∷ []) (meta_held old T has) in
+    let p = puts_known x old new puts (T.meta ∷ []) (meta_held old T has) in
     record {
       sound = p.sound;
       schema = p.has.schema;
@@ -48,6 +56,7 @@ makes_meta x old new puts T has fits =
       authorizations = p.others 5 (λ e. cc) no_index_authorization ∙ has.authorizations;
       listed = listed_as old new T (p.others 6 (λ e. cc) no_index_listed) has.listed;
       challenges = p.others 8 (λ e. cc) no_index_challenge ∙ has.challenges;
+      keys = p.others 17 (λ e. cc) no_index_key ∙ has.keys;
       rising = fits.rising;
     }
 
@@ -65,6 +74,7 @@ makes_nonce x old new puts T has fits =
       authorizations = p.others 5 (λ e. cc) no_index_authorization ∙ has.authorizations;
       listed = listed_as old new T (p.others 6 (λ e. cc) no_index_listed) has.listed;
       challenges = p.others 8 (λ e. cc) no_index_challenge ∙ has.challenges;
+      keys = p.others 17 (λ e. cc) no_index_key ∙ has.keys;
       rising = fits.rising;
     }
 
@@ -82,6 +92,7 @@ makes_removal n old new removes T has fits =
       authorizations = p.others 5 (λ e. cc) no_index_authorization ∙ has.authorizations;
       listed = listed_as old new T (p.others 6 (λ e. cc) no_index_listed) has.listed;
       challenges = p.others 8 (λ e. cc) no_index_challenge ∙ has.challenges;
+      keys = p.others 17 (λ e. cc) no_index_key ∙ has.keys;
       rising = fits.rising;
     }
 
@@ -99,37 +110,77 @@ makes_account x old new puts T has fits =
       authorizations = p.others 5 (λ e. cc) no_index_authorization ∙ has.authorizations;
       listed = listed_as old new T (p.others 6 (λ e. cc) no_index_listed) has.listed;
       challenges = p.others 8 (λ e. cc) no_index_challenge ∙ has.challenges;
+      keys = p.others 17 (λ e. cc) no_index_key ∙ has.keys;
       rising = fits.rising;
     }
 
 -- ---- a row with its children
 
--- an authorization, then its challenges
-pub makes_authorization : (x : AuthorizationRow) (old mid new : Database) → Puts authorization_layout x old mid
-    → PutsAll challenge_layout (owned_by x.number x.challenges) mid new
+-- what stood in the place of an authorization
+abbrev Stood : Tables → AuthorizationRow → AuthorizationRow → Type 0
+Stood T x a = find (λ (a : AuthorizationRow). a.number == x.number) T.authorizations ≡ Some a
+
+-- kept its challenges
+stood_kept : (T : Tables) (x a : AuthorizationRow) → KeepsChildren T (PutAuthorization x) → Stood T x a → KeepChallenges a.challenges x.challenges
+stood_kept T x a kept found = subst (λ o. IfSome o (λ (a : AuthorizationRow). KeepChallenges a.challenges x.challenges)) found kept
+
+-- the numbers of its challenges are those that come
+pub numbers_within : (T : Tables) (x : AuthorizationRow) → KeepsChildren T (PutAuthorization x) → (a : AuthorizationRow) → Stood T x a
+    → AreWithin (map challenge_layout.key (owned_by a.number a.challenges)) (map challenge_layout.key (owned_by x.number x.challenges))
+numbers_within T x kept a found =
+    within_same _ _ (keys_owned a.number a.challenges ∙ (stood_kept T x a kept found).numbers ∙ sym (keys_owned x.number x.challenges))
+
+-- the keys of answers that come take the places of those that are there
+keys_put : (T : Tables) (x : AuthorizationRow) → KeepsChildren T (PutAuthorization x) → IsRising challenge_layout.key (challenge_rows (put authorization_layout.key x T.authorizations))
+    → puts key_layout.key (key_rows (owned_by x.number x.challenges)) (key_rows (challenge_rows T.authorizations))
+    ≡ key_rows (challenge_rows (put authorization_layout.key x T.authorizations))
+keys_put T x kept up =
+    let after = put authorization_layout.key x T.authorizations in
+    let rising = subst (Ascends key_layout.key 0) (keys_flat after) (keys_rise 0 (challenge_rows after) up) in
+    ap (puts key_layout.key (key_rows (owned_by x.number x.challenges))) (keys_flat T.authorizations)
+    ∙ children_put (λ a. a.number) (λ a. key_rows (owned_by a.number a.challenges)) key_layout.key 0 x T.authorizations
+    (λ a found. keys_within a.number x.number a.challenges x.challenges (stood_kept T x a kept found)) rising
+    ∙ sym (keys_flat after)
+
+-- an authorization, then its challenges, then the keys of their answers
+makes_three : (x : AuthorizationRow) (old mid late new : Database) → Puts authorization_layout x old mid
+    → PutsAll challenge_layout (owned_by x.number x.challenges) mid late
+    → PutsAll key_layout (key_rows (owned_by x.number x.challenges)) late new
     → Makes (PutAuthorization x) old new
-makes_authorization x old mid new first last T has fits =
+makes_three x old mid late new first then last T has fits =
     let p = first T.authorizations (authorizations_held old T has) in
     let between : HasRows challenge_layout mid (challenge_rows T.authorizations) =
     record { schema = p.has.schema; rows_are = p.others 8 (λ e. cc) no_index_challenge ∙ has.challenges; rising = has.rising.challenges } in
-    let q = last p.sound (challenge_rows T.authorizations) between in
-    let same = λ (a : AuthorizationRow) (found : find (λ (a : AuthorizationRow). a.number == x.number) T.authorizations ≡ Some a).
-    let kept : map (λ c. c.number) a.challenges ≡ map (λ c. c.number) x.challenges =
-    subst (λ o. IfSome o (λ (a : AuthorizationRow). map (λ c. c.number) a.challenges ≡ map (λ c. c.number) x.challenges)) found fits.children in
-    keys_owned a.number a.challenges ∙ kept ∙ sym (keys_owned x.number x.challenges) in
-    let children = children_put (λ a. a.number) (λ a. owned_by a.number a.challenges) challenge_layout.key 0 x T.authorizations same fits.rising.challenges in
+    let q = then p.sound (challenge_rows T.authorizations) between in
+    let behind : HasRows key_layout late (key_rows (challenge_rows T.authorizations)) =
     record {
-      sound = q.sound;
       schema = q.has.schema;
-      meta = q.others 0 (λ e. cc) no_index_meta ∙ p.others 0 (λ e. cc) no_index_meta ∙ has.meta;
-      nonces = q.others 1 (λ e. cc) no_index_nonce ∙ p.others 1 (λ e. cc) no_index_nonce ∙ has.nonces;
-      accounts = q.others 2 (λ e. cc) no_index_account ∙ p.others 2 (λ e. cc) no_index_account ∙ has.accounts;
-      orders = q.others 4 (λ e. cc) no_index_order ∙ p.others 4 (λ e. cc) no_index_order ∙ has.orders;
-      authorizations = q.others 5 (λ e. cc) no_index_authorization ∙ p.has.rows_are;
-      listed = listed_as old new T (q.others 6 (λ e. cc) no_index_listed ∙ p.others 6 (λ e. cc) no_index_listed) has.listed;
-      challenges = q.has.rows_are ∙ ap (map challenge_image) children;
+      rows_are = q.others 17 (λ e. cc) no_index_key ∙ p.others 17 (λ e. cc) no_index_key ∙ has.keys;
+      rising = keys_rise 0 (challenge_rows T.authorizations) has.rising.challenges;
+    } in
+    let r = last q.sound (key_rows (challenge_rows T.authorizations)) behind in
+    let children = children_put (λ a. a.number) (λ a. owned_by a.number a.challenges) challenge_layout.key 0 x T.authorizations
+    (numbers_within T x fits.children) fits.rising.challenges in
+    record {
+      sound = r.sound;
+      schema = r.has.schema;
+      meta = r.others 0 (λ e. cc) no_index_meta ∙ q.others 0 (λ e. cc) no_index_meta ∙ p.others 0 (λ e. cc) no_index_meta ∙ has.meta;
+      nonces = r.others 1 (λ e. cc) no_index_nonce ∙ q.others 1 (λ e. cc) no_index_nonce ∙ p.others 1 (λ e. cc) no_index_nonce ∙ has.nonces;
+      accounts = r.others 2 (λ e. cc) no_index_account ∙ q.others 2 (λ e. cc) no_index_account ∙ p.others 2 (λ e. cc) no_index_account ∙ has.accounts;
+      orders = r.others 4 (λ e. cc) no_index_order ∙ q.others 4 (λ e. cc) no_index_order ∙ p.others 4 (λ e. cc) no_index_order ∙ has.orders;
+      authorizations = r.others 5 (λ e. cc) no_index_authorization ∙ q.others 5 (λ e. cc) no_index_authorization ∙ p.has.rows_are;
+      listed = listed_as old new T
+          (r.others 6 (λ e. cc) no_index_listed ∙ q.others 6 (λ e. cc) no_index_listed ∙ p.others 6 (λ e. cc) no_index_listed) has.listed;
+      challenges = r.others 8 (λ e. cc) no_index_challenge ∙ q.has.rows_are ∙ ap (map challenge_image) children;
+      keys = r.has.rows_are ∙ ap (map key_image) (keys_put T x fits.children fits.rising.challenges);
       rising = fits.rising;
     }
+
+-- an authorization, then its challenges
+pub makes_authorization : (x : AuthorizationRow) (old mid new : Database) → Puts authorization_layout x old mid
+    → PutsChallenges x.number x.challenges mid new
+    → Makes (PutAuthorization x) old new
+makes_authorization x old mid new first last = makes_three x old mid last.0 new first last.1 last.2
 
 -- an order, then what it lists
 pub makes_order : (x : OrderRow) (old mid new : Database) → Puts order_layout x old mid → PlacesAll (owned_by x.number x.listed) mid new
@@ -157,5 +208,6 @@ makes_order x old mid new first last T has fits =
             placed.1;
       };
       challenges = q.others 8 (λ e. cc) no_index_challenge ∙ p.others 8 (λ e. cc) no_index_challenge ∙ has.challenges;
+      keys = q.others 17 (λ e. cc) no_index_key ∙ p.others 17 (λ e. cc) no_index_key ∙ has.keys;
       rising = fits.rising;
     }

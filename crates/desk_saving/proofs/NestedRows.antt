@@ -7,7 +7,7 @@ use Rattle.desk_laws.specs.Ordered.{Ascends}
 use Rattle.desk_laws.specs.Placing.{puts}
 use Rattle.desk_model.specs.Change.{put}
 use Rattle.desk_model.specs.Kept.{EachOf}
-use Rattle.desk_saving.proofs.Numbered.{find_here, find_later, puts_past_all, puts_first, puts_instead}
+use Rattle.desk_saving.proofs.Numbered.{find_here, find_later, puts_past_all, puts_first, puts_within, AreWithin}
 use Rattle.desk_tables.proofs.Keyed.{ranked}
 use Rattle.desk_laws.proofs.Basics.{each_parts}
 
@@ -42,10 +42,10 @@ module _ {P C : Type 0} (parent : P → ℕ) (children : P → List C) (key : C 
       let low : n ≤ key z = up.0 in
       ((among (λ c. key z < key c) x ps parts.1, rest.0), ascends_from key n (key z + 1) (of_all (put parent x ps)) (omega arith) rest.1)
 
-  -- where the row in the place has children of the same numbers, and all stand in order after, putting the children one after
+  -- where the children of the row in the place have numbers among these, and all stand in order after, putting the children one after
   -- the other gives the children of the rows after
   pub children_put : (n : ℕ) (x : P) (ps : List P)
-      → ((p : P) → find (λ p. parent p == parent x) ps ≡ Some p → map key (children p) ≡ map key (children x))
+      → ((p : P) → find (λ p. parent p == parent x) ps ≡ Some p → AreWithin (map key (children p)) (map key (children x)))
       → Ascends key n (of_all (put parent x ps)) → puts key (children x) (of_all ps) ≡ of_all (put parent x ps)
   children_put n x [] same up = puts_first key n (children x) [] up
   children_put n x (p ∷ ps) same up = elim (ranked (parent p) (parent x)) [
@@ -61,7 +61,7 @@ module _ {P C : Type 0} (parent : P → ℕ) (children : P → List C) (key : C 
     | inr (inl tied) ↦
         let is = put_instead parent x p ps tied.same in
         let a : Ascends key n (children x ++ of_all ps) = subst (λ l. Ascends key n (of_all l)) is up in
-        puts_instead key n (children x) (children p) (of_all ps) (same p (find_here parent (parent x) p ps tied.same)) a ∙ sym (ap of_all is)
+        puts_within key n (children x) (children p) (of_all ps) (same p (find_here parent (parent x) p ps tied.same)) a ∙ sym (ap of_all is)
     | inr (inr more) ↦
         let is = put_before parent x p ps more.high in
         let a : Ascends key n (children x ++ of_all (p ∷ ps)) = subst (λ l. Ascends key n (of_all l)) is up in

@@ -1,6 +1,6 @@
 -- Rows put by number: one after the other, and back.
 use Rattle.std.specs.Prelude.{◌==◌, find}
-use Rattle.std.proofs.Common.{◌≡◌, ◌≢◌, inl, inr, ℕ, ◌+◌, ◌<◌, ◌≤◌, ◌++◌, List, [], ◌∷◌, map, cond, Some, None, refl, sym, ap, subst, ◌∙◌, arith}
+use Rattle.std.proofs.Common.{◌≡◌, ◌≢◌, ◌⊎◌, inl, inr, ℕ, ◌+◌, ◌<◌, ◌≤◌, ◌++◌, List, [], ◌∷◌, map, cond, Some, None, refl, sym, ap, subst, ◌∙◌, arith}
 use Rattle.std.proofs.lemmas.Bool.{eq-eqb, ne_eqb}
 use Rattle.desk_laws.proofs.RowLists.{Above, ascends_above, put_before, put_first, put_instead, put_past, puts_past}
 use Rattle.desk_laws.specs.Ordered.{Ascends}
@@ -9,6 +9,23 @@ use Rattle.desk_model.specs.Change.{put}
 use Rattle.desk_model.specs.Kept.{EachOf}
 use Rattle.desk_tables.proofs.Keyed.{ranked}
 use Rattle.desk_laws.proofs.Basics.{each_parts}
+
+-- these numbers stand among those, in their order
+abbrev pub AreWithin : List ℕ → List ℕ → Type 0
+AreWithin [] ks = Unit {0}
+AreWithin (j ∷ js) [] = ⊥
+AreWithin (j ∷ js) (k ∷ ks) = ((j ≡ k) × AreWithin js ks) ⊎ AreWithin (j ∷ js) ks
+
+-- among one more, too
+pub within_more : (js ks : List ℕ) (k : ℕ) → AreWithin js ks → AreWithin js (k ∷ ks)
+within_more [] ks k h = tt
+within_more (j ∷ js) ks k h = inr h
+
+-- numbers stand among themselves
+pub within_same : (js ks : List ℕ) → js ≡ ks → AreWithin js ks
+within_same [] ks same = tt
+within_same (j ∷ js) [] same = absurd (cc same)
+within_same (j ∷ js) (k ∷ ks) same = inl (cc same, within_same js ks (cc same))
 
 module _ {X : Type 0} (key : X → ℕ) where
   -- ---- look-ups
@@ -60,17 +77,25 @@ module _ {X : Type 0} (key : X → ℕ) where
       let parts = later_parts x xs ys up.1 in
       ap (puts key xs) (put_first key x ys parts.1) ∙ puts_past key xs x ys parts.0 ∙ ap (λ l. x ∷ l) (puts_first (key x + 1) xs ys up.1)
 
-  -- rows take the places of those with their numbers
-  pub puts_instead : (n : ℕ) (xs zs ys : List X) → map key zs ≡ map key xs → Ascends key n (xs ++ ys) → puts key xs (zs ++ ys) ≡ xs ++ ys
-  puts_instead n [] [] ys same up = refl
-  puts_instead n [] (z ∷ zs) ys same up = absurd (cc same)
-  puts_instead n (x ∷ xs) [] ys same up = absurd (cc same)
-  puts_instead n (x ∷ xs) (z ∷ zs) ys same up =
-      let first : key z ≡ key x = cc same in
-      let rest : map key zs ≡ map key xs = cc same in
+  -- a number among those of rows above another
+  within_above : (m j : ℕ) (js : List ℕ) (xs : List X) → Above key m xs → AreWithin (j ∷ js) (map key xs) → m < j
+  within_above m j js [] all h = absurd h
+  within_above m j js (x ∷ xs) all (inl here) = subst (λ k. m < k) (sym here.0) all.0
+  within_above m j js (x ∷ xs) all (inr later) = within_above m j js xs all.1 later
+
+  -- rows take the places of those with their numbers, and bring further ones between
+  pub puts_within : (n : ℕ) (xs zs ys : List X) → AreWithin (map key zs) (map key xs) → Ascends key n (xs ++ ys) → puts key xs (zs ++ ys) ≡ xs ++ ys
+  puts_within n xs [] ys h up = puts_first n xs ys up
+  puts_within n [] (z ∷ zs) ys h up = absurd h
+  puts_within n (x ∷ xs) (z ∷ zs) ys (inl here) up =
       let parts = later_parts x xs ys up.1 in
-      ap (puts key xs) (put_instead key x z (zs ++ ys) first) ∙ puts_past key xs x (zs ++ ys) parts.0
-      ∙ ap (λ l. x ∷ l) (puts_instead (key x + 1) xs zs ys rest up.1)
+      ap (puts key xs) (put_instead key x z (zs ++ ys) here.0) ∙ puts_past key xs x (zs ++ ys) parts.0
+      ∙ ap (λ l. x ∷ l) (puts_within (key x + 1) xs zs ys here.1 up.1)
+  puts_within n (x ∷ xs) (z ∷ zs) ys (inr later) up =
+      let parts = later_parts x xs ys up.1 in
+      let low : key x < key z = within_above (key x) (key z) (map key zs) xs parts.0 later in
+      ap (puts key xs) (put_before key x z (zs ++ ys) low) ∙ puts_past key xs x (z ∷ (zs ++ ys)) parts.0
+      ∙ ap (λ l. x ∷ l) (puts_within (key x + 1) xs (z ∷ zs) ys later up.1)
 
   -- rows stand in order where they do with several more
   pub puts_back : (n : ℕ) (ys xs : List X) → Ascends key n (puts key ys xs) → Ascends key n xs

@@ -97,6 +97,23 @@ advances_put {T} L n first old new xs i d low survives before last =
     subst (λ ys. Advances first new (PutsAll L ys)) (sym (owned_snoc n xs i d low))
     (advances_then first old new (PutsAll L (owned_by n (take i xs))) (Puts L row) (PutsAll L (owned_by n (take i xs) ++ row ∷ [])) more survives before last)
 
+-- one more row
+pub advances_put_row : {X : Type 0} (L : Layout X) (first old new : State) (xs : List X) (i : ℕ) (d : X) → i < length xs
+    → Survives old new (λ _. ⊥)
+    → Advances first old (PutsAll L (take i xs)) → Advances old new (Puts L (get_or xs i d))
+    → Advances first new (PutsAll L (take (i + 1) xs))
+advances_put_row {X} L first old new xs i d low survives before last =
+    let row : X = get_or xs i d in
+    let more = one_more_put L (take i xs) row first.now old.now new.now in
+    subst (λ ys. Advances first new (PutsAll L ys)) (sym (ap (λ k. take k xs) (add-one i) ∙ take-suc xs i d low))
+    (advances_then first old new (PutsAll L (take i xs)) (Puts L row) (PutsAll L (take i xs ++ row ∷ [])) more survives before last)
+
+-- what holds of all rows holds of the one at a place
+pub each_at : {X : Type 0} (P : X → Type 0) (xs : List X) (i : ℕ) (d : X) → i < length xs → EachOf P xs → P (get_or xs i d)
+each_at P [] i d low all = absurd (omega (arith, low))
+each_at P (x ∷ xs) zero d low all = all.0
+each_at P (x ∷ xs) (suc i) d low all = each_at P xs i d (omega (arith, low)) all.1
+
 -- ---- what an order lists
 
 -- one more after several

@@ -3,3 +3,4 @@ pub mod Makes
 pub mod Committing
 pub mod Making
 pub mod Numbers
+pub mod Upgrading

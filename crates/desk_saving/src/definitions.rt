@@ -1,20 +1,22 @@
 //! The statements that make the tables and indexes of an empty database.
-ghost use Rattle.std.specs.Prelude.{◌≡◌, ◌<◌, OnOk};
+ghost use Rattle.std.specs.Prelude.{◌≡◌, ◌<◌, IfErr, OnOk};
 ghost use Rattle.sqlite.specs.State.{Survives};
 ghost use Rattle.sqlite.specs.Held.{state};
 ghost use Rattle.desk_schema.specs.Advances.{Advances, KeepsLast};
-ghost use Rattle.desk_schema.specs.Defined.{Defines};
+ghost use Rattle.desk_schema.specs.Defined.{AddsKeyTable, Defines};
 ghost use Rattle.desk_schema.specs.Definitions.{definition_at};
+ghost use Rattle.desk_saving.specs.Numbers.{IsNotTooLarge};
 
+use crate::fault::SaveFault;
 use crate::statements::perform;
 use sqlite::{Alter, Error, Transaction};
 
 // How many statements there are.
-const DEFINITIONS: usize = 15;
+const DEFINITIONS: usize = 16;
 
 // The text of the statement at this place.
 fn definition(step: usize) -> &'static str
-    requires { step < 15 }
+    requires { step < 16 }
     ensures { result.now ≡ definition_at step }
 {
     match step {
@@ -39,7 +41,9 @@ fn definition(step: usize) -> &'static str
         11 => "CREATE INDEX authz_status_expires ON authz (status, expires)",
         12 => "CREATE INDEX ord_authz_authz ON ord_authz (authz)",
         13 => "CREATE INDEX chall_authz ON chall (authz)",
-        _ => "CREATE INDEX chall_status ON chall (status)",
+        14 => "CREATE INDEX chall_status ON chall (status)",
+        _ =>
+            "CREATE TABLE chall_key (chall INTEGER PRIMARY KEY REFERENCES chall (num), thumb BLOB NOT NULL) STRICT",
     }
 }
 
@@ -50,7 +54,7 @@ fn definition(step: usize) -> &'static str
 /// The error of the statement that failed; the transaction then holds the objects made before it, or is over.
 pub(crate) fn define_all<S: Alter>(tx: &mut Transaction<'_, S>) -> Result<(), Error>
     ensures same_reference { tx.new.conn.ghost_name ≡ tx.old.conn.ghost_name }
-    ensures ok { OnOk result (Advances (state S.Store tx.old.conn.now) (state S.Store tx.new.conn.now) (Defines 15)) }
+    ensures ok { OnOk result (Advances (state S.Store tx.old.conn.now) (state S.Store tx.new.conn.now) (Defines 16)) }
     ensures kept { KeepsLast (state S.Store tx.old.conn.now) (state S.Store tx.new.conn.now) }
     ensures survives { Survives (state S.Store tx.old.conn.now) (state S.Store tx.new.conn.now) (λ _. ⊥) }
 {
@@ -58,4 +62,21 @@ pub(crate) fn define_all<S: Alter>(tx: &mut Transaction<'_, S>) -> Result<(), Er
         perform(tx, definition(step), &[])?;
     }
     Ok(())
+}
+
+/// Makes the table that format 1 lacks inside a transaction, where the database has the tables and indexes of format 1.
+///
+/// # Errors
+///
+/// `Statement`, as `define_all`.
+pub(crate) fn define_key_table<S: Alter>(tx: &mut Transaction<'_, S>) -> Result<(), SaveFault>
+    ensures same_reference { tx.new.conn.ghost_name ≡ tx.old.conn.ghost_name }
+    ensures ok { OnOk result (Advances (state S.Store tx.old.conn.now) (state S.Store tx.new.conn.now) AddsKeyTable) }
+    ensures kept { KeepsLast (state S.Store tx.old.conn.now) (state S.Store tx.new.conn.now) }
+    ensures survives { Survives (state S.Store tx.old.conn.now) (state S.Store tx.new.conn.now) (λ _. ⊥) }
+    ensures fits { IfErr result IsNotTooLarge }
+{
+    perform(tx, definition(DEFINITIONS - 1), &[])
+        .and(Ok(()))
+        .map_err(SaveFault::Statement)
 }

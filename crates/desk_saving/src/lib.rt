@@ -11,6 +11,7 @@ mod making;
 mod rows;
 mod saving;
 mod statements;
+mod upgrading;
 mod upserts;
 mod values;
 
@@ -18,3 +19,4 @@ pub use fault::SaveFault;
 pub use laws::{leading_changes_fit, left_tables_are_found};
 pub use making::make_tables;
 pub use saving::save_all;
+pub use upgrading::upgrade_tables;

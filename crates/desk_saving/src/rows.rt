@@ -5,20 +5,22 @@ ghost use Rattle.sqlite.specs.Held.{state};
 ghost use Rattle.desk_schema.specs.Advances.{Advances, KeepsLast};
 ghost use Rattle.desk_saving.specs.Numbers.{IsNotTooLarge};
 ghost use Rattle.desk_tables.specs.Effects.{Places, Puts, Removes};
-ghost use Rattle.desk_tables.specs.Layouts.{account_layout, authorization_layout, challenge_layout, meta_layout, nonce_layout, order_layout};
-ghost use Rattle.written_rows.specs.Fits.{Fits, FitsAccount, FitsAuthorization, FitsChallenge, FitsListed, FitsMeta, FitsNonce, FitsOrder};
+ghost use Rattle.desk_columns.specs.Columns.{known_format};
+ghost use Rattle.desk_tables.specs.Layouts.{account_layout, authorization_layout, challenge_layout, formatted_layout, key_layout, nonce_layout, order_layout};
+ghost use Rattle.written_rows.specs.Fits.{Fits, FitsAccount, FitsAuthorization, FitsChallenge, FitsKey, FitsListed, FitsMeta, FitsNonce, FitsOrder};
 ghost use Rattle.written_rows.specs.declared.fault.WriteFault.TheVariants.{Memory};
 
 use crate::fault::SaveFault;
 use crate::statements::perform;
 use crate::upserts::Upsert;
+use desk_columns::AnswerKey;
 use desk_model::{AccountRow, AuthorizationRow, ChallengeRow, Listed, Meta, Nonce, OrderRow};
 use sqlite::types::ValueRef;
 use sqlite::{Alter, Transaction};
 use std::alloc::Global;
 use written_rows::{
-    WriteFault, account_columns, authorization_columns, challenge_columns, listed_columns,
-    meta_columns, nonce_columns, number_column, order_columns,
+    WriteFault, account_columns, authorization_columns, challenge_columns, key_columns,
+    listed_columns, meta_columns, nonce_columns, number_column, order_columns,
 };
 
 // Puts the columns of a row, where they were made.
@@ -38,14 +40,14 @@ fn put_columns<S: Alter, C: Upsert>(
     put.and(Ok(())).map_err(SaveFault::Statement)
 }
 
-/// Puts the row of `meta`.
+/// Puts the row of `meta`, in the place of one in whatever format.
 pub(crate) fn put_meta<S: Alter>(
     alloc: Global,
     tx: &mut Transaction<'_, S>,
     row: &Meta,
 ) -> Result<(), SaveFault>
     ensures same_reference { tx.new.conn.ghost_name ≡ tx.old.conn.ghost_name }
-    ensures ok { OnOk result (Advances (state S.Store tx.old.conn.now) (state S.Store tx.new.conn.now) (Puts meta_layout row.now)) }
+    ensures ok { OnOk result (Advances (state S.Store tx.old.conn.now) (state S.Store tx.new.conn.now) (Puts formatted_layout (known_format, row.now))) }
     ensures kept { KeepsLast (state S.Store tx.old.conn.now) (state S.Store tx.new.conn.now) }
     ensures survives { Survives (state S.Store tx.old.conn.now) (state S.Store tx.new.conn.now) (λ _. ⊥) }
     ensures fits { FitsMeta row.now → IfErr result IsNotTooLarge }
@@ -143,6 +145,21 @@ pub(crate) fn put_challenge<S: Alter>(
     ensures fits { FitsChallenge (record { owner = authorization; row = row.now }) → IfErr result IsNotTooLarge }
 {
     put_columns(tx, challenge_columns(alloc, authorization, row))
+}
+
+/// Puts the key of an answer.
+pub(crate) fn put_key<S: Alter>(
+    alloc: Global,
+    tx: &mut Transaction<'_, S>,
+    row: &AnswerKey,
+) -> Result<(), SaveFault>
+    ensures same_reference { tx.new.conn.ghost_name ≡ tx.old.conn.ghost_name }
+    ensures ok { OnOk result (Advances (state S.Store tx.old.conn.now) (state S.Store tx.new.conn.now) (Puts key_layout row.now)) }
+    ensures kept { KeepsLast (state S.Store tx.old.conn.now) (state S.Store tx.new.conn.now) }
+    ensures survives { Survives (state S.Store tx.old.conn.now) (state S.Store tx.new.conn.now) (λ _. ⊥) }
+    ensures fits { FitsKey row.now → IfErr result IsNotTooLarge }
+{
+    put_columns(tx, key_columns(alloc, row))
 }
 
 /// Removes the nonce of this serial, if there is one.

@@ -3,19 +3,21 @@ ghost use Rattle.std.specs.Prelude.{◌≡◌, OnOk};
 ghost use Rattle.sqlite.specs.Effect.{Database};
 ghost use Rattle.sqlite.specs.State.{Survives};
 ghost use Rattle.sqlite.specs.Held.{state};
-ghost use Rattle.desk_columns.specs.Columns.{account_columns, authorization_columns, challenge_columns, meta_columns, nonce_columns, order_columns};
+ghost use Rattle.desk_columns.specs.Columns.{account_columns, authorization_columns, challenge_columns, key_columns, nonce_columns, order_columns};
+ghost use Rattle.desk_columns.specs.Flat.{bare_row};
 ghost use Rattle.desk_schema.specs.Advances.{Advances, KeepsLast};
 ghost use Rattle.desk_tables.specs.Effects.{PlacesColumns, PutsColumns};
-ghost use Rattle.desk_tables.specs.Layouts.{account_layout, authorization_layout, challenge_layout, meta_layout, nonce_layout, order_layout};
+ghost use Rattle.desk_tables.specs.Images.{formatted_columns};
+ghost use Rattle.desk_tables.specs.Layouts.{account_layout, authorization_layout, challenge_layout, formatted_layout, key_layout, nonce_layout, order_layout};
 
 use crate::statements::perform;
 use crate::values::{
-    account_values, authorization_values, challenge_values, listed_values, meta_values,
+    account_values, authorization_values, challenge_values, key_values, listed_values, meta_values,
     nonce_values, order_values,
 };
 use desk_columns::{
-    AccountColumns, AuthzColumns, ChallColumns, MetaColumns, NonceColumns, OrderAuthzColumns,
-    OrderColumns,
+    AccountColumns, AuthzColumns, ChallColumns, ChallKeyColumns, MetaColumns, NonceColumns,
+    OrderAuthzColumns, OrderColumns,
 };
 use sqlite::{Alter, Error, Transaction};
 
@@ -33,7 +35,7 @@ pub(crate) trait Upsert: Drop {
 }
 
 impl Upsert for MetaColumns {
-    ghost Does = { PutsColumns meta_layout meta_columns };
+    ghost Does = { PutsColumns formatted_layout formatted_columns };
 
     fn upsert<S: Alter>(&self, tx: &mut Transaction<'_, S>) -> Result<usize, Error> {
         let values = meta_values(self);
@@ -111,13 +113,26 @@ impl Upsert for OrderAuthzColumns {
 }
 
 impl Upsert for ChallColumns {
-    ghost Does = { PutsColumns challenge_layout challenge_columns };
+    ghost Does = { PutsColumns challenge_layout (λ row. challenge_columns (bare_row row)) };
 
     fn upsert<S: Alter>(&self, tx: &mut Transaction<'_, S>) -> Result<usize, Error> {
         let values = challenge_values(self);
         perform(
             tx,
             "INSERT INTO chall (num, authz, kind, token, answered, reported, outcome, status) VALUES (?1, ?2, ?3, ?4, ?5, ?6, ?7, ?8) ON CONFLICT (num) DO UPDATE SET authz = excluded.authz, kind = excluded.kind, token = excluded.token, answered = excluded.answered, reported = excluded.reported, outcome = excluded.outcome, status = excluded.status",
+            &values,
+        )
+    }
+}
+
+impl Upsert for ChallKeyColumns {
+    ghost Does = { PutsColumns key_layout key_columns };
+
+    fn upsert<S: Alter>(&self, tx: &mut Transaction<'_, S>) -> Result<usize, Error> {
+        let values = key_values(self);
+        perform(
+            tx,
+            "INSERT INTO chall_key (chall, thumb) VALUES (?1, ?2) ON CONFLICT (chall) DO UPDATE SET thumb = excluded.thumb",
             &values,
         )
     }

@@ -3,12 +3,12 @@ ghost use Rattle.std.specs.Prelude.{◌≡◌};
 ghost use Rattle.sqlite.specs.declared.types.Value.TheVariants.{Int, Text as SqlText, Blob};
 ghost use Rattle.sqlite.specs.Values.{bound, bound_value};
 ghost use Rattle.sqlite_value.specs.Value.{owned};
-ghost use Rattle.desk_tables.specs.Images.{account_params, authorization_params, blob_or_null, challenge_params, int_or_null};
+ghost use Rattle.desk_tables.specs.Images.{account_params, authorization_params, blob_or_null, challenge_params, int_or_null, key_params};
 ghost use Rattle.desk_tables.specs.Images.{listed_params, meta_params, nonce_params, order_params, text_or_null};
 
 use desk_columns::{
-    AccountColumns, AuthzColumns, ChallColumns, MetaColumns, NonceColumns, OrderAuthzColumns,
-    OrderColumns,
+    AccountColumns, AuthzColumns, ChallColumns, ChallKeyColumns, MetaColumns, NonceColumns,
+    OrderAuthzColumns, OrderColumns,
 };
 use desk_model::{Sequence, Text};
 use sqlite::types::ValueRef;
@@ -167,4 +167,11 @@ pub(crate) fn challenge_values<'a>(columns: &'a ChallColumns) -> [ValueRef<'a>; 
         text_or_null(&columns.outcome),
         text(&columns.status),
     ]
+}
+
+/// The parameters for a row of `chall_key`.
+pub(crate) fn key_values<'a>(columns: &'a ChallKeyColumns) -> [ValueRef<'a>; 2]
+    ensures { bound result ≡ key_params columns.now }
+{
+    [int(&columns.chall), blob(&columns.thumb)]
 }

@@ -1,15 +1,14 @@
 use Rattle.std.proofs.Common.{OnOk, subst}
 use Rattle.std.proofs.lemmas.Result.{IfOk-from_err}
 use Rattle.sqlite.specs.Held.{state}
-use Rattle.desk_columns.specs.Flat.{owned_by}
 use Rattle.desk_model.specs.declared.rows.Change.TheVariants.{PutAuthorization}
 use Rattle.desk_schema.specs.Advances.{Advances}
-use Rattle.desk_saving.specs.Makes.{Makes, PutsAll}
+use Rattle.desk_saving.specs.Makes.{Makes, PutsChallenges}
 use Rattle.desk_saving.proofs.MadeChanges.{makes_authorization}
 use Rattle.desk_saving.proofs.Exits.{advances_both, kept_behind, survives_both}
 use Rattle.desk_saving.proofs.changes.put_with_challenges.Goals as goal
 use Rattle.desk_tables.specs.Effects.{Puts}
-use Rattle.desk_tables.specs.Layouts.{authorization_layout, challenge_layout}
+use Rattle.desk_tables.specs.Layouts.{authorization_layout}
 
 pub returns-clause-ok : goal.returns-clause-ok
 returns-clause-ok g c =
@@ -18,8 +17,8 @@ returns-clause-ok g c =
     let mid = state g.S.Store c.put_authorization.new.tx.conn.now in
     let new = state g.S.Store c.put_challenges.new.tx.conn.now in
     let r = c.put_challenges.result in
-    let last = subst (λ rows. OnOk r (Advances mid new (PutsAll challenge_layout (owned_by row.number rows)))) c.as_slice.ensures c.put_challenges.ensures.ok in
-    advances_both r old mid new (Puts authorization_layout row) (PutsAll challenge_layout (owned_by row.number row.challenges)) (Makes (PutAuthorization row))
+    let last = subst (λ rows. OnOk r (Advances mid new (PutsChallenges row.number rows))) c.as_slice.ensures c.put_challenges.ensures.ok in
+    advances_both r old mid new (Puts authorization_layout row) (PutsChallenges row.number row.challenges) (Makes (PutAuthorization row))
     (makes_authorization row old.now mid.now new.now) c.put_challenges.ensures.survives c.in_ok-put_authorization.ensures.ok last
 
 pub returns-in_err-put_authorization-clause-ok : goal.returns-in_err-put_authorization-clause-ok

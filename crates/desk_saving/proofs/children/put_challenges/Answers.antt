@@ -1,48 +1,41 @@
-use Rattle.std.proofs.Common.{◌∙◌, rules, arith, subst, take_all}
+use Rattle.std.proofs.Common.{subst}
+use Rattle.std.proofs.lemmas.Result.{IfOk-from_err}
+use Rattle.std.specs.Prelude.{OnOk}
 use Rattle.sqlite.specs.Held.{state}
-use Rattle.sqlite.proofs.StateLemmas.{survives_then}
-use Rattle.desk_columns.specs.Flat.{owned_by}
+use Rattle.desk_columns.specs.Flat.{key_rows, owned_by}
 use Rattle.desk_schema.specs.Advances.{Advances}
-use Rattle.desk_saving.specs.Makes.{PutsAll}
-use Rattle.desk_saving.proofs.Exits.{kept_behind, survives_both}
-use Rattle.desk_saving.proofs.RowsInTurn.{advances_put, each_owned}
+use Rattle.desk_saving.specs.Makes.{PutsAll, PutsChallenges}
+use Rattle.desk_saving.proofs.Exits.{advances_both, kept_behind, survives_both}
+use Rattle.desk_saving.proofs.KeyRows.{keys_fit, keys_of_owned}
 use Rattle.desk_saving.proofs.children.put_challenges.Goals as goal
-use Rattle.desk_tables.specs.Layouts.{challenge_layout}
-use Rattle.written_rows.specs.Fits.{FitsChallenge}
-
-pub loop-row-preserved : goal.loop-row-preserved
-loop-row-preserved g c =
-    let first = state g.S.Store c.args.tx.now.conn.now in
-    let old = state g.S.Store c.loop-row.tx.conn.now in
-    let new = state g.S.Store c.put_challenge.new.tx.conn.now in
-    let after = c.in_ok-put_challenge.ensures in
-    record {
-      same = after.same_reference ∙ c.loop-row.invariant.same;
-      advances = advances_put challenge_layout c.args.authorization first old new c.args.rows.now c.loop-row.row-index _ (search rules) after.survives
-          c.loop-row.invariant.advances
-          after.ok;
-      survives = survives_then first old new _ _ (λ _. ⊥) (λ _ db none. none) (λ _ db none. none) c.loop-row.invariant.survives after.survives;
-    }
-
-pub returns-in_err-put_challenge-clause-fits : goal.returns-in_err-put_challenge-clause-fits
-returns-in_err-put_challenge-clause-fits g c all =
-    let at = each_owned FitsChallenge c.args.authorization c.args.rows.now c.loop-row.row-index _ (search rules) all in
-    let fits = c.in_err-put_challenge.ensures.fits at in
-    search (rules, fits)
+use Rattle.desk_tables.specs.Layouts.{challenge_layout, key_layout}
 
 pub returns-clause-ok : goal.returns-clause-ok
 returns-clause-ok g c =
-    let first = state g.S.Store c.args.tx.now.conn.now in
-    let new = state g.S.Store c.loop-row.tx.conn.now in
-    let whole = take_all c.loop-row.row-index c.args.rows.now (omega arith) in
-    subst (λ xs. Advances first new (PutsAll challenge_layout (owned_by c.args.authorization xs))) whole c.loop-row.invariant.advances
+    let n = c.args.authorization in
+    let rows = c.args.rows.now in
+    let old = state g.S.Store c.args.tx.now.conn.now in
+    let mid = state g.S.Store c.put_bare_challenges.new.tx.conn.now in
+    let new = state g.S.Store c.put_answers.new.tx.conn.now in
+    let r = c.put_answers.result in
+    let last = subst (λ keys. OnOk r (Advances mid new (PutsAll key_layout keys))) (keys_of_owned n rows) c.put_answers.ensures.ok in
+    advances_both r old mid new (PutsAll challenge_layout (owned_by n rows)) (PutsAll key_layout (key_rows (owned_by n rows))) (PutsChallenges n rows)
+    (λ first then. (mid.now, first, then)) c.put_answers.ensures.survives c.in_ok-put_bare_challenges.ensures.ok last
 
-pub returns-in_err-put_challenge-clause-kept : goal.returns-in_err-put_challenge-clause-kept
-returns-in_err-put_challenge-clause-kept g c =
-    kept_behind (state g.S.Store c.args.tx.now.conn.now) (state g.S.Store c.loop-row.tx.conn.now) (state g.S.Store c.put_challenge.new.tx.conn.now) _
-    c.loop-row.invariant.advances c.put_challenge.ensures.survives c.put_challenge.ensures.kept
+pub returns-in_err-put_bare_challenges-clause-ok : goal.returns-in_err-put_bare_challenges-clause-ok
+returns-in_err-put_bare_challenges-clause-ok g c = IfOk-from_err c.from_residual.result _ c.from_residual.ensures.0
 
-pub returns-in_err-put_challenge-clause-survives : goal.returns-in_err-put_challenge-clause-survives
-returns-in_err-put_challenge-clause-survives g c =
-    survives_both (state g.S.Store c.args.tx.now.conn.now) (state g.S.Store c.loop-row.tx.conn.now) (state g.S.Store c.put_challenge.new.tx.conn.now)
-    c.loop-row.invariant.survives c.put_challenge.ensures.survives
+pub returns-clause-kept : goal.returns-clause-kept
+returns-clause-kept g c =
+    kept_behind (state g.S.Store c.args.tx.now.conn.now) (state g.S.Store c.put_bare_challenges.new.tx.conn.now)
+    (state g.S.Store c.put_answers.new.tx.conn.now) _
+    c.in_ok-put_bare_challenges.ensures.ok c.put_answers.ensures.survives c.put_answers.ensures.kept
+
+pub returns-clause-survives : goal.returns-clause-survives
+returns-clause-survives g c =
+    survives_both (state g.S.Store c.args.tx.now.conn.now) (state g.S.Store c.put_bare_challenges.new.tx.conn.now)
+    (state g.S.Store c.put_answers.new.tx.conn.now)
+    c.in_ok-put_bare_challenges.ensures.survives c.put_answers.ensures.survives
+
+pub returns-clause-fits : goal.returns-clause-fits
+returns-clause-fits g c all = c.put_answers.ensures.fits (keys_fit c.args.authorization c.args.rows.now all)

@@ -5,8 +5,10 @@ use Rattle.desk_saving.specs.Making.{MakesDesk}
 use Rattle.desk_saving.proofs.Exits.{advances_both, kept_behind, survives_both}
 use Rattle.desk_saving.proofs.making.define_desk.Goals as goal
 use Rattle.desk_tables.specs.Effects.{Puts}
-use Rattle.desk_tables.specs.Layouts.{meta_layout}
+use Rattle.desk_tables.specs.Layouts.{formatted_layout}
 use Rattle.desk_tables.proofs.Holding.{holds_first}
+use Rattle.desk_tables.proofs.MetaUpsert.{puts_known}
+use Rattle.desk_columns.specs.Columns.{known_format}
 
 pub returns-clause-ok : goal.returns-clause-ok
 returns-clause-ok g c =
@@ -14,7 +16,8 @@ returns-clause-ok g c =
     let old = state g.S.Store c.args.tx.now.conn.now in
     let mid = state g.S.Store c.define_all.new.tx.conn.now in
     let new = state g.S.Store c.put_meta.new.tx.conn.now in
-    advances_both c.put_meta.result old mid new (Defines 15) (Puts meta_layout meta) (MakesDesk meta) (holds_first old.now mid.now new.now meta)
+    advances_both c.put_meta.result old mid new (Defines 16) (Puts formatted_layout (known_format, meta)) (MakesDesk meta)
+    (λ defines puts. holds_first old.now mid.now new.now meta defines (puts_known meta mid.now new.now puts))
     c.put_meta.ensures.survives c.in_ok-define_all.ensures.ok c.put_meta.ensures.ok
 
 pub returns-in_err-define_all-clause-ok : goal.returns-in_err-define_all-clause-ok

@@ -1,16 +1,14 @@
 use Rattle.std.proofs.Common.{◌≡◌, take}
 use Rattle.sqlite.specs.State.{Survives}
 use Rattle.sqlite.specs.Held.{state}
-use Rattle.desk_columns.specs.Flat.{owned_by}
 use Rattle.desk_schema.specs.Advances.{Advances}
 use Rattle.desk_saving.specs.Makes.{PutsAll}
-use Rattle.desk_tables.specs.Layouts.{challenge_layout}
-use Rattle.desk_saving.proofs.children.put_challenges.Given as goal
+use Rattle.desk_tables.specs.Layouts.{key_layout}
+use Rattle.desk_saving.proofs.children.put_keys.Given as goal
 
 abbrev pub invariant-loop-row : goal.invariant-loop-row
 invariant-loop-row g l = record {
   same : l.tx.conn.ghost_name ≡ l.fn.tx.conn.ghost_name;
-  advances : Advances (state g.S.Store l.fn.tx.conn.now) (state g.S.Store l.tx.conn.now)
-      (PutsAll challenge_layout (owned_by l.fn.authorization (take l.row-index l.rows)));
+  advances : Advances (state g.S.Store l.fn.tx.conn.now) (state g.S.Store l.tx.conn.now) (PutsAll key_layout (take l.row-index l.rows));
   survives : Survives (state g.S.Store l.fn.tx.conn.now) (state g.S.Store l.tx.conn.now) (λ _. ⊥);
 }

@@ -1,0 +1,76 @@
+-- The keys of answers, beside the challenges that they belong to.
+use Rattle.std.specs.Prelude.{filter_map, is_some, option_map, IsTrue}
+use Rattle.std.specs.List.{cons_option, flat_map}
+use Rattle.std.proofs.Common.{◌≡◌, inl, ℕ, ◌+◌, ◌++◌, List, [], ◌∷◌, map, Option, Some, None, refl, ap, ◌∙◌, arith}
+use Rattle.std.proofs.lemmas.List.Elements.{filter_map-append}
+use Rattle.desk_columns.specs.Flat.{answer_key, challenge_rows, key_rows, owned_by}
+use Rattle.desk_columns.specs.declared.flat_rows.AnswerKey.{AnswerKey}
+use Rattle.desk_columns.specs.declared.flat_rows.Owned.{Owned}
+use Rattle.desk_laws.proofs.RowLists.{ascends_from}
+use Rattle.desk_laws.specs.News.{KeepChallenges}
+use Rattle.desk_laws.specs.Ordered.{Ascends}
+use Rattle.desk_model.specs.Kept.{EachOf}
+use Rattle.desk_model.specs.declared.objects.Answer.{Answer}
+use Rattle.desk_model.specs.declared.rows.AuthorizationRow.{AuthorizationRow}
+use Rattle.desk_model.specs.declared.rows.ChallengeRow.{ChallengeRow}
+use Rattle.desk_saving.proofs.Numbered.{AreWithin, within_more}
+use Rattle.desk_tables.specs.Layouts.{challenge_layout, key_layout}
+use Rattle.written_rows.specs.Fits.{FitsChallenge, FitsKey}
+
+-- the key of an answer, where there is one
+abbrev key_of : ℕ → Option Answer → Option AnswerKey
+key_of n answer = option_map (λ a. record { challenge = n; thumb = a.thumb }) answer
+
+-- they rise where the challenges do
+pub keys_rise : (n : ℕ) (rows : List (Owned ChallengeRow)) → Ascends challenge_layout.key n rows → Ascends key_layout.key n (key_rows rows)
+keys_rise n [] up = tt
+keys_rise n (c ∷ cs) up = by c.row.answered (keys_rise (c.row.number + 1) cs up.1)
+  where
+    by : (a : Option Answer) → Ascends key_layout.key (c.row.number + 1) (key_rows cs)
+        → Ascends key_layout.key n (cons_option (key_of c.row.number a) (key_rows cs))
+    by None rest = ascends_from key_layout.key n (c.row.number + 1) (key_rows cs) (omega (arith, up.0)) rest
+    by (Some a) rest = (up.0, rest)
+
+-- authorization by authorization
+pub keys_flat : (rows : List AuthorizationRow) → key_rows (challenge_rows rows) ≡ flat_map (λ a. key_rows (owned_by a.number a.challenges)) rows
+keys_flat [] = refl
+keys_flat (a ∷ rows) =
+    filter_map-append (λ (c : Owned ChallengeRow). answer_key c.row) (owned_by a.number a.challenges) (challenge_rows rows)
+    ∙ ap (λ l. key_rows (owned_by a.number a.challenges) ++ l) (keys_flat rows)
+
+-- their owner is not looked at
+pub keys_of_owned : (n : ℕ) (cs : List ChallengeRow) → filter_map answer_key cs ≡ key_rows (owned_by n cs)
+keys_of_owned n [] = refl
+keys_of_owned n (c ∷ cs) = ap (cons_option (answer_key c)) (keys_of_owned n cs)
+
+-- where no challenge loses its answer, the numbers stand among those that come
+pub keys_within : (n m : ℕ) (cs ds : List ChallengeRow) → KeepChallenges cs ds
+    → AreWithin (map key_layout.key (key_rows (owned_by n cs))) (map key_layout.key (key_rows (owned_by m ds)))
+keys_within n m [] ds kept = tt
+keys_within n m (c ∷ cs) [] kept = absurd (cc (kept.numbers))
+keys_within n m (c ∷ cs) (d ∷ ds) kept =
+    by c.answered d.answered (kept.answers.0) (keys_within n m cs ds (record { numbers = cc (kept.numbers); answers = kept.answers.1 }))
+  where
+    first : c.number ≡ d.number
+    first = cc (kept.numbers)
+
+    numbers_of : List AnswerKey → List ℕ
+    numbers_of ks = map key_layout.key ks
+
+    by : (a b : Option Answer) → (IsTrue (is_some a) → IsTrue (is_some b))
+        → AreWithin (numbers_of (key_rows (owned_by n cs))) (numbers_of (key_rows (owned_by m ds)))
+        → AreWithin (numbers_of (cons_option (key_of c.number a) (key_rows (owned_by n cs))))
+        (numbers_of (cons_option (key_of d.number b) (key_rows (owned_by m ds))))
+    by None None stays rest = rest
+    by None (Some b) stays rest = within_more (numbers_of (key_rows (owned_by n cs))) (numbers_of (key_rows (owned_by m ds))) d.number rest
+    by (Some a) None stays rest = absurd (cc (stays refl))
+    by (Some a) (Some b) stays rest = inl (first, rest)
+
+-- their columns take their numbers where those of the challenges do
+pub keys_fit : (n : ℕ) (cs : List ChallengeRow) → EachOf FitsChallenge (owned_by n cs) → EachOf FitsKey (filter_map answer_key cs)
+keys_fit n [] all = tt
+keys_fit n (c ∷ cs) all = by c.answered (keys_fit n cs all.1)
+  where
+    by : (a : Option Answer) → EachOf FitsKey (filter_map answer_key cs) → EachOf FitsKey (cons_option (key_of c.number a) (filter_map answer_key cs))
+    by None rest = rest
+    by (Some a) rest = (all.0.number, rest)

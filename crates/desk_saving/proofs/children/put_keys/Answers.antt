@@ -1,0 +1,47 @@
+use Rattle.std.proofs.Common.{◌∙◌, rules, arith, subst, take_all}
+use Rattle.sqlite.specs.Held.{state}
+use Rattle.sqlite.proofs.StateLemmas.{survives_then}
+use Rattle.desk_schema.specs.Advances.{Advances}
+use Rattle.desk_saving.specs.Makes.{PutsAll}
+use Rattle.desk_saving.proofs.Exits.{kept_behind, survives_both}
+use Rattle.desk_saving.proofs.RowsInTurn.{advances_put_row, each_at}
+use Rattle.desk_saving.proofs.children.put_keys.Goals as goal
+use Rattle.desk_tables.specs.Layouts.{key_layout}
+use Rattle.written_rows.specs.Fits.{FitsKey}
+
+pub loop-row-preserved : goal.loop-row-preserved
+loop-row-preserved g c =
+    let first = state g.S.Store c.args.tx.now.conn.now in
+    let old = state g.S.Store c.loop-row.tx.conn.now in
+    let new = state g.S.Store c.put_key.new.tx.conn.now in
+    let after = c.in_ok-put_key.ensures in
+    record {
+      same = after.same_reference ∙ c.loop-row.invariant.same;
+      advances = advances_put_row key_layout first old new c.args.rows.now c.loop-row.row-index _ (search rules) after.survives
+          c.loop-row.invariant.advances
+          after.ok;
+      survives = survives_then first old new _ _ (λ _. ⊥) (λ _ db none. none) (λ _ db none. none) c.loop-row.invariant.survives after.survives;
+    }
+
+pub returns-clause-ok : goal.returns-clause-ok
+returns-clause-ok g c =
+    let first = state g.S.Store c.args.tx.now.conn.now in
+    let new = state g.S.Store c.loop-row.tx.conn.now in
+    let whole = take_all c.loop-row.row-index c.args.rows.now (omega arith) in
+    subst (λ xs. Advances first new (PutsAll key_layout xs)) whole c.loop-row.invariant.advances
+
+pub returns-in_err-put_key-clause-kept : goal.returns-in_err-put_key-clause-kept
+returns-in_err-put_key-clause-kept g c =
+    kept_behind (state g.S.Store c.args.tx.now.conn.now) (state g.S.Store c.loop-row.tx.conn.now) (state g.S.Store c.put_key.new.tx.conn.now) _
+    c.loop-row.invariant.advances c.put_key.ensures.survives c.put_key.ensures.kept
+
+pub returns-in_err-put_key-clause-survives : goal.returns-in_err-put_key-clause-survives
+returns-in_err-put_key-clause-survives g c =
+    survives_both (state g.S.Store c.args.tx.now.conn.now) (state g.S.Store c.loop-row.tx.conn.now) (state g.S.Store c.put_key.new.tx.conn.now)
+    c.loop-row.invariant.survives c.put_key.ensures.survives
+
+pub returns-in_err-put_key-clause-fits : goal.returns-in_err-put_key-clause-fits
+returns-in_err-put_key-clause-fits g c all =
+    let at = each_at FitsKey c.args.rows.now c.loop-row.row-index _ (search rules) all in
+    let fits = c.in_err-put_key.ensures.fits at in
+    search (rules, fits)

@@ -1,0 +1,32 @@
+use Rattle.std.proofs.lemmas.Result.{IfOk-from_err}
+use Rattle.sqlite.specs.Held.{state}
+use Rattle.desk_columns.specs.Columns.{known_format}
+use Rattle.desk_saving.specs.Makes.{PutsAll}
+use Rattle.desk_saving.specs.Upgrading.{Fills}
+use Rattle.desk_saving.proofs.Exits.{advances_both, kept_behind, survives_both}
+use Rattle.desk_saving.proofs.upgrading.fill.Goals as goal
+use Rattle.desk_tables.specs.Effects.{Puts}
+use Rattle.desk_tables.specs.Layouts.{formatted_layout, key_layout}
+
+pub returns-clause-ok : goal.returns-clause-ok
+returns-clause-ok g c =
+    let meta = c.args.meta.now in
+    let keys = c.args.keys.now in
+    let old = state g.S.Store c.args.tx.now.conn.now in
+    let mid = state g.S.Store c.put_keys.new.tx.conn.now in
+    let new = state g.S.Store c.put_meta.new.tx.conn.now in
+    advances_both c.put_meta.result old mid new (PutsAll key_layout keys) (Puts formatted_layout (known_format, meta)) (Fills meta keys)
+    (λ first last. (mid.now, first, last)) c.put_meta.ensures.survives c.in_ok-put_keys.ensures.ok c.put_meta.ensures.ok
+
+pub returns-in_err-put_keys-clause-ok : goal.returns-in_err-put_keys-clause-ok
+returns-in_err-put_keys-clause-ok g c = IfOk-from_err c.from_residual.result _ c.from_residual.ensures.0
+
+pub returns-clause-kept : goal.returns-clause-kept
+returns-clause-kept g c =
+    kept_behind (state g.S.Store c.args.tx.now.conn.now) (state g.S.Store c.put_keys.new.tx.conn.now) (state g.S.Store c.put_meta.new.tx.conn.now) _
+    c.in_ok-put_keys.ensures.ok c.put_meta.ensures.survives c.put_meta.ensures.kept
+
+pub returns-clause-survives : goal.returns-clause-survives
+returns-clause-survives g c =
+    survives_both (state g.S.Store c.args.tx.now.conn.now) (state g.S.Store c.put_keys.new.tx.conn.now) (state g.S.Store c.put_meta.new.tx.conn.now)
+    c.in_ok-put_keys.ensures.survives c.put_meta.ensures.survives

@@ -1,0 +1,30 @@
+use Rattle.std.proofs.lemmas.Result.{IfOk-from_err}
+use Rattle.sqlite.specs.Held.{state}
+use Rattle.desk_schema.specs.Defined.{AddsKeyTable}
+use Rattle.desk_saving.specs.Upgrading.{Fills, Upgrades}
+use Rattle.desk_saving.proofs.Exits.{advances_both, kept_behind, survives_both}
+use Rattle.desk_saving.proofs.Upgraded.{upgrades}
+use Rattle.desk_saving.proofs.upgrading.widen.Goals as goal
+
+pub returns-clause-ok : goal.returns-clause-ok
+returns-clause-ok g c =
+    let meta = c.args.meta.now in
+    let keys = c.args.keys.now in
+    let old = state g.S.Store c.args.tx.now.conn.now in
+    let mid = state g.S.Store c.define_key_table.new.tx.conn.now in
+    let new = state g.S.Store c.fill.new.tx.conn.now in
+    advances_both c.fill.result old mid new AddsKeyTable (Fills meta keys) (Upgrades meta keys) (upgrades meta keys old.now mid.now new.now)
+    c.fill.ensures.survives c.in_ok-define_key_table.ensures.ok c.fill.ensures.ok
+
+pub returns-in_err-define_key_table-clause-ok : goal.returns-in_err-define_key_table-clause-ok
+returns-in_err-define_key_table-clause-ok g c = IfOk-from_err c.from_residual.result _ c.from_residual.ensures.0
+
+pub returns-clause-kept : goal.returns-clause-kept
+returns-clause-kept g c =
+    kept_behind (state g.S.Store c.args.tx.now.conn.now) (state g.S.Store c.define_key_table.new.tx.conn.now) (state g.S.Store c.fill.new.tx.conn.now) _
+    c.in_ok-define_key_table.ensures.ok c.fill.ensures.survives c.fill.ensures.kept
+
+pub returns-clause-survives : goal.returns-clause-survives
+returns-clause-survives g c =
+    survives_both (state g.S.Store c.args.tx.now.conn.now) (state g.S.Store c.define_key_table.new.tx.conn.now) (state g.S.Store c.fill.new.tx.conn.now)
+    c.in_ok-define_key_table.ensures.survives c.fill.ensures.survives

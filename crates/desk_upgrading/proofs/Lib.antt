@@ -1,0 +1,2 @@
+pub mod FirstDesksKept
+pub mod FirstKeysFound

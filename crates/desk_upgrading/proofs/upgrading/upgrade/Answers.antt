@@ -1,0 +1,42 @@
+use Rattle.std.proofs.Common.{◌≡◌, List, ◌∙◌, subst}
+use Rattle.sqlite.specs.Held.{state}
+use Rattle.sqlite.proofs.StateLemmas.{survives_weaker}
+use Rattle.desk_columns.specs.declared.flat_rows.AnswerKey.{AnswerKey}
+use Rattle.desk_model.specs.declared.rows.Meta.{Meta}
+use Rattle.desk_saving.specs.Upgrading.{Upgrades}
+use Rattle.desk_upgrading.specs.FirstDesks.{UpgradesDesk}
+use Rattle.desk_upgrading.specs.FirstKeys.{first_keys}
+use Rattle.desk_upgrading.proofs.FirstDesksKept.{committed_as, desk_brought, desks_upgrade, left_as}
+use Rattle.desk_upgrading.proofs.upgrading.upgrade.Goals as goal
+
+pub returns-clause-ok : goal.returns-clause-ok
+returns-clause-ok g c clean =
+    let old = state g.S.Store c.args.conn.now in
+    let new = state g.S.Store c.upgrade_tables-upgraded.new.conn in
+    let book = c.args.book.now in
+    let meta = c.meta.result.now in
+    let keys = c.as_slice.result.now in
+    let are : keys ≡ first_keys book = c.as_slice.ensures.value ∙ c.in-Ok.ensures in
+    committed_as c.upgrade_tables-upgraded.result old new (Upgrades meta keys) (UpgradesDesk book)
+    (λ did. desks_upgrade book old.now new.committed (subst (λ (m : Meta). Upgrades m (first_keys book) old.now new.committed) c.meta.ensures
+    (subst (λ (ks : List AnswerKey). Upgrades meta ks old.now new.committed) are did)))
+    (c.upgrade_tables-upgraded.ensures.ok clean)
+
+pub returns-clause-left : goal.returns-clause-left
+returns-clause-left g c =
+    let old = state g.S.Store c.args.conn.now in
+    let new = state g.S.Store c.upgrade_tables-upgraded.new.conn in
+    let book = c.args.book.now in
+    let meta = c.meta.result.now in
+    let keys = c.as_slice.result.now in
+    let are : keys ≡ first_keys book = c.as_slice.ensures.value ∙ c.in-Ok.ensures in
+    survives_weaker old new _ _
+    (λ _ trees left. left_as old.now trees (Upgrades meta keys) (UpgradesDesk book)
+    (λ made did. desks_upgrade book old.now made (subst (λ (m : Meta). Upgrades m (first_keys book) old.now made) c.meta.ensures
+    (subst (λ (ks : List AnswerKey). Upgrades meta ks old.now made) are did))) left)
+    c.upgrade_tables-upgraded.ensures.left
+
+pub returns-clause-desk : goal.returns-clause-desk
+returns-clause-desk g c clean =
+    desk_brought c.upgrade_tables-upgraded.result c.args.book.now (state g.S.Store c.args.conn.now) (state g.S.Store c.upgrade_tables-upgraded.new.conn)
+    c.upgrade_tables-upgraded.ensures.idle c.upgrade_tables-upgraded.ensures.left.limit (returns-clause-ok g c clean)

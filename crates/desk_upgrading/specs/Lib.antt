@@ -1,0 +1,2 @@
+pub mod FirstDesks
+pub mod FirstKeys
