@@ -11,13 +11,14 @@ use Rattle.desk_model.specs.Nonce.{nonces, is_open}
 use Rattle.desk_model.specs.Account.{accounts, account_by_key, key_of, is_valid as is_valid_account}
 use Rattle.desk_model.specs.Authorization.{authorizations, authorization_of, has_challenge, authorization_status, challenge_status, is_live, is_pending}
 use Rattle.desk_model.specs.Order.{orders, is_ready, is_processing}
-use Rattle.desk_model.specs.History.{clock}
+use Rattle.desk_model.specs.History.{clock, terms}
 use Rattle.desk_model.specs.Legal.{EachFollows, IsFormed, may_follow, is_pending_challenge, is_processing_challenge, has_length}
-use Rattle.desk_model.specs.Legal.{all_different, is_wanted, wanted_name, is_problem}
+use Rattle.desk_model.specs.Legal.{all_different, is_wanted, may_want, wanted_name, is_problem}
+use Rattle.desk_model.specs.Questions.{serves}
 use Rattle.desk_model.specs.Limits.{last_moment, longest_certificate, longest_csr, most_names}
 use Rattle.desk_model.specs.Tables.{account_row, challenge_row, authorization_row, order_row, tables_at}
 use Rattle.desk_model.specs.Effect.{has_row}
-use Rattle.desk_model.specs.Allowed.{may_on, challenge_passes}
+use Rattle.desk_model.specs.Allowed.{may_on, may_want_on, challenge_passes}
 use Rattle.desk_model.specs.declared.status.ChallengeStatus.{ChallengeStatus}
 use Rattle.desk_model.specs.declared.entry.Entry.{Entry}
 use Rattle.desk_model.specs.declared.entry.Entry.TheVariants.{Made as made, Issued as issued, Spent as spent, Opened as opened}
@@ -25,6 +26,8 @@ use Rattle.desk_model.specs.declared.entry.Entry.TheVariants.{ContactsChanged as
 use Rattle.desk_model.specs.declared.entry.Entry.TheVariants.{Ordered as ordered, Answered as answered, Reported as reported}
 use Rattle.desk_model.specs.declared.entry.Entry.TheVariants.{AuthorizationEnded as authorization_ended, Finalized as finalized}
 use Rattle.desk_model.specs.declared.entry.Entry.TheVariants.{Certified as certified, Failed as failed}
+use Rattle.desk_model.specs.declared.entry.Wanted.{Wanted}
+use Rattle.desk_model.specs.declared.entry.Wanted.TheVariants.{New, Reused}
 use Rattle.desk_model.specs.declared.objects.Authorization.{Authorization}
 use Rattle.desk_model.specs.declared.objects.Challenge.{Challenge}
 use Rattle.desk_model.specs.declared.objects.Nonce.{Nonce}
@@ -136,6 +139,16 @@ unkeyed F key =
     sym (ap is_none (find-map (λ a. bytes_eq a.key key) (account_row F) (accounts F))
     ∙ none-map (account_row F) (find (λ a. bytes_eq (key_of a F) key) (accounts F)))
 
+-- ---- authorizations that are used again
+
+-- they may be, by the history and by its tables
+reused_allowed : (F : History) (m account : ℕ) (ws : List Wanted) → list_all (may_want F m account) ws ≡ list_all (may_want_on (tables_at F m) account) ws
+reused_allowed F m account [] = refl
+reused_allowed F m account (New name tokens ∷ ws) = reused_allowed F m account ws
+reused_allowed F m account (Reused name k ∷ ws) =
+    λ i. sym (row_holds (serves account name (m + (terms F).order_life)) (λ a. a.number == k) (authorization_row F m) (authorizations F)) i
+    && reused_allowed F m account ws i
+
 -- ---- every kind but the first
 
 -- what may follow, by the history and by its tables
@@ -151,8 +164,8 @@ allowed F (key_changed n key) m h =
     (λ i. sym (row_holds (λ a. is_valid_account a.status) (λ a. a.number == n) (account_row F) (accounts F)) i && unkeyed F key i)
 allowed F (account_ended n s) m h = sym (row_holds (λ a. is_valid_account a.status) (λ a. a.number == n) (account_row F) (accounts F))
 allowed F (ordered n ws) m h =
-    ap (λ b. b && (has_length 1 most_names ws && (all_different (map wanted_name ws) && list_all is_wanted ws)))
-    (sym (row_holds (λ a. is_valid_account a.status) (λ a. a.number == n) (account_row F) (accounts F)))
+    λ i. sym (row_holds (λ a. is_valid_account a.status) (λ a. a.number == n) (account_row F) (accounts F)) i
+    && (has_length 1 most_names ws && (all_different (map wanted_name ws) && (list_all is_wanted ws && reused_allowed F m n ws i)))
 allowed F (answered n) m h = challenge_allowed F m is_pending_challenge n
 allowed F (reported n o) m h = challenge_allowed F m is_processing_challenge n
 allowed F (authorization_ended n s) m h =

@@ -1,12 +1,13 @@
 -- Small lemmas on options and lists.
 use Rattle.std.proofs.Common.{◌≡◌, ◌<◌, ◌≢◌, ℕ, ◌+◌, List, [], ◌∷◌, ◌++◌, length, map, Option, Some, None, refl, sym, ap, ◌∙◌}
 use Rattle.std.proofs.Common.{subst, true, false, Bool, cond, arith}
-use Rattle.std.specs.Prelude.{◌==◌, ◌||◌, find, is_some}
+use Rattle.std.specs.Prelude.{◌==◌, ◌||◌, find, is_some, IsSome}
 use Rattle.std.specs.List.{list_any}
 use Rattle.std.specs.Option.{option_map}
 use Rattle.std.proofs.lemmas.Bool.{eqb-true, eq-eqb, ne_eqb}
 use Rattle.desk_model.specs.History.{earlier}
 use Rattle.desk_model.specs.Kept.{EachOf}
+use Rattle.desk_model.specs.Lookup.{holds}
 
 -- what came first stays first
 pub earlier-some : {X : Type 0} (x : X) (o : Option X) → earlier (Some x) o ≡ Some x
@@ -96,6 +97,21 @@ find-append p (y ∷ xs) ys x h = by (p y) h (find-append p xs ys x)
         cond b (Some y) (find p (xs ++ ys)) ≡ Some x
     by true k ih = k
     by false k ih = ih k
+
+-- and what is there stays there
+pub still_some : {X : Type 0} (p : X → Bool) (xs ys : List X) → IsSome (find p xs) → IsSome (find p (xs ++ ys))
+still_some p [] ys h = cc
+still_some p (x ∷ xs) ys h = by (p x) h (still_some p xs ys)
+  where
+    by : (b : Bool) → IsSome (cond b (Some x) (find p xs)) → (IsSome (find p xs) → IsSome (find p (xs ++ ys))) →
+        IsSome (cond b (Some x) (find p (xs ++ ys)))
+    by true k ih = refl
+    by false k ih = ih k
+
+-- what passes a test is there
+pub there : {X : Type 0} (test : X → Bool) (o : Option X) → holds test o ≡ true → IsSome o
+there test None h = cc
+there test (Some x) h = refl
 
 -- what holds of moved items
 pub each_of_map : {X Y : Type 0} (P : Y → Type 0) (f : X → Y) (xs : List X) → EachOf P (map f xs) → EachOf (λ x. P (f x)) xs

@@ -69,6 +69,19 @@ fresh_orders k T m e (o ∷ os) holders h =
     λ i. restated_same m (authorizations_after (restricted k T) e m) (authorizations_after T e m) (fresh_order o)
     (kept_after k T e m (numbers_of (fresh_order o).listed) holders h.0) i ∷ fresh_orders k T m e os holders h.1 i
 
+-- the part's authorizations after an entry are the part of those after it
+pub authorizations_part : (k : Kept) (T : Tables) (m : ℕ) (e : Entry) → ((n : ℕ) → T.meta.counters.authorizations < n → k.authorizations n ≡ true) →
+    HoldersKept k T e →
+    (effect m (restricted k T) e).authorizations ≡ filter (λ a. k.authorizations a.number) (effect m T e).authorizations
+authorizations_part k T m e new holders =
+    part_on (λ (a : AuthorizationRow). a.number) k.authorizations (moved_authorization e m (restricted k T).accounts)
+    (moved_authorization e m T.accounts) T.authorizations _
+    (map (λ a. restated_authorization m (fresh_authorization a)) (new_authorizations T e m)) (moved_number e m T.accounts)
+    (all_moved_same k T e m holders) refl
+    (up_kept (λ (a : AuthorizationRow). a.number) k.authorizations T.meta.counters.authorizations new
+    (T.meta.counters.authorizations + 1)
+    (omega arith) _ (made_up e m T.meta.policy.authz_life (T.meta.counters.authorizations + 1) (T.meta.counters.challenges + 1)))
+
 -- the part after an entry is the part of the tables after it
 pub effect_part : (k : Kept) (T : Tables) (m : ℕ) (e : Entry) → IsClosed k T → HoldersKept k T e → FreshKept k T m e →
     effect m (restricted k T) e ≡ restricted k (effect m T e)
@@ -81,21 +94,14 @@ effect_part k T m e closed holders fresh =
           (map fresh_account (opened_by e m (T.meta.counters.accounts + 1))) (account_number e m) (each_all _ T.accounts (λ a yes. refl)) refl
           (up_kept (λ (a : AccountRow). a.number) k.accounts T.meta.counters.accounts closed.new_accounts (T.meta.counters.accounts + 1) (omega arith) _
           (opened_up e m (T.meta.counters.accounts + 1))) i;
-      authorizations =
-          part_on (λ (a : AuthorizationRow). a.number) k.authorizations (moved_authorization e m (restricted k T).accounts)
-          (moved_authorization e m T.accounts) T.authorizations _
-          (map (λ a. restated_authorization m (fresh_authorization a)) (new_authorizations T e m)) (moved_number e m T.accounts)
-          (all_moved_same k T e m holders) refl
-          (up_kept (λ (a : AuthorizationRow). a.number) k.authorizations T.meta.counters.authorizations closed.new_authorizations
-          (T.meta.counters.authorizations + 1)
-          (omega arith) _ (made_up e m T.meta.policy.authz_life (T.meta.counters.authorizations + 1) (T.meta.counters.challenges + 1))) i;
+      authorizations = authorizations_part k T m e closed.new_authorizations holders i;
       orders =
           part_on (λ (o : OrderRow). o.number) k.orders (moved_order e m (restricted k T).authorizations (authorizations_after (restricted k T) e m))
           (moved_order e m T.authorizations (authorizations_after T e m)) T.orders
           (map (λ o. restated_order m (authorizations_after (restricted k T) e m) (fresh_order o))
-          (ordered_by e m T.meta.policy (new_authorizations T e m) (T.meta.counters.orders + 1)))
+          (ordered_by e m T.meta.policy (T.meta.counters.authorizations + 1) (T.meta.counters.orders + 1)))
           (map (λ o. restated_order m (authorizations_after T e m) (fresh_order o))
-          (ordered_by e m T.meta.policy (new_authorizations T e m) (T.meta.counters.orders + 1)))
+          (ordered_by e m T.meta.policy (T.meta.counters.authorizations + 1) (T.meta.counters.orders + 1)))
           (order_number e m T.authorizations (authorizations_after T e m))
           (each _ _ T.orders (λ o all yes.
           (λ j. cond (touches_same k T e o (all yes) j)
@@ -103,7 +109,7 @@ effect_part k T m e closed holders fresh =
           (kept_after k T e m (numbers_of o.listed) holders (all yes)) j) o)) closed.listed)
           (fresh_orders k T m e _ holders fresh)
           (up_kept (λ (o : OrderRow). o.number) k.orders T.meta.counters.orders closed.new_orders (T.meta.counters.orders + 1) (omega arith) _
-          (ordered_up e m T.meta.policy (new_authorizations T e m) (T.meta.counters.orders + 1) (authorizations_after T e m))) i;
+          (ordered_up e m T.meta.policy (T.meta.counters.authorizations + 1) (T.meta.counters.orders + 1) (authorizations_after T e m))) i;
     }
   where
     nonces_part : filter (not_spent e) (filter (λ n. k.nonces n.serial) T.nonces) ++ issued_by e m (T.meta.counters.nonces + 1)

@@ -19,7 +19,7 @@ use Rattle.desk_model.specs.declared.entry.Entry.TheVariants.{Ordered as ordered
 use Rattle.desk_model.specs.declared.entry.Entry.TheVariants.{AuthorizationEnded as authorization_ended, Finalized as finalized}
 use Rattle.desk_model.specs.declared.entry.Entry.TheVariants.{Certified as certified, Failed as failed}
 use Rattle.desk_model.specs.declared.entry.Wanted.{Wanted}
-use Rattle.desk_model.specs.declared.entry.Wanted.TheVariants.{New}
+use Rattle.desk_model.specs.declared.entry.Wanted.TheVariants.{New, Reused}
 use Rattle.desk_model.specs.declared.objects.Authorization.{Authorization}
 use Rattle.desk_model.specs.declared.objects.AuthorizationEnd.{AuthorizationEnd}
 use Rattle.desk_laws.specs.DateLaws.{AreDatedBy, IsChallengeDatedBy}
@@ -152,6 +152,7 @@ accounts_opened (e ∷ F) = each-append _ (accounts F) _ (each _ _ (accounts F) 
 made_for_dated : (account date expires : ℕ) (ws : List Wanted) (n c t : ℕ) → date ≤ t → EachOf (λ a. a.made ≤ t) (made_for account date expires ws n c)
 made_for_dated account date expires [] n c t h = tt
 made_for_dated account date expires (New name tokens ∷ ws) n c t h = (h, made_for_dated account date expires ws (n + 1) _ t h)
+made_for_dated account date expires (Reused name k ∷ ws) n c t h = made_for_dated account date expires ws n c t h
 
 -- each authorization
 authorizations_made : (F : History) → EachOf (λ a. a.made ≤ clock F) (authorizations F)
@@ -169,11 +170,12 @@ authorizations_made (e ∷ F) =
 orders_made : (F : History) → EachOf (λ o. o.made ≤ clock F) (orders F)
 orders_made [] = tt
 orders_made (e ∷ F) =
-    each-append _ (orders F) (ordered_now e F) (each _ _ (orders F) (λ o. grown e F o.made) (orders_made F)) (more e.entry (made_now e F))
+    each-append _ (orders F) (ordered_now e F) (each _ _ (orders F) (λ o. grown e F o.made) (orders_made F)) (more e.entry)
   where
-    more : (entry : Entry) (xs : List Authorization) → EachOf (λ o. o.made ≤ clock (e ∷ F)) (ordered_by entry e.date (terms F) xs (length (orders F) + 1))
-    more (ordered k ws) xs = (omega arith, tt)
-    more _ xs = tt
+    more : (entry : Entry) →
+        EachOf (λ o. o.made ≤ clock (e ∷ F)) (ordered_by entry e.date (terms F) (length (authorizations F) + 1) (length (orders F) + 1))
+    more (ordered k ws) = (omega arith, tt)
+    more _ = tt
 
 -- ---- rows
 

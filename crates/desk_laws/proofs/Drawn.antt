@@ -2,11 +2,12 @@
 use Rattle.std.proofs.Common.{◌≡◌, ℕ, suc, zero, List, [], ◌∷◌, length, refl, ap}
 use Rattle.desk_model.specs.Name.{Name}
 use Rattle.desk_model.specs.Rules.{pieces, wanted}
+use Rattle.desk_model.specs.Tables.{Tables}
 
 -- as many are wanted as there are names
-pub length-wanted : (ns : List Name) (random : List ℕ) → length (wanted ns random) ≡ length ns
-length-wanted [] random = refl
-length-wanted (n ∷ ns) random = ap suc (length-wanted ns _)
+pub length-wanted : (T : Tables) (account : ℕ) (ns : List Name) (random : List ℕ) → length (wanted T account ns random) ≡ length ns
+length-wanted T account [] random = refl
+length-wanted T account (n ∷ ns) random = ap suc (length-wanted T account ns _)
 
 -- so many pieces
 pub length-pieces : (k : ℕ) (random : List ℕ) → length (pieces k random) ≡ k

@@ -18,9 +18,9 @@ use Rattle.desk_model.specs.declared.rows.AuthorizationRow.{AuthorizationRow}
 use Rattle.desk_model.specs.declared.rows.ChallengeRow.{ChallengeRow}
 use Rattle.desk_model.specs.declared.rows.OrderRow.{OrderRow}
 use Rattle.desk_model.specs.declared.rows.StatusFault.{StatusFault}
-use Rattle.desk_laws.proofs.Basics.{each, each_all, each-append}
+use Rattle.desk_laws.proofs.Basics.{each_all, each-append}
 use Rattle.desk_laws.proofs.RowFacts.{answered_alike, authorization_stated}
-use Rattle.desk_laws.proofs.OrderFacts.{listed_found, order_stated}
+use Rattle.desk_laws.proofs.OrderFacts.{order_stated}
 
 -- rows without a fault, one by one
 none_of : {X Y : Type 0} (row : X → Y) (faults : Y → List StatusFault) (xs : List X) → EachOf (λ x. faults (row x) ≡ []) xs →
@@ -72,7 +72,7 @@ no_faults F t h =
     none_of (account_row F) account_faults (accounts F) (each_all _ (accounts F) (λ a. no_fault _ _ _ refl)) in
     let orders_fine : flat_map (order_faults t (map (authorization_row F t) (authorizations F))) (map (order_row F t) (orders F)) ≡ [] =
     none_of (order_row F t) (order_faults t (map (authorization_row F t) (authorizations F))) (orders F)
-    (each _ _ (orders F) (λ o found. no_fault _ _ _ (ap (λ (r : OrderRow). order_code r.status) (order_stated F t t o found))) (listed_found F)) in
+    (each_all _ (orders F) (λ o. no_fault _ _ _ (ap (λ (r : OrderRow). order_code r.status) (order_stated F t t o)))) in
     let authorizations_fine : flat_map (authorization_faults t) (map (authorization_row F t) (authorizations F)) ≡ [] =
     none_of (authorization_row F t) (authorization_faults t) (authorizations F)
     (each_all _ (authorizations F) (λ a. no_fault _ _ _ (ap (λ (r : AuthorizationRow). authz_code r.status) (authorization_stated F h t t a)))) in

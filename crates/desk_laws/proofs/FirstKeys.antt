@@ -15,7 +15,7 @@ use Rattle.desk_model.specs.declared.entry.Dated.{Dated}
 use Rattle.desk_model.specs.declared.entry.Entry.{Entry}
 use Rattle.desk_model.specs.declared.entry.Entry.TheVariants.{KeyChanged as key_changed, Ordered as ordered}
 use Rattle.desk_model.specs.declared.entry.Wanted.{Wanted}
-use Rattle.desk_model.specs.declared.entry.Wanted.TheVariants.{New}
+use Rattle.desk_model.specs.declared.entry.Wanted.TheVariants.{New, Reused}
 use Rattle.desk_model.specs.declared.objects.Account.{Account}
 use Rattle.desk_model.specs.declared.objects.Answer.{Answer}
 use Rattle.desk_model.specs.declared.objects.Authorization.{Authorization}
@@ -94,6 +94,7 @@ made_unanswered F account date expires (New name tokens ∷ ws) n c h low =
       new_unanswered F account c cs (challenges_fresh F account c cs h low (challenges_numbered c (kinds_of name) tokens)),
       made_unanswered F account date expires ws (n + 1) (c + length cs) h (omega (arith, low)),
     )
+made_unanswered F account date expires (Reused name k ∷ ws) n c h low = made_unanswered F account date expires ws n c h low
 
 -- in each history in which no account got another key
 pub all_under : (F : History) → EachFollows F → KeepsKeys F → EachOf (AreUnder F) (authorizations F)

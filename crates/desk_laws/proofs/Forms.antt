@@ -1,6 +1,6 @@
 -- What is drawn has 16 bytes, and what the signing office hands in is a problem.
-use Rattle.std.proofs.Common.{◌≡◌, ℕ, ◌+◌, List, [], ◌∷◌, length, map, Some, None, true, false, Bool, cond}
-use Rattle.std.specs.Prelude.{◌==◌, ◌&&◌, IfSome}
+use Rattle.std.proofs.Common.{◌≡◌, ℕ, ◌+◌, List, [], ◌∷◌, length, Some, None, true, false, Bool, cond}
+use Rattle.std.specs.Prelude.{◌==◌, IfSome}
 use Rattle.std.specs.List.{list_all}
 use Rattle.std.proofs.lemmas.Bool.{eqb-true, and_parts}
 use Rattle.desk_model.specs.Authorization.{authorizations, challenges_from, count_challenges, kinds_of, made_by, made_for}
@@ -8,20 +8,20 @@ use Rattle.desk_model.specs.BaseName.{is_base_name}
 use Rattle.desk_model.specs.Entry.{History}
 use Rattle.desk_model.specs.History.{terms}
 use Rattle.desk_model.specs.Kept.{EachOf}
-use Rattle.desk_model.specs.Legal.{EachFollows, Follows, all_different, has_length, is_problem, is_wanted, may_follow, wanted_name}
-use Rattle.desk_model.specs.Limits.{most_names}
+use Rattle.desk_model.specs.Legal.{EachFollows, Follows, is_problem, is_wanted, may_follow}
 use Rattle.desk_model.specs.Nonce.{issued_by, nonces}
 use Rattle.desk_model.specs.Order.{failing, failure}
 use Rattle.desk_model.specs.declared.entry.Dated.{Dated}
 use Rattle.desk_model.specs.declared.entry.Entry.{Entry}
 use Rattle.desk_model.specs.declared.entry.Entry.TheVariants.{Issued as issued, Ordered as ordered, Failed as failed}
 use Rattle.desk_model.specs.declared.entry.Wanted.{Wanted}
-use Rattle.desk_model.specs.declared.entry.Wanted.TheVariants.{New}
+use Rattle.desk_model.specs.declared.entry.Wanted.TheVariants.{New, Reused}
 use Rattle.desk_model.specs.declared.objects.Authorization.{Authorization}
 use Rattle.desk_model.specs.declared.objects.Kind.{Kind}
 use Rattle.desk_model.specs.declared.rows.DatedProblem.{DatedProblem}
 use Rattle.desk_laws.proofs.Basics.{each-append}
 use Rattle.desk_laws.proofs.StatedFacts.{first_holds}
+use Rattle.desk_laws.proofs.NewOrders.{may_be_ordered}
 use Rattle.desk_laws.proofs.Numbers.{made_now}
 
 -- ---- random bytes
@@ -57,6 +57,7 @@ made_for_drawn account date expires (New name tokens ∷ ws) n c h =
     let q = and_parts (is_base_name name.base) _ p.0 in
     let r = and_parts (length tokens == length (kinds_of name)) _ q.1 in
     (challenges_drawn c (kinds_of name) tokens r.1, made_for_drawn account date expires ws (n + 1) _ p.1)
+made_for_drawn account date expires (Reused name k ∷ ws) n c h = made_for_drawn account date expires ws n c (and_parts (is_wanted (Reused name k)) _ h).1
 
 -- each token has 16 bytes
 pub tokens_drawn : (F : History) → EachFollows F → EachOf HasTokens (authorizations F)
@@ -68,9 +69,7 @@ tokens_drawn (e ∷ F) h = each-append _ (authorizations F) (made_now e F) (toke
         (made_by entry e.date (terms F).authz_life (length (authorizations F) + 1) (count_challenges (authorizations F) + 1))
     more (ordered k ws) may =
         made_for_drawn k e.date _ ws _ _
-        (and_parts (all_different (map wanted_name ws)) _
-        (and_parts (has_length 1 most_names ws) _
-        (and_parts _ (has_length 1 most_names ws && (all_different (map wanted_name ws) && list_all is_wanted ws)) may).1).1).1
+        (may_be_ordered F e.date k ws may).wanted
     more _ may = tt
 
 -- ---- problems

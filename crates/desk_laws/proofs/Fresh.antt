@@ -12,7 +12,7 @@ use Rattle.desk_model.specs.Account.{ends as account_ends, status_of as account_
 use Rattle.desk_model.specs.Authorization.{authorizations, has_challenge, made_for, kinds_of, challenges_from, count_challenges}
 use Rattle.desk_model.specs.Authorization.{authorization_end, ends, in_time, is_good, kind_of, answering, reporting}
 use Rattle.desk_model.specs.Authorization.{answer, answer_by, when_answered, report, challenge_status_by}
-use Rattle.desk_model.specs.Order.{orders, ordered_by, csr, certificate, failure, finalizing, certifying, failing}
+use Rattle.desk_model.specs.Order.{orders, ordered_by, csr, certificate, failure, finalizing, certifying, failing, listed_by}
 use Rattle.desk_model.specs.Legal.{EachFollows}
 use Rattle.desk_model.specs.Tables.{account_row, challenge_row, authorization_row, order_row}
 use Rattle.desk_model.specs.Derived.{restated_authorization, restated_order}
@@ -30,7 +30,7 @@ use Rattle.desk_model.specs.declared.entry.Entry.TheVariants.{Ordered as ordered
 use Rattle.desk_model.specs.declared.entry.Entry.TheVariants.{AuthorizationEnded as authorization_ended, Finalized as finalized}
 use Rattle.desk_model.specs.declared.entry.Entry.TheVariants.{Certified as certified, Failed as failed}
 use Rattle.desk_model.specs.declared.entry.Wanted.{Wanted}
-use Rattle.desk_model.specs.declared.entry.Wanted.TheVariants.{New}
+use Rattle.desk_model.specs.declared.entry.Wanted.TheVariants.{New, Reused}
 use Rattle.desk_model.specs.declared.objects.Account.{Account}
 use Rattle.desk_model.specs.declared.objects.AccountEnd.{AccountEnd}
 use Rattle.desk_model.specs.declared.objects.Authorization.{Authorization}
@@ -41,7 +41,7 @@ use Rattle.desk_laws.proofs.Basics.{less_differs, each, each_both, map-each, IsN
 use Rattle.desk_laws.specs.Given.{Counts, counts, NamesGiven}
 use Rattle.desk_laws.proofs.RowFacts.{authorization_stated}
 use Rattle.desk_laws.proofs.Numbers.{no_first, no_latest, first_no, made_now, challenges_numbered, all_named}
-use Rattle.desk_laws.proofs.OrderFacts.{order_stated, AreFound}
+use Rattle.desk_laws.proofs.OrderFacts.{order_stated}
 
 -- ---- new rows
 
@@ -120,10 +120,9 @@ new_nonce_spent c n new d named = by d.entry named
 -- a new order
 pub orders_fresh : (F : History) (e : Entry) (m : ℕ) → EachFollows (record { date = m; entry = e } ∷ F) →
     (let G : History = record { date = m; entry = e } ∷ F in
-    EachOf (AreFound G) (ordered_by e m (terms F) (made_now (record { date = m; entry = e }) F) (length (orders F) + 1)) →
     EachOf (λ o. order_row G m o ≡ restated_order m (map (authorization_row G m) (authorizations G)) (fresh_order o))
-    (ordered_by e m (terms F) (made_now (record { date = m; entry = e }) F) (length (orders F) + 1)))
-orders_fresh F (ordered k ws) m h found =
+    (ordered_by e m (terms F) (length (authorizations F) + 1) (length (orders F) + 1)))
+orders_fresh F (ordered k ws) m h =
     let n : ℕ = length (orders F) + 1 in
     let G : History = record { date = m; entry = ordered k ws } ∷ F in
     let o : Order =
@@ -132,8 +131,7 @@ orders_fresh F (ordered k ws) m h found =
       account = k;
       made = m;
       expires = m + (terms F).order_life;
-      authorizations = made_for k m (m + (terms F).authz_life) ws
-          (length (authorizations F) + 1) (count_challenges (authorizations F) + 1);
+      authorizations = listed_by ws (length (authorizations F) + 1);
     } in
     let new : length (orders F) < n = omega arith in
     let named = all_named F h.1 in
@@ -141,12 +139,12 @@ orders_fresh F (ordered k ws) m h found =
     let certified_none : certificate n F ≡ None =
     no_first (λ d. certifying n d.entry d.date) F (each _ _ F (new_order_certificate (counts F) n new) named) in
     let failed_none : failure n F ≡ None = no_first (λ d. failing n d.entry d.date) F (each _ _ F (new_order_failure (counts F) n new) named) in (
-      order_stated G m m o found.0
+      order_stated G m m o
           ∙ (λ i. restated_order m (map (authorization_row G m) (authorizations G))
           (record (order_row G m o) { finalized = finalized_none i; certified = certified_none i; failed = failed_none i })),
       tt,
     )
-orders_fresh F _ m h found = tt
+orders_fresh F _ m h = tt
 
 -- a new account
 pub accounts_fresh : (F : History) (e : Entry) (m : ℕ) → EachFollows (record { date = m; entry = e } ∷ F) →
@@ -268,6 +266,7 @@ made_fresh F k m ws expires (New name tokens ∷ vs) n c h alive after free =
       authorization_stated G h m m a ∙ (λ i. restated_authorization m (record (authorization_row G m a) { ended = p.0 i; challenges = p.1 i })),
       made_fresh F k m ws expires vs (n + 1) (c + length (challenges_from c (kinds_of name) tokens)) h alive (omega arith) (omega arith),
     )
+made_fresh F k m ws expires (Reused name j ∷ vs) n c h alive new free = made_fresh F k m ws expires vs n c h alive new free
 
 -- an account that is valid has not ended
 account_alive : (F : History) (n : ℕ) → holds (λ a. is_valid_account (account_status a F)) (account_by_number n F) ≡ true →

@@ -1,7 +1,7 @@
 -- What every legal history keeps.
-use Rattle.std.proofs.Common.{◌≡◌, ◌≢◌, ◌≤◌, ℕ, ◌+◌, List, [], ◌∷◌, length, map, filter, Option, Some, None, refl, sym, ap, ◌∙◌, subst}
+use Rattle.std.proofs.Common.{◌≡◌, ◌≢◌, ◌≤◌, ℕ, ◌+◌, List, [], ◌∷◌, length, filter, Option, Some, None, refl, sym, ap, ◌∙◌, subst}
 use Rattle.std.proofs.Common.{true, false, Bool, cond, arith}
-use Rattle.std.specs.Prelude.{◌==◌, ◌&&◌, nat_le, IfSome, IsTrue, find, is_none, is_some, bytes_eq, unwrap_or}
+use Rattle.std.specs.Prelude.{◌==◌, nat_le, IfSome, IsTrue, find, is_none, is_some, bytes_eq, unwrap_or}
 use Rattle.std.specs.List.{list_all}
 use Rattle.std.proofs.lemmas.Bool.{leb-true, le-leb, eqb-true, and_parts, and_from}
 use Rattle.std.proofs.lemmas.Slice.Eq.{bytes_eq-Decides}
@@ -12,9 +12,9 @@ use Rattle.desk_model.specs.Contact.{contacts_pass}
 use Rattle.desk_model.specs.Entry.{History}
 use Rattle.desk_model.specs.History.{earlier, latest, terms}
 use Rattle.desk_model.specs.Keys.{IsKeyText}
-use Rattle.desk_model.specs.Legal.{EachFollows, Follows, IsFormed, BeginsMade, IsMade, Legal, all_different, has_length, is_empty}
-use Rattle.desk_model.specs.Legal.{is_processing_challenge, is_wanted, may_follow, numbers_fit, wanted_name}
-use Rattle.desk_model.specs.Limits.{last_end, last_moment, last_number, longest_life, most_names}
+use Rattle.desk_model.specs.Legal.{EachFollows, Follows, IsFormed, BeginsMade, IsMade, Legal, is_empty}
+use Rattle.desk_model.specs.Legal.{is_processing_challenge, is_wanted, may_follow, numbers_fit}
+use Rattle.desk_model.specs.Limits.{last_end, last_moment, last_number, longest_life}
 use Rattle.desk_model.specs.Nonce.{is_open, issued_by, nonces}
 use Rattle.desk_model.specs.Order.{ordered_by, orders}
 use Rattle.desk_model.specs.Tables.{account_row, authorization_row, order_row, tables_at}
@@ -25,9 +25,8 @@ use Rattle.desk_model.specs.declared.entry.Entry.{Entry}
 use Rattle.desk_model.specs.declared.entry.Entry.TheVariants.{Made as made, Issued as issued, Opened as opened, KeyChanged as key_changed}
 use Rattle.desk_model.specs.declared.entry.Entry.TheVariants.{Ordered as ordered, Reported as reported}
 use Rattle.desk_model.specs.declared.entry.Wanted.{Wanted}
-use Rattle.desk_model.specs.declared.entry.Wanted.TheVariants.{New}
+use Rattle.desk_model.specs.declared.entry.Wanted.TheVariants.{New, Reused}
 use Rattle.desk_model.specs.declared.objects.Account.{Account}
-use Rattle.desk_model.specs.declared.objects.Authorization.{Authorization}
 use Rattle.desk_model.specs.declared.objects.Report.{Report}
 use Rattle.desk_laws.specs.Distinct.{Distinct}
 use Rattle.desk_laws.specs.LegalLaws.{CountersFit, EndsInTime, reports_on}
@@ -38,6 +37,7 @@ use Rattle.desk_laws.proofs.RowLists.{numbered_ascends}
 use Rattle.desk_laws.proofs.StatedFacts.{latest_holds, now_holds, stated}
 use Rattle.desk_laws.specs.Given.{counts}
 use Rattle.desk_laws.proofs.Numbers.{accounts_numbered, all_named, first_no, made_now, no_latest, ordered_now}
+use Rattle.desk_laws.proofs.NewOrders.{may_be_ordered}
 use Rattle.desk_laws.proofs.RowFacts.{processing_unreported}
 
 -- ---- reports
@@ -263,6 +263,7 @@ made_for_end : (account date expires : ℕ) (ws : List Wanted) (n c : ℕ) → e
 made_for_end account date expires [] n c h = tt
 made_for_end account date expires (New name tokens ∷ ws) n c h =
     (h, made_for_end account date expires ws (n + 1) (c + length (challenges_from c (kinds_of name) tokens)) h)
+made_for_end account date expires (Reused name k ∷ ws) n c h = made_for_end account date expires ws n c h
 
 -- each authorization ends in time
 pub authorizations_end : (F : History) → EachFollows F → EachOf (λ a. a.expires ≤ last_end) (authorizations F)
@@ -281,15 +282,15 @@ authorizations_end (e ∷ F) h = each-append _ (authorizations F) (made_now e F)
 -- each order ends in time
 pub orders_end : (F : History) → EachFollows F → EachOf (λ o. o.expires ≤ last_end) (orders F)
 orders_end [] h = tt
-orders_end (e ∷ F) h = each-append _ (orders F) (ordered_now e F) (orders_end F h.1) (more e.entry (made_now e F))
+orders_end (e ∷ F) h = each-append _ (orders F) (ordered_now e F) (orders_end F h.1) (more e.entry)
   where
-    more : (entry : Entry) (xs : List Authorization) →
-        EachOf (λ o. o.expires ≤ last_end) (ordered_by entry e.date (terms F) xs (length (orders F) + 1))
-    more (ordered k ws) xs =
+    more : (entry : Entry) →
+        EachOf (λ o. o.expires ≤ last_end) (ordered_by entry e.date (terms F) (length (authorizations F) + 1) (length (orders F) + 1))
+    more (ordered k ws) =
         let life : (terms F).order_life ≤ longest_life = (lives_fit F h.1).orders in
         let date : e.date ≤ last_moment = h.0.in_time in
         (omega arith, tt)
-    more _ xs = tt
+    more _ = tt
 
 -- what holds of each item holds of those that are left
 pub each-filter : {X : Type 0} (P : X → Type 0) (test : X → Bool) (xs : List X) → EachOf P xs → EachOf P (filter test xs)
@@ -352,6 +353,7 @@ made_for_named account date expires (New name tokens ∷ ws) n c h =
       made_for_named account date expires ws (n + 1)
           (c + length (challenges_from c (kinds_of name) tokens)) p.1,
     )
+made_for_named account date expires (Reused name k ∷ ws) n c h = made_for_named account date expires ws n c (and_parts (is_wanted (Reused name k)) _ h).1
 
 -- each authorization's name is well formed
 pub names_formed : (F : History) → EachFollows F → EachOf (λ a. IsTrue (is_base_name a.name.base)) (authorizations F)
@@ -363,9 +365,7 @@ names_formed (e ∷ F) h = each-append _ (authorizations F) (made_now e F) (name
         (made_by entry e.date (terms F).authz_life (length (authorizations F) + 1) (count_challenges (authorizations F) + 1))
     more (ordered k ws) may =
         made_for_named k e.date _ ws _ _
-        (and_parts (all_different (map wanted_name ws)) _
-        (and_parts (has_length 1 most_names ws) _
-        (and_parts _ (has_length 1 most_names ws && (all_different (map wanted_name ws) && list_all is_wanted ws)) may).1).1).1
+        (may_be_ordered F e.date k ws may).wanted
     more _ may = tt
 
 -- and so in the rows

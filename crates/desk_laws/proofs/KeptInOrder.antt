@@ -7,7 +7,7 @@ use Rattle.desk_model.specs.Legal.{EachFollows}
 use Rattle.desk_model.specs.Tables.{Tables, picture}
 use Rattle.desk_model.specs.Derived.{restated_authorization, restated_order}
 use Rattle.desk_model.specs.Effect.{noted_authorization, noted_order, touches_authorization, touches_order, authorizations_after}
-use Rattle.desk_model.specs.Effect.{new_authorizations, is_overdue, falls}
+use Rattle.desk_model.specs.Effect.{is_overdue, falls}
 use Rattle.desk_model.specs.Change.{put, authorization_differs, order_differs, applied_one, spent_by, nonces_put}
 use Rattle.desk_model.specs.Change.{accounts_put, authorizations_put, orders_put, changes, nonces_gone, authorizations_expired}
 use Rattle.desk_model.specs.Change.{orders_fallen, sweep_changes, recorded_changes}
@@ -116,7 +116,7 @@ entry_kept T m e M h =
     (putting_orders 1 (orders_put T e m) _
     (put_up (λ o. o.number) (touches_order e T.authorizations) order_differs
     (λ r. restated_order m (authorizations_after T e m) (noted_order e m r)) (λ o. refl) T.meta.counters.orders T.orders _ h.orders
-    (ordered_up e m T.meta.policy (new_authorizations T e m) (T.meta.counters.orders + 1) (authorizations_after T e m)))
+    (ordered_up e m T.meta.policy (T.meta.counters.authorizations + 1) (T.meta.counters.orders + 1) (authorizations_after T e m)))
     (each_of_map (KeepsChildren T) PutOrder (orders_put T e m) d.1)))))
 
 -- what a call records keeps all children

@@ -18,6 +18,7 @@ pub mod KeptInOrder
 pub mod Local
 pub mod MovedRows
 pub mod NewChildren
+pub mod NewOrders
 pub mod NewsInOrder
 pub mod Numbers
 pub mod OrderFacts
@@ -28,6 +29,7 @@ pub mod Recorded
 pub mod References
 pub mod RowFacts
 pub mod RowLists
+pub mod Serving
 pub mod StatedFacts
 pub mod Step
 pub mod SweptParts

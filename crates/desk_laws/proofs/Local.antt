@@ -237,7 +237,7 @@ changes_local k T m e closed covers fresh_kept =
     (kept_after k T e m (numbers_of o.listed) covers.holders (all yes)) in
     ((λ i. touches_same k T e o (all yes) i && order_differs o (same i)), same)) closed.listed)
     (each _ _ T.orders (λ o f h. f (and_parts (touches_order e T.authorizations o) _ h).0) covers.orders) in
-    let new = news (ordered_by e m T.meta.policy (new_authorizations T e m) (T.meta.counters.orders + 1)) fresh_kept in
+    let new = news (ordered_by e m T.meta.policy (T.meta.counters.authorizations + 1) (T.meta.counters.orders + 1)) fresh_kept in
     λ i. map RemoveNonce (spent_by e) ++
     (map PutNonce (nonces_put T e m) ++
     (map PutAccount (accounts i) ++ (map PutAuthorization (authorizations i) ++ map PutOrder (old i ++ new i))))

@@ -8,7 +8,7 @@ use Rattle.desk_model.specs.Legal.{EachFollows}
 use Rattle.desk_model.specs.Tables.{Tables, picture}
 use Rattle.desk_model.specs.Derived.{restated_authorization, restated_order}
 use Rattle.desk_model.specs.Effect.{noted_account, noted_authorization, noted_order, touches_account, touches_authorization}
-use Rattle.desk_model.specs.Effect.{touches_order, authorizations_after, new_authorizations, is_overdue}
+use Rattle.desk_model.specs.Effect.{touches_order, authorizations_after, is_overdue}
 use Rattle.desk_model.specs.Effect.{falls}
 use Rattle.desk_model.specs.Change.{put, remove, moved_rows, account_differs, authorization_differs, order_differs}
 use Rattle.desk_model.specs.Change.{applied_one, spent_by, nonces_put, accounts_put, authorizations_put, orders_put, changes}
@@ -162,7 +162,7 @@ entry_news T m e M h =
     (putting_orders 1 (orders_put T e m) _
     (put_up (λ o. o.number) (touches_order e T.authorizations) order_differs
     (λ r. restated_order m (authorizations_after T e m) (noted_order e m r)) (λ o. refl) T.meta.counters.orders T.orders _ h.orders
-    (ordered_up e m T.meta.policy (new_authorizations T e m) (T.meta.counters.orders + 1) (authorizations_after T e m)))
+    (ordered_up e m T.meta.policy (T.meta.counters.authorizations + 1) (T.meta.counters.orders + 1) (authorizations_after T e m)))
     (orders_differ T m e h)))))
 
 -- what a call records puts news alone

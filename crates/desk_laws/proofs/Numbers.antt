@@ -2,7 +2,7 @@
 use Rattle.std.proofs.Common.{◌≡◌, ◌≤◌, ◌<◌, ℕ, ◌+◌, List, [], ◌∷◌, ◌++◌, length, Option, Some, None, refl, subst, true, false}
 use Rattle.std.proofs.Common.{Bool, cond, arith, length-append}
 use Rattle.std.specs.Prelude.{◌==◌, ◌||◌, find}
-use Rattle.std.specs.List.{list_any}
+use Rattle.std.specs.List.{list_any, list_all}
 use Rattle.std.proofs.lemmas.Bool.{eqb-true, and_parts}
 use Rattle.desk_model.specs.Entry.{History}
 use Rattle.desk_model.specs.History.{terms, first, latest, earlier}
@@ -11,7 +11,7 @@ use Rattle.desk_model.specs.Nonce.{nonces, issued_by}
 use Rattle.desk_model.specs.Account.{accounts, opened_by}
 use Rattle.desk_model.specs.Authorization.{authorizations, has_challenge, made_by, made_for, kinds_of, challenges_from, count_challenges, challenge_status}
 use Rattle.desk_model.specs.Order.{orders, ordered_by}
-use Rattle.desk_model.specs.Legal.{EachFollows, may_follow, is_pending_challenge, is_processing_challenge}
+use Rattle.desk_model.specs.Legal.{EachFollows, may_follow, may_want, is_pending_challenge, is_processing_challenge}
 use Rattle.desk_model.specs.Kept.{EachOf}
 use Rattle.desk_model.specs.declared.entry.Dated.{Dated}
 use Rattle.desk_model.specs.declared.entry.Entry.{Entry}
@@ -21,13 +21,15 @@ use Rattle.desk_model.specs.declared.entry.Entry.TheVariants.{Ordered as ordered
 use Rattle.desk_model.specs.declared.entry.Entry.TheVariants.{AuthorizationEnded as authorization_ended, Finalized as finalized}
 use Rattle.desk_model.specs.declared.entry.Entry.TheVariants.{Certified as certified, Failed as failed}
 use Rattle.desk_model.specs.declared.entry.Wanted.{Wanted}
-use Rattle.desk_model.specs.declared.entry.Wanted.TheVariants.{New}
+use Rattle.desk_model.specs.declared.entry.Wanted.TheVariants.{New, Reused}
 use Rattle.desk_model.specs.declared.objects.Authorization.{Authorization}
 use Rattle.desk_model.specs.declared.objects.Challenge.{Challenge}
 use Rattle.desk_model.specs.declared.objects.Kind.{Kind}
 use Rattle.desk_model.specs.declared.objects.Order.{Order}
 use Rattle.desk_laws.proofs.Basics.{each, IsNumbered, numbered-append}
 use Rattle.desk_laws.specs.Given.{Counts, counts, NamesGiven}
+use Rattle.desk_laws.specs.Reused.{OfReused}
+use Rattle.desk_laws.proofs.NewOrders.{may_be_ordered}
 use Rattle.desk_laws.proofs.OrderFacts.{authorizations_numbered}
 
 -- ---- facts that no entry states
@@ -69,7 +71,14 @@ names_more c d w (spent n) h = omega (arith, w.nonces)
 names_more c d w (contacts_changed n cs) h = omega (arith, w.accounts)
 names_more c d w (key_changed n key) h = omega (arith, w.accounts)
 names_more c d w (account_ended n s) h = omega (arith, w.accounts)
-names_more c d w (ordered n ws) h = omega (arith, w.accounts)
+names_more c d w (ordered n ws) h =
+    let account : n ≤ c.accounts = h.0 in
+    (omega (arith, w.accounts), reused_more ws h.1)
+  where
+    reused_more : (xs : List Wanted) → EachOf (OfReused (λ k. k ≤ c.authorizations)) xs → EachOf (OfReused (λ k. k ≤ d.authorizations)) xs
+    reused_more [] k = tt
+    reused_more (New name tokens ∷ xs) k = (tt, reused_more xs k.1)
+    reused_more (Reused name j ∷ xs) k = let given : j ≤ c.authorizations = k.0 in (omega (arith, w.authorizations), reused_more xs k.1)
 names_more c d w (answered n) h = omega (arith, w.challenges)
 names_more c d w (reported n o) h = omega (arith, w.challenges)
 names_more c d w (authorization_ended n s) h = omega (arith, w.authorizations)
@@ -89,7 +98,7 @@ made_now e F = made_by e.entry e.date (terms F).authz_life (length (authorizatio
 
 -- the order that the entry makes
 abbrev pub ordered_now : Dated → History → List Order
-ordered_now e F = ordered_by e.entry e.date (terms F) (made_now e F) (length (orders F) + 1)
+ordered_now e F = ordered_by e.entry e.date (terms F) (length (authorizations F) + 1) (length (orders F) + 1)
 
 -- counts only grow
 counts_grow : (e : Dated) (F : History) → IsWithin (counts F) (counts (e ∷ F))
@@ -135,12 +144,12 @@ accounts_numbered (e ∷ F) =
 -- numbers of orders count up from 1
 pub orders_numbered : (F : History) → IsNumbered (λ o. o.number) 1 (orders F)
 orders_numbered [] = tt
-orders_numbered (e ∷ F) = numbered-append (λ o. o.number) 1 (orders F) _ (length (orders F) + 1) (omega arith) (orders_numbered F) (one e.entry _)
+orders_numbered (e ∷ F) = numbered-append (λ o. o.number) 1 (orders F) _ (length (orders F) + 1) (omega arith) (orders_numbered F) (one e.entry)
   where
-    one : (entry : Entry) (xs : List Authorization) →
-        IsNumbered (λ o. o.number) (length (orders F) + 1) (ordered_by entry e.date (terms F) xs (length (orders F) + 1))
-    one (ordered k ws) xs = (refl, tt)
-    one _ xs = tt
+    one : (entry : Entry) →
+        IsNumbered (λ o. o.number) (length (orders F) + 1) (ordered_by entry e.date (terms F) (length (authorizations F) + 1) (length (orders F) + 1))
+    one (ordered k ws) = (refl, tt)
+    one _ = tt
 
 -- the challenges' numbers count up through all authorizations
 abbrev pub AreNumbered : ℕ → List Authorization → Type 0
@@ -158,6 +167,7 @@ made_are_numbered : (account date expires : ℕ) (ws : List Wanted) (n c : ℕ) 
 made_are_numbered account date expires [] n c = tt
 made_are_numbered account date expires (New name tokens ∷ ws) n c =
     (challenges_numbered c (kinds_of name) tokens, made_are_numbered account date expires ws (n + 1) _)
+made_are_numbered account date expires (Reused name k ∷ ws) n c = made_are_numbered account date expires ws n c
 
 -- challenges that go on counting
 are_numbered-append : (n : ℕ) (xs ys : List Authorization) (k : ℕ) → k ≡ count_challenges xs + n → AreNumbered n xs → AreNumbered k ys →
@@ -214,8 +224,17 @@ names_allowed F (key_changed n key) m may =
 names_allowed F (account_ended n s) m may =
     let below : n < 1 + length (accounts F) = found_below (λ x. x.number) 1 n (accounts F) _ (accounts_numbered F) may in omega arith
 names_allowed F (ordered n ws) m may =
-    let below : n < 1 + length (accounts F) = found_below (λ x. x.number) 1 n (accounts F) _ (accounts_numbered F) (and_parts _ _ may).0 in
-    omega arith
+    let tests = may_be_ordered F m n ws may in
+    let below : n < 1 + length (accounts F) = found_below (λ x. x.number) 1 n (accounts F) _ (accounts_numbered F) tests.holder in
+    (omega arith, reused_below ws tests.reused)
+  where
+    reused_below : (xs : List Wanted) → list_all (may_want F m n) xs ≡ true → EachOf (OfReused (λ k. k ≤ length (authorizations F))) xs
+    reused_below [] h = tt
+    reused_below (New name tokens ∷ xs) h = (tt, reused_below xs h)
+    reused_below (Reused name k ∷ xs) h =
+        let p = and_parts (may_want F m n (Reused name k)) _ h in
+        let below : k < 1 + length (authorizations F) = found_below (λ x. x.number) 1 k (authorizations F) _ (authorizations_numbered F) p.0 in
+        (omega arith, reused_below xs p.1)
 names_allowed F (answered n) m may =
     let below : n < 1 + count_challenges (authorizations F) = challenge_below 1 n (authorizations F) _ (challenges_count F)
     (and_parts _ (is_pending_challenge (challenge_status n F)) may).0 in omega arith

@@ -4,6 +4,7 @@ use Rattle.std.specs.Prelude.{◌||◌}
 use Rattle.desk_model.specs.Lookup.{holds}
 use Rattle.desk_model.specs.Tables.{Tables}
 use Rattle.desk_model.specs.Derived.{numbers_of, authorization_numbered, restated_order}
+use Rattle.desk_model.specs.Order.{listed_by}
 use Rattle.desk_model.specs.Effect.{effect, moved_order, lists_one, noted_order, new_authorizations}
 use Rattle.desk_model.specs.Kept.{Kept, EachOf, IsClosed, Covers}
 use Rattle.desk_model.specs.declared.entry.Entry.{Entry}
@@ -11,9 +12,9 @@ use Rattle.desk_model.specs.declared.entry.Entry.TheVariants.{Issued as issued, 
 use Rattle.desk_model.specs.declared.objects.Authorization.{Authorization}
 use Rattle.desk_model.specs.declared.rows.AuthorizationRow.{AuthorizationRow}
 use Rattle.desk_laws.proofs.RowLists.{numbered_ascends}
-use Rattle.desk_laws.proofs.OrderFacts.{made_by_numbered, numbers_listed}
-use Rattle.desk_laws.specs.Parts.{FreshKept, CoversAll}
-use Rattle.desk_laws.proofs.Basics.{each_all, each-map}
+use Rattle.desk_laws.proofs.OrderFacts.{each_listed, made_by_numbered, numbers_listed}
+use Rattle.desk_laws.specs.Parts.{FreshKept, ReusedKept, CoversAll}
+use Rattle.desk_laws.proofs.Basics.{each_all}
 use Rattle.desk_laws.proofs.Chain.{up_kept}
 
 -- no listed row passes a test that none passes
@@ -119,19 +120,19 @@ covers_issued k T r =
       holders = each_all _ T.authorizations (λ a h. cc);
     }
 
--- a new order lists new authorizations
-pub fresh_kept : (k : Kept) (T : Tables) (m : ℕ) (e : Entry) → IsClosed k T → FreshKept k T m e
-fresh_kept k T m (ordered account ws) h =
+-- a new order lists new authorizations, and those that it uses again
+pub fresh_kept : (k : Kept) (T : Tables) (m : ℕ) (e : Entry) → IsClosed k T → ReusedKept k e → FreshKept k T m e
+fresh_kept k T m (ordered account ws) h again =
+    let first : ℕ = T.meta.counters.authorizations + 1 in
     let made : List Authorization = new_authorizations T (ordered account ws) m in (
-      subst (EachOf (λ n. k.authorizations n ≡ true)) (sym (numbers_listed 1 made))
-          (each-map _ (λ (a : Authorization). a.number) made
-          (up_kept (λ (a : Authorization). a.number) k.authorizations T.meta.counters.authorizations h.new_authorizations (T.meta.counters.authorizations + 1)
-          (omega arith) made
-          (numbered_ascends (λ a. a.number) (T.meta.counters.authorizations + 1) made
-          (made_by_numbered (ordered account ws) m T.meta.policy.authz_life (T.meta.counters.authorizations + 1) (T.meta.counters.challenges + 1))))),
+      subst (EachOf (λ n. k.authorizations n ≡ true)) (sym (numbers_listed 1 (listed_by ws first)))
+          (each_listed (λ n. k.authorizations n ≡ true) account m (m + T.meta.policy.authz_life) ws first (T.meta.counters.challenges + 1)
+          (up_kept (λ (a : Authorization). a.number) k.authorizations T.meta.counters.authorizations h.new_authorizations first (omega arith) made
+          (numbered_ascends (λ a. a.number) first made
+          (made_by_numbered (ordered account ws) m T.meta.policy.authz_life first (T.meta.counters.challenges + 1)))) again),
       tt,
     )
-fresh_kept k T m _ h = tt
+fresh_kept k T m _ h again = tt
 
 -- a part covers the entries of nonces, and then what it covered before
 pub nonces_covered : (k : Kept) (m : ℕ) (T : Tables) (n : ℕ) (r : List ℕ) (es : List Entry) → IsClosed k T →

@@ -10,7 +10,7 @@ use Rattle.desk_model.specs.Tables.{Tables}
 use Rattle.desk_model.specs.Derived.{restated_authorization, restated_order}
 use Rattle.desk_model.specs.Authorization.{is_live}
 use Rattle.desk_model.specs.Effect.{noted_challenge, answered_challenge, reported_challenge, noted_account, noted_authorization}
-use Rattle.desk_model.specs.Effect.{noted_order, touches_account, touches_authorization, touches_order, new_authorizations}
+use Rattle.desk_model.specs.Effect.{noted_order, touches_account, touches_authorization, touches_order}
 use Rattle.desk_model.specs.Effect.{authorizations_after, is_live_order, is_overdue, falls}
 use Rattle.desk_model.specs.Change.{moved_rows, account_differs, authorization_differs, order_differs, spent_by, nonces_put}
 use Rattle.desk_model.specs.Change.{accounts_put, authorizations_put, orders_put, changes, nonces_gone, authorizations_expired}
@@ -173,7 +173,7 @@ orders_differ T m e h =
     let y : OrderRow = restated_order m (authorizations_after T e m) (noted_order e m x) in
     another (λ o. o.number) T.orders x y refl (others order_differs order_differs_not x y d))
     (nowhere (λ o. o.number) T.orders) h.orders
-    (ordered_up e m T.meta.policy (new_authorizations T e m) (T.meta.counters.orders + 1) (authorizations_after T e m))
+    (ordered_up e m T.meta.policy (T.meta.counters.authorizations + 1) (T.meta.counters.orders + 1) (authorizations_after T e m))
 
 -- what an entry puts differs from what stands there
 pub puts_differ : (T : Tables) (m : ℕ) (e : Entry) → IsOrdered T → EachOf (IsNews T) (changes m T e)
@@ -228,7 +228,7 @@ puts_keep_children T m e h =
     (λ r. restated_order m (authorizations_after T e m) (noted_order e m r)) T.meta.counters.orders T.orders _ _
     (λ x d. of_standing (λ o. o.number) T.orders x (restated_order m (authorizations_after T e m) (noted_order e m x)) _ refl refl)
     (λ x. of_none (λ o. o.number) T.orders x _) h.orders
-    (ordered_up e m T.meta.policy (new_authorizations T e m) (T.meta.counters.orders + 1) (authorizations_after T e m)))
+    (ordered_up e m T.meta.policy (T.meta.counters.authorizations + 1) (T.meta.counters.orders + 1) (authorizations_after T e m)))
 
 -- ---- the changes of a sweep
 

@@ -13,7 +13,7 @@ use Rattle.desk_model.specs.Legal.{EachFollows}
 use Rattle.desk_model.specs.Tables.{challenge_row, Tables, account_row, authorization_row, order_row, tables_at, picture}
 use Rattle.desk_model.specs.Derived.{restated_authorization, restated_order}
 use Rattle.desk_model.specs.Effect.{noted_account, noted_authorization, noted_order, touches_account, touches_authorization}
-use Rattle.desk_model.specs.Effect.{touches_order, fresh_account, fresh_authorization, fresh_order, not_spent, new_authorizations}
+use Rattle.desk_model.specs.Effect.{touches_order, fresh_account, fresh_authorization, fresh_order, not_spent}
 use Rattle.desk_model.specs.Effect.{authorizations_after, effect, effects, lasts, swept, is_overdue, falls}
 use Rattle.desk_model.specs.Change.{moved_rows, account_differs, authorization_differs, order_differs, applied_one, applied}
 use Rattle.desk_model.specs.Change.{spent_by, nonces_put, accounts_put, authorizations_put, orders_put, changes, sweep_changes}
@@ -183,10 +183,10 @@ opened_up (opened k cs) m n = (omega arith, tt)
 opened_up _ m n = tt
 
 -- and a new order's
-pub ordered_up : (e : Entry) (m : ℕ) (t : Terms) (xs : List Authorization) (n : ℕ) (rows : List AuthorizationRow) →
-    Ascends (λ x. x.number) n (map (λ o. restated_order m rows (fresh_order o)) (ordered_by e m t xs n))
-ordered_up (ordered k ws) m t xs n rows = (omega arith, tt)
-ordered_up _ m t xs n rows = tt
+pub ordered_up : (e : Entry) (m : ℕ) (t : Terms) (first n : ℕ) (rows : List AuthorizationRow) →
+    Ascends (λ x. x.number) n (map (λ o. restated_order m rows (fresh_order o)) (ordered_by e m t first n))
+ordered_up (ordered k ws) m t first n rows = (omega arith, tt)
+ordered_up _ m t first n rows = tt
 
 -- and those of new authorizations
 pub made_up : (e : Entry) (m life n c : ℕ) →
@@ -235,7 +235,7 @@ changes_make T m e M h =
           puts_all (λ o. o.number) (touches_order e T.authorizations) order_differs
           (λ r. restated_order m (authorizations_after T e m) (noted_order e m r)) (λ o. refl)
           (order_unmoved e m (authorizations_after T e m)) T.meta.counters.orders T.orders _ h.orders
-          (ordered_up e m T.meta.policy (new_authorizations T e m) (T.meta.counters.orders + 1) (authorizations_after T e m)) i;
+          (ordered_up e m T.meta.policy (T.meta.counters.authorizations + 1) (T.meta.counters.orders + 1) (authorizations_after T e m)) i;
     })
   where
     nonces_all : puts (λ n. n.serial) (nonces_put T e m) (removes (λ n. n.serial) (spent_by e) T.nonces) ≡ filter (not_spent e) T.nonces

@@ -26,7 +26,7 @@ use Rattle.desk_model.specs.declared.objects.Account.{Account}
 use Rattle.desk_model.specs.declared.objects.AccountEnd.{AccountEnd}
 use Rattle.desk_model.specs.declared.objects.Nonce.{Nonce}
 use Rattle.desk_model.specs.declared.rows.AccountRow.{AccountRow}
-use Rattle.desk_laws.proofs.Basics.{earlier-some, none_earlier, each, each_all, each_after, map-each, map-moved}
+use Rattle.desk_laws.proofs.Basics.{earlier-some, none_earlier, each, each_all, map-each, map-moved}
 use Rattle.desk_laws.proofs.RowFacts.{authorization_moves, authorization_swept}
 use Rattle.desk_laws.proofs.OrderFacts.{listed_found, AreFound, order_moves, order_swept}
 use Rattle.desk_laws.specs.Given.{counts}
@@ -170,7 +170,7 @@ step F e m h =
     let d : Dated = record { date = m; entry = e } in
     let G : History = d ∷ F in
     let le : clock F ≤ m = h.0.in_order in
-    let found : EachOf (AreFound F) (orders F) = listed_found F in
+    let found : EachOf (AreFound F) (orders F) = listed_found F h.1 in
     let authorization_rows : map (authorization_row G m) (authorizations G)
     ≡ map (moved_authorization e m (map (account_row F) (accounts F))) (map (authorization_row F m) (authorizations F))
     ++ map (λ a. restated_authorization m (fresh_authorization a)) (made_now d F) =
@@ -184,7 +184,7 @@ step F e m h =
     rows_on (order_row F m) (order_row G m) (λ o. restated_order m (map (authorization_row G m) (authorizations G)) (fresh_order o))
     (moved_order e m (map (authorization_row F m) (authorizations F)) (map (authorization_row G m) (authorizations G))) (orders F) (ordered_now d F)
     (each _ _ (orders F) (λ o. order_moves F e m o h le) found)
-    (orders_fresh F e m h (each_after (AreFound G) (orders F) (ordered_now d F) (listed_found G))) in
+    (orders_fresh F e m h) in
     let account_rows : map (account_row G) (accounts G) ≡ map (moved_account e m) (map (account_row F) (accounts F))
     ++ map fresh_account (opened_by e m (length (accounts F) + 1)) =
     rows_on (account_row F) (account_row G) fresh_account (moved_account e m) (accounts F) (opened_by e m (length (accounts F) + 1))
@@ -248,7 +248,7 @@ sweep F t m le =
           (each_all _ (authorizations F) (λ a. authorization_swept F t m a le)) i;
       orders =
           map-moved (order_row F t) (swept_order m (map (authorization_row F t) (authorizations F))) (order_row F m) (orders F)
-          (each _ _ (orders F) (λ o. order_swept F t m o le) (listed_found F)) i;
+          (each_all _ (orders F) (λ o. order_swept F t m o le)) i;
     }
 
 -- ---- some entries at one moment

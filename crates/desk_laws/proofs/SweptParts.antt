@@ -83,7 +83,7 @@ swept_closed k T m h =
     }
 
 -- a swept authorization keeps its account
-swept_account : (m : ℕ) (row : AuthorizationRow) → (swept_authorization m row).account ≡ row.account
+pub swept_account : (m : ℕ) (row : AuthorizationRow) → (swept_authorization m row).account ≡ row.account
 swept_account m row = by (is_overdue m row)
   where
     by : (b : Bool) → (cond b (record row { status = authz.Expired }) row).account ≡ row.account

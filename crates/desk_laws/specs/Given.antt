@@ -1,5 +1,6 @@
 -- The numbers that a history has given.
 use Rattle.std.specs.Prelude.{ℕ, ◌≤◌, length}
+use Rattle.desk_model.specs.Kept.{EachOf}
 use Rattle.desk_model.specs.Account.{accounts}
 use Rattle.desk_model.specs.Authorization.{authorizations, count_challenges}
 use Rattle.desk_model.specs.Entry.{History}
@@ -11,6 +12,7 @@ use Rattle.desk_model.specs.declared.entry.Entry.TheVariants.{AccountEnded as ac
 use Rattle.desk_model.specs.declared.entry.Entry.TheVariants.{Answered as answered, Reported as reported}
 use Rattle.desk_model.specs.declared.entry.Entry.TheVariants.{AuthorizationEnded as authorization_ended, Finalized as finalized}
 use Rattle.desk_model.specs.declared.entry.Entry.TheVariants.{Certified as certified, Failed as failed}
+use Rattle.desk_laws.specs.Reused.{OfReused}
 
 -- how many objects of each kind were made
 pub record Counts : Type 0 where
@@ -37,7 +39,7 @@ NamesGiven c (spent n) = n ≤ c.nonces
 NamesGiven c (contacts_changed n contacts) = n ≤ c.accounts
 NamesGiven c (key_changed n key) = n ≤ c.accounts
 NamesGiven c (account_ended n ending) = n ≤ c.accounts
-NamesGiven c (ordered n wanted) = n ≤ c.accounts
+NamesGiven c (ordered n wanted) = (n ≤ c.accounts) × EachOf (OfReused (λ k. k ≤ c.authorizations)) wanted
 NamesGiven c (answered n) = n ≤ c.challenges
 NamesGiven c (reported n outcome) = n ≤ c.challenges
 NamesGiven c (authorization_ended n ending) = n ≤ c.authorizations

@@ -10,4 +10,5 @@ pub mod Ordered
 pub mod PartLaws
 pub mod Parts
 pub mod Placing
+pub mod Reused
 pub mod TableLaws

@@ -27,9 +27,9 @@ use Rattle.desk_model.specs.declared.status.AuthzStatus.TheVariants as authz
 use Rattle.desk_model.specs.declared.status.OrderStatus.{OrderStatus}
 use Rattle.desk_model.specs.declared.status.OrderStatus.TheVariants as order
 use Rattle.desk_laws.proofs.AllowedFacts.{allowed}
-use Rattle.desk_laws.proofs.Basics.{each, each_all, each-map, find-append}
+use Rattle.desk_laws.proofs.Basics.{each_all, each-map, find-append}
 use Rattle.desk_laws.proofs.MovedRows.{challenge_number, has_row-moved, one_kept}
-use Rattle.desk_laws.proofs.OrderFacts.{listed_found, order_stated}
+use Rattle.desk_laws.proofs.OrderFacts.{order_stated}
 use Rattle.desk_laws.proofs.Recorded.{challenges_ordered}
 use Rattle.desk_laws.proofs.RowFacts.{authorization_stated}
 use Rattle.desk_laws.proofs.Step.{step, sweep}
@@ -190,7 +190,7 @@ tables_stated F m h =
       authorizations = each-map _ (authorization_row F m) (authorizations F)
           (each_all _ (authorizations F) (λ a. ap (λ (r : AuthorizationRow). r.status) (authorization_stated F h m m a)));
       orders = each-map _ (order_row F m) (orders F)
-          (each _ _ (orders F) (λ o found. ap (λ (r : OrderRow). r.status) (order_stated F m m o found)) (listed_found F));
+          (each_all _ (orders F) (λ o. ap (λ (r : OrderRow). r.status) (order_stated F m m o)));
       challenges = challenges_ordered F m;
     }
 

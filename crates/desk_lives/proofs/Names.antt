@@ -13,11 +13,18 @@ use Rattle.desk_model.specs.Names.{ascii_form, name_of, name_with}
 use Rattle.desk_model.specs.Authorization.{kinds_of}
 use Rattle.desk_model.specs.Legal.{all_different, has_length, is_wanted, wanted_name}
 use Rattle.desk_model.specs.declared.payload.Identifier.{Identifier}
-use Rattle.desk_model.specs.Rules.{and_name, and_subproblem, fault_of, is_dns, kept, names_in, pieces, subproblems, wanted}
+use Rattle.desk_model.specs.Rules.{and_name, and_subproblem, fault_of, is_dns, kept, left_by, names_in, pieces, subproblems, wanted, wanted_by}
+use Rattle.desk_model.specs.Allowed.{may_want_on}
+use Rattle.desk_model.specs.Questions.{serving_on}
+use Rattle.desk_model.specs.Tables.{Tables}
+use Rattle.desk_model.specs.declared.entry.Wanted.{Wanted}
+use Rattle.desk_model.specs.declared.rows.AuthorizationRow.{AuthorizationRow}
 use Rattle.desk_model.specs.Run.{count_tokens}
 use Rattle.desk_model.specs.Kept.{EachOf}
 use Rattle.desk_laws.proofs.Keeps.{each-filter}
 use Rattle.desk_laws.proofs.Drawn.{length-pieces, length-wanted}
+use Rattle.desk_laws.proofs.Serving.{all_may_be_wanted}
+use Rattle.desk_laws.specs.Ordered.{IsOrdered}
 
 -- ---- names
 
@@ -161,9 +168,13 @@ different-kept (n ∷ ns) =
 -- ---- tokens
 
 -- they are these names
-names-wanted : (ns : List Name) (r : List ℕ) → map wanted_name (wanted ns r) ≡ ns
-names-wanted [] r = refl
-names-wanted (n ∷ ns) r = ap (λ rest. n ∷ rest) (names-wanted ns _)
+names-wanted : (T : Tables) (account : ℕ) (ns : List Name) (r : List ℕ) → map wanted_name (wanted T account ns r) ≡ ns
+names-wanted T account [] r = refl
+names-wanted T account (n ∷ ns) r = λ i. name (serving_on T account n) i ∷ names-wanted T account ns (left_by (serving_on T account n) n r) i
+  where
+    name : (o : Option AuthorizationRow) → wanted_name (wanted_by o n r) ≡ n
+    name None = refl
+    name (Some row) = refl
 
 -- each piece is full, where there are bytes enough
 pieces_fit : (k : ℕ) (r : List ℕ) → 16 * k ≤ length r → list_all (λ token. length token == 16) (pieces k r) ≡ true
@@ -174,14 +185,21 @@ pieces_fit (suc k) r h =
     rw full (pieces_fit k (drop 16 r) rest)
 
 -- well-formed names with tokens may be asked for
-tokens_fit : (ns : List Name) (r : List ℕ) → EachOf IsFormedName ns → 16 * count_tokens (wanted ns r) ≤ length r → list_all is_wanted (wanted ns r) ≡ true
-tokens_fit [] r named h = refl
-tokens_fit (n ∷ ns) r named h =
-    let k : ℕ = length (kinds_of n) in
-    let many : length (pieces k r) ≡ k = length-pieces k r in
-    let enough : 16 * k ≤ length r = omega arith in
-    let rest : 16 * count_tokens (wanted ns (drop (16 * k) r)) ≤ length (drop (16 * k) r) = omega (arith, length-drop (16 * k) r) in
-    and_from _ _ (and_from _ _ named.0 (and_from _ _ (eq-eqb _ _ many) (pieces_fit k r enough))) (tokens_fit ns (drop (16 * k) r) named.1 rest)
+tokens_fit : (T : Tables) (account : ℕ) (ns : List Name) (r : List ℕ) → EachOf IsFormedName ns →
+    16 * count_tokens (wanted T account ns r) ≤ length r → list_all is_wanted (wanted T account ns r) ≡ true
+tokens_fit T account [] r named h = refl
+tokens_fit T account (n ∷ ns) r named h = by (serving_on T account n) h (λ rest. tokens_fit T account ns rest named.1)
+  where
+    by : (o : Option AuthorizationRow) → 16 * count_tokens (wanted_by o n r ∷ wanted T account ns (left_by o n r)) ≤ length r →
+        ((rest : List ℕ) → 16 * count_tokens (wanted T account ns rest) ≤ length rest → list_all is_wanted (wanted T account ns rest) ≡ true) →
+        list_all is_wanted (wanted_by o n r ∷ wanted T account ns (left_by o n r)) ≡ true
+    by None h others =
+        let k : ℕ = length (kinds_of n) in
+        let many : length (pieces k r) ≡ k = length-pieces k r in
+        let enough : 16 * k ≤ length r = omega arith in
+        let rest : 16 * count_tokens (wanted T account ns (drop (16 * k) r)) ≤ length (drop (16 * k) r) = omega (arith, length-drop (16 * k) r) in
+        and_from _ _ (and_from _ _ named.0 (and_from _ _ (eq-eqb _ _ many) (pieces_fit k r enough))) (others (drop (16 * k) r) rest)
+    by (Some row) h others = others r h
 
 -- a length within its limits
 length-fits : {X : Type 0} (low high : ℕ) (xs : List X) → low ≤ length xs → length xs ≤ high → has_length low high xs ≡ true
@@ -192,17 +210,18 @@ fits-length : {X : Type 0} (low high : ℕ) (xs : List X) → has_length low hig
 fits-length low high xs h = let p = and_parts _ _ h in (leb-true low (length xs) p.0, leb-true (length xs) high p.1)
 
 -- what a new order asks for has the form of an order
-pub wanted_fits : (ids : List Identifier) (r : List ℕ) → has_length 1 most_names ids ≡ true → subproblems ids ≡ [] →
-    16 * count_tokens (wanted (kept (names_in ids)) r) ≤ length r →
-    (has_length 1 most_names (wanted (kept (names_in ids)) r)
-    && (all_different (map wanted_name (wanted (kept (names_in ids)) r)) && list_all is_wanted (wanted (kept (names_in ids)) r))) ≡ true
-wanted_fits ids r fits none enough =
+pub wanted_fits : (T : Tables) (account : ℕ) (ids : List Identifier) (r : List ℕ) → IsOrdered T → has_length 1 most_names ids ≡ true → subproblems ids ≡ [] →
+    (let ws : List Wanted = wanted T account (kept (names_in ids)) r in 16 * count_tokens ws ≤ length r →
+    (has_length 1 most_names ws
+    && (all_different (map wanted_name ws) && (list_all is_wanted ws && list_all (may_want_on T account) ws))) ≡ true)
+wanted_fits T account ids r in_order fits none enough =
     let ns : List Name = names_in ids in
+    let ws : List Wanted = wanted T account (kept ns) r in
     let p = fits-length 1 most_names ids fits in
     let same : length ns ≡ length ids = length-names_in ids none in
-    let many : length (wanted (kept ns) r) ≡ length (kept ns) = length-wanted (kept ns) r in
+    let many : length ws ≡ length (kept ns) = length-wanted T account (kept ns) r in
     let less : length (kept ns) ≤ length ns = length-kept ns in
     let more : 1 ≤ length (kept ns) = kept_some ns (omega arith) in
-    and_from _ _ (length-fits 1 most_names (wanted (kept ns) r) (omega arith) (omega arith))
-    (and_from _ _ (ap all_different (names-wanted (kept ns) r) ∙ different-kept ns)
-    (tokens_fit (kept ns) r (each-kept IsFormedName ns (each_named ids)) enough))
+    and_from _ _ (length-fits 1 most_names ws (omega arith) (omega arith))
+    (and_from _ _ (ap all_different (names-wanted T account (kept ns) r) ∙ different-kept ns)
+    (and_from _ _ (tokens_fit T account (kept ns) r (each-kept IsFormedName ns (each_named ids)) enough) (all_may_be_wanted T account (kept ns) r in_order.authorizations.0)))

@@ -154,24 +154,25 @@ key_change_sound r T n a c formed found valid =
 -- ---- orders
 
 -- an order of names without a fault
-order_sound : (r : List ℕ) (T : Tables) (n : ℕ) (a : AccountRow) (ids : List Identifier) (ss : List Subproblem) → account_on T n ≡ Some a →
+order_sound : (r : List ℕ) (T : Tables) (n : ℕ) (a : AccountRow) (ids : List Identifier) (ss : List Subproblem) → IsOrdered T → account_on T n ≡ Some a →
     is_valid_account a.status ≡ true → has_length 1 most_names ids ≡ true → subproblems ids ≡ ss →
-    IsSound r T (order_of r n ids ss)
-order_sound r T n a ids (s ∷ ss) found valid fits is = refused_sound _ (s ∷ ss)
-order_sound r T n a ids [] found valid fits is =
+    IsSound r T (order_of T r n ids ss)
+order_sound r T n a ids (s ∷ ss) in_order found valid fits is = refused_sound _ (s ∷ ss)
+order_sound r T n a ids [] in_order found valid fits is =
     record {
       records = λ enough. record {
         later = tt;
         formed = tt;
-        allowed = rw found (and_from _ _ valid (wanted_fits ids r fits is enough));
+        allowed = rw found (and_from _ _ valid (wanted_fits T n ids r in_order fits is enough));
       };
     }
 
 -- newOrder
-new_order_sound : (r : List ℕ) (T : Tables) (n : ℕ) (a : AccountRow) (ids : List Identifier) → account_on T n ≡ Some a → is_valid_account a.status ≡ true →
-    IsSound r T (new_order_verdict r n ids)
-new_order_sound r T n a ids found valid =
-    check_sound r T _ refusal.Malformed _ (λ fits. order_sound r T n a ids (subproblems ids) found valid fits refl)
+new_order_sound : (r : List ℕ) (T : Tables) (n : ℕ) (a : AccountRow) (ids : List Identifier) → IsOrdered T → account_on T n ≡ Some a →
+    is_valid_account a.status ≡ true →
+    IsSound r T (new_order_verdict T r n ids)
+new_order_sound r T n a ids in_order found valid =
+    check_sound r T _ refusal.Malformed _ (λ fits. order_sound r T n a ids (subproblems ids) in_order found valid fits refl)
 
 -- a CSR has its length
 csr_length : (o : Option (List ℕ)) (csr : List ℕ) → option_and_then if_fits o ≡ Some csr → has_length 1 longest_csr csr ≡ true
@@ -216,26 +217,26 @@ own_found account n (Some y) x h = by (account y == n) h
     by false e = cc
 
 -- a request of an account that is valid
-target_sound : (r : List ℕ) (T : Tables) (n : ℕ) (a : AccountRow) (p : List ℕ) (t : Target) → IsUtf8 p → account_on T n ≡ Some a →
+target_sound : (r : List ℕ) (T : Tables) (n : ℕ) (a : AccountRow) (p : List ℕ) (t : Target) → IsOrdered T → IsUtf8 p → account_on T n ≡ Some a →
     is_valid_account a.status ≡ true →
     IsSound r T (target_verdict T r n p t)
-target_sound r T n a p to.NewAccount text found valid = given_sound r T _ refusal.Malformed _ (λ _ _. none_sound _)
-target_sound r T n a p to.KeyChange text found valid =
+target_sound r T n a p to.NewAccount in_order text found valid = given_sound r T _ refusal.Malformed _ (λ _ _. none_sound _)
+target_sound r T n a p to.KeyChange in_order text found valid =
     given_sound r T _ refusal.Malformed _
     (λ c asked. key_change_sound r T n a c (subst (λ o. IfSome o ChangesToKey) asked (key_change_formed p)) found valid)
-target_sound r T n a p to.NewOrder text found valid = given_sound r T _ refusal.Malformed _ (λ ids _. new_order_sound r T n a ids found valid)
-target_sound r T n a p (to.Account k) text found valid =
+target_sound r T n a p to.NewOrder in_order text found valid = given_sound r T _ refusal.Malformed _ (λ ids _. new_order_sound r T n a ids in_order found valid)
+target_sound r T n a p (to.Account k) in_order text found valid =
     check_sound r T _ refusal.NotFound _ (λ _. given_sound r T _ refusal.Malformed _
     (λ x asked. account_sound r T n a x (subst (λ o. IfSome o ChangesToTexts) asked (account_change_texts p text)) found valid))
-target_sound r T n a p (to.Orders k) text found valid = check_sound r T _ refusal.NotFound _ (λ _. check_sound r T _ refusal.Malformed _ (λ _. none_sound _))
-target_sound r T n a p (to.Order k) text found valid = given_sound r T _ refusal.NotFound _ (λ o _. check_sound r T _ refusal.Malformed _ (λ _. none_sound _))
-target_sound r T n a p (to.Finalize k) text found valid =
+target_sound r T n a p (to.Orders k) in_order text found valid = check_sound r T _ refusal.NotFound _ (λ _. check_sound r T _ refusal.Malformed _ (λ _. none_sound _))
+target_sound r T n a p (to.Order k) in_order text found valid = given_sound r T _ refusal.NotFound _ (λ o _. check_sound r T _ refusal.Malformed _ (λ _. none_sound _))
+target_sound r T n a p (to.Finalize k) in_order text found valid =
     given_sound r T _ refusal.NotFound _ (λ o is. given_sound r T _ refusal.Malformed _ (λ text _. finalize_sound r T k o text (own_found _ n _ o is)))
-target_sound r T n a p (to.Cert k) text found valid =
+target_sound r T n a p (to.Cert k) in_order text found valid =
     given_sound r T _ refusal.NotFound _ (λ o _. check_sound r T _ refusal.Malformed _ (λ _. given_sound r T _ refusal.NotFound _ (λ _ _. none_sound _)))
-target_sound r T n a p (to.Authz k) text found valid =
+target_sound r T n a p (to.Authz k) in_order text found valid =
     given_sound r T _ refusal.NotFound _ (λ x is. given_sound r T _ refusal.Malformed _ (λ q _. authorization_sound r T k x q (own_found _ n _ x is)))
-target_sound r T n a p (to.Chall k) text found valid =
+target_sound r T n a p (to.Chall k) in_order text found valid =
     given_sound r T _ refusal.NotFound _ (λ x is. given_sound r T _ refusal.Malformed _ (λ q _. challenge_sound r T k x q (own_found _ n _ x is)))
 
 -- an account that is found by its key is found by its number
@@ -248,7 +249,7 @@ key_number T key a in_order found =
 holder_sound : (r : List ℕ) (T : Tables) (key p : List ℕ) (t : Target) (a : AccountRow) → IsOrdered T → IsUtf8 p → account_with_key T key ≡ Some a →
     IsSound r T (holder_verdict T r p t a)
 holder_sound r T key p t a in_order text is =
-    check_sound r T _ refusal.Unauthorized _ (λ valid. target_sound r T a.number a p t text (key_number T key a in_order is) valid)
+    check_sound r T _ refusal.Unauthorized _ (λ valid. target_sound r T a.number a p t in_order text (key_number T key a in_order is) valid)
 
 -- a request of a key without an account
 unknown_key_sound : (r : List ℕ) (T : Tables) (key p : List ℕ) (t : Target) → IsKeyText key → IsUtf8 p → account_with_key T key ≡ None →

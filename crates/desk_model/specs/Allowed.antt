@@ -1,9 +1,9 @@
 -- Which entry may follow, by the tables at its moment.
-use Rattle.std.specs.Prelude.{ℕ, length, Bool, false, ◌&&◌, ◌==◌, is_some, is_none, find, bytes_eq, map}
+use Rattle.std.specs.Prelude.{ℕ, length, Bool, false, true, ◌&&◌, ◌==◌, is_some, is_none, find, bytes_eq, map}
 use Rattle.std.specs.List.{list_all}
 use Rattle.desk_model.specs.Lookup.{holds}
 use Rattle.desk_model.specs.Entry.{Entry, made, issued, spent, opened, contacts_changed, key_changed, account_ended, ordered, answered}
-use Rattle.desk_model.specs.Entry.{reported, authorization_ended, finalized, certified, failed}
+use Rattle.desk_model.specs.Entry.{reported, authorization_ended, finalized, certified, failed, Wanted, new, reused}
 use Rattle.desk_model.specs.Contact.{contacts_pass}
 use Rattle.desk_model.specs.Account.{is_valid as is_valid_account}
 use Rattle.desk_model.specs.Authorization.{is_live, is_pending}
@@ -11,12 +11,17 @@ use Rattle.desk_model.specs.Order.{is_ready, is_processing}
 use Rattle.desk_model.specs.Legal.{is_pending_challenge, is_processing_challenge, has_length, all_different, is_wanted, wanted_name, is_problem}
 use Rattle.desk_model.specs.Limits.{longest_certificate, longest_csr, most_names}
 use Rattle.desk_model.specs.Tables.{Tables}
-use Rattle.desk_model.specs.Questions.{account_on, order_on, authorization_on, owner_on, challenge_of}
+use Rattle.desk_model.specs.Questions.{account_on, order_on, authorization_on, owner_on, challenge_of, order_end, serves}
 use Rattle.desk_model.specs.declared.status.ChallengeStatus.{ChallengeStatus}
 
 -- the challenge stands, passes, and its authorization is pending
 abbrev pub challenge_passes : (ChallengeStatus → Bool) → Tables → ℕ → Bool
 challenge_passes test T n = holds (λ a. is_pending a.status && holds (λ c. test c.status) (challenge_of n a)) (owner_on T n)
+
+-- a new authorization always may be wanted, another where it serves
+abbrev pub may_want_on : Tables → (account : ℕ) → Wanted → Bool
+may_want_on T n (new name tokens) = true
+may_want_on T n (reused name k) = holds (serves n name (order_end T)) (authorization_on T k)
 
 abbrev pub may_on : Tables → Entry → Bool
 may_on T (made terms) = false
@@ -28,7 +33,8 @@ may_on T (key_changed n key) =
     holds (λ a. is_valid_account a.status) (account_on T n) && is_none (find (λ a. bytes_eq a.key key) T.accounts)
 may_on T (account_ended n ending) = holds (λ a. is_valid_account a.status) (account_on T n)
 may_on T (ordered n wanted) = holds (λ a. is_valid_account a.status) (account_on T n)
-    && (has_length 1 most_names wanted && (all_different (map wanted_name wanted) && list_all is_wanted wanted))
+    && (has_length 1 most_names wanted
+    && (all_different (map wanted_name wanted) && (list_all is_wanted wanted && list_all (may_want_on T n) wanted)))
 may_on T (answered n) = challenge_passes is_pending_challenge T n
 may_on T (reported n outcome) = challenge_passes is_processing_challenge T n
 may_on T (authorization_ended n ending) = holds (λ a. is_live a.status) (authorization_on T n)

@@ -3,7 +3,7 @@ use Rattle.std.specs.Prelude.{ℕ, ◌+◌, List, [], ◌∷◌, ◌++◌, lengt
 use Rattle.std.specs.Prelude.{Some, None, find, if◌then◌else◌, is_some}
 use Rattle.std.specs.List.{list_any}
 use Rattle.desk_model.specs.Name.{Name}
-use Rattle.desk_model.specs.Entry.{Entry, ordered, answered, reported, authorization_ended, account_ended, Wanted, new, Ending}
+use Rattle.desk_model.specs.Entry.{Entry, ordered, answered, reported, authorization_ended, account_ended, Wanted, new, reused, Ending}
 use Rattle.desk_model.specs.Entry.{deactivated, revoked, Outcome, good, History}
 use Rattle.desk_model.specs.History.{first, earlier, terms}
 use Rattle.desk_model.specs.Account.{account_key}
@@ -38,12 +38,13 @@ abbrev pub count_challenges : List Authorization → ℕ
 count_challenges [] = 0
 count_challenges (a ∷ rest) = length a.challenges + count_challenges rest
 
--- an authorization for each name that is new, and their challenges, numbered from here
+-- an authorization for each name that gets a new one, and their challenges, numbered from here
 abbrev pub made_for : (account date expires : ℕ) → List Wanted → (number first_challenge : ℕ) → List Authorization
 made_for account date expires [] n c = []
 made_for account date expires (new name tokens ∷ rest) n c =
     (record { number = n; account = account; name = name; made = date; expires = expires; challenges = challenges_from c (kinds_of name) tokens })
     ∷ made_for account date expires rest (n + 1) (c + length (challenges_from c (kinds_of name) tokens))
+made_for account date expires (reused name k ∷ rest) n c = made_for account date expires rest n c
 
 -- the authorizations that the entry makes
 abbrev pub made_by : Entry → (date life : ℕ) → (number first_challenge : ℕ) → List Authorization

@@ -98,7 +98,7 @@ abbrev pub orders_put : Tables → Entry → ℕ → List OrderRow
 orders_put T e m =
     moved_rows (touches_order e T.authorizations) order_differs (λ r. restated_order m (authorizations_after T e m) (noted_order e m r)) T.orders
     ++ map (λ o. restated_order m (authorizations_after T e m) (fresh_order o))
-    (ordered_by e m T.meta.policy (new_authorizations T e m) (T.meta.counters.orders + 1))
+    (ordered_by e m T.meta.policy (T.meta.counters.authorizations + 1) (T.meta.counters.orders + 1))
 
 -- all of them, and the nonce that is removed
 abbrev pub changes : ℕ → Tables → Entry → List Change

@@ -173,7 +173,7 @@ abbrev pub effect : ℕ → Tables → Entry → Tables
 effect m T e =
     let more : List Authorization = new_authorizations T e m in
     let after : List AuthorizationRow = authorizations_after T e m in
-    let more_orders : List Order = ordered_by e m T.meta.policy more (T.meta.counters.orders + 1) in
+    let more_orders : List Order = ordered_by e m T.meta.policy (T.meta.counters.authorizations + 1) (T.meta.counters.orders + 1) in
     let more_accounts : List Account = opened_by e m (T.meta.counters.accounts + 1) in
     let more_nonces : List Nonce = issued_by e m (T.meta.counters.nonces + 1) in
     record {

@@ -6,7 +6,7 @@ pub use Rattle.desk_model.specs.declared.entry.Outcome.{Outcome}
 pub use Rattle.desk_model.specs.declared.entry.Outcome.TheVariants.{Good as good, IncorrectResponse as incorrect_response, Connection as connection, Dns as dns}
 pub use Rattle.desk_model.specs.declared.call.OrderProblem.{OrderProblem}
 pub use Rattle.desk_model.specs.declared.entry.Wanted.{Wanted}
-pub use Rattle.desk_model.specs.declared.entry.Wanted.TheVariants.{New as new}
+pub use Rattle.desk_model.specs.declared.entry.Wanted.TheVariants.{New as new, Reused as reused}
 pub use Rattle.desk_model.specs.declared.entry.Entry.{Entry}
 pub use Rattle.desk_model.specs.declared.entry.Entry.TheVariants.{Made as made, Issued as issued, Spent as spent}
 pub use Rattle.desk_model.specs.declared.entry.Entry.TheVariants.{Opened as opened, ContactsChanged as contacts_changed, KeyChanged as key_changed}

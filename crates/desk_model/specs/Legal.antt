@@ -1,16 +1,16 @@
 -- Which entry may follow a history, and which histories are legal.
-use Rattle.std.specs.Prelude.{ℕ, ◌≤◌, List, [], ◌∷◌, length, Bool, false, true, not, ◌&&◌, ◌||◌, ◌==◌, nat_le, is_none, IsTrue, map, bytes_eq, codes}
+use Rattle.std.specs.Prelude.{ℕ, ◌+◌, ◌≤◌, List, [], ◌∷◌, length, Bool, false, true, not, ◌&&◌, ◌||◌, ◌==◌, nat_le, is_none, IsTrue, map, bytes_eq, codes}
 use Rattle.std.specs.List.{list_any, list_all}
 use Rattle.desk_model.specs.Name.{Name, same_name}
 use Rattle.desk_model.specs.Entry.{Entry, made, issued, spent, opened, contacts_changed, key_changed, account_ended, ordered, answered}
-use Rattle.desk_model.specs.Entry.{reported, authorization_ended, finalized, certified, failed, Wanted, new, OrderProblem, Dated}
+use Rattle.desk_model.specs.Entry.{reported, authorization_ended, finalized, certified, failed, Wanted, new, OrderProblem, Dated, reused}
 use Rattle.desk_model.specs.Entry.{History}
-use Rattle.desk_model.specs.History.{clock}
+use Rattle.desk_model.specs.History.{clock, terms}
 use Rattle.desk_model.specs.Limits.{last_moment, last_number, longest_certificate, longest_csr, longest_detail, most_names}
 use Rattle.desk_model.specs.Lookup.{holds}
 use Rattle.desk_model.specs.Nonce.{nonce, nonces, is_open}
 use Rattle.desk_model.specs.Account.{accounts, account_by_number, account_by_key, account_status, is_valid as is_valid_account}
-use Rattle.desk_model.specs.Authorization.{authorizations, authorization, authorization_of, authorization_status}
+use Rattle.desk_model.specs.Authorization.{Authorization, authorizations, authorization, authorization_of, authorization_status, is_valid}
 use Rattle.desk_model.specs.Authorization.{challenge_status, is_live, is_pending, kinds_of, count_challenges}
 use Rattle.desk_model.specs.Order.{orders, order_by_number, order_status, is_ready, is_processing}
 use Rattle.desk_model.specs.BaseName.{is_base_name}
@@ -32,12 +32,25 @@ is_processing_challenge _ = false
 abbrev pub has_length : {X : Type 0} → ℕ → ℕ → List X → Bool
 has_length low high xs = nat_le low (length xs) && nat_le (length xs) high
 
--- a well-formed name, and a token for each challenge
+-- a new authorization has a well-formed name, and a token for each challenge
 abbrev pub is_wanted : Wanted → Bool
 is_wanted (new name tokens) = is_base_name name.base && ((length tokens == length (kinds_of name)) && list_all (λ token. length token == 16) tokens)
+is_wanted (reused name n) = true
 
 abbrev pub wanted_name : Wanted → Name
 wanted_name (new name tokens) = name
+wanted_name (reused name n) = name
+
+-- an order of the account that expires then may use the authorization for the name (RFC 8555, 7.4): it is the account's, of this
+-- name, valid at m, and does not expire before the order
+abbrev pub may_serve : History → (m account : ℕ) → Name → (expires : ℕ) → Authorization → Bool
+may_serve F m account name expires a =
+    is_valid (authorization_status a F m) && ((a.account == account) && (same_name a.name name && nat_le expires a.expires))
+
+-- a new authorization always may be wanted, another where it may serve
+abbrev pub may_want : History → (m account : ℕ) → Wanted → Bool
+may_want F m account (new name tokens) = true
+may_want F m account (reused name n) = holds (may_serve F m account name (m + (terms F).order_life)) (authorization n F)
 
 abbrev pub all_different : List Name → Bool
 all_different [] = true
@@ -68,7 +81,8 @@ may_follow F (key_changed account key) m =
 may_follow F (account_ended account ending) m = holds (λ a. is_valid_account (account_status a F)) (account_by_number account F)
 may_follow F (ordered account wanted) m =
     holds (λ a. is_valid_account (account_status a F)) (account_by_number account F)
-    && (has_length 1 most_names wanted && (all_different (map wanted_name wanted) && list_all is_wanted wanted))
+    && (has_length 1 most_names wanted
+    && (all_different (map wanted_name wanted) && (list_all is_wanted wanted && list_all (may_want F m account) wanted)))
 may_follow F (answered challenge) m =
     holds (λ a. is_pending (authorization_status a F m)) (authorization_of challenge F)
     && is_pending_challenge (challenge_status challenge F)

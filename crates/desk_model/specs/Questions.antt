@@ -1,5 +1,7 @@
 -- What a decision asks of the tables.
-use Rattle.std.specs.Prelude.{ℕ, ◌==◌, List, Option, find, bytes_eq}
+use Rattle.std.specs.Prelude.{ℕ, ◌+◌, ◌==◌, ◌&&◌, nat_le, List, Bool, Option, find, bytes_eq}
+use Rattle.desk_model.specs.Authorization.{is_valid}
+use Rattle.desk_model.specs.Name.{Name, same_name}
 use Rattle.desk_model.specs.Nonce.{Nonce}
 use Rattle.desk_model.specs.Effect.{has_row}
 use Rattle.desk_model.specs.Tables.{Tables, AccountRow, ChallengeRow, AuthorizationRow, OrderRow}
@@ -22,6 +24,18 @@ authorization_on T n = find (λ a. a.number == n) T.authorizations
 -- the authorization that a challenge is of
 abbrev pub owner_on : Tables → ℕ → Option AuthorizationRow
 owner_on T challenge = find (has_row challenge) T.authorizations
+
+-- when an order expires that is made at the moment of the tables
+abbrev pub order_end : Tables → ℕ
+order_end T = T.meta.counters.clock + T.meta.policy.order_life
+
+-- an authorization of the account for the name that is valid and does not expire before this moment
+abbrev pub serves : (account : ℕ) → Name → (expires : ℕ) → AuthorizationRow → Bool
+serves account name expires row = is_valid row.status && ((row.account == account) && (same_name row.name name && nat_le expires row.expires))
+
+-- the authorization that an order of the account, made now, uses again for the name (RFC 8555, 7.4): the one of the least number
+abbrev pub serving_on : Tables → (account : ℕ) → Name → Option AuthorizationRow
+serving_on T account name = find (serves account name (order_end T)) T.authorizations
 
 abbrev pub challenge_of : ℕ → AuthorizationRow → Option ChallengeRow
 challenge_of n a = find (λ c. n == c.number) a.challenges

@@ -5,7 +5,7 @@ use Rattle.desk_model.specs.Lookup.{holds}
 use Rattle.desk_model.specs.Name.{Name, same_name}
 use Rattle.desk_model.specs.Names.{dns_type, name_of}
 use Rattle.desk_model.specs.Tokens.{NonceText, nonce_in, body_matches, records_match, from_base64url}
-use Rattle.desk_model.specs.Entry.{Wanted, new, Ending, deactivated, revoked, Outcome, good, incorrect_response, connection, dns, OrderProblem}
+use Rattle.desk_model.specs.Entry.{Wanted, new, reused, Ending, deactivated, revoked, Outcome, good, incorrect_response, connection, dns, OrderProblem}
 use Rattle.desk_model.specs.Nonce.{Nonce}
 use Rattle.desk_model.specs.Account.{is_valid as is_valid_account}
 use Rattle.desk_model.specs.Authorization.{Kind, http_01, dns_01, is_live, is_pending, kinds_of}
@@ -14,7 +14,7 @@ use Rattle.desk_model.specs.Contact.{contacts_fault}
 use Rattle.desk_model.specs.Legal.{is_problem, has_length, is_pending_challenge, is_processing_challenge}
 use Rattle.desk_model.specs.Limits.{longest_certificate, longest_csr, most_names}
 use Rattle.desk_model.specs.Tables.{Tables, AccountRow, ChallengeRow, AuthorizationRow, OrderRow}
-use Rattle.desk_model.specs.Questions.{nonce_on, account_on, account_with_key, order_on, authorization_on, owner_on, challenge_of}
+use Rattle.desk_model.specs.Questions.{nonce_on, account_on, account_with_key, order_on, authorization_on, owner_on, challenge_of, serving_on}
 use Rattle.desk_model.specs.Payload.{NewAccount, new_account, AccountChange, account_change, KeyChange, key_change, AuthorizationChange}
 use Rattle.desk_model.specs.Payload.{authorization_change, ChallengeChange, challenge_change, Identifier, new_order, finalize}
 use Rattle.desk_model.specs.Payload as payload
@@ -107,18 +107,37 @@ abbrev pub pieces : ℕ → List ℕ → List (List ℕ)
 pieces zero random = []
 pieces (suc k) random = take 16 random ∷ pieces k (drop 16 random)
 
--- each name with its tokens, taken in turn
-abbrev pub wanted : List Name → List ℕ → List Wanted
-wanted [] random = []
-wanted (n ∷ ns) random = new n (pieces (length (kinds_of n)) random) ∷ wanted ns (drop (16 * length (kinds_of n)) random)
+-- the name gets the authorization that serves, or a new one, with the first of these random bytes as tokens
+abbrev pub wanted_by : Option AuthorizationRow → Name → List ℕ → Wanted
+wanted_by None name random = new name (pieces (length (kinds_of name)) random)
+wanted_by (Some row) name random = reused name row.number
 
--- refused by the first identifier that is, with all of them listed; else an authorization is made for each name
-abbrev pub order_of : List ℕ → ℕ → List Identifier → List Subproblem → Verdict
-order_of random n ids (s ∷ ss) = refused s.refusal (s ∷ ss)
-order_of random n ids [] = orders n (wanted (kept (names_in ids)) random)
+-- the random bytes that it leaves
+abbrev pub left_by : Option AuthorizationRow → Name → List ℕ → List ℕ
+left_by None name random = drop (16 * length (kinds_of name)) random
+left_by (Some row) name random = random
 
-abbrev pub new_order_verdict : List ℕ → ℕ → List Identifier → Verdict
-new_order_verdict random n ids = check (has_length 1 most_names ids) refusal.Malformed (order_of random n ids (subproblems ids))
+-- each name with the authorization that it gets in an order of account n, the tokens taken in turn
+abbrev pub wanted : Tables → ℕ → List Name → List ℕ → List Wanted
+wanted T n [] random = []
+wanted T n (name ∷ names) random =
+    wanted_by (serving_on T n name) name random ∷ wanted T n names (left_by (serving_on T n name) name random)
+
+-- refused by the first identifier that is, with all of them listed; else each name gets an authorization
+abbrev pub order_of : Tables → List ℕ → ℕ → List Identifier → List Subproblem → Verdict
+order_of T random n ids (s ∷ ss) = refused s.refusal (s ∷ ss)
+order_of T random n ids [] = orders n (wanted T n (kept (names_in ids)) random)
+
+abbrev pub new_order_verdict : Tables → List ℕ → ℕ → List Identifier → Verdict
+new_order_verdict T random n ids = check (has_length 1 most_names ids) refusal.Malformed (order_of T random n ids (subproblems ids))
+
+-- the names that get an authorization, where no identifier is refused
+abbrev pub names_of : List Identifier → List Subproblem → Option (List Name)
+names_of ids (s ∷ ss) = None
+names_of ids [] = Some (kept (names_in ids))
+
+abbrev pub names_asked : List Identifier → Option (List Name)
+names_asked ids = if has_length 1 most_names ids then names_of ids (subproblems ids) else None
 
 abbrev pub if_fits : List ℕ → Option (List ℕ)
 if_fits csr = if has_length 1 longest_csr csr then Some csr else None
@@ -170,7 +189,7 @@ own account n (Some x) = if account x == n then Some x else None
 abbrev pub target_verdict : Tables → List ℕ → ℕ → List ℕ → Target → Verdict
 target_verdict T random n p to.NewAccount = given (new_account p) refusal.Malformed (λ asked. answers (show.KnownAccount n))
 target_verdict T random n p to.KeyChange = given (key_change p) refusal.Malformed (key_change_verdict T n)
-target_verdict T random n p to.NewOrder = given (new_order p) refusal.Malformed (new_order_verdict random n)
+target_verdict T random n p to.NewOrder = given (new_order p) refusal.Malformed (new_order_verdict T random n)
 target_verdict T random n p (to.Account k) = check (k == n) refusal.NotFound (given (account_change p) refusal.Malformed (account_verdict n))
 target_verdict T random n p (to.Orders k) = check (k == n) refusal.NotFound (check (nothing p) refusal.Malformed (answers (show.List (list.Orders n))))
 target_verdict T random n p (to.Order k) = given (own (λ o. o.account) n (order_on T k)) refusal.NotFound

@@ -1,6 +1,6 @@
 -- Runs of calls, and the faults of a call.
 use Rattle.std.specs.Prelude.{ℕ, ◌+◌, ◌*◌, List, [], ◌∷◌, length, not, nat_lt, Option, Some, None, Result, Ok, Err, IsUtf8, if◌then◌else◌}
-use Rattle.desk_model.specs.Entry.{Entry, issued, ordered, Wanted, new, History}
+use Rattle.desk_model.specs.Entry.{Entry, issued, ordered, Wanted, new, reused, History}
 use Rattle.desk_model.specs.Keys.{IsKeyText}
 use Rattle.desk_model.specs.Legal.{numbers_fit}
 use Rattle.desk_model.specs.Limits.{last_moment}
@@ -20,6 +20,13 @@ use Rattle.desk_model.specs.declared.reply.Reply.{Reply}
 abbrev pub count_tokens : List Wanted → ℕ
 count_tokens [] = 0
 count_tokens (new name tokens ∷ rest) = length tokens + count_tokens rest
+count_tokens (reused name n ∷ rest) = count_tokens rest
+
+-- how many authorizations are made
+abbrev pub count_new : List Wanted → ℕ
+count_new [] = 0
+count_new (new name tokens ∷ rest) = 1 + count_new rest
+count_new (reused name n ∷ rest) = count_new rest
 
 abbrev pub pieces_of : Entry → ℕ
 pieces_of (issued random) = 1

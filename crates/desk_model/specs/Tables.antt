@@ -53,10 +53,10 @@ authorization_row F t a =
       status = authorization_status a F t;
     }
 
--- authorizations in their places, counted from here
-abbrev pub listed_from : ℕ → List Authorization → List Listed
+-- authorizations, by their numbers, in their places, counted from here
+abbrev pub listed_from : ℕ → List ℕ → List Listed
 listed_from place [] = []
-listed_from place (a ∷ rest) = (record { place = place; authorization = a.number }) ∷ listed_from (place + 1) rest
+listed_from place (n ∷ rest) = (record { place = place; authorization = n }) ∷ listed_from (place + 1) rest
 
 abbrev pub order_row : History → ℕ → Order → OrderRow
 order_row F t o =

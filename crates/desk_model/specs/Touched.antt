@@ -12,7 +12,7 @@ use Rattle.desk_model.specs.declared.call.Ask.TheVariants as ask
 use Rattle.desk_model.specs.declared.call.OfficeAsk.TheVariants as office
 use Rattle.desk_model.specs.declared.call.Call.{Call}
 use Rattle.desk_model.specs.declared.objects.Nonce.{Nonce}
-use Rattle.desk_model.specs.Asked.{carries, has_key, has_new_key, names_account, names_order, names_authorization, names_owner, asks_orders, asks_authorizations}
+use Rattle.desk_model.specs.Asked.{carries, has_key, has_new_key, names_account, names_order, names_authorization, names_owner, asks_orders, asks_authorizations, asks_name}
 
 -- the nonce that the request carries, and each past its life
 abbrev pub is_touched_nonce : Tables → ℕ → Ask → Nonce → Bool
@@ -38,6 +38,10 @@ is_own_order T a o = asks_orders a && list_any (λ x. is_named_account a x && (o
 abbrev pub is_own_authorization : Tables → Ask → AuthorizationRow → Bool
 is_own_authorization T a r = asks_authorizations a && list_any (λ x. is_named_account a x && (r.account == x.number)) T.accounts
 
+-- an authorization of one of these accounts, for a name that a new order asks for: it may be used again
+abbrev pub is_asked_authorization : Tables → Ask → AuthorizationRow → Bool
+is_asked_authorization T a r = asks_name a r.name && list_any (λ x. is_named_account a x && (r.account == x.number)) T.accounts
+
 -- an order that is not over, past its moment
 abbrev pub is_past_order : ℕ → OrderRow → Bool
 is_past_order m o = is_live_order o.status && nat_lt o.expires m
@@ -55,9 +59,10 @@ is_touched_order T m a o =
     (is_named_order a o || (is_own_order T a o || is_past_order m o))
     || list_any (λ r. is_first_authorization T m a r && lists o r.number) T.authorizations
 
--- an authorization of these rules, or one that such an order lists
+-- an authorization of these rules, one that such an order lists, or one that a new order asks for
 abbrev pub is_touched_authorization : Tables → ℕ → Ask → AuthorizationRow → Bool
-is_touched_authorization T m a r = is_first_authorization T m a r || list_any (λ o. is_touched_order T m a o && lists o r.number) T.orders
+is_touched_authorization T m a r =
+    is_first_authorization T m a r || (list_any (λ o. is_touched_order T m a o && lists o r.number) T.orders || is_asked_authorization T a r)
 
 -- an account of these rules, or that of such an order or authorization
 abbrev pub is_touched_account : Tables → ℕ → Ask → AccountRow → Bool

@@ -5,6 +5,7 @@ ghost use Rattle.std.specs.List.{list_all};
 ghost use Rattle.std.specs.Char.{is_ascii_digit};
 ghost use Rattle.desk_model.specs.Authorization.{kinds_of};
 ghost use Rattle.desk_model.specs.BaseName.{is_base_name, is_label, is_label_byte, labels_of, last_label};
+ghost use Rattle.desk_model.specs.Name.{same_name};
 ghost use Rattle.desk_model.specs.Names.{shown_name};
 
 use crate::objects::Kind;
@@ -59,6 +60,13 @@ impl DnsName {
         ensures { result ≡ self.now.wildcard }
     {
         self.wildcard
+    }
+
+    /// Whether it is the same name as another.
+    pub fn is_same(&self, other: &DnsName) -> bool
+        ensures { result ≡ same_name self.now other.now }
+    {
+        self.base() == other.base() && self.wildcard == other.wildcard
     }
 
     /// The types of the challenges that its authorization gets, in the order of their making: a wildcard name is tried by

@@ -3,6 +3,7 @@ ghost use Rattle.std.specs.Prelude.{◌≡◌};
 ghost use Rattle.desk_model.specs.Authorization.{is_good, kind_of};
 ghost use Rattle.desk_model.specs.Document.{outcome_detail, outcome_status};
 ghost use Rattle.desk_model.specs.Facts.{ending_text, outcome_text};
+ghost use Rattle.desk_model.specs.Legal.{wanted_name};
 ghost use Rattle.desk_model.specs.Lookup.{IsValueOf};
 
 use crate::call::OrderProblem;
@@ -126,16 +127,38 @@ impl Outcome {
     }
 }
 
-/// A name of an order: a new authorization, with a token for each challenge that it gets.
+/// A name of an order, and the authorization that it gets (RFC 8555, 7.4).
 #[derive(Drop)]
 pub enum Wanted {
-    /// An authorization is made for the name; none that exists already is used again.
+    /// An authorization is made for the name.
     New {
         /// The name as its canonical text has it.
         name: DnsName,
         /// 16 random bytes for each challenge, in the order of their making (RFC 8555, 8).
         tokens: Sequence<[u8; 16]>,
     },
+    /// An authorization of the account that is there and valid is used again; no challenge is made.
+    Reused {
+        /// The name, which is the authorization's.
+        name: DnsName,
+        /// The number of the authorization.
+        authorization: u64,
+    },
+}
+
+impl Wanted {
+    /// The name, whichever authorization it gets.
+    pub fn name(&self) -> &DnsName
+        ensures { result.now ≡ wanted_name self.now }
+    {
+        match self {
+            Wanted::New { name, tokens: _ } => name,
+            Wanted::Reused {
+                name,
+                authorization: _,
+            } => name,
+        }
+    }
 }
 
 /// A fact. Accounts, orders, authorizations, challenges and nonces are named by their numbers.

@@ -36,7 +36,7 @@ pub struct Account {
     pub opened: u64,
 }
 
-/// An order as it was made, with its authorizations in the order of its names (RFC 8555, 7.1.3).
+/// An order as it was made (RFC 8555, 7.1.3).
 #[derive(Drop)]
 pub struct Order {
     /// Its place among all orders of the desk, from 1, which its URL ends in.
@@ -47,8 +47,9 @@ pub struct Order {
     pub made: u64,
     /// The last moment at which it may go on, in seconds since 1970-01-01T00:00:00Z: `made` plus the life of orders.
     pub expires: u64,
-    /// One for each name that it asks for.
-    pub authorizations: Sequence<Authorization>,
+    /// The numbers of its authorizations, one for each name that it asks for, in the order of these; an authorization may be
+    /// listed by several orders.
+    pub authorizations: Sequence<u64>,
 }
 
 /// An authorization as it was made, with its challenges (RFC 8555, 7.1.4).

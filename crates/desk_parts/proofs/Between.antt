@@ -6,7 +6,7 @@ use Rattle.std.proofs.lemmas.Bool.{and_from, and_parts, eqb-true, or_left, or_ri
 use Rattle.std.proofs.lemmas.Simd.{map-map}
 use Rattle.desk_model.specs.Decide.{entries_of}
 use Rattle.desk_model.specs.Derived.{restated_order}
-use Rattle.desk_model.specs.Effect.{effect, effects, falls, fresh_order, moved_order, new_authorizations, noted_order, swept, swept_order, touches_order}
+use Rattle.desk_model.specs.Effect.{effect, effects, falls, fresh_order, moved_order, noted_order, swept, swept_order, touches_order}
 use Rattle.desk_model.specs.Order.{ordered_by}
 use Rattle.desk_model.specs.Rules.{office_verdict, signed_verdict}
 use Rattle.desk_model.specs.Tables.{Tables}
@@ -29,14 +29,14 @@ use Rattle.desk_model.specs.declared.verdict.Verdict.{Verdict}
 use Rattle.desk_model.specs.declared.verdict.Verdict.TheVariants.{Refused as refused, KeyTaken as key_taken, Answers as answers, Opens as opens, Orders as orders, Moves as moves}
 use Rattle.desk_laws.specs.Ordered.{IsOrdered}
 use Rattle.desk_laws.proofs.Basics.{each, each_after, each_all, each_both, each-append, each-map, each_of_map, each_parts}
-use Rattle.desk_laws.proofs.Chain.{effect_part}
+use Rattle.desk_laws.proofs.Chain.{authorizations_part}
 use Rattle.desk_laws.proofs.Local.{filter_part, swept_part}
 use Rattle.desk_laws.proofs.SweptParts.{swept_closed}
 use Rattle.desk_model.specs.Change.{recorded_changes}
 use Rattle.desk_parts.specs.AnswersAs.{AnswersAs, CarriesOutAs, IssuesAs, PassesAs, SettlesAs}
 use Rattle.desk_parts.specs.IsPart.{IsPartFor, Keeps}
-use Rattle.desk_model.specs.Asked.{asks_authorizations, asks_orders}
-use Rattle.desk_model.specs.Touched.{is_first_authorization, is_named_account, is_named_authorization, is_named_order}
+use Rattle.desk_model.specs.Asked.{asks_authorizations, asks_name, asks_orders}
+use Rattle.desk_model.specs.Touched.{is_asked_authorization, is_first_authorization, is_named_account, is_named_authorization, is_named_order}
 use Rattle.desk_model.specs.Touched.{is_own_authorization, is_own_order, is_past_order, is_touched_account}
 use Rattle.desk_model.specs.Touched.{is_touched_authorization, is_touched_nonce, is_touched_order, lists, only_meta, touched_at}
 use Rattle.desk_model.specs.Touched.{touched_rows}
@@ -47,7 +47,6 @@ use Rattle.desk_parts.proofs.Walks.{IsNoWork, office_answered, signed_answered}
 use Rattle.desk_parts.proofs.Grown.{grown, grown_closed, grown_part}
 use Rattle.desk_parts.proofs.Listed.{KeepsListed}
 use Rattle.desk_parts.proofs.Lists.{any_gives, each_filtered, filtered_each, or_cases}
-use Rattle.desk_laws.proofs.Plain.{fresh_kept}
 
 -- ---- what a call touches in a part it touches in the whole
 
@@ -73,6 +72,12 @@ own_authorization_wider k T a r h =
     and_from _ _ p.0 (any_part (λ x. is_named_account a x && (r.account == x.number)) (λ x. is_named_account a x && (r.account == x.number))
     (λ x. k.accounts x.number) T.accounts (λ x e. e) p.1)
 
+asked_wider : (k : Kept) (T : Tables) (a : Ask) (r : AuthorizationRow) → is_asked_authorization (restricted k T) a r ≡ true → is_asked_authorization T a r ≡ true
+asked_wider k T a r h =
+    let p = and_parts (asks_name a r.name) _ h in
+    and_from _ _ p.0 (any_part (λ x. is_named_account a x && (r.account == x.number)) (λ x. is_named_account a x && (r.account == x.number))
+    (λ x. k.accounts x.number) T.accounts (λ x e. e) p.1)
+
 first_wider : (k : Kept) (T : Tables) (m : ℕ) (a : Ask) (r : AuthorizationRow) → is_first_authorization (restricted k T) m a r ≡ true
     → is_first_authorization T m a r ≡ true
 first_wider k T m a r h =
@@ -94,9 +99,11 @@ authorization_wider : (k : Kept) (T : Tables) (m : ℕ) (a : Ask) (r : Authoriza
 authorization_wider k T m a r h =
     or_cases (is_first_authorization (restricted k T) m a r) _ h (λ e. or_left _ _ (first_wider k T m a r e))
     (λ e. or_right (is_first_authorization T m a r) _
-    (any_part (λ o. is_touched_order (restricted k T) m a o && lists o r.number) (λ o. is_touched_order T m a o && lists o r.number)
+    (or_cases (list_any (λ o. is_touched_order (restricted k T) m a o && lists o r.number) (restricted k T).orders) _ e
+    (λ f. or_left _ _ (any_part (λ o. is_touched_order (restricted k T) m a o && lists o r.number) (λ o. is_touched_order T m a o && lists o r.number)
     (λ o. k.orders o.number) T.orders
-    (λ o f. let p = and_parts (is_touched_order (restricted k T) m a o) _ f in and_from _ _ (order_wider k T m a o p.0) p.1) e))
+    (λ o g. let p = and_parts (is_touched_order (restricted k T) m a o) _ g in and_from _ _ (order_wider k T m a o p.0) p.1) f))
+    (λ f. or_right (list_any (λ o. is_touched_order T m a o && lists o r.number) T.orders) _ (asked_wider k T a r f))))
 
 account_wider : (k : Kept) (T : Tables) (m : ℕ) (a : Ask) (x : AccountRow) → is_touched_account (restricted k T) m a x ≡ true
     → is_touched_account T m a x ≡ true
@@ -228,8 +235,7 @@ entry_stands : (k : Kept) (T : Tables) (m : ℕ) (e : Entry) → IsOrdered T →
 entry_stands k T m e h holders =
     let closed : IsClosed (open_kept k T) (swept m (bare T)) = swept_closed (open_kept k T) (bare T) m (grown_closed k (bare T) (bare_ordered T h) tt) in
     ap (λ (E : Tables). (effect m E e).authorizations) (swept_bare k T m h)
-    ∙ ap (λ (E : Tables). E.authorizations)
-    (effect_part (open_kept k T) (swept m (bare T)) m e closed holders (fresh_kept (open_kept k T) (swept m (bare T)) m e closed))
+    ∙ authorizations_part (open_kept k T) (swept m (bare T)) m e closed.new_authorizations holders
 
 authorizations_stand : (k : Kept) (T : Tables) (m : ℕ) (v : Verdict) → IsOrdered T → HoldersOf (open_kept k T) (swept m T) v →
     (effects m (swept m (restricted k T)) (entries_of v)).authorizations
@@ -294,7 +300,7 @@ entry_ends k T m e n h =
     (subst (EachOf (EndBy n)) (map-map (moved_order e m S.authorizations (effect m S e).authorizations) (swept_order m T.authorizations) T.orders)
     (each_parts (EndBy n) (map (moved_order e m S.authorizations (effect m S e).authorizations) S.orders) _ h).0)))
     (made_ends n m (effect m S e).authorizations (effect m P e).authorizations
-    (ordered_by e m S.meta.policy (new_authorizations S e m) (S.meta.counters.orders + 1))
+    (ordered_by e m S.meta.policy (S.meta.counters.authorizations + 1) (S.meta.counters.orders + 1))
     (each_after (EndBy n) (map (moved_order e m S.authorizations (effect m S e).authorizations) S.orders) _ h))
 
 orders_end : (k : Kept) (T : Tables) (m : ℕ) (v : Verdict) (n : ℕ) → EachOf (EndBy n) (effects m (swept m T) (entries_of v)).orders →

@@ -2,7 +2,7 @@
 use Rattle.std.proofs.Common.{◌≡◌, ◌≤◌, ◌<◌, ℕ, ◌+◌, max, List, [], ◌∷◌, refl, sym, ap, subst, ◌∙◌, true, false, Bool, arith}
 use Rattle.std.specs.Prelude.{◌==◌, ◌&&◌, ◌||◌}
 use Rattle.std.specs.List.{list_any}
-use Rattle.std.proofs.lemmas.Bool.{and_from, or_right}
+use Rattle.std.proofs.lemmas.Bool.{and_from, or_left, or_right}
 use Rattle.std.proofs.Math.Bool.{or-false}
 use Rattle.desk_model.specs.Derived.{numbers_of}
 use Rattle.desk_model.specs.Tables.{Tables}
@@ -19,7 +19,7 @@ use Rattle.desk_laws.specs.Ordered.{Ascends, IsOrdered}
 use Rattle.desk_laws.proofs.Basics.{each, each_both, less_differs, more_differs}
 use Rattle.desk_parts.specs.IsPart.{IsPartFor, Keeps}
 use Rattle.desk_parts.proofs.Listed.{KeepsListed}
-use Rattle.desk_model.specs.Touched.{is_first_authorization, is_touched_account, is_touched_authorization, is_touched_nonce}
+use Rattle.desk_model.specs.Touched.{is_asked_authorization, is_first_authorization, is_touched_account, is_touched_authorization, is_touched_nonce}
 use Rattle.desk_model.specs.Touched.{is_touched_order, lists, only_meta, touched, touched_at, touched_rows}
 use Rattle.desk_parts.proofs.Enough.{whole_part}
 use Rattle.desk_parts.proofs.Lists.{each_member, filter_nothing, filter_same, filtered_each, same_number}
@@ -67,15 +67,17 @@ kept_by T m a =
       accounts = at_number (λ (x : AccountRow). x.number) (is_touched_account T m a) T.accounts;
       authorizations = λ n.
           at_number (λ (r : AuthorizationRow). r.number) (is_first_authorization T m a) T.authorizations n
-          || list_any (λ o. is_touched_order T m a o && lists o n) T.orders;
+          || (list_any (λ o. is_touched_order T m a o && lists o n) T.orders
+          || at_number (λ (r : AuthorizationRow). r.number) (is_asked_authorization T a) T.authorizations n);
       orders = at_number (λ (o : OrderRow). o.number) (is_touched_order T m a) T.orders;
     }
 
 pub same_authorizations : (T : Tables) (m : ℕ) (a : Ask) → IsOrdered T →
     EachOf (λ r. (kept_by T m a).authorizations r.number ≡ is_touched_authorization T m a r) T.authorizations
 same_authorizations T m a h =
-    each _ _ T.authorizations (λ r e. ap (λ b. b || list_any (λ o. is_touched_order T m a o && lists o r.number) T.orders) e)
-    (numbered (λ (r : AuthorizationRow). r.number) (is_first_authorization T m a) 1 T.authorizations h.authorizations.0)
+    each _ _ T.authorizations (λ r e i. e.0 i || (list_any (λ o. is_touched_order T m a o && lists o r.number) T.orders || e.1 i))
+    (each_both _ _ T.authorizations (numbered (λ (r : AuthorizationRow). r.number) (is_first_authorization T m a) 1 T.authorizations h.authorizations.0)
+    (numbered (λ (r : AuthorizationRow). r.number) (is_asked_authorization T a) 1 T.authorizations h.authorizations.0))
 
 pub touched_cut : (T : Tables) (m : ℕ) (a : Ask) → IsOrdered T → touched_rows T m a ≡ restricted (kept_by T m a) T
 touched_cut T m a h =
@@ -96,7 +98,8 @@ touched_listed T m a h =
     each _ _ T.orders (λ o p kept.
     let touched_too : is_touched_order T m a o ≡ true = sym p.0 ∙ kept in
     each _ _ (numbers_of o.listed) (λ n member. or_right (at_number (λ (r : AuthorizationRow). r.number) (is_first_authorization T m a) T.authorizations n) _
-    (p.1 (λ y. is_touched_order T m a y && lists y n) (and_from _ _ touched_too (member (λ j. j == n) (same_number n))))) (each_member (numbers_of o.listed)))
+    (or_left _ _ (p.1 (λ y. is_touched_order T m a y && lists y n) (and_from _ _ touched_too (member (λ j. j == n) (same_number n))))))
+    (each_member (numbers_of o.listed)))
     (each_both _ _ T.orders (numbered (λ (o : OrderRow). o.number) (is_touched_order T m a) 1 T.orders h.orders.0) (each_member T.orders))
 
 pub touched_kept : (T : Tables) (m : ℕ) (a : Ask) → IsOrdered T → Keeps (kept_by T m a) (touched_rows T m a)

@@ -21,7 +21,9 @@ use Rattle.desk_model.specs.declared.rows.OrderRow.{OrderRow}
 use Rattle.desk_model.specs.declared.verdict.Verdict.{Verdict}
 use Rattle.desk_model.specs.declared.verdict.Verdict.TheVariants.{Refused as refused, KeyTaken as key_taken, Answers as answers, Opens as opens, Orders as orders, Moves as moves}
 use Rattle.desk_laws.specs.Ordered.{IsOrdered, IsTable}
-use Rattle.desk_laws.specs.Parts.{CoversAll}
+use Rattle.desk_laws.specs.Parts.{CoversAll, ReusedKept}
+use Rattle.desk_model.specs.declared.moves.Move.{Move}
+use Rattle.desk_model.specs.declared.moves.Move.TheVariants as move
 use Rattle.desk_laws.proofs.Basics.{each, each_all}
 use Rattle.desk_laws.proofs.Chain.{effects_part, recorded_local}
 use Rattle.desk_laws.proofs.Local.{filter_all, swept_part}
@@ -59,34 +61,47 @@ parts_ordered T P call h part = subst IsOrdered (sym part.cut) (restricted_order
 -- ---- entries, on a part that is ready
 
 -- what an entry touches is kept
-entry_covered : (k : Kept) (m : ℕ) (S : Tables) (e : Entry) → IsClosed k S → Covers k S e → CoversAll k m S (e ∷ [])
-entry_covered k m S e closed covers = (closed, covers, fresh_kept k S m e closed, tt)
+entry_covered : (k : Kept) (m : ℕ) (S : Tables) (e : Entry) → IsClosed k S → ReusedKept k e → Covers k S e → CoversAll k m S (e ∷ [])
+entry_covered k m S e closed again covers = (closed, covers, fresh_kept k S m e closed again, tt)
+
+-- a move uses nothing again
+move_reuses : (k : Kept) (v : Move) → ReusedKept k (entry_of v)
+move_reuses k (move.ContactsChanged n contacts) = tt
+move_reuses k (move.KeyChanged n key) = tt
+move_reuses k (move.AccountEnded n ending) = tt
+move_reuses k (move.Answered n) = tt
+move_reuses k (move.Reported n outcome) = tt
+move_reuses k (move.AuthorizationEnded n ending) = tt
+move_reuses k (move.Finalized n csr) = tt
+move_reuses k (move.Certified n certificate) = tt
+move_reuses k (move.Failed n problem) = tt
 
 -- what the verdict's entry touches is kept
 verdict_covered : (k : Kept) (m : ℕ) (S : Tables) (v : Verdict) → IsClosed k S → IsAnswered k m S v → CoversAll k m S (entries_of v)
 verdict_covered k m S (refused n ss) closed h = tt
 verdict_covered k m S (key_taken account) closed h = tt
 verdict_covered k m S (answers what) closed h = tt
-verdict_covered k m S (opens key contacts) closed h = entry_covered k m S (opened key contacts) closed h.0
-verdict_covered k m S (orders account wanted) closed h = entry_covered k m S (ordering account wanted) closed h.0
-verdict_covered k m S (moves move) closed h = entry_covered k m S (entry_of move) closed h.0
+verdict_covered k m S (opens key contacts) closed h = entry_covered k m S (opened key contacts) closed tt h.0
+verdict_covered k m S (orders account wanted) closed h = entry_covered k m S (ordering account wanted) closed h.0 h.1.0
+verdict_covered k m S (moves v) closed h = entry_covered k m S (entry_of v) closed (move_reuses k v) h.0
 
 -- also after a nonce was spent and one issued
-later_covered : (k : Kept) (m : ℕ) (S : Tables) (n : ℕ) (r : List ℕ) (e : Entry) → IsClosed k S → Covers k S e → CoversAll k m S (spent n ∷ issued r ∷ e ∷ [])
-later_covered k m S n r e closed covers =
+later_covered : (k : Kept) (m : ℕ) (S : Tables) (n : ℕ) (r : List ℕ) (e : Entry) → IsClosed k S → ReusedKept k e → Covers k S e →
+    CoversAll k m S (spent n ∷ issued r ∷ e ∷ [])
+later_covered k m S n r e closed again covers =
     let T1 : Tables = effect m S (spent n) in
     let T2 : Tables = effect m T1 (issued r) in
     let later : IsClosed k T2 = issued_closed k m T1 r (spent_closed k m S n closed) in
-    nonces_covered k m S n r (e ∷ []) closed (later, issued_covers k m T1 r e (spent_covers k m S n e covers), fresh_kept k T2 m e later, tt)
+    nonces_covered k m S n r (e ∷ []) closed (later, issued_covers k m T1 r e (spent_covers k m S n e covers), fresh_kept k T2 m e later again, tt)
 
 nonce_covered : (k : Kept) (m : ℕ) (S : Tables) (n : ℕ) (r : List ℕ) (v : Verdict) → IsClosed k S → IsAnswered k m S v →
     CoversAll k m S (spent n ∷ issued r ∷ entries_of v)
 nonce_covered k m S n r (refused j ss) closed h = nonces_covered k m S n r [] closed tt
 nonce_covered k m S n r (key_taken account) closed h = nonces_covered k m S n r [] closed tt
 nonce_covered k m S n r (answers what) closed h = nonces_covered k m S n r [] closed tt
-nonce_covered k m S n r (opens key contacts) closed h = later_covered k m S n r (opened key contacts) closed h.0
-nonce_covered k m S n r (orders account wanted) closed h = later_covered k m S n r (ordering account wanted) closed h.0
-nonce_covered k m S n r (moves move) closed h = later_covered k m S n r (entry_of move) closed h.0
+nonce_covered k m S n r (opens key contacts) closed h = later_covered k m S n r (opened key contacts) closed tt h.0
+nonce_covered k m S n r (orders account wanted) closed h = later_covered k m S n r (ordering account wanted) closed h.0 h.1.0
+nonce_covered k m S n r (moves v) closed h = later_covered k m S n r (entry_of v) closed (move_reuses k v) h.0
 
 -- the reply is the same
 reply_same : (k : Kept) (m : ℕ) (S : Tables) (v : Verdict) (index : Bool) → IsAnswered k m S v →
@@ -95,8 +110,8 @@ reply_same k m S (refused n ss) index h = refl
 reply_same k m S (key_taken account) index h = refl
 reply_same k m S (answers what) index h = h
 reply_same k m S (opens key contacts) index h = h.1
-reply_same k m S (orders account wanted) index h = h.1
-reply_same k m S (moves move) index h = h.1
+reply_same k m S (orders account wanted) index h = h.1.1
+reply_same k m S (moves v) index h = h.1
 
 carried_out : (k : Kept) (T : Tables) (m : ℕ) (v : Verdict) → IsClosed k T → IsAnswered k m (swept m T) v → CarriesOutAs m T (restricted k T) v
 carried_out k T m v closed h =

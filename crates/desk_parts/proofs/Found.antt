@@ -76,6 +76,24 @@ found_same number p q xs ys same h = record { from = h.from; tests = λ r. h.tes
     any_each [] e r = refl
     any_each (z ∷ zs) e r = λ i. (e.0 i && r z) || any_each zs e.1 r i
 
+-- those of them that pass one more test
+pub found_filtered : {X : Type 0} (number : X → ℕ) (p test : X → Bool) (xs ys : List X) → IsFound number test xs ys →
+    IsFound number (λ x. p x && test x) xs (filter p ys)
+found_filtered number p test xs ys h =
+    record {
+      from = filtered_each _ p ys (each _ _ ys (λ y f yes. f) h.from);
+      tests = λ r.
+          any_filter p r ys
+          ∙ h.tests (λ x. p x && r x)
+          ∙ list_any-same (λ x. test x && (p x && r x)) (λ x. (p x && test x) && r x) xs (λ x. by (test x) (p x) (r x));
+    }
+  where
+    by : (a b c : Bool) → (a && (b && c)) ≡ ((b && a) && c)
+    by true true c = refl
+    by true false c = refl
+    by false true c = refl
+    by false false c = refl
+
 -- where a condition holds
 pub found_if : {X : Type 0} (number : X → ℕ) (b : Bool) (test : X → Bool) (xs ys : List X) → IsFound number test xs ys →
     IsFound number (λ x. b && test x) xs (cond b ys [])

@@ -17,13 +17,14 @@ use Rattle.desk_model.specs.declared.rows.OrderRow.{OrderRow}
 use Rattle.desk_laws.specs.Ordered.{Below, IsOrdered}
 use Rattle.desk_laws.proofs.Basics.{each, each_both, less_differs}
 use Rattle.desk_laws.proofs.Finds.{each_found, found_passes}
-use Rattle.desk_model.specs.Asked.{carries, has_key, has_new_key, names_account, names_order, names_authorization, names_owner, asks_orders}
+use Rattle.desk_model.specs.Asked.{carries, has_key, has_new_key, names_account, names_order, names_authorization, names_owner, asks_orders, asked_names}
 use Rattle.desk_model.specs.Touched.{is_touched_nonce, is_touched_account, is_touched_authorization, is_touched_order}
 use Rattle.desk_model.specs.Touched.{is_named_account, is_named_order, is_named_authorization, is_own_order, is_own_authorization}
 use Rattle.desk_model.specs.Touched.{is_first_authorization, lists, touched_rows}
 use Rattle.desk_parts.specs.IsPart.{Keeps}
 use Rattle.desk_parts.proofs.Listed.{KeepsListed}
 use Rattle.desk_parts.proofs.Lists.{or_cases, same_number, each_member, any_gives, each_filtered, filter_same}
+use Rattle.desk_parts.proofs.Reusing.{KeepsAsked}
 
 -- a row has the number
 abbrev pub stands : {X : Type 0} → (X → ℕ) → List X → ℕ → Bool
@@ -146,6 +147,7 @@ pub record KeepsNamed (k : Kept) (T : Tables) (a : Ask) : Type 0 where
   pub owner : EachOf (λ r. names_owner a r ≡ true → k.authorizations r.number ≡ true) T.authorizations
   pub orders : EachOf (λ x. is_named_account a x ≡ true → EachOf
       (λ o. asks_orders a ≡ true → (o.account == x.number) ≡ true → k.orders o.number ≡ true) T.orders) T.accounts
+  pub asked : EachOf (λ x. is_named_account a x ≡ true → KeepsAsked k T.authorizations x.number (asked_names a)) T.accounts
 
 pub keeps_named : (k : Kept) (T : Tables) (m : ℕ) (a : Ask) → KeepsTouched (grown k T) T m a → KeepsNamed (grown k T) T a
 keeps_named k T m a h =
@@ -167,6 +169,12 @@ keeps_named k T m a h =
           each _ _ T.accounts
           (λ x member named. each _ _ T.orders (λ o f asked same. f (or_left _ _ (or_right (is_named_order a o) _ (or_left _ _
           (and_from _ _ asked (member (λ y. is_named_account a y && (o.account == y.number)) (and_from _ _ named same))))))) h.orders) (each_member T.accounts);
+      asked =
+          each _ _ T.accounts
+          (λ x member named. each _ _ T.authorizations
+          (λ r f asks same. f (or_right (is_first_authorization T m a r) _ (or_right (list_any (λ o. is_touched_order T m a o && lists o r.number) T.orders) _
+          (and_from _ _ asks (member (λ y. is_named_account a y && (r.account == y.number)) (and_from _ _ named same)))))) h.authorizations)
+          (each_member T.accounts);
     }
 
 -- ---- what falls, and what an entry touches

@@ -8,5 +8,6 @@ pub mod Lists
 pub mod Loading
 pub mod Ready
 pub mod Replies
+pub mod Reusing
 pub mod Verdicts
 pub mod Walks

@@ -1,7 +1,7 @@
 -- What the look-ups find is what the call touches, rule by rule.
 use Rattle.std.proofs.Common.{◌≡◌, ℕ, ◌+◌, ◌-◌, max, List, [], ◌∷◌, map, filter, Option, Some, None, refl, ap, ◌∙◌, true}
 use Rattle.std.proofs.Common.{false, Bool, not, arith, Result, Ok, Err}
-use Rattle.std.specs.Prelude.{◌==◌, ◌&&◌, ◌||◌, nat_lt, nat_le, bytes_eq, option_and_then}
+use Rattle.std.specs.Prelude.{◌==◌, ◌&&◌, ◌||◌, nat_lt, nat_le, bytes_eq, is_some, option_and_then}
 use Rattle.std.specs.List.{list_any, flat_map}
 use Rattle.std.proofs.lemmas.Bool.Decides.{nat_tests}
 use Rattle.std.proofs.lemmas.List.Folds.{list_any-append}
@@ -10,6 +10,7 @@ use Rattle.desk_model.specs.Derived.{authz_code, numbers_of, order_code}
 use Rattle.desk_model.specs.Authorization.{is_live}
 use Rattle.desk_model.specs.Effect.{has_row, is_live_order, is_overdue}
 use Rattle.desk_model.specs.Lookup.{holds}
+use Rattle.desk_model.specs.Name.{Name, same_name}
 use Rattle.desk_model.specs.Tables.{Tables}
 use Rattle.desk_model.specs.Tokens.{NonceText, nonce_in}
 use Rattle.desk_model.specs.Kept.{EachOf}
@@ -35,21 +36,21 @@ use Rattle.desk_parts.specs.Loaded.{challenge_numbers, first_authorizations, fou
 use Rattle.desk_parts.specs.Loaded.{new_keys, of_key, target_new_keys}
 use Rattle.desk_parts.specs.Loaded.{found_orders, keys, listed_authorizations, listing_orders, loaded, loaded_at, loaded_rows}
 use Rattle.desk_parts.specs.Loaded.{named_accounts, named_authorizations, named_orders, of_text, order_numbers}
-use Rattle.desk_parts.specs.Loaded.{own_authorizations, own_orders, past_authorizations, past_orders, serials, target_accounts}
+use Rattle.desk_parts.specs.Loaded.{asked_authorizations, own_authorizations, own_orders, past_authorizations, past_orders, serials, target_accounts}
 use Rattle.desk_parts.specs.Loaded.{target_authorization_numbers, target_challenge_numbers, target_order_numbers}
 use Rattle.desk_parts.specs.LookUps.{accounts_numbered, accounts_with_key, authorizations_numbered, authorizations_of, challenges}
 use Rattle.desk_parts.specs.LookUps.{nonces_numbered, orders_listing, orders_numbered, orders_of, orders_past}
 use Rattle.desk_parts.specs.LookUps.{owners_of, places}
 use Rattle.desk_model.specs.Payload.{key_change}
 use Rattle.desk_model.specs.Asked.{has_new_key, target_new_key}
-use Rattle.desk_model.specs.Asked.{asks_authorizations, asks_orders, carries, has_key, names_account, names_authorization}
+use Rattle.desk_model.specs.Asked.{asks_authorizations, asks_orders, carries, has_key, names_account, names_authorization, asked_names, asks_name}
 use Rattle.desk_model.specs.Asked.{names_order, names_owner, target_account, target_authorization, target_order, target_owner}
-use Rattle.desk_model.specs.Touched.{is_first_authorization, is_named_account, is_named_authorization, is_named_order}
+use Rattle.desk_model.specs.Touched.{is_asked_authorization, is_first_authorization, is_named_account, is_named_authorization, is_named_order}
 use Rattle.desk_model.specs.Touched.{is_own_authorization, is_own_order, is_past_order, is_touched_account}
 use Rattle.desk_model.specs.Touched.{is_touched_authorization, is_touched_nonce, is_touched_order, lists, touched, touched_at}
 use Rattle.desk_model.specs.Touched.{touched_rows}
 use Rattle.desk_parts.proofs.Cut.{numbered}
-use Rattle.desk_parts.proofs.Found.{IsFound, any_filter, found_both, found_by, found_filter, found_if, found_once, found_same, found_table}
+use Rattle.desk_parts.proofs.Found.{IsFound, any_filter, found_both, found_by, found_filter, found_filtered, found_if, found_once, found_same, found_table}
 
 -- ---- tests on lists
 
@@ -271,6 +272,23 @@ authorizations_own T a h =
     (found_by of_authorization (λ (x : AccountRow) r. r.account == x.number) (λ x. authorizations_of T x.number) T.authorizations
     (λ x. found_filter of_authorization (λ r. r.account == x.number) 1 T.authorizations h.authorizations.0) (accounts_once (named_accounts T a))))
 
+-- where no names are asked for, none is
+asked_some : (names : Option (List Name)) (name : Name) (b : Bool) →
+    (is_some names && (holds (list_any (same_name name)) names && b)) ≡ (holds (list_any (same_name name)) names && b)
+asked_some None name b = refl
+asked_some (Some names) name b = refl
+
+authorizations_asked : (T : Tables) (a : Ask) → IsOrdered T → IsFound of_authorization (is_asked_authorization T a) T.authorizations (asked_authorizations T a)
+authorizations_asked T a h =
+    found_same of_authorization _ (is_asked_authorization T a) T.authorizations _ (each_all _ T.authorizations (λ r. asked_some (asked_names a) r.name _))
+    (found_if of_authorization (is_some (asked_names a))
+    (λ r. asks_name a r.name && list_any (λ x. is_named_account a x && (r.account == x.number)) T.accounts) T.authorizations _
+    (found_filtered of_authorization (λ r. asks_name a r.name) (λ r. list_any (λ x. is_named_account a x && (r.account == x.number)) T.accounts)
+    T.authorizations _
+    (found_same of_authorization _ _ T.authorizations _ (each_all _ T.authorizations (λ r. (accounts_once_named T a h).tests (λ x. r.account == x.number)))
+    (found_by of_authorization (λ (x : AccountRow) r. r.account == x.number) (λ x. authorizations_of T x.number) T.authorizations
+    (λ x. found_filter of_authorization (λ r. r.account == x.number) 1 T.authorizations h.authorizations.0) (accounts_once (named_accounts T a))))))
+
 orders_over : (T : Tables) (m : ℕ) → IsOrdered T → IsFound of_order (is_past_order m) T.orders (past_orders T m)
 orders_over T m h =
     found_same of_order _ (is_past_order m) T.orders (past_orders T m) (each_all _ T.orders (λ o. by o.status (nat_lt o.expires m)))
@@ -353,8 +371,11 @@ authorizations_listed T test rows h is =
 authorizations_found : (T : Tables) (m : ℕ) (a : Ask) → IsOrdered T
     → IsFound of_authorization (is_touched_authorization T m a) T.authorizations (found_authorizations T m a)
 authorizations_found T m a h =
-    found_both of_authorization (is_first_authorization T m a) (λ r. list_any (λ o. is_touched_order T m a o && lists o r.number) T.orders) T.authorizations _ _
-    (authorizations_first T m a h) (authorizations_listed T (is_touched_order T m a) (orders_once (found_orders T m a)) h (orders_once_found T m a h))
+    found_both of_authorization (is_first_authorization T m a)
+    (λ r. list_any (λ o. is_touched_order T m a o && lists o r.number) T.orders || is_asked_authorization T a r) T.authorizations _ _
+    (authorizations_first T m a h)
+    (found_both of_authorization (λ r. list_any (λ o. is_touched_order T m a o && lists o r.number) T.orders) (is_asked_authorization T a) T.authorizations _ _
+    (authorizations_listed T (is_touched_order T m a) (orders_once (found_orders T m a)) h (orders_once_found T m a h)) (authorizations_asked T a h))
 
 authorizations_once_found : (T : Tables) (m : ℕ) (a : Ask) → IsOrdered T
     → IsFound of_authorization (is_touched_authorization T m a) T.authorizations (authorizations_once (found_authorizations T m a))

@@ -23,8 +23,9 @@ use Rattle.desk_model.specs.declared.verdict.Verdict.{Verdict}
 use Rattle.desk_model.specs.declared.verdict.Verdict.TheVariants.{Refused as refused, KeyTaken as key_taken, Answers as answers, Opens as opens, Orders as orders, Moves as moves}
 use Rattle.desk_laws.proofs.Basics.{each, each-map}
 use Rattle.desk_laws.proofs.Local.{swept_number, swept_order_number}
-use Rattle.desk_laws.proofs.SweptParts.{swept_covers}
-use Rattle.desk_model.specs.Asked.{names_owner}
+use Rattle.desk_laws.proofs.SweptParts.{swept_account, swept_covers}
+use Rattle.desk_laws.specs.Parts.{ReusedKept}
+use Rattle.desk_model.specs.Asked.{asks_name, names_owner}
 use Rattle.desk_parts.proofs.Grown.{IsNamedBy, KeepsNamed, KeepsTouched, keeps_entry}
 
 -- by the tables before the sweep
@@ -51,6 +52,13 @@ swept_named a m r = by (is_overdue m r)
     by true = by_ask a
     by false = refl
 
+swept_name : (m : ℕ) (r : AuthorizationRow) → (swept_authorization m r).name ≡ r.name
+swept_name m r = by (is_overdue m r)
+  where
+    by : (b : Bool) → (cond b (record r { status = authz.Expired }) r).name ≡ r.name
+    by true = refl
+    by false = refl
+
 swept_order_account : (m : ℕ) (rows : List AuthorizationRow) (o : OrderRow) → (swept_order m rows o).account ≡ o.account
 swept_order_account m rows o = by (falls m rows o)
   where
@@ -74,9 +82,13 @@ swept_names k T m a h =
           (λ x f named. each-map _ (swept_order m T.authorizations) T.orders
           (each _ _ T.orders (λ o g asked own. ap k.orders (swept_order_number m T.authorizations o)
           ∙ g asked (ap (λ n. n == x.number) (sym (swept_order_account m T.authorizations o)) ∙ own)) (f named))) h.orders;
+      asked = each _ _ T.accounts
+          (λ x f named. each-map _ (swept_authorization m) T.authorizations
+          (each _ _ T.authorizations (λ r g asks own. ap k.authorizations (swept_number m r)
+          ∙ g (ap (λ name. asks_name a name) (sym (swept_name m r)) ∙ asks) (ap (λ n. n == x.number) (sym (swept_account m r)) ∙ own)) (f named))) h.asked;
     }
 
--- ---- what is asked of a verdict: its entry touches kept rows alone, and the part shows what the whole shows
+-- ---- what is asked of a verdict: its entry touches kept rows alone, a new order uses again what is kept, and the part shows what the whole shows
 
 abbrev pub IsCarried : Kept → ℕ → Tables → Entry → (Tables → Reply) → Type 0
 IsCarried k m S e reply = Covers k S e × (reply (restricted k (effect m S e)) ≡ reply (effect m S e))
@@ -86,7 +98,7 @@ IsAnswered k m S (refused why subproblems) = Unit {0}
 IsAnswered k m S (key_taken account) = Unit {0}
 IsAnswered k m S (answers what) = reply_of (restricted k S) what ≡ reply_of S what
 IsAnswered k m S (opens key contacts) = IsCarried k m S (opened key contacts) made_account
-IsAnswered k m S (orders account wanted) = IsCarried k m S (ordered account wanted) made_order
+IsAnswered k m S (orders account wanted) = ReusedKept k (ordered account wanted) × IsCarried k m S (ordered account wanted) made_order
 IsAnswered k m S (moves move) = IsCarried k m S (entry_of move) (λ T. moved_reply T move)
 
 -- an entry that touches what the ask names

@@ -52,8 +52,8 @@ listed_after k S m e closed fresh =
     subst (EachOf (λ n. k.authorizations n ≡ true)) (sym (moved_listed e m S.authorizations (effect m S e).authorizations o))
     (f (ap k.orders (sym (order_number e m S.authorizations (effect m S e).authorizations o)) ∙ kept))) closed.listed))
     (each-map _ (λ o. restated_order m (effect m S e).authorizations (fresh_order o))
-    (ordered_by e m S.meta.policy (new_authorizations S e m) (S.meta.counters.orders + 1))
-    (each _ _ (ordered_by e m S.meta.policy (new_authorizations S e m) (S.meta.counters.orders + 1)) (λ o f kept. f) fresh))
+    (ordered_by e m S.meta.policy (S.meta.counters.authorizations + 1) (S.meta.counters.orders + 1))
+    (each _ _ (ordered_by e m S.meta.policy (S.meta.counters.authorizations + 1) (S.meta.counters.orders + 1)) (λ o f kept. f) fresh))
 
 -- the authorization of a challenge
 pub owner_after : (k : Kept) (S : Tables) (m : ℕ) (e : Entry) (n : ℕ) → IsClosed k S

@@ -1,19 +1,21 @@
 -- A part that keeps what a request names gives the same verdict.
 use Rattle.std.proofs.Common.{◌≡◌, ℕ, List, [], Option, Some, None, refl, ap, ◌∙◌, true, false, Bool, Result, Ok, Err}
 use Rattle.std.specs.Prelude.{◌==◌, ◌&&◌, bytes_eq, option_and_then}
+use Rattle.std.proofs.lemmas.Bool.{or_left}
 use Rattle.desk_model.specs.declared.refusal.Refusal.TheVariants as refusal
 use Rattle.desk_model.specs.Account.{is_valid as is_valid_account}
 use Rattle.desk_model.specs.Document.{account_url}
 use Rattle.desk_model.specs.Effect.{has_row}
 use Rattle.desk_model.specs.Lookup.{holds}
-use Rattle.desk_model.specs.Payload.{authorization_change, challenge_change, finalize, key_change}
+use Rattle.desk_model.specs.Payload.{authorization_change, challenge_change, finalize, key_change, new_order}
 use Rattle.desk_model.specs.declared.payload.KeyChange.{KeyChange}
+use Rattle.desk_model.specs.declared.payload.Identifier.{Identifier}
 use Rattle.desk_model.specs.Questions.{account_on, account_with_key, authorization_on, order_on, owner_on, challenge_of}
 use Rattle.desk_model.specs.Rules.{certificate_verdict, certify_verdict, challenge_verdict, authorization_verdict, fail_verdict}
 use Rattle.desk_model.specs.Rules.{finalize_verdict, finding_verdict, if_spelled, key_verdict}
 use Rattle.desk_model.specs.Rules.{nothing, office_verdict, open_nonce, open_nonce_in}
 use Rattle.desk_model.specs.Rules.{own, report_verdict, revoke_account, revoke_authorization, signed_verdict}
-use Rattle.desk_model.specs.Rules.{key_change_verdict, rekey_verdict, target_verdict}
+use Rattle.desk_model.specs.Rules.{key_change_verdict, rekey_verdict, target_verdict, names_asked, new_order_verdict}
 use Rattle.desk_model.specs.Tables.{Tables}
 use Rattle.desk_model.specs.Tokens.{NonceText, nonce_in}
 use Rattle.desk_model.specs.Kept.{EachOf, Kept, restricted}
@@ -35,9 +37,11 @@ use Rattle.desk_model.specs.declared.rows.OrderRow.{OrderRow}
 use Rattle.desk_model.specs.declared.verdict.Shows.TheVariants as show
 use Rattle.desk_laws.proofs.Local.{find_kept, find_part}
 use Rattle.desk_laws.proofs.Finds.{each_found, found_passes}
-use Rattle.desk_model.specs.Asked.{carries, target_new_key, target_order, target_authorization, target_owner}
+use Rattle.desk_model.specs.Asked.{carries, target_new_key, target_order, target_authorization, target_owner, target_names}
 use Rattle.desk_parts.proofs.Grown.{KeepsNamed}
 use Rattle.desk_parts.proofs.Lists.{same_number}
+use Rattle.desk_parts.proofs.Reusing.{KeepsAsked, new_order_same}
+use Rattle.desk_laws.proofs.Basics.{each}
 
 -- ---- look-ups
 
@@ -96,25 +100,32 @@ target_same : (k : Kept) (S : Tables) (r : List ℕ) (n : ℕ) (p : List ℕ) (t
     ((j : ℕ) → target_order t j ≡ true → k.orders j ≡ true) →
     ((j : ℕ) → target_authorization t j ≡ true → k.authorizations j ≡ true) →
     EachOf (λ a. target_owner t a ≡ true → k.authorizations a.number ≡ true) S.authorizations →
+    KeepsAsked k S.authorizations n (target_names t p) →
     target_verdict (restricted k S) r n p t ≡ target_verdict S r n p t
-target_same k S r n p to.NewAccount y f o a c = refl
-target_same k S r n p to.KeyChange y f o a c = key_change_same k S n p y f
-target_same k S r n p to.NewOrder y f o a c = refl
-target_same k S r n p (to.Account j) y f o a c = refl
-target_same k S r n p (to.Orders j) y f o a c = refl
-target_same k S r n p (to.Order j) y f o a c =
+unfolding given
+target_same k S r n p to.NewAccount y f o a c w = refl
+target_same k S r n p to.KeyChange y f o a c w = key_change_same k S n p y f
+target_same k S r n p to.NewOrder y f o a c w = by (new_order p) w
+  where
+    by : (asked : Option (List Identifier)) → KeepsAsked k S.authorizations n (option_and_then names_asked asked) →
+        given asked refusal.Malformed (new_order_verdict (restricted k S) r n) ≡ given asked refusal.Malformed (new_order_verdict S r n)
+    by None h = refl
+    by (Some ids) h = new_order_same k S r n ids h
+target_same k S r n p (to.Account j) y f o a c w = refl
+target_same k S r n p (to.Orders j) y f o a c w = refl
+target_same k S r n p (to.Order j) y f o a c w =
     ap (λ x. given (own (λ (y : OrderRow). y.account) n x) refusal.NotFound
     (λ y. check (nothing p) refusal.Malformed (answers (show.Order j)))) (order_same k S j (o j (same_number j)))
-target_same k S r n p (to.Finalize j) y f o a c =
+target_same k S r n p (to.Finalize j) y f o a c w =
     ap (λ x. given (own (λ (y : OrderRow). y.account) n x) refusal.NotFound
     (λ y. given (finalize p) refusal.Malformed (finalize_verdict j y))) (order_same k S j (o j (same_number j)))
-target_same k S r n p (to.Cert j) y f o a c =
+target_same k S r n p (to.Cert j) y f o a c w =
     ap (λ x. given (own (λ (y : OrderRow). y.account) n x) refusal.NotFound
     (λ y. check (nothing p) refusal.Malformed (certificate_verdict j y))) (order_same k S j (o j (same_number j)))
-target_same k S r n p (to.Authz j) y f o a c =
+target_same k S r n p (to.Authz j) y f o a c w =
     ap (λ x. given (own (λ (y : AuthorizationRow). y.account) n x) refusal.NotFound
     (λ y. given (authorization_change p) refusal.Malformed (authorization_verdict j y))) (authorization_same k S j (a j (same_number j)))
-target_same k S r n p (to.Chall j) y f o a c =
+target_same k S r n p (to.Chall j) y f o a c w =
     ap (λ x. given (own (λ (y : AuthorizationRow). y.account) n x) refusal.NotFound
     (λ y. given (challenge_change p) refusal.Malformed (challenge_verdict j y))) (owner_same k S j c)
 
@@ -124,15 +135,17 @@ keyed_same : (k : Kept) (S : Tables) (r key p : List ℕ) (t : Target) →
     ((j : ℕ) → target_order t j ≡ true → k.orders j ≡ true) →
     ((j : ℕ) → target_authorization t j ≡ true → k.authorizations j ≡ true) →
     EachOf (λ a. target_owner t a ≡ true → k.authorizations a.number ≡ true) S.authorizations →
+    EachOf (λ x. bytes_eq x.key key ≡ true → KeepsAsked k S.authorizations x.number (target_names t p)) S.accounts →
     key_verdict (restricted k S) r key p t (account_with_key (restricted k S) key) ≡ key_verdict S r key p t (account_with_key S key)
-keyed_same k S r key p t h f o a c = ap (key_verdict (restricted k S) r key p t) (key_same k S key h) ∙ by (account_with_key S key) refl
+keyed_same k S r key p t h f o a c w = ap (key_verdict (restricted k S) r key p t) (key_same k S key h) ∙ by (account_with_key S key) refl
   where
     by : (x : Option AccountRow) → account_with_key S key ≡ x → key_verdict (restricted k S) r key p t x ≡ key_verdict S r key p t x
     by None is = refl
     by (Some y) is =
-        let own : k.accounts y.number ≡ true =
-        each_found _ (λ x. bytes_eq x.key key) S.accounts y h is (found_passes (λ x. bytes_eq x.key key) S.accounts y is) in
-        ap (check (is_valid_account y.status) refusal.Unauthorized) (target_same k S r y.number p t own f o a c)
+        let passes : bytes_eq y.key key ≡ true = found_passes (λ x. bytes_eq x.key key) S.accounts y is in
+        ap (check (is_valid_account y.status) refusal.Unauthorized)
+        (target_same k S r y.number p t (each_found _ (λ x. bytes_eq x.key key) S.accounts y h is passes) f o a c
+        (each_found _ (λ x. bytes_eq x.key key) S.accounts y w is passes))
 
 -- the verdict by the request's key
 abbrev pub verdict_by : Tables → List ℕ → Signed → Result (List ℕ) BadKey → Verdict
@@ -142,12 +155,13 @@ abbrev pub is_key : Result (List ℕ) BadKey → List ℕ → Bool
 is_key key text = elim key [ Err e ↦ false | Ok mine ↦ bytes_eq text mine ]
 
 pub signed_same : (k : Kept) (S : Tables) (r : List ℕ) (s : Signed) → KeepsNamed k S (ask.Signed s) → signed_verdict (restricted k S) r s ≡ signed_verdict S r s
-signed_same k S r s h = by s.key h.key
+signed_same k S r s h = by s.key h.key (each _ _ S.accounts (λ x f yes. f (or_left _ _ yes)) h.asked)
   where
     by : (key : Result (List ℕ) BadKey) → EachOf (λ x. is_key key x.key ≡ true → k.accounts x.number ≡ true) S.accounts →
+        EachOf (λ x. is_key key x.key ≡ true → KeepsAsked k S.authorizations x.number (target_names s.target s.payload)) S.accounts →
         verdict_by (restricted k S) r s key ≡ verdict_by S r s key
-    by (Err e) f = refl
-    by (Ok key) f = keyed_same k S r key s.payload s.target f h.new_key h.order h.authorization h.owner
+    by (Err e) f w = refl
+    by (Ok key) f w = keyed_same k S r key s.payload s.target f h.new_key h.order h.authorization h.owner w
 
 -- ---- the other asks
 

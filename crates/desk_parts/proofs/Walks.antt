@@ -1,6 +1,6 @@
 -- Each verdict: what it records is kept, and what it shows is shown by the part as by the whole.
 use Rattle.std.proofs.Common.{◌≡◌, ℕ, ◌+◌, List, [], ◌∷◌, length, Option, Some, None, refl, ap, subst, ◌∙◌, true, false, Bool, not, arith, Result, Ok, Err}
-use Rattle.std.specs.Prelude.{◌==◌, ◌&&◌, nat_le, bytes_eq}
+use Rattle.std.specs.Prelude.{◌==◌, ◌&&◌, cond, nat_le, bytes_eq, option_and_then}
 use Rattle.std.specs.List.{list_any}
 use Rattle.std.proofs.lemmas.Bool.{and_from, eqb-true, or_left, or_right}
 use Rattle.desk_model.specs.Authorization.{is_live, is_pending}
@@ -24,7 +24,9 @@ use Rattle.desk_model.specs.Rules.{account_verdict, authorization_verdict, certi
 use Rattle.desk_model.specs.Rules.{fail_verdict, finalize_verdict, is_revoked, is_revoked_status, key_verdict}
 use Rattle.desk_model.specs.Rules.{nothing, office_verdict, open_account, order_of, outcome_of, own}
 use Rattle.desk_model.specs.Rules.{has_this_key, rekey_verdict, report_verdict, revoke_account, revoke_authorization, same_outcome, same_problem}
-use Rattle.desk_model.specs.Rules.{signed_verdict, stands_open, subproblems, target_verdict, wanted, kept, names_in}
+use Rattle.desk_model.specs.Rules.{signed_verdict, stands_open, subproblems, target_verdict, wanted, kept, names_in, names_asked, names_of}
+use Rattle.desk_model.specs.Name.{Name}
+use Rattle.desk_model.specs.declared.entry.Wanted.{Wanted}
 use Rattle.desk_model.specs.Tables.{Tables}
 use Rattle.desk_model.specs.Kept.{Covers, EachOf, IsClosed, Kept}
 use Rattle.desk_model.specs.declared.call.Ask.{Ask}
@@ -56,13 +58,15 @@ use Rattle.desk_model.specs.declared.rows.AuthorizationRow.{AuthorizationRow}
 use Rattle.desk_model.specs.declared.rows.OrderRow.{OrderRow}
 use Rattle.desk_laws.proofs.Basics.{each, each_all}
 use Rattle.desk_laws.proofs.SweptParts.{swept_closed}
-use Rattle.desk_model.specs.Asked.{asks_authorizations, asks_orders, names_account, names_authorization, names_order, names_owner}
+use Rattle.desk_model.specs.Asked.{asks_authorizations, asks_orders, names_account, names_authorization, names_order, names_owner, target_names}
 use Rattle.desk_model.specs.Touched.{is_first_authorization, is_named_account, is_named_authorization, is_own_authorization}
 use Rattle.desk_lives.proofs.Steps.{check_keeps, either_keeps, given_keeps, no_fault_keeps}
 use Rattle.desk_parts.proofs.Listed.{KeepsListed}
 use Rattle.desk_parts.proofs.Grown.{IsNamedBy}
 use Rattle.desk_parts.proofs.Lists.{each_member, same_number, turned}
 use Rattle.desk_laws.proofs.Plain.{fresh_kept, nothing_touched}
+use Rattle.desk_laws.specs.Parts.{ReusedKept}
+use Rattle.desk_parts.proofs.Reusing.{KeepsAsked, wanted_kept}
 use Rattle.desk_laws.proofs.Finds.{each_found, found_passes}
 use Rattle.desk_parts.proofs.Ready.{IsAnswered, IsReady, covered, swept_names}
 use Rattle.desk_parts.proofs.Verdicts.{is_key, verdict_by}
@@ -132,9 +136,10 @@ abbrev Closed : Kept → ℕ → Tables → Type 0
 Closed k m T = IsClosed k (swept m T)
 
 -- an order after an entry
-listed_then : (k : Kept) (T : Tables) (m : ℕ) (a : Ask) (e : Entry) → IsReady k T m a → KeepsListed k (effect m (swept m T) e)
-listed_then k T m a e ready =
-    let closed : IsClosed k (swept m T) = swept_closed k T m ready.closed in listed_after k (swept m T) m e closed (fresh_kept k (swept m T) m e closed)
+listed_then : (k : Kept) (T : Tables) (m : ℕ) (a : Ask) (e : Entry) → IsReady k T m a → ReusedKept k e → KeepsListed k (effect m (swept m T) e)
+listed_then k T m a e ready again =
+    let closed : IsClosed k (swept m T) = swept_closed k T m ready.closed in
+    listed_after k (swept m T) m e closed (fresh_kept k (swept m T) m e closed again)
 
 -- ---- the other asks
 
@@ -170,7 +175,7 @@ certify_answered k T m n bytes ready o =
     (check_keeps (IsAnswered k m S) (is_processing o.status) refusal.Conflict _ tt (λ ready_for. (
       covered k T m (ask.Office (office.Certify n bytes)) (certified n bytes) ready
           (certified_named T m (ask.Office (office.Certify n bytes)) n bytes (same_number n)),
-      order_shown k (effect m S (certified n bytes)) n kept (listed_then k T m (ask.Office (office.Certify n bytes)) (certified n bytes) ready),
+      order_shown k (effect m S (certified n bytes)) n kept (listed_then k T m (ask.Office (office.Certify n bytes)) (certified n bytes) ready tt),
     )))))
 
 fail_answered : (k : Kept) (T : Tables) (m : ℕ) (n : ℕ) (problem : OrderProblem) → IsReady k T m (ask.Office (office.FailOrder n problem)) → (o : OrderRow) →
@@ -183,7 +188,7 @@ fail_answered k T m n problem ready o =
     (check_keeps (IsAnswered k m S) (is_processing o.status) refusal.Conflict _ tt (λ ready_for. (
       covered k T m (ask.Office (office.FailOrder n problem)) (failed n problem) ready
           (failed_named T m (ask.Office (office.FailOrder n problem)) n problem (same_number n)),
-      order_shown k (effect m S (failed n problem)) n kept (listed_then k T m (ask.Office (office.FailOrder n problem)) (failed n problem) ready),
+      order_shown k (effect m S (failed n problem)) n kept (listed_then k T m (ask.Office (office.FailOrder n problem)) (failed n problem) ready tt),
     ))))
 
 revoke_authorization_answered : (k : Kept) (T : Tables) (m : ℕ) (n : ℕ) → IsReady k T m (ask.Office (office.RevokeAuthz n)) → (r : AuthorizationRow) →
@@ -296,13 +301,18 @@ rekey_answered k T m n key kept None = (rekeyed_covered k T m n key kept, accoun
 rekey_answered k T m n key kept (Some holder) = tt
 
 new_order_answered : (k : Kept) (T : Tables) (m : ℕ) (a : Ask) (r : List ℕ) (n : ℕ) (ids : List Identifier) → IsReady k T m a → (ss : List Subproblem) →
-    IsAnswered k m (swept m T) (order_of r n ids ss)
-new_order_answered k T m a r n ids ready (s ∷ ss) = tt
-new_order_answered k T m a r n ids ready [] =
-    let ws = wanted (kept (names_in ids)) r in (
-      covered k T m a (ordered n ws) ready (ordered_named T m a n ws),
-      made_shown k (effect m (swept m T) (ordered n ws)) (ready.closed.new_orders (T.meta.counters.orders + 1) (omega arith))
-          (listed_then k T m a (ordered n ws) ready),
+    KeepsAsked k (swept m T).authorizations n (names_of ids ss) → IsAnswered k m (swept m T) (order_of (swept m T) r n ids ss)
+new_order_answered k T m a r n ids ready (s ∷ ss) asked = tt
+new_order_answered k T m a r n ids ready [] asked =
+    let names : List Name = kept (names_in ids) in
+    let ws : List Wanted = wanted (swept m T) n names r in
+    let again : ReusedKept k (ordered n ws) = wanted_kept k (swept m T) n names names r asked (each_member names) in (
+      again,
+      (
+        covered k T m a (ordered n ws) ready (ordered_named T m a n ws),
+        made_shown k (effect m (swept m T) (ordered n ws)) (ready.closed.new_orders (T.meta.counters.orders + 1) (omega arith))
+            (listed_then k T m a (ordered n ws) ready again),
+      ),
     )
 
 finalize_answered : (k : Kept) (T : Tables) (m : ℕ) (s : Signed) (j : ℕ) (o : OrderRow) (text : List ℕ) → IsReady k T m (sent s (to.Finalize j)) →
@@ -312,7 +322,7 @@ finalize_answered k T m s j o text ready =
     given_keeps (IsAnswered k m (swept m T)) (csr_in text) refusal.BadCsr _ tt (λ csr is. (
       covered k T m (sent s (to.Finalize j)) (finalized j csr) ready (finalized_named T m (sent s (to.Finalize j)) j csr (same_number j)),
       finalized_shown k (effect m (swept m T) (finalized j csr)) j csr (ready.named.order j (same_number j))
-          (listed_then k T m (sent s (to.Finalize j)) (finalized j csr) ready),
+          (listed_then k T m (sent s (to.Finalize j)) (finalized j csr) ready tt),
     )))
 
 authorization_answered : (k : Kept) (T : Tables) (m : ℕ) (s : Signed) (j : ℕ) (r : AuthorizationRow) (p : AuthorizationChange)
@@ -342,43 +352,46 @@ challenge_answered k T m s j r chall_change.Answer ready =
 target_answered : (k : Kept) (T : Tables) (m : ℕ) (s : Signed) (r : List ℕ) (x : AccountRow) (p : List ℕ) (t : Target) → IsReady k T m (sent s t) →
     k.accounts x.number ≡ true → is_named_account (sent s t) x ≡ true → ((q : AccountRow → Bool) → q x ≡ true → list_any q T.accounts ≡ true) →
     EachOf (λ o. asks_orders (sent s t) ≡ true → (o.account == x.number) ≡ true → k.orders o.number ≡ true) (swept m T).orders →
+    KeepsAsked k (swept m T).authorizations x.number (target_names t p) →
     IsAnswered k m (swept m T) (target_verdict (swept m T) r x.number p t)
-target_answered k T m s r x p to.NewAccount ready kept named member owned =
+target_answered k T m s r x p to.NewAccount ready kept named member owned asked =
     given_keeps (IsAnswered k m (swept m T)) (new_account p) refusal.Malformed _ tt (λ q is. known_shown k (swept m T) x.number kept)
-target_answered k T m s r x p to.KeyChange ready kept named member owned =
+target_answered k T m s r x p to.KeyChange ready kept named member owned asked =
     given_keeps (IsAnswered k m (swept m T)) (key_change p) refusal.Malformed _ tt (λ c is.
     check_keeps (IsAnswered k m (swept m T))
     (bytes_eq c.account (account_url T.meta.policy x.number) && holds (has_this_key (swept m T) x.number) c.old_key) refusal.Malformed _ tt (λ own.
     given_keeps (IsAnswered k m (swept m T)) c.new_key refusal.BadPublicKey _ tt
     (λ key there. rekey_answered k T m x.number key kept (account_with_key (swept m T) key))))
-target_answered k T m s r x p to.NewOrder ready kept named member owned =
+target_answered k T m s r x p to.NewOrder ready kept named member owned asked =
     given_keeps (IsAnswered k m (swept m T)) (new_order p) refusal.Malformed _ tt (λ ids is.
     check_keeps (IsAnswered k m (swept m T)) (has_length 1 most_names ids) refusal.Malformed _ tt
-    (λ few. new_order_answered k T m (sent s to.NewOrder) r x.number ids ready (subproblems ids)))
-target_answered k T m s r x p (to.Account j) ready kept named member owned =
+    (λ few. new_order_answered k T m (sent s to.NewOrder) r x.number ids ready (subproblems ids)
+    (subst (KeepsAsked k (swept m T).authorizations x.number)
+    (ap (option_and_then names_asked) is ∙ ap (λ b. cond {A = Option (List Name)} b (names_of ids (subproblems ids)) None) few) asked)))
+target_answered k T m s r x p (to.Account j) ready kept named member owned asked =
     check_keeps (IsAnswered k m (swept m T)) (j == x.number) refusal.NotFound _ tt (λ here.
     given_keeps (IsAnswered k m (swept m T)) (account_change p) refusal.Malformed _ tt (λ q is. account_answered k T m s j x q ready kept named member here))
-target_answered k T m s r x p (to.Orders j) ready kept named member owned =
+target_answered k T m s r x p (to.Orders j) ready kept named member owned asked =
     check_keeps (IsAnswered k m (swept m T)) (j == x.number) refusal.NotFound _ tt (λ here.
     check_keeps (IsAnswered k m (swept m T)) (nothing p) refusal.Malformed _ tt (λ none.
     orders_shown k (swept m T) x.number (each _ _ (swept m T).orders (λ o f h. f refl h) owned)))
-target_answered k T m s r x p (to.Order j) ready kept named member owned =
+target_answered k T m s r x p (to.Order j) ready kept named member owned asked =
     given_keeps (IsAnswered k m (swept m T)) (own (λ (y : OrderRow). y.account) x.number (order_on (swept m T) j)) refusal.NotFound _ tt (λ o is.
     check_keeps (IsAnswered k m (swept m T)) (nothing p) refusal.Malformed _ tt (λ none.
     order_shown k (swept m T) j (ready.named.order j (same_number j)) (swept_closed k T m ready.closed).listed))
-target_answered k T m s r x p (to.Finalize j) ready kept named member owned =
+target_answered k T m s r x p (to.Finalize j) ready kept named member owned asked =
     given_keeps (IsAnswered k m (swept m T)) (own (λ (y : OrderRow). y.account) x.number (order_on (swept m T) j)) refusal.NotFound _ tt (λ o is.
     given_keeps (IsAnswered k m (swept m T)) (finalize p) refusal.Malformed _ tt (λ q says. finalize_answered k T m s j o q ready))
-target_answered k T m s r x p (to.Cert j) ready kept named member owned =
+target_answered k T m s r x p (to.Cert j) ready kept named member owned asked =
     given_keeps (IsAnswered k m (swept m T)) (own (λ (y : OrderRow). y.account) x.number (order_on (swept m T) j)) refusal.NotFound _ tt (λ o is.
     check_keeps (IsAnswered k m (swept m T)) (nothing p) refusal.Malformed _ tt (λ none.
     given_keeps (IsAnswered k m (swept m T)) o.certified refusal.NotFound _ tt
     (λ c there. certificate_shown k (swept m T) j (ready.named.order j (same_number j)))))
-target_answered k T m s r x p (to.Authz j) ready kept named member owned =
+target_answered k T m s r x p (to.Authz j) ready kept named member owned asked =
     given_keeps (IsAnswered k m (swept m T)) (own (λ (y : AuthorizationRow). y.account) x.number (authorization_on (swept m T) j))
     refusal.NotFound _ tt (λ a is.
     given_keeps (IsAnswered k m (swept m T)) (authorization_change p) refusal.Malformed _ tt (λ q says. authorization_answered k T m s j a q ready))
-target_answered k T m s r x p (to.Chall j) ready kept named member owned =
+target_answered k T m s r x p (to.Chall j) ready kept named member owned asked =
     given_keeps (IsAnswered k m (swept m T)) (own (λ (y : AuthorizationRow). y.account) x.number (owner_on (swept m T) j)) refusal.NotFound _ tt (λ a is.
     given_keeps (IsAnswered k m (swept m T)) (challenge_change p) refusal.Malformed _ tt (λ q says. challenge_answered k T m s j a q ready))
 
@@ -399,7 +412,8 @@ keyed_answered k T m s r key t ready named kept (Some x) found =
     (named x is)
     (each_found (λ y. (p : AccountRow → Bool) → p y ≡ true → list_any p T.accounts ≡ true)
     (λ a. bytes_eq a.key key) T.accounts x (each_member T.accounts) found)
-    (each_found _ (λ a. bytes_eq a.key key) T.accounts x (swept_names k T m (sent s t) ready.named).orders found (named x is)))
+    (each_found _ (λ a. bytes_eq a.key key) T.accounts x (swept_names k T m (sent s t) ready.named).orders found (named x is))
+    (each_found _ (λ a. bytes_eq a.key key) T.accounts x (swept_names k T m (sent s t) ready.named).asked found (named x is)))
 
 pub signed_answered : (k : Kept) (T : Tables) (m : ℕ) (r : List ℕ) (s : Signed) → IsReady k T m (ask.Signed s) →
     IsAnswered k m (swept m T) (signed_verdict (swept m T) r s)

@@ -97,12 +97,12 @@ some_map p f (x ∷ xs) h = by (p (f x)) h (some_map p f xs)
     by false k ih = ih k
 
 -- each authorization of an order has its row
-listed_rows_found : (F : History) (t place : ℕ) (xs : List Authorization) → EachOf (IsFound F) xs →
-    EachOf (λ l. IsSome (find (λ (a : AuthorizationRow). a.number == l.authorization) (tables_at F t).authorizations)) (listed_from place xs)
+listed_rows_found : (F : History) (t place : ℕ) (ns : List ℕ) → EachOf (IsFound F) ns →
+    EachOf (λ l. IsSome (find (λ (a : AuthorizationRow). a.number == l.authorization) (tables_at F t).authorizations)) (listed_from place ns)
 listed_rows_found F t place [] h = tt
-listed_rows_found F t place (x ∷ xs) h = (
-  some_map (λ (a : AuthorizationRow). a.number == x.number) (authorization_row F t) (authorizations F) (ap is_some h.0),
-  listed_rows_found F t (place + 1) xs h.1,
+listed_rows_found F t place (n ∷ ns) h = (
+  some_map (λ (a : AuthorizationRow). a.number == n) (authorization_row F t) (authorizations F) h.0,
+  listed_rows_found F t (place + 1) ns h.1,
 )
 
 -- each reference is found
@@ -114,7 +114,7 @@ have_references F h t =
       orders = each-map _ (order_row F t) (orders F)
           (each _ _ (orders F) (λ o. some_map (λ b. b.number == o.account) (account_row F) (accounts F)) (orders_have_accounts F h));
       listed = each-map _ (order_row F t) (orders F)
-          (each _ _ (orders F) (λ o. listed_rows_found F t 1 o.authorizations) (listed_found F));
+          (each _ _ (orders F) (λ o. listed_rows_found F t 1 o.authorizations) (listed_found F h));
     }
 
 -- ---- books

@@ -16,7 +16,7 @@ use Rattle.desk_laws.proofs.Forms.{HasTokens, nonces_drawn, problem_formed, toke
 use Rattle.desk_laws.proofs.Keeps.{all_end, counters_fit, each-filter, row_keys_formed, row_names_formed, terms_in_limits}
 use Rattle.desk_laws.proofs.Numbers.{nonces_numbered}
 use Rattle.desk_laws.proofs.Recorded.{numbered_below}
-use Rattle.desk_laws.proofs.References.{there}
+use Rattle.desk_laws.proofs.Basics.{there}
 use Rattle.desk_laws.proofs.RowLists.{ascends_above, numbered_ascends}
 use Rattle.desk_laws.specs.DateLaws.{IsAuthorizationDatedBy, IsChallengeDatedBy, IsOrderDatedBy}
 use Rattle.desk_laws.specs.Ordered.{Ascends, Below}
