@@ -4,7 +4,7 @@ use Rattle.desk_model.specs.Tables.{Tables}
 use Rattle.desk_model.specs.History.{terms_after}
 use Rattle.desk_model.specs.Nonce.{issued_by}
 use Rattle.desk_model.specs.Account.{opened_by}
-use Rattle.desk_model.specs.Order.{ordered_by}
+use Rattle.desk_model.specs.Order.{listed_by, ordered_by}
 use Rattle.desk_model.specs.Authorization.{count_challenges}
 use Rattle.desk_model.specs.Derived.{restated_authorization, restated_order}
 use Rattle.desk_model.specs.Effect.{effect, effects, swept, swept_authorization, fresh_account, fresh_authorization, fresh_order}
@@ -30,8 +30,8 @@ use Rattle.desk_model.specs.declared.entry.Wanted.{Wanted}
 use Rattle.desk_laws.specs.Ordered.{Below, IsOrdered}
 use Rattle.desk_laws.proofs.Basics.{each, each-map}
 use Rattle.desk_laws.proofs.Plain.{issued_effect, spent_effect}
-use Rattle.desk_changes.specs.Made.{made_rows, next_order, next_rows, ordered_counters}
-use Rattle.desk_changes.proofs.MadeRows.{made_beside, places_made}
+use Rattle.desk_changes.specs.Made.{AreStanding, next_order, next_rows, ordered_counters}
+use Rattle.desk_changes.proofs.MadeRows.{status_is_made}
 use Rattle.desk_changes.proofs.QuietEntries.{issued_counters, quiet_changes, spent_counters}
 use Rattle.swept_rows.proofs.SweptRows.{swept_authorization-status}
 use Rattle.desk_changes.specs.Moved.{standing_rows, stated_authorization}
@@ -45,7 +45,7 @@ pub record MakesNothing (m : ℕ) (T : Tables) (e : Entry) : Type 0 where
   pub nonces : issued_by e m (T.meta.counters.nonces + 1) ≡ []
   pub accounts : opened_by e m (T.meta.counters.accounts + 1) ≡ []
   pub authorizations : new_authorizations T e m ≡ []
-  pub orders : (made : List Authorization) → ordered_by e m T.meta.policy made (T.meta.counters.orders + 1) ≡ []
+  pub orders : (first : ℕ) → ordered_by e m T.meta.policy first (T.meta.counters.orders + 1) ≡ []
 
 pub makes_nothing : (m : ℕ) (T : Tables) (v : Move) → MakesNothing m T (entry_of v)
 makes_nothing m T (move.ContactsChanged n contacts) = record {
@@ -54,7 +54,7 @@ makes_nothing m T (move.ContactsChanged n contacts) = record {
   nonces = refl;
   accounts = refl;
   authorizations = refl;
-  orders = λ made. refl;
+  orders = λ first. refl;
 }
 makes_nothing m T (move.KeyChanged n key) = record {
   policy = refl;
@@ -70,16 +70,16 @@ makes_nothing m T (move.AccountEnded n ending) = record {
   nonces = refl;
   accounts = refl;
   authorizations = refl;
-  orders = λ made. refl;
+  orders = λ first. refl;
 }
-makes_nothing m T (move.Answered n) = record { policy = refl; unspent = refl; nonces = refl; accounts = refl; authorizations = refl; orders = λ made. refl }
+makes_nothing m T (move.Answered n) = record { policy = refl; unspent = refl; nonces = refl; accounts = refl; authorizations = refl; orders = λ first. refl }
 makes_nothing m T (move.Reported n outcome) = record {
   policy = refl;
   unspent = refl;
   nonces = refl;
   accounts = refl;
   authorizations = refl;
-  orders = λ made. refl;
+  orders = λ first. refl;
 }
 makes_nothing m T (move.AuthorizationEnded n ending) = record {
   policy = refl;
@@ -87,7 +87,7 @@ makes_nothing m T (move.AuthorizationEnded n ending) = record {
   nonces = refl;
   accounts = refl;
   authorizations = refl;
-  orders = λ made. refl;
+  orders = λ first. refl;
 }
 makes_nothing m T (move.Finalized n csr) = record {
   policy = refl;
@@ -95,7 +95,7 @@ makes_nothing m T (move.Finalized n csr) = record {
   nonces = refl;
   accounts = refl;
   authorizations = refl;
-  orders = λ made. refl;
+  orders = λ first. refl;
 }
 makes_nothing m T (move.Certified n certificate) = record {
   policy = refl;
@@ -103,7 +103,7 @@ makes_nothing m T (move.Certified n certificate) = record {
   nonces = refl;
   accounts = refl;
   authorizations = refl;
-  orders = λ made. refl;
+  orders = λ first. refl;
 }
 makes_nothing m T (move.Failed n problem) = record {
   policy = refl;
@@ -111,7 +111,7 @@ makes_nothing m T (move.Failed n problem) = record {
   nonces = refl;
   accounts = refl;
   authorizations = refl;
-  orders = λ made. refl;
+  orders = λ first. refl;
 }
 
 -- the counters stay, but for the clock
@@ -122,7 +122,7 @@ moving_counters m T v =
       clock = m;
       nonces = (ap (λ (l : List Nonce). T.meta.counters.nonces + length l) none.nonces ∙ add-zero T.meta.counters.nonces) i;
       accounts = (ap (λ (l : List Account). T.meta.counters.accounts + length l) none.accounts ∙ add-zero T.meta.counters.accounts) i;
-      orders = (ap (λ (l : List Order). T.meta.counters.orders + length l) (none.orders (new_authorizations T (entry_of v) m))
+      orders = (ap (λ (l : List Order). T.meta.counters.orders + length l) (none.orders (T.meta.counters.authorizations + 1))
           ∙ add-zero T.meta.counters.orders) i;
       authorizations = (ap (λ (l : List Authorization). T.meta.counters.authorizations + length l) none.authorizations
           ∙ add-zero T.meta.counters.authorizations) i;
@@ -170,12 +170,12 @@ moving_changes m T v =
 
     orders : moved_rows (touches_order e T.authorizations) order_differs (λ r. restated_order m (authorizations_after T e m) (noted_order e m r)) T.orders
         ++ map (λ o. restated_order m (authorizations_after T e m) (fresh_order o))
-        (ordered_by e m T.meta.policy (new_authorizations T e m) (T.meta.counters.orders + 1))
+        (ordered_by e m T.meta.policy (T.meta.counters.authorizations + 1) (T.meta.counters.orders + 1))
         ≡ moved_rows (touches_order e T.authorizations) order_differs
         (λ r. restated_order m (map (moved_authorization e m T.accounts) T.authorizations) (noted_order e m r)) T.orders
     orders =
         ap (λ l. moved_rows (touches_order e T.authorizations) order_differs (λ r. restated_order m (authorizations_after T e m) (noted_order e m r)) T.orders
-        ++ map (λ o. restated_order m (authorizations_after T e m) (fresh_order o)) l) (none.orders (new_authorizations T e m))
+        ++ map (λ o. restated_order m (authorizations_after T e m) (fresh_order o)) l) (none.orders (T.meta.counters.authorizations + 1))
         ∙ append-nil _
         ∙ ap (λ rows. moved_rows (touches_order e T.authorizations) order_differs (λ r. restated_order m rows (noted_order e m r)) T.orders)
         (moving_after m T v)
@@ -210,36 +210,33 @@ counters_ordered m T account wanted =
 
 -- its row
 pub ordered_one : (m : ℕ) (T : Tables) (account : ℕ) (wanted : List Wanted) → Below (λ a. a.number) (T.meta.counters.authorizations + 1) T.authorizations →
+    AreStanding T.authorizations wanted →
     (let e : Entry = ordered account wanted in
-    let made : List Authorization = new_authorizations T e m in
-    map (λ o. restated_order m (authorizations_after T e m) (fresh_order o)) (ordered_by e m T.meta.policy made (T.meta.counters.orders + 1))
+    map (λ o. restated_order m (authorizations_after T e m) (fresh_order o))
+    (ordered_by e m T.meta.policy (T.meta.counters.authorizations + 1) (T.meta.counters.orders + 1))
     ≡ next_order T.meta.policy (record T.meta.counters { clock = m }) account wanted ∷ [])
-ordered_one m T account wanted below =
-    ap (λ (o : OrderRow). o ∷ [])
-    (made_beside T m account wanted fresh below (sym (places_made m 1 made))
-    ∙ (λ i. restated_order m (made_rows m made) (record fresh { listed = sym (places_made m 1 made) i })))
+ordered_one m T account wanted below standing =
+    ap (λ s. record fresh { status = s } ∷ []) (status_is_made T m account wanted fresh below standing refl refl refl refl refl)
   where
-    made : List Authorization
-    made = new_authorizations T (ordered account wanted) m
-
     fresh : OrderRow
     fresh = fresh_order (record {
       number = T.meta.counters.orders + 1;
       account = account;
       made = m;
       expires = m + T.meta.policy.order_life;
-      authorizations = made;
+      authorizations = listed_by wanted (T.meta.counters.authorizations + 1);
     })
 
 -- what is recorded of it
 ordered_changes : (m : ℕ) (T : Tables) (account : ℕ) (wanted : List Wanted) → Below (λ a. a.number) (T.meta.counters.authorizations + 1) T.authorizations →
+    AreStanding T.authorizations wanted →
     changes m T (ordered account wanted)
     ≡ map PutAuthorization (next_rows T.meta.policy (record T.meta.counters { clock = m }) account wanted)
     ++ PutOrder (next_order T.meta.policy (record T.meta.counters { clock = m }) account wanted) ∷ []
-ordered_changes m T account wanted below =
+ordered_changes m T account wanted below standing =
     quiet_changes m T (ordered account wanted) (λ a. refl) (λ a. refl) (λ k. refl)
     ∙ (λ i. map PutAuthorization (next_rows T.meta.policy (record T.meta.counters { clock = m }) account wanted)
-    ++ map PutOrder (ordered_one m T account wanted below i))
+    ++ map PutOrder (ordered_one m T account wanted below standing i))
 
 -- the authorizations that stand at the moment have no later number
 pub below_standing : (m n : ℕ) (rows : List AuthorizationRow) → Below (λ a. a.number) n rows → Below (λ a. a.number) n (standing_rows m rows)
@@ -249,11 +246,11 @@ below_standing m n rows h =
 
 -- a new order is recorded
 pub and_ordered : (m : ℕ) (B : Tables) (es : List Entry) (policy : Terms) (account : ℕ) (wanted : List Wanted) (done : List Change) (counters : Counters) →
-    B.meta.policy ≡ policy → IsOrdered B → IsUntouched m B es → IsRecorded m B es done counters →
+    B.meta.policy ≡ policy → IsOrdered B → IsUntouched m B es → AreStanding (swept m B).authorizations wanted → IsRecorded m B es done counters →
     IsRecorded m B (es ++ ordered account wanted ∷ [])
     (done ++ (map PutAuthorization (next_rows policy counters account wanted) ++ PutOrder (next_order policy counters account wanted) ∷ []))
     (ordered_counters policy counters account wanted)
-and_ordered m B es policy account wanted done counters same is untouched h =
+and_ordered m B es policy account wanted done counters same is untouched standing h =
     let T : Tables = effects m (swept m B) es in
     let terms : policy ≡ T.meta.policy = sym (h.policy ∙ same) in
     let then : counters ≡ record T.meta.counters { clock = m } = counters_then m B es done counters h in
@@ -264,7 +261,7 @@ and_ordered m B es policy account wanted done counters same is untouched h =
     (below_standing m (B.meta.counters.authorizations + 1) B.authorizations is.authorizations.1)) in
     one_more m B es (ordered account wanted) done _ counters _ h
     ((λ i. map PutAuthorization (next_rows (terms i) (then i) account wanted) ++ PutOrder (next_order (terms i) (then i) account wanted) ∷ [])
-    ∙ sym (ordered_changes m T account wanted below))
+    ∙ sym (ordered_changes m T account wanted below (subst (λ rows. AreStanding rows wanted) (sym untouched.authorizations) standing)))
     ((λ i. ordered_counters (terms i) (then i) account wanted) ∙ sym (counters_ordered m T account wanted)) refl
 
 -- ---- entries that touch no row but the nonces'

@@ -99,7 +99,7 @@ pub quiet_changes : (m : ℕ) (T : Tables) (e : Entry) → ((a : AccountRow) →
     ++ (map PutAccount (map fresh_account (opened_by e m (T.meta.counters.accounts + 1)))
     ++ (map PutAuthorization (map (λ a. restated_authorization m (fresh_authorization a)) (new_authorizations T e m))
     ++ map PutOrder (map (λ o. restated_order m (authorizations_after T e m) (fresh_order o))
-    (ordered_by e m T.meta.policy (new_authorizations T e m) (T.meta.counters.orders + 1))))))
+    (ordered_by e m T.meta.policy (T.meta.counters.authorizations + 1) (T.meta.counters.orders + 1))))))
 quiet_changes m T e no_account no_authorization no_order =
     λ i. map RemoveNonce (spent_by e)
     ++ (map PutNonce (nonces_put T e m)
@@ -112,7 +112,7 @@ quiet_changes m T e no_account no_authorization no_order =
     (λ r. restated_order m (authorizations_after T e m) (noted_order e m r)) T.orders
     (λ r. order_untouched e T r no_authorization (no_order r.number)) i
     ++ map (λ o. restated_order m (authorizations_after T e m) (fresh_order o))
-    (ordered_by e m T.meta.policy (new_authorizations T e m) (T.meta.counters.orders + 1))))))
+    (ordered_by e m T.meta.policy (T.meta.counters.authorizations + 1) (T.meta.counters.orders + 1))))))
 
 -- what is recorded of a nonce that is spent
 pub spent_changes : (m : ℕ) (T : Tables) (n : ℕ) → changes m T (spent n) ≡ RemoveNonce n ∷ []

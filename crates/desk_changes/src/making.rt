@@ -1,15 +1,18 @@
-//! The rows that a new order brings: an authorization for each name, with its challenges (RFC 8555, 7.1.3 to 7.1.5).
+//! What a new order brings: an authorization for each name that gets a new one, with its challenges (RFC 8555, 7.1.3 to 7.1.5),
+//! the places of all that it lists, and its status.
 ghost use Rattle.std.specs.Prelude.{◌≡◌, ◌≤◌, ◌<◌, ◌+◌, ◌^◌, ◌++◌, map, length, None, IfOk, OnOk};
 ghost use Rattle.desk_model.specs.Authorization.{challenges_from, count_challenges, kinds_of, made_for};
 ghost use Rattle.desk_model.specs.Limits.{last_number};
-ghost use Rattle.desk_model.specs.Run.{count_tokens};
+ghost use Rattle.desk_model.specs.Order.{listed_by, made_status};
+ghost use Rattle.desk_model.specs.Run.{count_new, count_tokens};
 ghost use Rattle.desk_model.specs.Effect.{fresh_challenge};
-ghost use Rattle.desk_changes.specs.Made.{made_row, made_rows, places_from};
+ghost use Rattle.desk_model.specs.Tables.{listed_from};
+ghost use Rattle.desk_changes.specs.Made.{made_row, made_rows};
 
 use desk_book::derived_authorization;
 use desk_model::{
-    AuthorizationRow, AuthzStatus, ChallengeRow, ChallengeStatus, DnsName, Kind, Listed, Sequence,
-    Wanted,
+    AuthorizationRow, AuthzStatus, ChallengeRow, ChallengeStatus, DnsName, Kind, Listed,
+    OrderStatus, Sequence, Wanted,
 };
 use std::alloc::{AllocError, Global};
 
@@ -100,8 +103,8 @@ fn new_authorization(
     Ok(row)
 }
 
-/// Puts the authorizations for some names, numbered from here, at the end of a list, and gives the number of the
-/// challenge that comes next.
+/// Puts the authorizations that are made for some names, numbered from here, at the end of a list, and gives the number of
+/// the challenge that comes next.
 pub(crate) fn push_authorizations(
     alloc: Global,
     rows: &mut Vec<AuthorizationRow>,
@@ -110,14 +113,17 @@ pub(crate) fn push_authorizations(
     number: u64,
     challenge: u64,
 ) -> Result<u64, AllocError>
-    requires numbers { number + length wanted.now ≤ last_number + 1 }
+    requires numbers { number + count_new wanted.now ≤ last_number + 1 }
     requires challenges { challenge + count_tokens wanted.now ≤ last_number + 1 }
     ensures rows { OnOk result (rows.new.items ≡ rows.old.items
         ++ made_rows making.date (made_for making.account making.date making.expires wanted.now number challenge)) }
     ensures next { IfOk result (λ n. n ≡ challenge + count_challenges (made_for making.account making.date making.expires wanted.now number challenge)) }
 {
-    let Some((Wanted::New { name, tokens }, rest)) = wanted.split_first() else {
+    let Some((first, rest)) = wanted.split_first() else {
         return Ok(challenge);
+    };
+    let Wanted::New { name, tokens } = first else {
+        return push_authorizations(alloc, rows, making, rest, number, challenge);
     };
     let row = new_authorization(alloc, making, name, tokens.as_slice(), number, challenge)?;
     let next = challenge + row.challenges.as_slice().len() as u64;
@@ -125,35 +131,54 @@ pub(crate) fn push_authorizations(
     push_authorizations(alloc, rows, making, rest, number + 1, next)
 }
 
-/// Puts the places of some authorizations, from this one on, at the end of a list.
+/// Puts the places of the authorizations that some names get, from this one on, at the end of a list; those that are made are
+/// numbered from here.
 pub(crate) fn push_places(
     listed: &mut Vec<Listed>,
-    rows: &[AuthorizationRow],
+    wanted: &[Wanted],
     place: u64,
+    number: u64,
 ) -> Result<(), AllocError>
-    requires { place + length rows.now < 2 ^ 64 }
-    ensures { OnOk result (listed.new.items ≡ listed.old.items ++ places_from place rows.now) }
+    requires places { place + length wanted.now < 2 ^ 64 }
+    requires numbers { number + count_new wanted.now ≤ last_number + 1 }
+    ensures { OnOk result (listed.new.items ≡ listed.old.items ++ listed_from place (listed_by wanted.now number)) }
 {
-    let Some((row, rest)) = rows.split_first() else {
+    let Some((first, rest)) = wanted.split_first() else {
         return Ok(());
     };
-    listed.push(Listed {
-        place,
-        authorization: row.number,
-    })?;
-    push_places(listed, rest, place + 1)
+    match first {
+        Wanted::New { name: _, tokens: _ } => {
+            listed.push(Listed {
+                place,
+                authorization: number,
+            })?;
+            push_places(listed, rest, place + 1, number + 1)
+        }
+        Wanted::Reused {
+            name: _,
+            authorization,
+        } => {
+            listed.push(Listed {
+                place,
+                authorization: *authorization,
+            })?;
+            push_places(listed, rest, place + 1, number)
+        }
+    }
 }
 
-/// The statuses of some authorizations.
-pub(crate) fn statuses_of(
-    alloc: Global,
-    rows: &[AuthorizationRow],
-) -> Result<Vec<AuthzStatus>, AllocError>
-    ensures { IfOk result (λ v. v.items ≡ map (λ r. r.status) rows.now) }
+/// The status of a new order: ready where each of its names uses an authorization again.
+pub(crate) fn made_status(wanted: &[Wanted]) -> OrderStatus
+    ensures { result ≡ made_status wanted.now }
 {
-    let mut statuses = Vec::new(alloc);
-    for row in rows {
-        statuses.push(row.status)?;
+    let Some((first, rest)) = wanted.split_first() else {
+        return OrderStatus::Ready;
+    };
+    match first {
+        Wanted::New { name: _, tokens: _ } => OrderStatus::Pending,
+        Wanted::Reused {
+            name: _,
+            authorization: _,
+        } => made_status(rest),
     }
-    Ok(statuses)
 }

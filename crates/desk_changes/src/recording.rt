@@ -1,12 +1,12 @@
 //! What a call records, change by change.
-ghost use Rattle.desk_laws.specs.Ordered.{Ascends, IsOrdered};
+ghost use Rattle.desk_laws.specs.Ordered.{IsOrdered};
 ghost use Rattle.desk_model.specs.Change.{recorded_changes};
-ghost use Rattle.desk_model.specs.Derived.{restated_order};
+ghost use Rattle.desk_model.specs.Effect.{swept};
 ghost use Rattle.desk_model.specs.Entry.{entry_of};
 ghost use Rattle.desk_model.specs.Limits.{last_moment, last_number};
-ghost use Rattle.desk_model.specs.Run.{count_tokens};
-ghost use Rattle.desk_changes.specs.Made.{bare_order, next_account, next_order, next_rows, ordered_counters};
-ghost use Rattle.std.specs.Prelude.{◌≡◌, ◌<◌, ◌≤◌, length, map, ◌+◌, ◌++◌, ◌∷◌, [], None, IfOk, OnOk, ℕ, List};
+ghost use Rattle.desk_model.specs.Run.{count_new, count_tokens};
+ghost use Rattle.desk_changes.specs.Made.{AreStanding, made_order, next_account, next_order, next_rows, ordered_counters};
+ghost use Rattle.std.specs.Prelude.{◌≡◌, ◌<◌, ◌≤◌, map, ◌+◌, ◌++◌, ◌∷◌, [], None, IfOk, OnOk, ℕ, List};
 ghost use Rattle.desk_changes.specs.Moved.{AreMoved};
 ghost use Rattle.desk_changes.specs.Recorded.{IsRecorded, IsUntouched, book_moves};
 ghost use Rattle.desk_model.specs.Tables.{Tables};
@@ -15,12 +15,12 @@ ghost use Rattle.desk_model.specs.declared.entry.Entry.TheVariants.{Issued as is
 ghost use Rattle.desk_model.specs.declared.rows.Change.TheVariants.{PutMeta, PutNonce, RemoveNonce, PutAccount, PutAuthorization, PutOrder};
 ghost use Rattle.desk_model.specs.declared.status.AccountStatus.TheVariants as account;
 
-use crate::making::{Making, push_authorizations, push_places, statuses_of};
+use crate::making::{Making, made_status, push_authorizations, push_places};
 use crate::moved::{MovedRows, push_change, put_rows};
-use desk_book::{Book, derived_order};
+use desk_book::Book;
 use desk_model::{
     AccountRow, AccountStatus, AuthorizationRow, Change, Clock, Counters, Jwk, Meta, Move, Nonce,
-    OrderRow, OrderStatus, Policy, Sequence, Text, Wanted,
+    OrderRow, Policy, Sequence, Text, Wanted,
 };
 use std::alloc::{AllocError, Global};
 use swept_rows::sweep_changes;
@@ -167,7 +167,7 @@ impl Recording {
         put_rows(&mut self.changes, alloc, &mut rows, book, moved, moment).and(Ok(rows))
     }
 
-    /// Makes the next order of an account, with an authorization for each of these names, and gives its row.
+    /// Makes the next order of an account, with an authorization for each of these names that gets a new one, and gives its row.
     ///
     /// # Errors
     ///
@@ -180,7 +180,7 @@ impl Recording {
         wanted: &[Wanted],
     ) -> Result<OrderRow, AllocError>
         requires orders { self.old.counters.orders < last_number }
-        requires authorizations { self.old.counters.authorizations + length wanted.now ≤ last_number }
+        requires authorizations { self.old.counters.authorizations + count_new wanted.now ≤ last_number }
         requires challenges { self.old.counters.challenges + count_tokens wanted.now ≤ last_number }
         ensures changes { OnOk result (self.new.changes.items ≡ self.old.changes.items
             ++ (map PutAuthorization (next_rows policy.now self.old.counters account wanted.now)
@@ -188,11 +188,13 @@ impl Recording {
         ensures counters { OnOk result (self.new.counters ≡ ordered_counters policy.now self.old.counters account wanted.now) }
         ensures order { IfOk result (λ o. o ≡ next_order policy.now self.old.counters account wanted.now) }
         ensures recorded { OnOk result ((m : ℕ) (B : Tables) (es : List EntryOf) → B.meta.policy ≡ policy.now → IsOrdered B → IsUntouched m B es
+            → AreStanding (swept m B).authorizations wanted.now
             → IsRecorded m B es self.old.changes.items self.old.counters
             → IsRecorded m B (es ++ ordered account wanted.now ∷ []) self.new.changes.items self.new.counters) }
     {
+        let first = self.counters.authorizations + 1;
         let rows = self.make_rows(alloc, policy, account, wanted)?;
-        let order = self.next_order(alloc, policy, account, &rows)?;
+        let order = self.made_order(alloc, policy, account, wanted, first)?;
         self.counters.orders += 1;
         put_made(&mut self.changes, rows, &order).and(Ok(order))
     }
@@ -205,7 +207,7 @@ impl Recording {
         account: u64,
         wanted: &[Wanted],
     ) -> Result<Vec<AuthorizationRow>, AllocError>
-        requires authorizations { self.old.counters.authorizations + length wanted.now ≤ last_number }
+        requires authorizations { self.old.counters.authorizations + count_new wanted.now ≤ last_number }
         requires challenges { self.old.counters.challenges + count_tokens wanted.now ≤ last_number }
         ensures rows { IfOk result (λ v. v.items ≡ next_rows policy.now self.old.counters account wanted.now) }
         ensures counters { OnOk result (self.new.counters
@@ -233,23 +235,23 @@ impl Recording {
         }
     }
 
-    // The row of the next order, which lists these authorizations.
-    fn next_order(
+    // The row of the next order; the authorizations that are made with it are numbered from the first.
+    fn made_order(
         &self,
         alloc: Global,
         policy: &Policy,
         account: u64,
-        rows: &[AuthorizationRow],
+        wanted: &[Wanted],
+        first: u64,
     ) -> Result<OrderRow, AllocError>
         requires orders { self.now.counters.orders < last_number }
-        ensures { IfOk result (λ o. (n : ℕ) → Ascends (λ r. r.number) n rows.now
-            → o ≡ restated_order self.now.counters.clock rows.now (bare_order policy.now self.now.counters account rows.now)) }
+        requires numbers { first + count_new wanted.now ≤ last_number + 1 }
+        ensures { IfOk result (λ o. o ≡ made_order policy.now self.now.counters account wanted.now first) }
     {
         let moment = self.counters.clock.moment();
-        let statuses = statuses_of(alloc, rows)?;
         let mut listed = Vec::new(alloc);
-        push_places(&mut listed, rows, 1)?;
-        let mut row = OrderRow {
+        push_places(&mut listed, wanted, 1, first)?;
+        Ok(OrderRow {
             number: self.counters.orders + 1,
             account,
             made: moment,
@@ -258,10 +260,8 @@ impl Recording {
             finalized: None,
             certified: None,
             failed: None,
-            status: OrderStatus::Pending,
-        };
-        row.status = derived_order(moment, &row, &statuses);
-        Ok(row)
+            status: made_status(wanted),
+        })
     }
 }
 

@@ -10,7 +10,8 @@ use Rattle.desk_model.specs.Order.{is_processing, is_ready}
 use Rattle.desk_model.specs.Questions.{account_on, account_with_key, authorization_on, order_on, owner_on}
 use Rattle.desk_model.specs.Rules.{account_verdict, authorization_verdict, certificate_verdict, certify_verdict}
 use Rattle.desk_model.specs.Rules.{challenge_verdict, csr_in, fail_verdict, finalize_verdict, key_verdict}
-use Rattle.desk_model.specs.Rules.{new_order_verdict, office_verdict, open_account, order_of, own}
+use Rattle.desk_laws.proofs.Serving.{all_may_be_wanted}
+use Rattle.desk_model.specs.Rules.{kept, names_in, new_order_verdict, office_verdict, open_account, order_of, own}
 use Rattle.desk_model.specs.Rules.{report_verdict, revoke_account, revoke_authorization, signed_verdict, stands_open, subproblems}
 use Rattle.desk_model.specs.Rules.{target_verdict}
 use Rattle.desk_model.specs.Tables.{Tables}
@@ -106,12 +107,12 @@ key_change_there T n c h = check_there T _ refusal.Malformed _
     (given_there T c.new_key refusal.BadPublicKey _ (λ key _. rekey_there T n key (account_with_key T key) h))
 
 -- an order is made
-order_there : (T : Tables) (r : List ℕ) (n : ℕ) (ids : List Identifier) (ss : List Subproblem) → NamesRows T (order_of r n ids ss)
+order_there : (T : Tables) (r : List ℕ) (n : ℕ) (ids : List Identifier) (ss : List Subproblem) → NamesRows T (order_of T r n ids ss)
 order_there T r n ids (s ∷ ss) = tt
-order_there T r n ids [] = tt
+order_there T r n ids [] = all_may_be_wanted T n (kept (names_in ids)) r
 
 -- newOrder
-new_order_there : (T : Tables) (r : List ℕ) (n : ℕ) (ids : List Identifier) → NamesRows T (new_order_verdict r n ids)
+new_order_there : (T : Tables) (r : List ℕ) (n : ℕ) (ids : List Identifier) → NamesRows T (new_order_verdict T r n ids)
 new_order_there T r n ids = check_there T (has_length 1 most_names ids) refusal.Malformed _ (order_there T r n ids (subproblems ids))
 
 -- an order is finalized

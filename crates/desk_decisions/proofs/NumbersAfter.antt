@@ -13,13 +13,13 @@ use Rattle.desk_model.specs.History.{record_all, terms}
 use Rattle.desk_model.specs.Legal.{numbers_fit}
 use Rattle.desk_model.specs.Limits.{last_number}
 use Rattle.desk_model.specs.Nonce.{nonces}
-use Rattle.desk_model.specs.Order.{orders}
-use Rattle.desk_model.specs.Run.{count_tokens}
+use Rattle.desk_model.specs.Order.{listed_by, orders}
+use Rattle.desk_model.specs.Run.{count_new, count_tokens}
 use Rattle.desk_model.specs.Tables.{picture}
 use Rattle.desk_model.specs.Kept.{EachOf}
 use Rattle.desk_model.specs.declared.entry.Entry.TheVariants.{Opened as opened, Ordered as ordered}
 use Rattle.desk_model.specs.declared.entry.Wanted.{Wanted}
-use Rattle.desk_model.specs.declared.entry.Wanted.TheVariants.{New}
+use Rattle.desk_model.specs.declared.entry.Wanted.TheVariants.{New, Reused}
 use Rattle.desk_model.specs.declared.objects.Authorization.{Authorization}
 use Rattle.desk_model.specs.declared.objects.Kind.{Kind}
 use Rattle.desk_model.specs.declared.verdict.Verdict.{Verdict}
@@ -48,12 +48,14 @@ counted account date expires [] n c h = refl
 counted account date expires (New name tokens ∷ ws) n c h =
     let many : length (challenges_from c (kinds_of name) tokens) ≡ length tokens = challenges_counted c (kinds_of name) tokens h.0 in
     omega (arith, many, counted account date expires ws (n + 1) (c + length (challenges_from c (kinds_of name) tokens)) h.1)
+counted account date expires (Reused name k ∷ ws) n c h = counted account date expires ws n c h.1
 
--- an authorization for each name
-pub length-made : (account date expires : ℕ) (wanted : List Wanted) (n c : ℕ) → length (made_for account date expires wanted n c) ≡ length wanted
+-- an authorization for each name that gets a new one
+pub length-made : (account date expires : ℕ) (wanted : List Wanted) (n c : ℕ) → length (made_for account date expires wanted n c) ≡ count_new wanted
 length-made account date expires [] n c = refl
 length-made account date expires (New name tokens ∷ ws) n c =
     omega (arith, length-made account date expires ws (n + 1) (c + length (challenges_from c (kinds_of name) tokens)))
+length-made account date expires (Reused name k ∷ ws) n c = length-made account date expires ws n c
 
 -- the authorizations of an order
 abbrev pub made_in : History → ℕ → ℕ → List Wanted → List Authorization
@@ -67,12 +69,12 @@ orders_after G m k ws =
       account = k;
       made = m;
       expires = m + (terms G).order_life;
-      authorizations = made_in G m k ws;
+      authorizations = listed_by ws (length (authorizations G) + 1);
     } ∷ [])
 
 -- how many authorizations
 authorizations_after : (G : History) (m k : ℕ) (ws : List Wanted) →
-    length (authorizations (record { date = m; entry = ordered k ws } ∷ G)) ≡ length (authorizations G) + length ws
+    length (authorizations (record { date = m; entry = ordered k ws } ∷ G)) ≡ length (authorizations G) + count_new ws
 authorizations_after G m k ws =
     length-append (authorizations G) (made_in G m k ws)
     ∙ ap (λ n. length (authorizations G) + n)
@@ -108,7 +110,7 @@ fits_account G m key contacts h first =
 
 -- an order whose numbers can be given
 fits_ordered : (G : History) (m k : ℕ) (ws : List Wanted) → CountersFit (picture G).meta.counters → EachOf HasTokens ws →
-    length (orders G) < last_number → length (authorizations G) + length ws ≤ last_number
+    length (orders G) < last_number → length (authorizations G) + count_new ws ≤ last_number
     → count_challenges (authorizations G) + count_tokens ws ≤ last_number →
     CountersFit (picture (record { date = m; entry = ordered k ws } ∷ G)).meta.counters
 fits_ordered G m k ws h spaced first second third =
@@ -225,7 +227,7 @@ numbers_spent G m (opens key contacts) spaced spent =
 numbers_spent G m (ordering k ws) spaced spent = by spent
   where
     by : (last_number ≤ length (orders G))
-        ⊎ ((last_number < length (authorizations G) + length ws) ⊎ (last_number < count_challenges (authorizations G) + count_tokens ws)) →
+        ⊎ ((last_number < length (authorizations G) + count_new ws) ⊎ (last_number < count_challenges (authorizations G) + count_tokens ws)) →
         numbers_fit (record { date = m; entry = ordered k ws } ∷ G) ≡ false
     by (inl many) = orders_over (record { date = m; entry = ordered k ws } ∷ G) (omega (arith, orders_after G m k ws))
     by (inr (inl many)) =

@@ -1,5 +1,5 @@
 -- The tokens that verdicts take: one for each challenge of a new order, and none else.
-use Rattle.std.proofs.Common.{◌≡◌, ◌≤◌, ◌+◌, ◌*◌, ℕ, length, List, [], ◌∷◌, Bool, not, drop, Option, Some, None, Result, Ok, Err, refl, arith}
+use Rattle.std.proofs.Common.{◌≡◌, ◌≤◌, ◌+◌, ◌*◌, ℕ, length, List, [], ◌∷◌, Bool, not, Option, Some, None, Result, Ok, Err, refl, arith}
 use Rattle.std.specs.Prelude.{◌&&◌, nat_le}
 use Rattle.desk_model.specs.declared.refusal.Refusal.{Refusal}
 use Rattle.desk_model.specs.declared.refusal.Refusal.TheVariants as refusal
@@ -17,7 +17,7 @@ use Rattle.desk_model.specs.Tables.{Tables}
 use Rattle.desk_model.specs.Kept.{EachOf}
 use Rattle.desk_model.specs.Verdict.{check, given}
 use Rattle.desk_model.specs.Rules.{key_change_verdict, rekey_verdict}
-use Rattle.desk_model.specs.Rules.{open_account, account_verdict, kept, names_in, wanted, order_of}
+use Rattle.desk_model.specs.Rules.{open_account, account_verdict, kept, names_in, wanted, order_of, wanted_by, left_by}
 use Rattle.desk_model.specs.Rules.{new_order_verdict, subproblems, csr_in, finalize_verdict, authorization_verdict, stands_open}
 use Rattle.desk_model.specs.Rules.{challenge_verdict, target_verdict, key_verdict, signed_verdict}
 use Rattle.desk_model.specs.Rules.{outcome_verdict, report_verdict, certify_verdict, fail_verdict, revoke_authorization}
@@ -53,6 +53,7 @@ use Rattle.desk_model.specs.declared.verdict.Verdict.{Verdict}
 use Rattle.desk_model.specs.declared.verdict.Verdict.TheVariants.{Refused as refused, KeyTaken as key_taken, Answers as answers, Opens as opens, Orders as orders, Moves as moves}
 use Rattle.desk_lives.proofs.Steps as step
 use Rattle.desk_lives.proofs.Steps.{either_keeps, no_fault_keeps}
+use Rattle.desk_model.specs.Questions.{serving_on}
 use Rattle.desk_rules.specs.Needs.{HasTokens, IsSpaced, NumbersLeft, BytesLeft}
 use Rattle.desk_laws.proofs.Drawn.{length-pieces}
 
@@ -90,18 +91,23 @@ key_change_spaced T n c = check_keeps IsSpaced _ refusal.Malformed _ tt
     (given_keeps IsSpaced c.new_key refusal.BadPublicKey _ tt (λ key. rekey_spaced n key (account_with_key T key)))
 
 -- names that are wanted have their tokens, however many bytes there are
-pub wanted_spaced : (ns : List Name) (r : List ℕ) → EachOf HasTokens (wanted ns r)
-wanted_spaced [] r = tt
-wanted_spaced (n ∷ ns) r = (length-pieces (length (kinds_of n)) r, wanted_spaced ns (drop (16 * length (kinds_of n)) r))
+pub wanted_spaced : (T : Tables) (account : ℕ) (ns : List Name) (r : List ℕ) → EachOf HasTokens (wanted T account ns r)
+wanted_spaced T account [] r = tt
+wanted_spaced T account (n ∷ ns) r =
+    (by (serving_on T account n), wanted_spaced T account ns (left_by (serving_on T account n) n r))
+  where
+    by : (o : Option AuthorizationRow) → HasTokens (wanted_by o n r)
+    by None = length-pieces (length (kinds_of n)) r
+    by (Some row) = tt
 
 -- an order of names
-order_spaced : (r : List ℕ) (n : ℕ) (ids : List Identifier) (ss : List Subproblem) → IsSpaced (order_of r n ids ss)
-order_spaced r n ids (s ∷ ss) = tt
-order_spaced r n ids [] = wanted_spaced (kept (names_in ids)) r
+order_spaced : (T : Tables) (r : List ℕ) (n : ℕ) (ids : List Identifier) (ss : List Subproblem) → IsSpaced (order_of T r n ids ss)
+order_spaced T r n ids (s ∷ ss) = tt
+order_spaced T r n ids [] = wanted_spaced T n (kept (names_in ids)) r
 
 -- newOrder
-new_order_spaced : (r : List ℕ) (n : ℕ) (ids : List Identifier) → IsSpaced (new_order_verdict r n ids)
-new_order_spaced r n ids = check_keeps IsSpaced (has_length 1 most_names ids) refusal.Malformed _ tt (order_spaced r n ids (subproblems ids))
+new_order_spaced : (T : Tables) (r : List ℕ) (n : ℕ) (ids : List Identifier) → IsSpaced (new_order_verdict T r n ids)
+new_order_spaced T r n ids = check_keeps IsSpaced (has_length 1 most_names ids) refusal.Malformed _ tt (order_spaced T r n ids (subproblems ids))
 
 -- an order that is finalized
 finalize_spaced : (n : ℕ) (o : OrderRow) (text : List ℕ) → IsSpaced (finalize_verdict n o text)
@@ -122,7 +128,7 @@ challenge_spaced n a chall_change.Answer = either_keeps IsSpaced (stands_open (�
 target_spaced : (T : Tables) (r : List ℕ) (n : ℕ) (p : List ℕ) (t : Target) → IsSpaced (target_verdict T r n p t)
 target_spaced T r n p to.NewAccount = given_keeps IsSpaced _ refusal.Malformed _ tt (λ _. tt)
 target_spaced T r n p to.KeyChange = given_keeps IsSpaced _ refusal.Malformed _ tt (key_change_spaced T n)
-target_spaced T r n p to.NewOrder = given_keeps IsSpaced _ refusal.Malformed _ tt (new_order_spaced r n)
+target_spaced T r n p to.NewOrder = given_keeps IsSpaced _ refusal.Malformed _ tt (new_order_spaced T r n)
 target_spaced T r n p (to.Account k) = check_keeps IsSpaced _ refusal.NotFound _ tt (given_keeps IsSpaced _ refusal.Malformed _ tt (account_spaced n))
 target_spaced T r n p (to.Orders k) = check_keeps IsSpaced _ refusal.NotFound _ tt (check_keeps IsSpaced _ refusal.Malformed _ tt tt)
 target_spaced T r n p (to.Order k) = given_keeps IsSpaced _ refusal.NotFound _ tt (λ o. check_keeps IsSpaced _ refusal.Malformed _ tt tt)

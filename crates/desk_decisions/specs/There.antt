@@ -1,5 +1,8 @@
 -- That what is shown, or moved, is there.
-use Rattle.std.specs.Prelude.{◌==◌, List, IsSome, IsSomeAnd, find}
+use Rattle.std.specs.Prelude.{◌==◌, List, IsSome, IsSomeAnd, IsTrue, find}
+use Rattle.std.specs.List.{list_all}
+use Rattle.desk_laws.specs.Ordered.{Ascends}
+use Rattle.desk_model.specs.Allowed.{may_want_on}
 use Rattle.desk_model.specs.Effect.{has_row}
 use Rattle.desk_model.specs.Questions.{account_on, authorization_on, order_on, owner_on}
 use Rattle.desk_model.specs.Tables.{Tables}
@@ -11,7 +14,7 @@ use Rattle.desk_model.specs.declared.rows.OrderRow.{OrderRow}
 use Rattle.desk_model.specs.declared.verdict.Shows.{Shows}
 use Rattle.desk_model.specs.declared.verdict.Shows.TheVariants as show
 use Rattle.desk_model.specs.declared.verdict.Verdict.{Verdict}
-use Rattle.desk_model.specs.declared.verdict.Verdict.TheVariants.{Answers as answers, Moves as moves}
+use Rattle.desk_model.specs.declared.verdict.Verdict.TheVariants.{Answers as answers, Moves as moves, Orders as orders}
 
 -- what is shown of the tables
 abbrev pub IsThere : Tables → Shows → Type 0
@@ -37,8 +40,9 @@ IsAmong (move.Finalized n csr) xs ys zs = IsSome (find (λ o. o.number == n) zs)
 IsAmong (move.Certified n certificate) xs ys zs = IsSome (find (λ o. o.number == n) zs)
 IsAmong (move.Failed n problem) xs ys zs = IsSome (find (λ o. o.number == n) zs)
 
--- the object that a verdict shows or moves
+-- the object that a verdict shows or moves, and the authorizations that an order uses again
 abbrev pub NamesRows : Tables → Verdict → Type 0
+NamesRows T (orders account wanted) = Ascends (λ a. a.number) 1 T.authorizations → IsTrue (list_all (may_want_on T account) wanted)
 NamesRows T (answers what) = IsThere T what
 NamesRows T (moves move) = IsAmong move T.accounts T.authorizations T.orders
 NamesRows T _ = Unit {0}

@@ -1,5 +1,5 @@
 //! What a verdict records and shows.
-ghost use Rattle.std.specs.Prelude.{◌≡◌, ◌++◌, ◌∷◌, [], ◌<◌, ◌≤◌, ◌+◌, ℕ, List, true, length, map, IfOk, OnOk};
+ghost use Rattle.std.specs.Prelude.{◌≡◌, ◌++◌, ◌∷◌, [], ◌<◌, ◌≤◌, ◌+◌, ℕ, List, true, map, IfOk, OnOk};
 ghost use Rattle.desk_model.specs.Limits.{last_end, last_number};
 ghost use Rattle.desk_laws.specs.Ordered.{IsOrdered};
 ghost use Rattle.desk_model.specs.Decide.{entries_of, verdict_reply};
@@ -7,12 +7,12 @@ ghost use Rattle.desk_model.specs.Document.{listed_rows};
 ghost use Rattle.desk_model.specs.Effect.{effects, swept};
 ghost use Rattle.desk_model.specs.Entry.{entry_of};
 ghost use Rattle.desk_model.specs.Legal.{wanted_name};
-ghost use Rattle.desk_model.specs.Run.{count_tokens};
+ghost use Rattle.desk_model.specs.Run.{count_new, count_tokens};
 ghost use Rattle.desk_model.specs.Shown.{located_order, made_account, made_order, moved_reply};
 ghost use Rattle.desk_model.specs.Tables.{Tables};
 ghost use Rattle.desk_model.specs.declared.entry.Entry.{Entry as EntryOf};
 ghost use Rattle.desk_model.specs.declared.entry.Entry.TheVariants.{Opened as opened, Ordered as ordered};
-ghost use Rattle.desk_model.specs.declared.verdict.Verdict.TheVariants.{Moves as moves};
+ghost use Rattle.desk_model.specs.declared.verdict.Verdict.TheVariants.{Moves as moves, Orders as orders};
 ghost use Rattle.desk_decisions.specs.HasTexts.{HasTexts};
 ghost use Rattle.desk_decisions.specs.There.{NamesRows};
 ghost use Rattle.desk_rules.specs.Needs.{NumbersLeft};
@@ -69,8 +69,7 @@ fn names_of(alloc: Global, wanted: &[Wanted]) -> Result<Vec<DnsName>, AllocError
 {
     let mut names = Vec::new(alloc);
     for one in wanted {
-        let Wanted::New { name, tokens: _ } = one;
-        names.push(name.clone()?)?;
+        names.push(one.name().clone()?)?;
     }
     Ok(names)
 }
@@ -98,8 +97,9 @@ fn act_on_order(
     wanted: &[Wanted],
 ) -> Result<Reply, AllocError>
     requires orders { recording.old.counters.orders < last_number }
-    requires authorizations { recording.old.counters.authorizations + length wanted.now ≤ last_number }
+    requires authorizations { recording.old.counters.authorizations + count_new wanted.now ≤ last_number }
     requires challenges { recording.old.counters.challenges + count_tokens wanted.now ≤ last_number }
+    requires there { NamesRows (swept recording.old.counters.clock book.now) (orders account wanted.now) }
     ensures recorded { OnOk result ((m : ℕ) (es : List EntryOf) → IsOrdered book.now → IsUntouched m book.now es
         → IsRecorded m book.now es recording.old.changes.items recording.old.counters
         → IsRecorded m book.now (es ++ ordered account wanted.now ∷ []) recording.new.changes.items recording.new.counters) }

@@ -115,10 +115,10 @@ rows_refer T m a h =
       listed = filtered_each _ (is_touched_order T m a) T.orders
           (each _ _ T.orders
           (λ o p yes. each _ _ o.listed (λ l q. some_filter (λ r. r.number == l.authorization) (is_touched_authorization T m a) T.authorizations q.0
-          (λ r found. or_right (is_first_authorization T m a r) _ (p.1 (λ y. is_touched_order T m a y && lists y r.number)
+          (λ r found. or_right (is_first_authorization T m a r) _ (or_left _ _ (p.1 (λ y. is_touched_order T m a y && lists y r.number)
           (and_from _ _ yes (list_any-map (λ j. j == r.number) (λ (k : Listed). k.authorization) o.listed
           ∙ q.1 (λ k. k.authorization == r.number)
-          (turned r.number l.authorization (found_passes (λ y. y.number == l.authorization) T.authorizations r found)))))))
+          (turned r.number l.authorization (found_passes (λ y. y.number == l.authorization) T.authorizations r found))))))))
           (each_both _ _ o.listed p.0 (each_member o.listed)))
           (each_both _ _ T.orders h.listed (each_member T.orders)));
     }

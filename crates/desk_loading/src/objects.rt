@@ -1,17 +1,19 @@
 //! The accounts, authorizations and orders that a call touches.
-ghost use Rattle.std.specs.Prelude.{◌≡◌, ◌++◌, [], if◌then◌else◌, option_to_list};
+ghost use Rattle.std.specs.Prelude.{◌≡◌, ◌++◌, [], if◌then◌else◌, option_map, option_to_list};
 ghost use Rattle.std.specs.List.{flat_map};
 ghost use Rattle.desk_laws.specs.Placing.{puts};
+ghost use Rattle.desk_loading.specs.Asking.{asked_of};
 ghost use Rattle.desk_loading.specs.Finding.{Finds};
 ghost use Rattle.desk_loading.specs.Naming.{authorizations_first, orders_first};
 ghost use Rattle.desk_parts.specs.Loaded.{keys as keys_of, listed_authorizations, listing_orders, new_keys};
 ghost use Rattle.desk_parts.specs.LookUps.{accounts_numbered, accounts_with_key, authorizations_numbered, owners_of};
 
+use crate::asked::put_asked_names;
 use crate::gathering::{LeadsTo, put_each, put_found, put_linked};
 use crate::look_ups::LookUps;
 use crate::named::{Named, new_key_of};
 use desk_book::{Row, Table};
-use desk_model::{AccountRow, Ask, AuthorizationRow, AuthzStatus, OrderRow, OrderStatus};
+use desk_model::{AccountRow, Ask, AuthorizationRow, AuthzStatus, DnsName, OrderRow, OrderStatus};
 use desk_storage::StorageFault;
 use std::alloc::Global;
 
@@ -149,23 +151,26 @@ pub(crate) fn put_first_orders<S: LookUps>(
 
 // ---- what these lead to
 
-/// Puts the orders that list these authorizations, the authorizations that all orders then list, and the accounts of both into
-/// the tables.
+/// Puts the orders that list these authorizations, the authorizations that all orders then list or that are asked for by these
+/// names, and the accounts of both into the tables.
 pub(crate) fn put_further<S: LookUps>(
     alloc: Global,
     source: &mut S,
     accounts: &mut Table<AccountRow>,
     authorizations: &mut Table<AuthorizationRow>,
     orders: &mut Table<OrderRow>,
+    names: &Option<Vec<DnsName>>,
 ) -> Result<(), StorageFault>
     ensures { Finds S.sight source.old source.new result (λ T.
         (orders.new ≡ puts (λ o. o.number) (listing_orders T authorizations.old) orders.old)
-        × (authorizations.new ≡ puts (λ r. r.number) (listed_authorizations T orders.new) authorizations.old)
+        × (authorizations.new ≡ puts (λ r. r.number)
+        (listed_authorizations T orders.new ++ asked_of T (option_map (λ v. v.items) names.now) accounts.old) authorizations.old)
         × (accounts.new ≡ puts (λ x. x.number)
         (flat_map (λ o. accounts_numbered T o.account) orders.new ++ flat_map (λ r. accounts_numbered T r.account) authorizations.new) accounts.old)) }
 {
     put_linked(alloc, source, orders, authorizations)?;
     put_linked(alloc, source, authorizations, orders)?;
+    put_asked_names(alloc, source, authorizations, names, accounts)?;
     put_linked(alloc, source, accounts, orders)?;
     put_linked(alloc, source, accounts, authorizations)
 }

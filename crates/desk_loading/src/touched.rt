@@ -1,8 +1,9 @@
 //! The book of the rows that a call touches.
-ghost use Rattle.std.specs.Prelude.{◌≡◌, IfOk};
+ghost use Rattle.std.specs.Prelude.{◌≡◌, IfOk, option_map};
 ghost use Rattle.desk_laws.specs.Ordered.{IsOrdered};
 ghost use Rattle.desk_laws.specs.Placing.{puts};
 ghost use Rattle.desk_loading.specs.Finding.{AreNone, AreRowsOf, Finds};
+ghost use Rattle.desk_model.specs.Asked.{asked_names};
 ghost use Rattle.desk_model.specs.Touched.{touched};
 ghost use Rattle.desk_parts.specs.Loaded.{found_nonces, loaded_at, loaded_rows};
 ghost use Rattle.desk_storage.specs.Sight.{ForTables, Reads};
@@ -16,9 +17,10 @@ use crate::objects::{
 };
 use desk_book::{Book, Table};
 use desk_model::{
-    AccountRow, Ask, AuthorizationRow, Call, Meta, Nonce, OfficeAsk, OrderRow, Policy,
+    AccountRow, Ask, AuthorizationRow, Call, DnsName, Meta, Nonce, OfficeAsk, OrderRow, Policy,
 };
 use desk_storage::StorageFault;
+use order_names::asked_names;
 use std::alloc::Global;
 
 /// Rows of each table.
@@ -57,7 +59,9 @@ fn put_touched<S: LookUps>(
     policy: &Policy,
     moment: u64,
     ask: &Ask,
+    names: &Option<Vec<DnsName>>,
 ) -> Result<(), StorageFault>
+    requires { option_map (λ v. v.items) names.now ≡ asked_names ask.now }
     ensures { Finds S.sight source.old source.new result (λ T. policy.now ≡ T.meta.policy → AreNone rows.old
         → AreRowsOf (loaded_rows T moment ask.now) rows.new) }
 {
@@ -88,6 +92,7 @@ fn put_touched<S: LookUps>(
         &mut rows.accounts,
         &mut rows.authorizations,
         &mut rows.orders,
+        names,
     )
 }
 
@@ -113,7 +118,9 @@ fn put_rows_at<S: LookUps>(
     policy: &Policy,
     moment: u64,
     ask: &Ask,
+    names: &Option<Vec<DnsName>>,
 ) -> Result<(), StorageFault>
+    requires { option_map (λ v. v.items) names.now ≡ asked_names ask.now }
     ensures { Finds S.sight source.old source.new result (λ T. policy.now ≡ T.meta.policy → IsOrdered T → AreNone rows.old
         → AreRowsOf (loaded_at T moment ask.now) rows.new) }
 {
@@ -121,7 +128,7 @@ fn put_rows_at<S: LookUps>(
         Ask::Office(OfficeAsk::Directory) => Ok(()),
         Ask::Office(OfficeAsk::ChallengeWork) => put_all_rows(alloc, source, rows),
         Ask::Office(OfficeAsk::OrderWork) => put_all_rows(alloc, source, rows),
-        _ => put_touched(alloc, source, rows, policy, moment, ask),
+        _ => put_touched(alloc, source, rows, policy, moment, ask, names),
     }
 }
 
@@ -140,6 +147,7 @@ pub fn touched_book<S: LookUps>(
     ensures reads { Reads S.sight source.old source.new result }
     ensures touched { ForTables S.sight source.old source.new (λ T. IsOrdered T → IfOk result (λ book. book ≡ touched T call.now)) }
 {
+    let names = asked_names(alloc, &call.ask)?;
     let meta = source.meta_row(alloc)?;
     let counters = meta.counters;
     let moment = call.at.max(counters.clock.moment());
@@ -149,7 +157,16 @@ pub fn touched_book<S: LookUps>(
         authorizations: Table::new(alloc),
         orders: Table::new(alloc),
     };
-    put_rows_at(alloc, source, &mut rows, &meta.policy, moment, &call.ask).and(Ok(Book::of_tables(
+    put_rows_at(
+        alloc,
+        source,
+        &mut rows,
+        &meta.policy,
+        moment,
+        &call.ask,
+        &names,
+    )
+    .and(Ok(Book::of_tables(
         meta,
         rows.nonces,
         rows.accounts,

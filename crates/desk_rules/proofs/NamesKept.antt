@@ -17,7 +17,7 @@ same_mark false true e = cc e
 same_mark false false e = refl
 
 -- names that are the same are equal
-same_names : (n m : Name) → same_name n m ≡ true → n ≡ m
+pub same_names : (n m : Name) → same_name n m ≡ true → n ≡ m
 same_names n m e =
     let parts = true_parts (bytes_eq n.base m.base) (same_bool n.wildcard m.wildcard) e in
     let base : n.base ≡ m.base = (bytes_eq-Decides n.base m.base).0 parts.0 in

@@ -43,19 +43,12 @@ fn subproblem(identifier: &Identifier, refusal: Refusal) -> Result<Subproblem, A
     })
 }
 
-// Whether two names are the same.
-fn is_same_name(name: &DnsName, other: &DnsName) -> bool
-    ensures { result ≡ same_name name.now other.now }
-{
-    name.base() == other.base() && name.is_wildcard() == other.is_wildcard()
-}
-
 // Whether a name is among those that were kept.
 fn has_name(names: &[DnsName], name: &DnsName) -> bool
     ensures { result ≡ list_any (λ other. same_name other name.now) names.now }
 {
     for other in names {
-        if is_same_name(other, name) {
+        if other.is_same(name) {
             return true;
         }
     }

@@ -31,7 +31,7 @@ fn new_order_target(
     payload: Payload,
 ) -> Result<Verdict, CoreFault>
     requires { option_map (λ v. view v.now) payload.object ≡ object_in payload.text.now }
-    ensures { let asked = given (new_order payload.entry.text.now) Refusal.Malformed (new_order_verdict (drop 16 random.now) sender) in
+    ensures { let asked = given (new_order payload.entry.text.now) Refusal.Malformed (new_order_verdict at.now (drop 16 random.now) sender) in
         MatchResult result (λ v. (v ≡ asked) × NumbersLeft at.now.meta.counters v × BytesLeft random.now v)
         (λ e. IsNeedFault at.now.meta.counters random.now asked e) }
 {

@@ -2,6 +2,7 @@
 ghost use Rattle.std.specs.Prelude.{◌≡◌, ◌+◌, ◌*◌, ◌<◌, ◌≤◌, ◌⊎◌, length, drop, sum_by, IfOk, MatchResult};
 ghost use Rattle.desk_rules.specs.Needs.{NumbersLeft, BytesLeft, IsNeedFault};
 ghost use Rattle.desk_model.specs.Authorization.{kinds_of};
+ghost use Rattle.desk_rules.specs.Making.{drawn_for, made_for};
 ghost use Rattle.desk_model.specs.Limits.{last_number};
 ghost use Rattle.desk_model.specs.Rules.{new_order_verdict, pieces, wanted};
 ghost use Rattle.desk_model.specs.Run.{count_tokens};
@@ -15,13 +16,44 @@ use desk_model::{Counters, DnsName, Identifier, MOST_NAMES, Refusal, Sequence, V
 use std::alloc::{AllocError, Global};
 use swept_rows::At;
 
-// How many tokens some names get, one for each of their challenges.
-fn count_tokens(names: &[DnsName]) -> usize
-    ensures { result ≡ sum_by (λ n. length (kinds_of n)) names.now }
+// How many authorizations an order of the account makes for a name.
+fn made_for(at: &At, account: u64, name: &DnsName) -> usize
+    ensures { result ≡ made_for at.now account name.now }
+{
+    match at.serving(account, name) {
+        Some(_) => 0,
+        None => 1,
+    }
+}
+
+// How many challenges they have, each with a token.
+fn drawn_for(at: &At, account: u64, name: &DnsName) -> usize
+    ensures { result ≡ drawn_for at.now account name.now }
+{
+    match at.serving(account, name) {
+        Some(_) => 0,
+        None => name.kinds().len(),
+    }
+}
+
+// How many authorizations an order of the account makes for some names.
+fn count_new(at: &At, account: u64, names: &[DnsName]) -> usize
+    ensures { result ≡ sum_by (made_for at.now account) names.now }
 {
     let mut count = 0;
     for name in names {
-        count += name.kinds().len();
+        count += made_for(at, account, name);
+    }
+    count
+}
+
+// How many tokens it takes for them.
+fn count_tokens(at: &At, account: u64, names: &[DnsName]) -> usize
+    ensures { result ≡ sum_by (drawn_for at.now account) names.now }
+{
+    let mut count = 0;
+    for name in names {
+        count += drawn_for(at, account, name);
     }
     count
 }
@@ -38,14 +70,27 @@ fn tokens_of(alloc: Global, name: &DnsName, random: &[u8]) -> Result<Vec<[u8; 16
     Ok(tokens)
 }
 
-// Each name with its tokens, taken in turn.
-fn wanted(alloc: Global, names: Vec<DnsName>, random: &[u8]) -> Result<Vec<Wanted>, AllocError>
-    requires { 16 * count_tokens (wanted names.items random.now) ≤ length random.now }
-    ensures { IfOk result (λ v. v.items ≡ wanted names.items random.now) }
+// Each name with the authorization that it gets in an order of the account, the tokens taken in turn.
+fn wanted(
+    alloc: Global,
+    at: &At,
+    account: u64,
+    names: Vec<DnsName>,
+    random: &[u8],
+) -> Result<Vec<Wanted>, AllocError>
+    requires { 16 * count_tokens (wanted at.now account names.items random.now) ≤ length random.now }
+    ensures { IfOk result (λ v. v.items ≡ wanted at.now account names.items random.now) }
 {
     let mut found = Vec::new(alloc);
     let mut rest = random;
     for name in names {
+        if let Some(authorization) = at.serving(account, &name) {
+            found.push(Wanted::Reused {
+                name,
+                authorization,
+            })?;
+            continue;
+        }
         let count = name.kinds().len();
         let tokens = Sequence::new(tokens_of(alloc, &name, rest)?);
         rest = later_random(rest, count);
@@ -70,7 +115,7 @@ fn has_numbers(
     has_room_for(counters.challenges, challenges)
 }
 
-// An order for these names, with a new authorization for each.
+// An order for these names, each with the authorization that serves, or a new one.
 fn order_for(
     alloc: Global,
     at: &At,
@@ -78,15 +123,16 @@ fn order_for(
     account: u64,
     names: Vec<DnsName>,
 ) -> Result<Verdict, CoreFault>
-    ensures { let asked = orders account (wanted names.items (drop 16 random.now)) in
+    ensures { let asked = orders account (wanted at.now account names.items (drop 16 random.now)) in
         MatchResult result (λ v. (v ≡ asked) × NumbersLeft at.now.meta.counters v × BytesLeft random.now v)
         (λ e. IsNeedFault at.now.meta.counters random.now asked e) }
 {
     let counters = at.counters();
-    let count = count_tokens(names.as_slice());
-    has_numbers(counters, names.len(), count)?;
-    has_tokens(random, count)?;
-    let wanted = wanted(alloc, names, later_random(random, 1))?;
+    let made = count_new(at, account, names.as_slice());
+    let drawn = count_tokens(at, account, names.as_slice());
+    has_numbers(counters, made, drawn)?;
+    has_tokens(random, drawn)?;
+    let wanted = wanted(alloc, at, account, names, later_random(random, 1))?;
     Ok(Verdict::Orders(account, Sequence::new(wanted)))
 }
 
@@ -99,7 +145,7 @@ pub(crate) fn new_order_verdict(
     account: u64,
     identifiers: &[Identifier],
 ) -> Result<Verdict, CoreFault>
-    ensures { let asked = new_order_verdict (drop 16 random.now) account identifiers.now in
+    ensures { let asked = new_order_verdict at.now (drop 16 random.now) account identifiers.now in
         MatchResult result (λ v. (v ≡ asked) × NumbersLeft at.now.meta.counters v × BytesLeft random.now v)
         (λ e. IsNeedFault at.now.meta.counters random.now asked e) }
 {

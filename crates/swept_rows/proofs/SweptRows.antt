@@ -1,11 +1,13 @@
 -- Rows that are looked up at a moment: those that stand, with their statuses then.
-use Rattle.std.proofs.Common.{◌≡◌, ℕ, Bool, true, false, cond, List, [], ◌∷◌, map, Some, refl, sym, ap, ◌∙◌}
+use Rattle.std.proofs.Common.{◌≡◌, ℕ, ◌+◌, Option, None, Bool, true, false, cond, List, [], ◌∷◌, map, Some, refl, sym, ap, ◌∙◌}
 use Rattle.std.specs.Prelude.{◌==◌, ◌||◌, find, is_some}
 use Rattle.std.specs.List.{list_any}
 use Rattle.std.specs.Option.{option_map}
 use Rattle.desk_model.specs.Tables.{Tables}
 use Rattle.desk_model.specs.Effect.{has_row, is_overdue, falls, swept, swept_authorization, swept_order}
-use Rattle.desk_model.specs.Questions.{authorization_on, challenge_of, order_on, owner_on}
+use Rattle.desk_model.specs.Name.{Name}
+use Rattle.desk_model.specs.Questions.{authorization_on, challenge_of, order_on, owner_on, serves, serving_on}
+use Rattle.desk_laws.proofs.Basics.{find-map}
 use Rattle.desk_model.specs.declared.rows.AuthorizationRow.{AuthorizationRow}
 use Rattle.desk_model.specs.declared.rows.ChallengeRow.{ChallengeRow}
 use Rattle.desk_model.specs.declared.rows.OrderRow.{OrderRow}
@@ -106,3 +108,18 @@ challenge_there n a = by a.challenges
             is_some (cond b (Some c) (find (λ c. n == c.number) cs)) ≡ (b || list_any (λ c. n == c.number) cs)
         one true ih = refl
         one false ih = ih
+
+-- the authorization that serves, among the rows that stand
+pub swept_serving_on : (m : ℕ) (T : Tables) (account : ℕ) (name : Name) →
+    option_map (λ (r : AuthorizationRow). r.number)
+    (find (λ r. serves account name (m + T.meta.policy.order_life) (swept_authorization m r)) T.authorizations)
+    ≡ option_map (λ (r : AuthorizationRow). r.number) (serving_on (swept m T) account name)
+swept_serving_on m T account name =
+    number (find (λ r. serves account name (m + T.meta.policy.order_life) (swept_authorization m r)) T.authorizations)
+    ∙ sym (ap (option_map (λ (r : AuthorizationRow). r.number))
+    (find-map (serves account name (m + T.meta.policy.order_life)) (swept_authorization m) T.authorizations))
+  where
+    number : (o : Option AuthorizationRow) →
+        option_map (λ (r : AuthorizationRow). r.number) o ≡ option_map (λ (r : AuthorizationRow). r.number) (option_map (swept_authorization m) o)
+    number None = refl
+    number (Some row) = ap (λ n. Some n) (ap (λ (r : AuthorizationRow). r.number) (swept_authorization-status m row))

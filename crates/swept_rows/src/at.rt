@@ -1,13 +1,14 @@
 //! A book at a moment, as rules read it.
 ghost use Rattle.std.specs.Prelude.{◌≡◌, option_copied, option_map, Some, None, MatchOption};
 ghost use Rattle.desk_model.specs.Effect.{swept};
-ghost use Rattle.desk_model.specs.Questions.{account_on, account_with_key, authorization_on, challenge_of, order_on, owner_on};
+ghost use Rattle.desk_model.specs.Questions.{account_on, account_with_key, authorization_on, challenge_of, order_on, owner_on, serving_on};
 
+use crate::serving::{Need, serving_row};
 use crate::standing::{authorization_status, challenge_of, order_status};
 use desk_book::Book;
 use desk_model::{
-    AccountRow, AuthorizationRow, AuthzStatus, ChallengeRow, Counters, OrderRow, OrderStatus,
-    Policy,
+    AccountRow, AuthorizationRow, AuthzStatus, ChallengeRow, Counters, DnsName, OrderRow,
+    OrderStatus, Policy,
 };
 use std::marker::Model;
 
@@ -93,6 +94,13 @@ impl<'a> At<'a> {
         Some((row, status, challenge_of(row, number)?))
     }
 
+    /// The number of the authorization that an order of an account, made at the moment, uses again for a name (RFC 8555, 7.4).
+    pub fn serving(&self, account: u64, name: &DnsName) -> Option<u64>
+        ensures { result ≡ option_map (λ r. r.number) (serving_on self.now account name.now) }
+    {
+        serving_at(self.book, self.moment, account, name)
+    }
+
     /// The order of a number, with its status at the moment.
     pub fn order(&self, number: u64) -> Option<(&OrderRow, OrderStatus)>
         ensures { option_map (λ p. record p.0.now { status = p.1 }) result ≡ order_on self.now number }
@@ -121,6 +129,22 @@ fn owner_at(book: &Book, moment: u64, challenge: u64) -> Option<(&AuthorizationR
 {
     match book.owner(challenge) {
         Some(row) => Some((row, authorization_status(moment, row))),
+        None => None,
+    }
+}
+
+// The number of the authorization that an order of an account, made at a moment, uses again for a name.
+fn serving_at(book: &Book, moment: u64, account: u64, name: &DnsName) -> Option<u64>
+    ensures { result ≡ option_map (λ r. r.number) (serving_on (swept moment book.now) account name.now) }
+{
+    let need = Need {
+        account,
+        name,
+        moment,
+        life: book.meta().policy.order_life(),
+    };
+    match serving_row(book.authorizations(), &need) {
+        Some(row) => Some(row.number),
         None => None,
     }
 }

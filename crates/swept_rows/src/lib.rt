@@ -2,6 +2,7 @@
 #![tactic(auto)]
 
 mod at;
+mod serving;
 mod standing;
 mod sweep;
 

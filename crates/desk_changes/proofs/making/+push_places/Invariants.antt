@@ -2,4 +2,4 @@ use Rattle.std.proofs.Common.{length}
 use Rattle.desk_changes.proofs.making.+push_places.Given as goal
 
 abbrev pub decreases-push_places : goal.decreases-push_places
-decreases-push_places l = length l.rows.now
+decreases-push_places l = length l.wanted.now

@@ -10,7 +10,7 @@ use Rattle.desk_parts.specs.Loaded.{loaded_at}
 use Rattle.desk_loading.specs.Finding.{AreRowsOf}
 use Rattle.desk_loading.specs.declared.touched.Rows.{Rows}
 use Rattle.desk_loading.proofs.Gathered.{made_of}
-use Rattle.desk_loading.proofs.Readings.{reads_and, reads_failing, reads_then, stands_read}
+use Rattle.desk_loading.proofs.Readings.{reads_and, reads_failing, reads_standing, reads_then, stands_here, stands_read}
 use Rattle.desk_loading.proofs.touched.touched_book.Goals as goal
 
 -- the row of the desk is loaded as it is
@@ -58,7 +58,13 @@ returns-clause-touched g c = λ honest T held ordered.
     ∙ loaded_touched T c.args.call.now ordered)
 
 pub returns-in_err-meta-clause-reads : goal.returns-in_err-meta-clause-reads
-returns-in_err-meta-clause-reads g c = reads_failing _ c.in_err-meta.ensures.reads c.from_residual.ensures.1
+returns-in_err-meta-clause-reads g c = reads_failing _ c.in_err-meta.ensures.reads c.from_residual-in_err-meta.ensures.1
 
 pub returns-in_err-meta-clause-touched : goal.returns-in_err-meta-clause-touched
-returns-in_err-meta-clause-touched g c honest T held ordered = IfOk-from_err c.from_residual.result _ c.from_residual.ensures.0
+returns-in_err-meta-clause-touched g c honest T held ordered = IfOk-from_err c.from_residual-in_err-meta.result _ c.from_residual-in_err-meta.ensures.0
+
+pub returns-in_err-names-clause-reads : goal.returns-in_err-names-clause-reads
+returns-in_err-names-clause-reads g c = reads_standing _ stands_here
+
+pub returns-in_err-names-clause-touched : goal.returns-in_err-names-clause-touched
+returns-in_err-names-clause-touched g c honest T held ordered = IfOk-from_err c.from_residual.result _ c.from_residual.ensures.0

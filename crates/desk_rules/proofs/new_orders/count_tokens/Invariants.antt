@@ -1,6 +1,7 @@
 use Rattle.std.proofs.Common.{◌≡◌, ◌+◌, drop}
-use Rattle.desk_rules.proofs.NamesWanted.{count_kinds}
+use Rattle.std.specs.Prelude.{sum_by}
+use Rattle.desk_rules.specs.Making.{drawn_for}
 use Rattle.desk_rules.proofs.new_orders.count_tokens.Given as goal
 
 abbrev pub invariant-loop-name : goal.invariant-loop-name
-invariant-loop-name l = l.count + count_kinds (drop l.name-index l.names) ≡ count_kinds l.names
+invariant-loop-name l = l.count + sum_by (drawn_for l.at l.account) (drop l.name-index l.names) ≡ sum_by (drawn_for l.at l.account) l.names

@@ -1,27 +1,18 @@
-use Rattle.std.proofs.Common.{◌≡◌, ◌+◌, ◌++◌, ◌∷◌, [], map, ap, sym, subst, ◌∙◌}
-use Rattle.desk_model.specs.Derived.{restated_order}
+use Rattle.std.proofs.Common.{◌≡◌, ◌+◌, ◌++◌, ◌∷◌, [], map, ap, ◌∙◌}
 use Rattle.desk_model.specs.declared.rows.Change.TheVariants.{PutAuthorization, PutOrder}
 use Rattle.desk_model.specs.declared.rows.Counters.{Counters}
 use Rattle.desk_model.specs.declared.entry.Entry.TheVariants.{Ordered as ordered}
-use Rattle.desk_laws.specs.Ordered.{Ascends}
-use Rattle.desk_changes.specs.Made.{bare_order, next_order, ordered_counters}
-use Rattle.desk_changes.proofs.MadeRows.{made_ascends}
+use Rattle.desk_changes.specs.Made.{made_order, next_order, ordered_counters}
 use Rattle.desk_changes.proofs.Recordings.{and_gives, and_ok, both_ok, recorded_as}
 use Rattle.desk_changes.proofs.Moving.{and_ordered}
 use Rattle.desk_changes.proofs.recording.Recording.order.Goals as goal
 use Rattle.desk_changes.proofs.recording.Recording.order.Goals.{After-and}
 
--- the order beside the rows that are made
+-- the order, by the counters before its rows were made
 order_is : (c : After-and) → c.in_ok-order.order ≡ next_order c.args.policy.now c.args.self.now.counters c.args.account c.args.wanted.now
 order_is c =
-    c.in_ok-order.ensures (c.args.self.now.counters.authorizations + 1)
-    (subst (Ascends (λ r. r.number) (c.args.self.now.counters.authorizations + 1)) (sym (c.deref.ensures.value ∙ c.in_ok-rows.ensures.rows))
-    (made_ascends c.args.self.now.counters.clock c.args.account c.args.policy.now.authz_life c.args.wanted.now
-    (c.args.self.now.counters.authorizations + 1) (c.args.self.now.counters.challenges + 1)))
-    ∙ (λ i. restated_order (c.in_ok-rows.ensures.counters i).clock (c.deref.result.now)
-    (bare_order c.args.policy.now (c.in_ok-rows.ensures.counters i) c.args.account c.deref.result.now))
-    ∙ ap (λ rows. restated_order c.args.self.now.counters.clock rows
-    (bare_order c.args.policy.now c.args.self.now.counters c.args.account rows)) (c.deref.ensures.value ∙ c.in_ok-rows.ensures.rows)
+    c.in_ok-order.ensures
+    ∙ (λ i. made_order c.args.policy.now (c.in_ok-rows.ensures.counters i) c.args.account c.args.wanted.now (c.args.self.now.counters.authorizations + 1))
 
 pub returns-clause-order : goal.returns-clause-order
 returns-clause-order c =
@@ -45,5 +36,5 @@ returns-clause-changes c =
 pub returns-clause-recorded : goal.returns-clause-recorded
 returns-clause-recorded c =
     both_ok c.and.result (returns-clause-changes c) (returns-clause-counters c)
-    (λ made same m B es policy is untouched h. recorded_as m B (es ++ ordered c.args.account c.args.wanted.now ∷ []) _ _ _ _ made same
-    (and_ordered m B es c.args.policy.now c.args.account c.args.wanted.now c.args.self.now.changes.items c.args.self.now.counters policy is untouched h))
+    (λ made same m B es policy is untouched standing h. recorded_as m B (es ++ ordered c.args.account c.args.wanted.now ∷ []) _ _ _ _ made same
+    (and_ordered m B es c.args.policy.now c.args.account c.args.wanted.now c.args.self.now.changes.items c.args.self.now.counters policy is untouched standing h))

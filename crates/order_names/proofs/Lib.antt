@@ -1,0 +1,2 @@
+pub mod NamesKept
+pub mod NamesRead
