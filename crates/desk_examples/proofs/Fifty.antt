@@ -30,9 +30,9 @@ fifty_kept = refl
 -- each takes a token for each of its two challenges, from 1600 random bytes
 pub fifty_wanted : FiftyWanted
 unfolding computing
-fifty_wanted = refl
+fifty_wanted T = refl
 
--- so the order is recorded, whatever the desk holds
+-- so the order is recorded, whatever else the desk holds
 pub fifty_ordered : FiftyOrdered
 fifty_ordered = fifty_steps fifty_identifiers fifty_faultless fifty_taken fifty_kept fifty_wanted
 

@@ -17,7 +17,8 @@ use Rattle.desk_model.specs.declared.reply.Subproblem.{Subproblem}
 use Rattle.desk_examples.proofs.Computing.{computing}
 use Rattle.desk_examples.proofs.PlainNames.{is_marked, is_plain, lowered, plain_name}
 use Rattle.desk_examples.specs.Calls.{simple, zeros}
-use Rattle.desk_examples.specs.Fifty.{names, identifier, AreNames, FiftyIdentifiers, FiftyFaultless, FiftyTaken, FiftyKept, FiftyWanted, FiftyOrdered}
+use Rattle.desk_model.specs.Tables.{Tables}
+use Rattle.desk_examples.specs.Fifty.{bare, names, identifier, AreNames, FiftyIdentifiers, FiftyFaultless, FiftyTaken, FiftyKept, FiftyWanted, FiftyOrdered}
 
 -- the text is plain, and a name in its own spelling
 abbrev is_simple : List ℕ → Bool
@@ -56,18 +57,18 @@ names_taken [] h = refl
 names_taken (x ∷ xs) h = rw (h.0, names_taken xs h.1) refl
 
 -- fifty identifiers are not too many
-in_number : given (Some (map identifier (names 50))) refusal.Malformed (new_order_verdict (zeros 1600) 1)
-    ≡ order_of (zeros 1600) 1 (map identifier (names 50)) (subproblems (map identifier (names 50)))
+in_number : (T : Tables) → given (Some (map identifier (names 50))) refusal.Malformed (new_order_verdict T (zeros 1600) 1)
+    ≡ order_of T (zeros 1600) 1 (map identifier (names 50)) (subproblems (map identifier (names 50)))
 unfolding check given
-in_number = refl
+in_number T = refl
 
 -- the steps of the decision, one after the other
 pub fifty_steps : FiftyIdentifiers → FiftyFaultless → FiftyTaken → FiftyKept → FiftyWanted → FiftyOrdered
 fifty_steps read faultless taken all_kept all_wanted T =
     let ids : List Identifier = map identifier (names 50) in
-    ap (λ (o : Option (List Identifier)). given o refusal.Malformed (new_order_verdict (zeros 1600) 1)) read
-    ∙ in_number
-    ∙ ap (λ (s : List Subproblem). order_of (zeros 1600) 1 ids s) faultless
-    ∙ ap (λ (ns : List Name). orders 1 (wanted (kept ns) (zeros 1600))) taken
-    ∙ ap (λ (ns : List Name). orders 1 (wanted ns (zeros 1600))) all_kept
-    ∙ ap (λ (ws : List Wanted). orders 1 ws) all_wanted
+    ap (λ (o : Option (List Identifier)). given o refusal.Malformed (new_order_verdict (bare T) (zeros 1600) 1)) read
+    ∙ in_number (bare T)
+    ∙ ap (λ (s : List Subproblem). order_of (bare T) (zeros 1600) 1 ids s) faultless
+    ∙ ap (λ (ns : List Name). orders 1 (wanted (bare T) 1 (kept ns) (zeros 1600))) taken
+    ∙ ap (λ (ns : List Name). orders 1 (wanted (bare T) 1 ns (zeros 1600))) all_kept
+    ∙ ap (λ (ws : List Wanted). orders 1 ws) (all_wanted T)

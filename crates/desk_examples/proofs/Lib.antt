@@ -22,6 +22,7 @@ pub mod Payloads
 pub mod PlainNames
 pub mod Problems
 pub mod Refused
+pub mod Reusing
 pub mod Rows
 pub mod Statuses
 pub mod TouchedRows

@@ -1,11 +1,12 @@
 -- The first order, and what its names make (RFC 8555, 7.1.3, 7.1.4, 7.4): its names are read once, for its verdict.
 use Rattle.std.specs.Prelude.{◌≡◌, ℕ, List, [], ◌∷◌, map, codes, Option, Some, None, if◌then◌else◌, not, nat_lt, ◌*◌, refl}
 use Rattle.std.proofs.Common.{ap, ◌∙◌}
-use Rattle.desk_model.specs.Decide.{Decision, after, decide, passed_decision}
+use Rattle.desk_model.specs.Decide.{Decision, after, decide, nonce_entries, passed_decision, tables_after}
 use Rattle.desk_model.specs.History.{record_all}
 use Rattle.desk_model.specs.Legal.{numbers_fit}
 use Rattle.desk_model.specs.Names.{name_of}
 use Rattle.desk_model.specs.Rules.{new_order_verdict, wanted}
+use Rattle.desk_model.specs.Tables.{Tables}
 use Rattle.desk_model.specs.Run.{Ran, and_reply, count_pieces, run, unless_faulty}
 use Rattle.desk_model.specs.declared.verdict.Verdict.{Verdict}
 use Rattle.desk_model.specs.declared.verdict.Verdict.TheVariants.{Orders as orders}
@@ -31,11 +32,15 @@ wildcard : name_of (codes "*.example.org") ≡ Some any_example_org
 wildcard = plain_name _ refl
 
 -- so the order is taken: names that are equal keep their first place, a wildcard stands apart
-taken : (random : List ℕ)
-    → new_order_verdict random 1 (map identifier (codes "Example.ORG" ∷ codes "example.org" ∷ codes "*.example.org" ∷ []))
-    ≡ orders 1 (wanted (example_org ∷ any_example_org ∷ []) random)
+taken : (T : Tables) (random : List ℕ)
+    → new_order_verdict T random 1 (map identifier (codes "Example.ORG" ∷ codes "example.org" ∷ codes "*.example.org" ∷ []))
+    ≡ orders 1 (wanted T 1 (example_org ∷ any_example_org ∷ []) random)
 unfolding computing
-taken random = simp (upper_case, lower_case, wildcard)
+taken T random = simp (upper_case, lower_case, wildcard)
+
+-- the tables after the nonce was spent and one issued
+abbrev before : ℕ → Tables
+before count = tables_after 0 (nonce_entries 4 (zeros count)) with_fifth_nonce
 
 -- the decision on the order with so many random bytes, by its verdict
 abbrev decided : ℕ → Verdict → Decision
@@ -59,17 +64,17 @@ run_by count f =
 -- the first order: names that are equal keep their first place, a wildcard stands apart
 pub first_order : FirstOrder
 unfolding computing
-first_order = ap (λ v. computed (decided 64 v)) (taken (zeros 48))
+first_order = ap (λ v. computed (decided 64 v)) (taken (before 64) (zeros 48))
 
 -- 64 random bytes are enough: 16 for the nonce and 16 for each of three challenges
 pub enough_random : EnoughRandom
 unfolding computing
-enough_random = ap (fault_by 64) (taken (zeros 48))
+enough_random = ap (fault_by 64) (taken (before 64) (zeros 48))
 
 -- with one less the call has a fault, and records nothing
 pub short_random_keeps_nonce : ShortRandomKeepsNonce
 unfolding computing
-short_random_keeps_nonce = ap (fault_by 63) (taken (zeros 47))
+short_random_keeps_nonce = ap (fault_by 63) (taken (before 63) (zeros 47))
 
 -- a call with a fault has no reply, and its nonce stays open
 pub short_random_records_nothing : ShortRandomRecordsNothing
@@ -94,4 +99,4 @@ wildcard_challenge = refl
 -- the desk gets there by the calls that were shown, in their order
 pub first_calls : FirstCalls
 unfolding computing
-first_calls = ap (λ f. (run_by 64 f).history) enough_random ∙ ap (history_by 64) (taken (zeros 48))
+first_calls = ap (λ f. (run_by 64 f).history) enough_random ∙ ap (history_by 64) (taken (before 64) (zeros 48))

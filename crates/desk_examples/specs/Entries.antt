@@ -11,4 +11,4 @@ pub use Rattle.desk_model.specs.declared.entry.Entry.TheVariants.{Finalized as f
 pub use Rattle.desk_model.specs.declared.entry.Entry.TheVariants.{Failed as failed}
 pub use Rattle.desk_model.specs.declared.entry.Ending.TheVariants.{Deactivated as deactivated, Revoked as revoked}
 pub use Rattle.desk_model.specs.declared.entry.Outcome.TheVariants.{Good as good, IncorrectResponse as incorrect_response, Connection as connection, Dns as dns}
-pub use Rattle.desk_model.specs.declared.entry.Wanted.TheVariants.{New as new}
+pub use Rattle.desk_model.specs.declared.entry.Wanted.TheVariants.{New as new, Reused as reused}

@@ -64,15 +64,19 @@ FiftyTaken = names_in (map identifier (names 50)) ≡ map simple (names 50)
 abbrev pub FiftyKept : Type 0
 FiftyKept = kept (map simple (names 50)) ≡ map simple (names 50)
 
+-- a desk without authorizations
+abbrev pub bare : Tables → Tables
+bare T = record T { authorizations = [] }
+
 -- each takes a token for each of its two challenges, from 1600 random bytes
 abbrev pub FiftyWanted : Type 0
-FiftyWanted = wanted (map simple (names 50)) (zeros 1600) ≡ map wants (names 50)
+FiftyWanted = (T : Tables) → wanted (bare T) 1 (map simple (names 50)) (zeros 1600) ≡ map wants (names 50)
 
--- so the order is recorded, whatever the desk holds
+-- so the order is recorded, whatever else the desk holds
 abbrev pub FiftyOrdered : Type 0
 FiftyOrdered =
     (T : Tables)
-    → target_verdict T (zeros 1600) 1 (order_text (names 50)) to.NewOrder
+    → target_verdict (bare T) (zeros 1600) 1 (order_text (names 50)) to.NewOrder
     ≡ orders 1 (map wants (names 50))
 
 -- which takes 1600 random bytes, beside the 16 of the nonce

@@ -20,6 +20,7 @@ pub mod Orders
 pub mod Payloads
 pub mod Problems
 pub mod Refused
+pub mod Reusing
 pub mod Rows
 pub mod Statuses
 pub mod Texts

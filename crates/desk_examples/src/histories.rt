@@ -15,6 +15,11 @@ ghost use Rattle.desk_examples.specs.Following.{CertifyingTooLate, CertifyingToo
 ghost use Rattle.desk_examples.specs.Following.{CertifyingFallen, CertifyingTwice, Failing, FailingInside, FailingByDns};
 ghost use Rattle.desk_examples.specs.Following.{FailingWithoutDetail, FailingAtLength, FailingReady, FailingTwice};
 ghost use Rattle.desk_examples.specs.Formed.{ChangesToText, ChangesToLatin, OpensWithLatin, FailsByLatin};
+ghost use Rattle.desk_examples.specs.Reusing.{ReusesValid, ReusesBesideNew, MakesAnother, ReusesPending, ReusesRevoked, ReusesOther, ReusesForWildcard};
+ghost use Rattle.desk_examples.specs.Reusing.{ReusesForeign, ReusesUnderNewKey, ReusesUnderOldKey, ReusesUnknown, ReusesTwice, ReusesToTheEnd, ReusesTooShort};
+ghost use Rattle.desk_examples.specs.Reusing.{ServesValid, ServesNoPending};
+ghost use Rattle.desk_examples.specs.Reusing.{ServesNoWildcard, ServesNoLonger, ServesLeast, ServesNext, Picks, MakesOne, MakesTwoChallenges};
+ghost use Rattle.desk_examples.specs.Reusing.{ListsBoth, BesideNewIsPending, ReusedIsReady, CertifiedStays, SharingFalls, BothFall, OtherFalls};
 ghost use Rattle.desk_examples.specs.Rows.{FirstRows, AuthorizationRows, OrderRows, NonceGone, EndRow, FirstEndRow, LateEndRow};
 ghost use Rattle.desk_examples.specs.Rows.{NoFaults, OrderFault, AllFaults};
 
@@ -116,4 +121,38 @@ pub fn rows_are_kept()
     ensures no_faults { NoFaults }
     ensures order_fault { OrderFault }
     ensures all_faults { AllFaults }
+{}
+
+/// Orders that use valid authorizations again: which they may use, which is used, what is made, and what falls with it.
+pub fn authorizations_are_shared()
+    ensures reuses_valid { ReusesValid }
+    ensures reuses_beside_new { ReusesBesideNew }
+    ensures makes_another { MakesAnother }
+    ensures reuses_pending { ReusesPending }
+    ensures reuses_revoked { ReusesRevoked }
+    ensures reuses_other { ReusesOther }
+    ensures reuses_for_wildcard { ReusesForWildcard }
+    ensures reuses_foreign { ReusesForeign }
+    ensures reuses_under_new_key { ReusesUnderNewKey }
+    ensures reuses_under_old_key { ReusesUnderOldKey }
+    ensures reuses_unknown { ReusesUnknown }
+    ensures reuses_twice { ReusesTwice }
+    ensures reuses_to_the_end { ReusesToTheEnd }
+    ensures reuses_too_short { ReusesTooShort }
+    ensures serves_valid { ServesValid }
+    ensures serves_no_pending { ServesNoPending }
+    ensures serves_no_wildcard { ServesNoWildcard }
+    ensures serves_no_longer { ServesNoLonger }
+    ensures serves_least { ServesLeast }
+    ensures serves_next { ServesNext }
+    ensures picks { Picks }
+    ensures makes_one { MakesOne }
+    ensures makes_two_challenges { MakesTwoChallenges }
+    ensures lists_both { ListsBoth }
+    ensures beside_new_is_pending { BesideNewIsPending }
+    ensures reused_is_ready { ReusedIsReady }
+    ensures certified_stays { CertifiedStays }
+    ensures sharing_falls { SharingFalls }
+    ensures both_fall { BothFall }
+    ensures other_falls { OtherFalls }
 {}

@@ -8,7 +8,7 @@ mod requests;
 mod texts;
 mod touched;
 
-pub use histories::{entries_are_formed, entries_follow, rows_are_kept};
+pub use histories::{authorizations_are_shared, entries_are_formed, entries_follow, rows_are_kept};
 pub use lives::{
     accounts_end, certificates_have_limits, fifty_names_are_ordered, first_order_holds,
     identifiers_are_counted, offices_are_served, statuses_are_derived,
