@@ -3,6 +3,7 @@ use Rattle.std.proofs.Common.{◌≡◌, ℕ, pos, List, [], ◌∷◌, ◌++◌
 use Rattle.std.specs.Prelude.{nat_lt}
 use Rattle.std.specs.List.{flat_map}
 use Rattle.std.proofs.lemmas.List.{map-append, map-id}
+use Rattle.std.proofs.lemmas.Simd.{map-map}
 use Rattle.sqlite.specs.declared.types.Value.TheVariants.{Int}
 use Rattle.sqlite_value.specs.declared.keys.Collation.TheVariants.{Binary}
 use Rattle.sqlite_value.specs.Order.{Row}
@@ -12,8 +13,9 @@ use Rattle.sqlite_sql.specs.Term.{Term, col, op2}
 use Rattle.sqlite_tied.specs.Compute.{everything}
 use Rattle.sqlite.specs.State.{State, Shown}
 use Rattle.desk_columns.specs.Columns.{account_columns, authorization_columns, challenge_columns, order_columns}
-use Rattle.desk_columns.specs.Flat.{challenge_rows, owned_by, without_challenges, without_listed}
+use Rattle.desk_columns.specs.Flat.{bare, bare_row, challenge_rows, owned_by, without_challenges, without_listed}
 use Rattle.desk_columns.specs.Limits.{IsStoredAccount, IsStoredAuthorization, IsStoredChallenge, IsStoredOrder}
+use Rattle.desk_columns.specs.declared.flat_rows.BareChallenge.{BareChallenge}
 use Rattle.desk_columns.specs.declared.flat_rows.Owned.{Owned}
 use Rattle.desk_columns.proofs.RowsApart.{accounts-apart, authorizations-apart, challenges-apart, orders-apart}
 use Rattle.desk_model.specs.Kept.{EachOf}
@@ -139,19 +141,20 @@ module _ (old new : State) (T : Tables) (rows : List Row) (values : Row) (has : 
       (λ x. above_test x.number (bounded n)) (λ x k. above_bounded x.number n k.number.1) old new values T.authorizations rows found
       (authorizations_held old.now T has) book.stored.authorizations given h kept spells
 
-  -- a challenge, under its authorization
-  pub challenge_above_found : (found : List (Owned ChallengeRow)) → EachOf IsStoredChallenge found → map challenge_in rows ≡ map challenge_columns found
+  -- a challenge, without the key of its answer
+  pub challenge_above_found : (found : List (Owned BareChallenge)) → EachOf IsStoredChallenge found → map challenge_in rows ≡ map challenge_columns found
       → Shown select_challenge_above values old new rows
-      → map (λ (c : Owned ChallengeRow). c.row) found ≡ first_of (challenges_above T n)
+      → map (λ (c : Owned BareChallenge). c.row) found ≡ map bare (first_of (challenges_above T n))
   challenge_above_found found kept spells h =
       let all = challenge_rows T.authorizations in
-      let is : found ≡ map (λ (x : Owned ChallengeRow). x) (first_of (filter (λ (c : Owned ChallengeRow). nat_lt n c.row.number) all)) =
-      found_first challenge_layout (λ (x : Owned ChallengeRow). x) challenge_columns IsStoredChallenge challenge_in challenge_project challenge_spelled
+      let first = first_of (filter (λ (c : Owned ChallengeRow). nat_lt n c.row.number) all) in
+      let is : found ≡ map bare_row first =
+      found_first challenge_layout bare_row challenge_columns IsStoredChallenge challenge_in challenge_project challenge_spelled
       challenges-apart select_challenge_above is_higher (Int (pos (bounded n)) ∷ []) (λ c. nat_lt (bounded n) c.row.number) (λ c. nat_lt n c.row.number)
       challenge_above_reading
       (λ c. above_test c.row.number (bounded n)) (λ c k. above_bounded c.row.number n k.number.1) old new values all rows found
-      (challenges_held old.now T has)
-      (subst (EachOf IsStoredChallenge) (sym (map-id all)) book.stored.challenges) given h kept spells in
-      ap (map (λ (c : Owned ChallengeRow). c.row))
-      (is ∙ map-id (first_of (filter (λ (c : Owned ChallengeRow). nat_lt n c.row.number) all)))
-      ∙ first_challenge T n
+      (challenges_held old.now T has) book.stored.challenges given h kept spells in
+      ap (map (λ (c : Owned BareChallenge). c.row)) is
+      ∙ map-map (λ (c : Owned BareChallenge). c.row) bare_row first
+      ∙ sym (map-map bare (λ (c : Owned ChallengeRow). c.row) first)
+      ∙ ap (map bare) (first_challenge T n)

@@ -7,14 +7,15 @@ use Rattle.desk_columns.specs.TextColumns.{HasTextAccount, HasTextAuthorization,
 use Rattle.desk_columns.specs.declared.columns.AccountColumns.{AccountColumns}
 use Rattle.desk_columns.specs.declared.columns.AuthzColumns.{AuthzColumns}
 use Rattle.desk_columns.specs.declared.columns.ChallColumns.{ChallColumns}
+use Rattle.desk_columns.specs.declared.columns.ChallKeyColumns.{ChallKeyColumns}
 use Rattle.desk_columns.specs.declared.columns.MetaColumns.{MetaColumns}
 use Rattle.desk_columns.specs.declared.columns.NonceColumns.{NonceColumns}
 use Rattle.desk_columns.specs.declared.columns.OrderAuthzColumns.{OrderAuthzColumns}
 use Rattle.desk_columns.specs.declared.columns.OrderColumns.{OrderColumns}
 use Rattle.desk_model.specs.Kept.{EachOf}
-use Rattle.desk_tables.specs.Images.{account_params, authorization_params, blob_or_null, challenge_params, int_or_null}
+use Rattle.desk_tables.specs.Images.{account_params, authorization_params, blob_or_null, challenge_params, int_or_null, key_params}
 use Rattle.desk_tables.specs.Images.{listed_params, meta_params, nonce_params, order_params, text_or_null}
-use Rattle.desk_reading.specs.Fitting.{FitsAccount, FitsAuthorization, FitsChallenge, FitsListed, FitsMeta, FitsNonce, FitsOrder}
+use Rattle.desk_reading.specs.Fitting.{FitsAccount, FitsAuthorization, FitsChallenge, FitsKey, FitsListed, FitsMeta, FitsNonce, FitsOrder}
 use Rattle.desk_reading.specs.Fitting.{HoldsBlobOrNull, HoldsIntOrNull, HoldsTextOrNull}
 
 -- ---- values
@@ -120,6 +121,10 @@ challenge_fits c h =
       outcome = (omega arith, text_fits c.outcome h.outcome);
       status = (omega arith, h.status);
     }
+
+-- `chall_key`
+pub key_fits : (c : ChallKeyColumns) → Unit {0} → FitsKey (key_params c)
+key_fits c h = record { chall = (omega arith, tt); thumb = (omega arith, tt) }
 
 -- ---- tables
 

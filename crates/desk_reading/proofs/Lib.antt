@@ -5,6 +5,7 @@ pub mod Failing
 pub mod Fits
 pub mod FormatLemmas
 pub mod FoundRows
+pub mod KeyRows
 pub mod KeyedReadings
 pub mod ListedOrder
 pub mod Lists

@@ -11,7 +11,7 @@ use Rattle.stored_laws.specs.Told.{AreReorderedColumns}
 use Rattle.desk_tables.specs.Holds.{Holds}
 use Rattle.desk_reading.specs.Shown.{AreColumnsOf, AreShown}
 use Rattle.desk_reading.proofs.Lists.{as_it_is}
-use Rattle.desk_reading.proofs.WholeTables.{accounts_read, authorizations_read, challenges_read, listed_read, meta_read, nonces_read, orders_read}
+use Rattle.desk_reading.proofs.WholeTables.{accounts_read, authorizations_read, challenges_read, keys_read, listed_read, meta_read, nonces_read, orders_read}
 
 -- the columns of orders do not tell what these list, nor those of authorizations their challenges
 pub reordered : (stored : StoredRows) (T : Tables) → AreColumnsOf stored T → AreReorderedColumns stored (rows_columns (flat T))
@@ -24,6 +24,7 @@ reordered stored T are =
       authzs = as_it_is _ _ (are.authorizations ∙ sym (map-map authorization_columns without_challenges T.authorizations));
       order_authzs = are.listed;
       challs = as_it_is _ _ are.challenges;
+      chall_keys = as_it_is _ _ are.keys;
     }
 
 -- what the database showed of the tables that it held are their columns
@@ -47,4 +48,6 @@ shown_columns {S} g conn stored T has it =
           (held it.listed.before it.listed.same) it.listed.shown it.listed.columns;
       challenges = challenges_read (state g it.challenges.before) (state g it.challenges.after) T it.challenges.rows stored.challs
           (held it.challenges.before it.challenges.same) it.challenges.shown it.challenges.columns;
+      keys = keys_read (state g it.keys.before) (state g it.keys.after) T it.keys.rows stored.chall_keys (held it.keys.before it.keys.same)
+          it.keys.shown it.keys.columns;
     }

@@ -7,10 +7,10 @@ use Rattle.sqlite_sql.specs.Term.{Term, col, op2}
 use Rattle.sqlite_tied.specs.Compute.{everything}
 use Rattle.desk_reading.specs.Texts.{select_accounts_numbered, select_accounts_with_key, select_authorizations_numbered}
 use Rattle.desk_reading.specs.Texts.{select_authorizations_of, select_authorizations_past, select_challenges_numbered}
-use Rattle.desk_reading.specs.Texts.{select_challenges_of, select_listed_by, select_listing, select_nonces_before}
+use Rattle.desk_reading.specs.Texts.{select_challenges_of, select_keys_of, select_listed_by, select_listing, select_nonces_before}
 use Rattle.desk_reading.specs.Texts.{select_nonces_numbered, select_orders_numbered, select_orders_of, select_orders_past}
 use Rattle.desk_reading.proofs.Answered.{IsReading, by}
-use Rattle.desk_reading.proofs.Told.{account_project, authorization_project, challenge_project, listed_project, nonce_project, order_project}
+use Rattle.desk_reading.proofs.Told.{account_project, authorization_project, challenge_project, key_project, listed_project, nonce_project, order_project}
 
 -- ---- tests
 
@@ -161,3 +161,8 @@ challenges_of_reading = record {
   means = refl;
   selecting = refl;
 }
+
+-- the key of an answer
+pub keys_of_reading : IsReading select_keys_of 17 (is_equal 0) key_project (by 0 ∷ [])
+unfolding everything
+keys_of_reading = record { names = codes "chall" ∷ codes "thumb" ∷ []; means = refl; selecting = refl }

@@ -6,11 +6,13 @@ use Rattle.sqlite.specs.declared.types.Value.TheVariants.{Int, Text}
 use Rattle.sqlite_value.specs.Order.{Row}
 use Rattle.sqlite_sql.specs.Term.{Term}
 use Rattle.sqlite.specs.State.{State, Shown}
-use Rattle.desk_columns.specs.Columns.{account_columns, authorization_columns, challenge_columns, nonce_columns, order_columns}
-use Rattle.desk_columns.specs.Flat.{challenge_rows, without_challenges, without_listed}
-use Rattle.desk_columns.specs.Limits.{IsStoredAccount, IsStoredAuthorization, IsStoredChallenge, IsStoredNonce, IsStoredOrder}
+use Rattle.desk_columns.specs.Columns.{account_columns, authorization_columns, challenge_columns, key_columns, nonce_columns, order_columns}
+use Rattle.desk_columns.specs.Flat.{bare_row, challenge_rows, key_rows, without_challenges, without_listed}
+use Rattle.desk_columns.specs.Limits.{IsStoredAccount, IsStoredAuthorization, IsStoredChallenge, IsStoredKey, IsStoredNonce, IsStoredOrder}
+use Rattle.desk_columns.specs.declared.flat_rows.AnswerKey.{AnswerKey}
+use Rattle.desk_columns.specs.declared.flat_rows.BareChallenge.{BareChallenge}
 use Rattle.desk_columns.specs.declared.flat_rows.Owned.{Owned}
-use Rattle.desk_columns.proofs.RowsApart.{accounts-apart, authorizations-apart, challenges-apart, nonces-apart, orders-apart}
+use Rattle.desk_columns.proofs.RowsApart.{accounts-apart, authorizations-apart, challenges-apart, keys-apart, nonces-apart, orders-apart}
 use Rattle.desk_model.specs.Derived.{authz_code, order_code}
 use Rattle.desk_model.specs.Document.{authorization_status_text, order_status_text}
 use Rattle.desk_model.specs.Kept.{EachOf}
@@ -25,14 +27,15 @@ use Rattle.desk_model.specs.declared.status.OrderStatus.{OrderStatus}
 use Rattle.desk_parts.specs.LookUps.{accounts_numbered, accounts_with_key, authorizations_numbered, authorizations_of}
 use Rattle.desk_parts.specs.LookUps.{authorizations_past, nonces_before, nonces_numbered, orders_numbered, orders_of, orders_past}
 use Rattle.desk_tables.specs.Holds.{Holds}
-use Rattle.desk_tables.specs.Layouts.{account_layout, authorization_layout, challenge_layout, nonce_layout, order_layout}
+use Rattle.desk_tables.specs.Layouts.{account_layout, authorization_layout, challenge_layout, key_layout, nonce_layout, order_layout}
 use Rattle.desk_tables.proofs.Holding.{accounts_held, authorizations_held, challenges_held, nonces_held, orders_held}
 use Rattle.desk_reading.specs.Bounded.{bounded}
-use Rattle.desk_reading.specs.Spelled.{account_in, authorization_in, challenge_in, nonce_in, order_in}
+use Rattle.desk_reading.specs.Keys.{keys_of}
+use Rattle.desk_reading.specs.Spelled.{account_in, authorization_in, challenge_in, key_in, nonce_in, order_in}
 use Rattle.desk_reading.specs.StoredBook.{IsStoredBook}
 use Rattle.desk_reading.specs.Texts.{select_accounts_numbered, select_accounts_with_key}
 use Rattle.desk_reading.specs.Texts.{select_authorizations_numbered, select_authorizations_of, select_authorizations_past}
-use Rattle.desk_reading.specs.Texts.{select_challenges_numbered, select_challenges_of}
+use Rattle.desk_reading.specs.Texts.{select_challenges_numbered, select_challenges_of, select_keys_of}
 use Rattle.desk_reading.specs.Texts.{select_nonces_before, select_nonces_numbered, select_orders_numbered}
 use Rattle.desk_reading.specs.Texts.{select_orders_of, select_orders_past}
 use Rattle.desk_reading.proofs.Answered.{IsReading, by, passes}
@@ -40,12 +43,13 @@ use Rattle.desk_reading.proofs.FoundRows.{found_keyed}
 use Rattle.desk_reading.proofs.LookUpReadings.{accounts_numbered_reading, accounts_with_key_reading}
 use Rattle.desk_reading.proofs.LookUpReadings.{authorizations_numbered_reading, authorizations_of_reading}
 use Rattle.desk_reading.proofs.LookUpReadings.{authorizations_past_reading, challenges_numbered_reading, challenges_of_reading}
-use Rattle.desk_reading.proofs.LookUpReadings.{is_equal, is_lower, nonces_before_reading, nonces_numbered_reading}
+use Rattle.desk_reading.proofs.LookUpReadings.{is_equal, is_lower, keys_of_reading, nonces_before_reading, nonces_numbered_reading}
 use Rattle.desk_reading.proofs.LookUpReadings.{orders_numbered_reading, orders_of_reading, orders_past_reading, past}
+use Rattle.desk_reading.proofs.WholeTables.{keys_held}
 use Rattle.desk_reading.proofs.StatusTests.{authorization_status_test, order_status_test}
 use Rattle.desk_reading.proofs.Tests.{below_bounded, below_test, number_test, same_bounded, text_below_test, text_test}
 use Rattle.desk_reading.proofs.Told.{account_project, account_spelled, authorization_project, authorization_spelled}
-use Rattle.desk_reading.proofs.Told.{challenge_project, challenge_spelled, nonce_project}
+use Rattle.desk_reading.proofs.Told.{challenge_project, challenge_spelled, key_project, key_spelled, nonce_project}
 use Rattle.desk_reading.proofs.Told.{nonce_spelled, order_project, order_spelled}
 
 module _ (old new : State) (T : Tables) (rows : List Row) (values : Row) (has : Holds old.now T) (book : IsStoredBook T) where
@@ -172,29 +176,39 @@ module _ (old new : State) (T : Tables) (rows : List Row) (values : Row) (has : 
 
   -- ---- challenges, under their authorizations
 
-  module _ (found : List (Owned ChallengeRow)) (kept : EachOf IsStoredChallenge found)
+  module _ (found : List (Owned BareChallenge)) (kept : EachOf IsStoredChallenge found)
       (spells : map challenge_in rows ≡ map challenge_columns found) where
     -- those that a text picks
     challenges : (text : List ℕ) (tests : List Term) (params : Row) (sql test : Owned ChallengeRow → Bool)
         → IsReading text 8 tests challenge_project (by 0 ∷ [])
         → ((x : Owned ChallengeRow) → passes tests params (challenge_layout.image x) ≡ sql x)
-        → ((x : Owned ChallengeRow) → IsStoredChallenge x → sql x ≡ test x)
-        → values ≡ params → Shown text values old new rows → found ≡ filter test (challenge_rows T.authorizations)
+        → ((x : Owned ChallengeRow) → IsStoredChallenge (bare_row x) → sql x ≡ test x)
+        → values ≡ params → Shown text values old new rows → found ≡ map bare_row (filter test (challenge_rows T.authorizations))
     challenges text tests params sql test reading tests_are agree given h =
-        found_keyed challenge_layout (λ (x : Owned ChallengeRow). x) challenge_columns IsStoredChallenge challenge_in challenge_project challenge_spelled
+        found_keyed challenge_layout bare_row challenge_columns IsStoredChallenge challenge_in challenge_project challenge_spelled
         challenges-apart text tests params sql test reading tests_are agree old new values (challenge_rows T.authorizations) rows found
-        (challenges_held old.now T has)
-        (subst (EachOf IsStoredChallenge) (sym (map-id (challenge_rows T.authorizations))) book.stored.challenges) given h kept spells
-        ∙ map-id (filter test (challenge_rows T.authorizations))
+        (challenges_held old.now T has) book.stored.challenges given h kept spells
 
     pub challenges_numbered_found : (n : ℕ) → values ≡ Int (pos (bounded n)) ∷ [] → Shown select_challenges_numbered values old new rows
-        → found ≡ filter (λ c. c.row.number == n) (challenge_rows T.authorizations)
+        → found ≡ map bare_row (filter (λ c. c.row.number == n) (challenge_rows T.authorizations))
     challenges_numbered_found n given h =
         challenges select_challenges_numbered (is_equal 0) (Int (pos (bounded n)) ∷ []) (λ c. c.row.number == bounded n) (λ c. c.row.number == n)
         challenges_numbered_reading (λ c. number_test c.row.number (bounded n)) (λ c k. same_bounded c.row.number n k.number.1) given h
 
     pub challenges_of_found : (n : ℕ) → values ≡ Int (pos (bounded n)) ∷ [] → Shown select_challenges_of values old new rows
-        → found ≡ filter (λ c. c.owner == n) (challenge_rows T.authorizations)
+        → found ≡ map bare_row (filter (λ c. c.owner == n) (challenge_rows T.authorizations))
     challenges_of_found n given h =
         challenges select_challenges_of (is_equal 2) (Int (pos (bounded n)) ∷ []) (λ c. c.owner == bounded n) (λ c. c.owner == n)
         challenges_of_reading (λ c. number_test c.owner (bounded n)) (λ c k. same_bounded c.owner n k.authorization.1) given h
+
+  -- ---- the key of an answer
+
+  pub keys_of_found : (found : List AnswerKey) → EachOf IsStoredKey found → map key_in rows ≡ map key_columns found
+      → (n : ℕ) → values ≡ Int (pos (bounded n)) ∷ [] → Shown select_keys_of values old new rows → found ≡ keys_of T n
+  keys_of_found found kept spells n given h =
+      let keys = key_rows (challenge_rows T.authorizations) in
+      found_keyed key_layout (λ (x : AnswerKey). x) key_columns IsStoredKey key_in key_project key_spelled keys-apart select_keys_of (is_equal 0)
+      (Int (pos (bounded n)) ∷ []) (λ k. k.challenge == bounded n) (λ k. k.challenge == n) keys_of_reading
+      (λ k. number_test k.challenge (bounded n)) (λ k limits. same_bounded k.challenge n limits.challenge.1) old new values keys rows found
+      (keys_held old.now T has) (subst (EachOf IsStoredKey) (sym (map-id keys)) book.stored.keys) given h kept spells
+      ∙ map-id (keys_of T n)

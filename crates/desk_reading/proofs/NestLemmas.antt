@@ -36,16 +36,16 @@ each_front P [] x h = (tt, h.0)
 each_front P (y ∷ ys) x h = let rest = each_front P ys x h.1 in ((h.0, rest.0), rest.1)
 
 -- the rows so far are those whose bare rows were read
-abbrev pub AreFilled : {X : Type 0} → (P : X → Type 0) (bare : X → X) → List X → List X → Type 0
+abbrev pub AreFilled : {X Y : Type 0} → (P : X → Type 0) (bare : X → Y) → List Y → List X → Type 0
 AreFilled {X} P bare read rows = (xs : List X) → EachOf P xs → read ≡ map bare xs → rows ≡ xs
 
 -- no row was filled yet
-pub filled_none : {X : Type 0} (P : X → Type 0) (bare : X → X) → AreFilled P bare [] []
+pub filled_none : {X Y : Type 0} (P : X → Type 0) (bare : X → Y) → AreFilled P bare [] []
 filled_none P bare [] own are = refl
 filled_none P bare (x ∷ xs) own are = absurd (cc are)
 
 -- one row more
-filled_more : {X : Type 0} (P : X → Type 0) (bare : X → X) (read rows new : List X) (head filled : X) → AreFilled P bare read rows
+filled_more : {X Y : Type 0} (P : X → Type 0) (bare : X → Y) (read : List Y) (rows new : List X) (head : Y) (filled : X) → AreFilled P bare read rows
     → ((x : X) → P x → head ≡ bare x → filled ≡ x) → new ≡ rows ++ filled ∷ []
     → AreFilled P bare (read ++ head ∷ []) new
 filled_more P bare read rows new head filled before fill pushed xs own are =
@@ -55,6 +55,14 @@ filled_more P bare read rows new head filled before fill pushed xs own are =
     pushed
     ∙ (λ i. front i ++ fill it.last parts.1 it.lasts i ∷ [])
     ∙ sym it.whole
+
+-- the next row of a slice is filled
+pub filled_slice : {X Y : Type 0} (P : X → Type 0) (bare : X → Y) (ys : List Y) (i : ℕ) (d : Y) (rows new : List X) (filled : X) → i < length ys
+    → AreFilled P bare (take i ys) rows → ((x : X) → P x → get_or ys i d ≡ bare x → filled ≡ x) → new ≡ rows ++ filled ∷ []
+    → AreFilled P bare (take (i + 1) ys) new
+filled_slice P bare ys i d rows new filled low before fill pushed =
+    subst (λ read. AreFilled P bare read new) (sym (take_more ys i d low))
+    (filled_more P bare (take i ys) rows new (get_or ys i d) filled before fill pushed)
 
 -- ---- row by row
 

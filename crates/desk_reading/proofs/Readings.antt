@@ -2,10 +2,10 @@
 use Rattle.std.proofs.Common.{[], ◌∷◌, codes, refl}
 use Rattle.sqlite_sql.specs.Term.{col}
 use Rattle.sqlite_tied.specs.Compute.{everything}
-use Rattle.desk_reading.specs.Texts.{select_accounts, select_authorizations, select_challenges, select_format, select_listed}
+use Rattle.desk_reading.specs.Texts.{select_accounts, select_authorizations, select_challenges, select_format, select_keys, select_listed}
 use Rattle.desk_reading.specs.Texts.{select_meta, select_nonces, select_orders}
 use Rattle.desk_reading.proofs.Answered.{IsReading, by}
-use Rattle.desk_reading.proofs.Told.{account_project, authorization_project, challenge_project, listed_project, meta_project, nonce_project, order_project}
+use Rattle.desk_reading.proofs.Told.{account_project, authorization_project, challenge_project, key_project, listed_project, meta_project, nonce_project, order_project}
 
 -- `meta`, by its key
 pub meta_reading : IsReading select_meta 0 [] meta_project (by 0 ∷ [])
@@ -73,6 +73,11 @@ challenges_reading = record {
   means = refl;
   selecting = refl;
 }
+
+-- `chall_key`
+pub keys_reading : IsReading select_keys 17 [] key_project (by 0 ∷ [])
+unfolding everything
+keys_reading = record { names = codes "chall" ∷ codes "thumb" ∷ []; means = refl; selecting = refl }
 
 -- the format alone
 pub format_reading : IsReading select_format 0 [] (col 1 2 ∷ []) []

@@ -6,8 +6,8 @@ use Rattle.sqlite.specs.State.{Shown}
 use Rattle.sqlite.specs.Store.{Ghosts}
 use Rattle.desk_columns.specs.declared.columns.StoredRows.{StoredRows}
 use Rattle.desk_reading.specs.Shown.{AreShown, IsShown}
-use Rattle.desk_reading.specs.Spelled.{account_in, authorization_in, challenge_in, listed_in, meta_in, nonce_in, order_in}
-use Rattle.desk_reading.specs.Texts.{select_accounts, select_authorizations, select_challenges, select_listed, select_meta, select_nonces, select_orders}
+use Rattle.desk_reading.specs.Spelled.{account_in, authorization_in, challenge_in, key_in, listed_in, meta_in, nonce_in, order_in}
+use Rattle.desk_reading.specs.Texts.{select_accounts, select_authorizations, select_challenges, select_keys, select_listed, select_meta, select_nonces, select_orders}
 
 module _ {S C : Type 0} (g : Ghosts S) (text : List ℕ) (spelled : Row → C) where
   -- those of a query are shown over the database that it found
@@ -32,4 +32,5 @@ shown_before g old now stored same it =
       authorizations = shown_still g select_authorizations authorization_in old now stored.authzs same it.authorizations;
       listed = shown_still g select_listed listed_in old now stored.order_authzs same it.listed;
       challenges = shown_still g select_challenges challenge_in old now stored.challs same it.challenges;
+      keys = shown_still g select_keys key_in old now stored.chall_keys same it.keys;
     }

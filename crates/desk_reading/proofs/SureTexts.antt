@@ -3,11 +3,11 @@ use Rattle.std.proofs.Common.{[], ◌∷◌, refl}
 use Rattle.sqlite_sql.specs.Term.{col}
 use Rattle.sqlite_tied.specs.Compute.{everything}
 use Rattle.sqlite.specs.Listing.{understood}
-use Rattle.desk_reading.specs.Texts.{select_accounts, select_authorizations, select_challenges, select_format, select_listed}
+use Rattle.desk_reading.specs.Texts.{select_accounts, select_authorizations, select_challenges, select_format, select_keys, select_listed}
 use Rattle.desk_reading.specs.Texts.{select_meta, select_nonces, select_orders}
 use Rattle.desk_reading.proofs.Answered.{by}
 use Rattle.desk_reading.proofs.Failing.{IsSure}
-use Rattle.desk_reading.proofs.Told.{account_project, authorization_project, challenge_project, listed_project, meta_project, nonce_project, order_project}
+use Rattle.desk_reading.proofs.Told.{account_project, authorization_project, challenge_project, key_project, listed_project, meta_project, nonce_project, order_project}
 
 -- `meta`
 pub meta_sure : IsSure select_meta 0 meta_project (by 0 ∷ [])
@@ -43,6 +43,11 @@ listed_sure = record { long = refl; nameless = refl; typed = refl }
 pub challenges_sure : IsSure select_challenges 8 challenge_project (by 0 ∷ [])
 unfolding understood everything
 challenges_sure = record { long = refl; nameless = refl; typed = refl }
+
+-- `chall_key`
+pub keys_sure : IsSure select_keys 17 key_project (by 0 ∷ [])
+unfolding understood everything
+keys_sure = record { long = refl; nameless = refl; typed = refl }
 
 -- the format alone
 pub format_sure : IsSure select_format 0 (col 1 2 ∷ []) []

@@ -5,18 +5,20 @@ use Rattle.sqlite_value.specs.Order.{Row, column}
 use Rattle.sqlite_trees.specs.Tree.{Trees}
 use Rattle.sqlite_sql.specs.Term.{Term, col, eval_all}
 use Rattle.sqlite_sql.specs.Program.{overlay}
-use Rattle.desk_columns.specs.Columns.{account_columns, authorization_columns, challenge_columns, meta_columns, nonce_columns, order_columns}
+use Rattle.desk_columns.specs.Columns.{account_columns, authorization_columns, challenge_columns, key_columns, meta_columns, nonce_columns, order_columns}
 use Rattle.desk_columns.specs.declared.columns.AccountColumns.{AccountColumns}
 use Rattle.desk_columns.specs.declared.columns.AuthzColumns.{AuthzColumns}
+use Rattle.desk_columns.specs.Flat.{bare_row}
 use Rattle.desk_columns.specs.declared.columns.ChallColumns.{ChallColumns}
+use Rattle.desk_columns.specs.declared.columns.ChallKeyColumns.{ChallKeyColumns}
 use Rattle.desk_columns.specs.declared.columns.MetaColumns.{MetaColumns}
 use Rattle.desk_columns.specs.declared.columns.NonceColumns.{NonceColumns}
 use Rattle.desk_columns.specs.declared.columns.OrderAuthzColumns.{OrderAuthzColumns}
 use Rattle.desk_columns.specs.declared.columns.OrderColumns.{OrderColumns}
-use Rattle.desk_tables.specs.Images.{account_params, authorization_params, blob_or_null, challenge_params, int_or_null}
+use Rattle.desk_tables.specs.Images.{account_params, authorization_params, blob_or_null, challenge_params, int_or_null, key_params}
 use Rattle.desk_tables.specs.Images.{listed_params, meta_params, nonce_params, order_params, text_or_null}
-use Rattle.desk_tables.specs.Layouts.{Layout, account_layout, authorization_layout, challenge_layout, meta_layout, nonce_layout, order_layout}
-use Rattle.desk_reading.specs.Spelled.{account_in, authorization_in, bytes_or_none, challenge_in, listed_in, meta_in, nonce_in, number_or_none, order_in}
+use Rattle.desk_tables.specs.Layouts.{Layout, account_layout, authorization_layout, challenge_layout, key_layout, meta_layout, nonce_layout, order_layout}
+use Rattle.desk_reading.specs.Spelled.{account_in, authorization_in, bytes_or_none, challenge_in, key_in, listed_in, meta_in, nonce_in, number_or_none, order_in}
 
 -- ---- values
 
@@ -74,6 +76,10 @@ pub challenge_back : (c : ChallColumns) → challenge_in (challenge_params c) �
 challenge_back c =
     λ i. record c { answered = number_back c.answered i; reported = number_back c.reported i; outcome = text_back c.outcome i }
 
+-- `chall_key`
+pub key_back : (c : ChallKeyColumns) → key_in (key_params c) ≡ c
+key_back c = refl
+
 -- ---- tables by number
 
 -- what is shown of a table's rows, and the columns that this spells
@@ -130,8 +136,16 @@ abbrev pub challenge_project : List Term
 challenge_project = col 1 0 ∷ col 1 2 ∷ col 1 3 ∷ col 1 4 ∷ col 1 5 ∷ col 1 6 ∷ col 1 7 ∷ col 1 8 ∷ []
 
 -- `chall`
-abbrev pub challenge_spelled : IsSpelled challenge_layout challenge_columns challenge_in challenge_project
+abbrev pub challenge_spelled : IsSpelled challenge_layout (λ c. challenge_columns (bare_row c)) challenge_in challenge_project
 challenge_spelled = record { row = challenge_params; back = challenge_back; low = λ _. refl; shows = λ _ _. refl; key = λ _. refl }
+
+-- those of `chall_key`
+abbrev pub key_project : List Term
+key_project = col 1 0 ∷ col 1 2 ∷ []
+
+-- `chall_key`
+abbrev pub key_spelled : IsSpelled key_layout key_columns key_in key_project
+key_spelled = record { row = key_params; back = key_back; low = λ _. refl; shows = λ _ _. refl; key = λ _. refl }
 
 -- those of `ord_authz`, behind the hidden number
 abbrev pub listed_project : List Term

@@ -2,15 +2,18 @@
 use Rattle.std.proofs.Common.{◌≡◌, ℕ, ◌∷◌, [], List, map, true, filter, refl, sym, ap, subst, ◌∙◌}
 use Rattle.std.specs.List.Sorted.{IsPermutation}
 use Rattle.std.proofs.lemmas.List.Sorted.{IsPermutation-map, IsPermutation-sym, IsPermutation-trans}
+use Rattle.std.proofs.lemmas.Simd.{map-map}
 use Rattle.sqlite.specs.declared.types.Value.TheVariants.{Int}
 use Rattle.sqlite_value.specs.Order.{Row}
 use Rattle.sqlite_sql.specs.Term.{Term}
+use Rattle.sqlite.specs.Effect.{Database}
 use Rattle.sqlite.specs.State.{State, Shown}
-use Rattle.desk_columns.specs.Columns.{account_columns, authorization_columns, challenge_columns, listed_columns, meta_columns, nonce_columns, order_columns}
-use Rattle.desk_columns.specs.Flat.{challenge_rows, listed_rows}
+use Rattle.desk_columns.specs.Columns.{account_columns, authorization_columns, challenge_columns, key_columns, listed_columns, meta_columns, nonce_columns, order_columns}
+use Rattle.desk_columns.specs.Flat.{bare_row, challenge_rows, key_rows, listed_rows}
 use Rattle.desk_columns.specs.declared.columns.AccountColumns.{AccountColumns}
 use Rattle.desk_columns.specs.declared.columns.AuthzColumns.{AuthzColumns}
 use Rattle.desk_columns.specs.declared.columns.ChallColumns.{ChallColumns}
+use Rattle.desk_columns.specs.declared.columns.ChallKeyColumns.{ChallKeyColumns}
 use Rattle.desk_columns.specs.declared.columns.MetaColumns.{MetaColumns}
 use Rattle.desk_columns.specs.declared.columns.NonceColumns.{NonceColumns}
 use Rattle.desk_columns.specs.declared.columns.OrderAuthzColumns.{OrderAuthzColumns}
@@ -21,17 +24,18 @@ use Rattle.desk_model.specs.declared.rows.Listed.{Listed}
 use Rattle.desk_tables.specs.Hidden.{hidden, row_of}
 use Rattle.desk_tables.specs.Holds.{Holds}
 use Rattle.desk_tables.specs.Images.{listed_cells, listed_params}
-use Rattle.desk_tables.specs.Layouts.{HasRows, Layout, account_layout, authorization_layout, challenge_layout, meta_layout, nonce_layout, order_layout}
+use Rattle.desk_tables.specs.Layouts.{HasRows, Layout, account_layout, authorization_layout, challenge_layout, key_layout, meta_layout, nonce_layout, order_layout}
 use Rattle.desk_tables.proofs.Holding.{accounts_held, authorizations_held, challenges_held, meta_held, nonces_held, orders_held}
-use Rattle.desk_reading.specs.Spelled.{account_in, authorization_in, challenge_in, listed_in, meta_in, nonce_in, order_in}
-use Rattle.desk_reading.specs.Texts.{select_accounts, select_authorizations, select_challenges, select_listed, select_meta, select_nonces, select_orders}
+use Rattle.desk_reading.specs.Spelled.{account_in, authorization_in, challenge_in, key_in, listed_in, meta_in, nonce_in, order_in}
+use Rattle.desk_reading.specs.Texts.{select_accounts, select_authorizations, select_challenges, select_keys, select_listed, select_meta, select_nonces, select_orders}
 use Rattle.desk_reading.proofs.Answered.{IsReading, answers, by, shown_somehow, picked}
+use Rattle.desk_reading.proofs.KeyRows.{keys_up}
 use Rattle.desk_reading.proofs.KeyedReadings.{columns_of, reads_keyed}
 use Rattle.desk_reading.proofs.Lists.{filter-all}
-use Rattle.desk_reading.proofs.Readings.{accounts_reading, authorizations_reading, challenges_reading, listed_reading}
+use Rattle.desk_reading.proofs.Readings.{accounts_reading, authorizations_reading, challenges_reading, keys_reading, listed_reading}
 use Rattle.desk_reading.proofs.Readings.{meta_reading, nonces_reading, orders_reading}
 use Rattle.desk_reading.proofs.Told.{IsSpelled, account_project, account_spelled, authorization_project, authorization_spelled}
-use Rattle.desk_reading.proofs.Told.{challenge_project, challenge_spelled, listed_back, listed_project, meta_project}
+use Rattle.desk_reading.proofs.Told.{challenge_project, challenge_spelled, key_project, key_spelled, listed_back, listed_project, meta_project}
 use Rattle.desk_reading.proofs.Told.{meta_spelled, nonce_project, nonce_spelled, order_project, order_spelled}
 
 -- all rows of a table, in the order of their keys
@@ -41,6 +45,11 @@ whole : {X C : Type 0} (L : Layout X) (columns : X → C) (spelled : Row → C) 
     → map spelled rows ≡ map columns xs
 whole L columns spelled project is text reading old new xs rows has h =
     reads_keyed L columns spelled project is text [] [] (λ _. true) reading (λ _. refl) old new xs rows has h ∙ ap (map columns) (filter-all xs)
+
+-- the keys of answers stand by number
+pub keys_held : (db : Database) (T : Tables) → Holds db T → HasRows key_layout db (key_rows (challenge_rows T.authorizations))
+keys_held db T has =
+    record { schema = has.schema; rows_are = has.keys; rising = keys_up 0 (challenge_rows T.authorizations) has.rising.challenges }
 
 module _ (old new : State) (T : Tables) (rows : List Row) where
   -- `meta`
@@ -82,11 +91,20 @@ module _ (old new : State) (T : Tables) (rows : List Row) where
 
   -- `chall`
   pub challenges_read : (all : List ChallColumns) → Holds old.now T → Shown select_challenges [] old new rows → all ≡ map challenge_in rows
-      → all ≡ map challenge_columns (challenge_rows T.authorizations)
+      → all ≡ map challenge_columns (map bare_row (challenge_rows T.authorizations))
   challenges_read all has h are =
       are
-      ∙ whole challenge_layout challenge_columns challenge_in challenge_project challenge_spelled select_challenges challenges_reading
+      ∙ whole challenge_layout (λ c. challenge_columns (bare_row c)) challenge_in challenge_project challenge_spelled select_challenges challenges_reading
       old new (challenge_rows T.authorizations) rows (challenges_held old.now T has) h
+      ∙ sym (map-map challenge_columns bare_row (challenge_rows T.authorizations))
+
+  -- `chall_key`
+  pub keys_read : (all : List ChallKeyColumns) → Holds old.now T → Shown select_keys [] old new rows → all ≡ map key_in rows
+      → all ≡ map key_columns (key_rows (challenge_rows T.authorizations))
+  keys_read all has h are =
+      are
+      ∙ whole key_layout key_columns key_in key_project key_spelled select_keys keys_reading old new (key_rows (challenge_rows T.authorizations)) rows
+      (keys_held old.now T has) h
 
   -- `ord_authz` is shown in some order
   pub listed_cells_shown : Holds old.now T → Shown select_listed [] old new rows → IsPermutation (map listed_cells (listed_rows T.orders)) rows

@@ -5,22 +5,23 @@ use Rattle.sqlite.specs.Store.{Ghosts}
 use Rattle.desk_columns.specs.declared.columns.AccountColumns.{AccountColumns}
 use Rattle.desk_columns.specs.declared.columns.AuthzColumns.{AuthzColumns}
 use Rattle.desk_columns.specs.declared.columns.ChallColumns.{ChallColumns}
+use Rattle.desk_columns.specs.declared.columns.ChallKeyColumns.{ChallKeyColumns}
 use Rattle.desk_columns.specs.declared.columns.MetaColumns.{MetaColumns}
 use Rattle.desk_columns.specs.declared.columns.NonceColumns.{NonceColumns}
 use Rattle.desk_columns.specs.declared.columns.OrderAuthzColumns.{OrderAuthzColumns}
 use Rattle.desk_columns.specs.declared.columns.OrderColumns.{OrderColumns}
 use Rattle.desk_reading.specs.Failures.{IsReadable}
-use Rattle.desk_reading.specs.Fitting.{FitsAccount, FitsAuthorization, FitsChallenge, FitsListed, FitsMeta, FitsNonce, FitsOrder}
+use Rattle.desk_reading.specs.Fitting.{FitsAccount, FitsAuthorization, FitsChallenge, FitsKey, FitsListed, FitsMeta, FitsNonce, FitsOrder}
 use Rattle.desk_reading.specs.Shown.{IsShown}
-use Rattle.desk_reading.specs.Spelled.{account_in, authorization_in, challenge_in, listed_in, meta_in, nonce_in, order_in}
-use Rattle.desk_reading.specs.Texts.{select_accounts, select_authorizations, select_challenges, select_listed, select_meta, select_nonces, select_orders}
+use Rattle.desk_reading.specs.Spelled.{account_in, authorization_in, challenge_in, key_in, listed_in, meta_in, nonce_in, order_in}
+use Rattle.desk_reading.specs.Texts.{select_accounts, select_authorizations, select_challenges, select_keys, select_listed, select_meta, select_nonces, select_orders}
 
 -- their columns, up to those of orders, and all
 abbrev pub UpToOrders : Type 0
 UpToOrders = ((List MetaColumns × List NonceColumns) × List AccountColumns) × List OrderColumns
 
 abbrev pub AllTables : Type 0
-AllTables = ((UpToOrders × List OrderAuthzColumns) × List AuthzColumns) × List ChallColumns
+AllTables = (((UpToOrders × List OrderAuthzColumns) × List AuthzColumns) × List ChallColumns) × List ChallKeyColumns
 
 module _ {S : Type 0} (g : Ghosts S) (conn : Held S) where
   -- the database showed these, up to those of orders
@@ -32,13 +33,15 @@ module _ {S : Type 0} (g : Ghosts S) (conn : Held S) where
   -- and all of these
   abbrev pub AreAllShown : AllTables → Type 0
   AreAllShown all =
-      ((AreShownToOrders all.0.0.0 × IsShown g select_listed listed_in conn all.0.0.1)
-      × IsShown g select_authorizations authorization_in conn all.0.1) × IsShown g select_challenges challenge_in conn all.1
+      (((AreShownToOrders all.0.0.0.0 × IsShown g select_listed listed_in conn all.0.0.0.1)
+      × IsShown g select_authorizations authorization_in conn all.0.0.1) × IsShown g select_challenges challenge_in conn all.0.1)
+      × IsShown g select_keys key_in conn all.1
 
   -- the reading of each of them fails for memory or the disk alone
   abbrev pub AreReadable : Type 0
   AreReadable =
-      (((((IsReadable g conn select_meta FitsMeta × IsReadable g conn select_nonces FitsNonce)
+      ((((((IsReadable g conn select_meta FitsMeta × IsReadable g conn select_nonces FitsNonce)
       × IsReadable g conn select_accounts FitsAccount) × IsReadable g conn select_orders FitsOrder)
       × IsReadable g conn select_listed FitsListed) × IsReadable g conn select_authorizations FitsAuthorization)
-      × IsReadable g conn select_challenges FitsChallenge
+      × IsReadable g conn select_challenges FitsChallenge)
+      × IsReadable g conn select_keys FitsKey

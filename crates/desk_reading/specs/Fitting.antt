@@ -118,3 +118,8 @@ pub record FitsChallenge (r : Row) : Type 0 where
   pub reported : HasAt HoldsIntOrNull r 5
   pub outcome : HasAt HoldsTextOrNull r 6
   pub status : HasAt HoldsText r 7
+
+-- of `chall_key`
+pub record FitsKey (r : Row) : Type 0 where
+  pub chall : HasAt HoldsInt r 0
+  pub thumb : HasAt HoldsBlob r 1

@@ -5,6 +5,7 @@ pub mod Fitting
 pub mod Format
 pub mod Heads
 pub mod Held
+pub mod Keys
 pub mod Reads
 pub mod Selecting
 pub mod Shown

@@ -5,12 +5,12 @@ use Rattle.sqlite.specs.Held.{Held, state}
 use Rattle.sqlite.specs.Order.{Row}
 use Rattle.sqlite.specs.State.{Shown}
 use Rattle.sqlite.specs.Store.{Ghosts}
-use Rattle.desk_columns.specs.Columns.{account_columns, authorization_columns, challenge_columns, listed_columns, meta_columns, nonce_columns, order_columns}
-use Rattle.desk_columns.specs.Flat.{challenge_rows, listed_rows}
+use Rattle.desk_columns.specs.Columns.{account_columns, authorization_columns, challenge_columns, key_columns, listed_columns, meta_columns, nonce_columns, order_columns}
+use Rattle.desk_columns.specs.Flat.{bare_row, challenge_rows, key_rows, listed_rows}
 use Rattle.desk_columns.specs.declared.columns.StoredRows.{StoredRows}
 use Rattle.desk_model.specs.Tables.{Tables}
-use Rattle.desk_reading.specs.Spelled.{account_in, authorization_in, challenge_in, listed_in, meta_in, nonce_in, order_in}
-use Rattle.desk_reading.specs.Texts.{select_accounts, select_authorizations, select_challenges, select_listed, select_meta, select_nonces, select_orders}
+use Rattle.desk_reading.specs.Spelled.{account_in, authorization_in, challenge_in, key_in, listed_in, meta_in, nonce_in, order_in}
+use Rattle.desk_reading.specs.Texts.{select_accounts, select_authorizations, select_challenges, select_keys, select_listed, select_meta, select_nonces, select_orders}
 
 module _ {S : Type 0} (g : Ghosts S) where
   -- over the database of the connection the query showed rows, and these are their columns
@@ -31,6 +31,7 @@ module _ {S : Type 0} (g : Ghosts S) where
     pub authorizations : IsShown select_authorizations authorization_in conn stored.authzs
     pub listed : IsShown select_listed listed_in conn stored.order_authzs
     pub challenges : IsShown select_challenges challenge_in conn stored.challs
+    pub keys : IsShown select_keys key_in conn stored.chall_keys
 
 -- the columns are those of these tables, in the order of their keys; what orders list is in any
 pub record AreColumnsOf (stored : StoredRows) (T : Tables) : Type 0 where
@@ -40,4 +41,5 @@ pub record AreColumnsOf (stored : StoredRows) (T : Tables) : Type 0 where
   pub orders : stored.orders ≡ map order_columns T.orders
   pub authorizations : stored.authzs ≡ map authorization_columns T.authorizations
   pub listed : IsPermutation stored.order_authzs (map listed_columns (listed_rows T.orders))
-  pub challenges : stored.challs ≡ map challenge_columns (challenge_rows T.authorizations)
+  pub challenges : stored.challs ≡ map challenge_columns (map bare_row (challenge_rows T.authorizations))
+  pub keys : stored.chall_keys ≡ map key_columns (key_rows (challenge_rows T.authorizations))

@@ -6,6 +6,7 @@ use Rattle.sqlite.specs.Order.{Row, column}
 use Rattle.desk_columns.specs.declared.columns.AccountColumns.{AccountColumns}
 use Rattle.desk_columns.specs.declared.columns.AuthzColumns.{AuthzColumns}
 use Rattle.desk_columns.specs.declared.columns.ChallColumns.{ChallColumns}
+use Rattle.desk_columns.specs.declared.columns.ChallKeyColumns.{ChallKeyColumns}
 use Rattle.desk_columns.specs.declared.columns.MetaColumns.{MetaColumns}
 use Rattle.desk_columns.specs.declared.columns.NonceColumns.{NonceColumns}
 use Rattle.desk_columns.specs.declared.columns.OrderAuthzColumns.{OrderAuthzColumns}
@@ -121,3 +122,7 @@ challenge_in r =
       outcome = bytes_or_none (column r 6);
       status = bytes_in (column r 7);
     }
+
+-- of `chall_key`
+abbrev pub key_in : Row → ChallKeyColumns
+key_in r = record { chall = number_in (column r 0); thumb = bytes_in (column r 1) }

@@ -31,6 +31,10 @@ select_listed = codes "SELECT ord, place, authz FROM ord_authz ORDER BY ord, pla
 abbrev pub select_challenges : List ℕ
 select_challenges = codes "SELECT num, authz, kind, token, answered, reported, outcome, status FROM chall ORDER BY num"
 
+-- keys of answers
+abbrev pub select_keys : List ℕ
+select_keys = codes "SELECT chall, thumb FROM chall_key ORDER BY chall"
+
 -- the format alone
 abbrev pub select_format : List ℕ
 select_format = codes "SELECT format FROM meta"
@@ -95,6 +99,10 @@ select_challenges_numbered = codes "SELECT num, authz, kind, token, answered, re
 -- challenges of an authorization
 abbrev pub select_challenges_of : List ℕ
 select_challenges_of = codes "SELECT num, authz, kind, token, answered, reported, outcome, status FROM chall WHERE authz = ?1 ORDER BY num"
+
+-- the key of an answer
+abbrev pub select_keys_of : List ℕ
+select_keys_of = codes "SELECT chall, thumb FROM chall_key WHERE chall = ?1 ORDER BY chall"
 
 -- ---- the first row above a number
 

@@ -10,6 +10,7 @@ ghost use Rattle.desk_reading.specs.Held.{ForHeld};
 ghost use Rattle.desk_reading.specs.StoredBook.{IsStoredBook};
 ghost use Rattle.desk_reading.specs.Under.{HasItsChallenges};
 
+use crate::answers::with_answers;
 use crate::fault::ReadFault;
 use crate::owned::owners;
 use crate::params::{number_param, text_and_number};
@@ -27,12 +28,13 @@ impl Parent for AuthorizationRow {
     ghost HasItsOwn = { λ T. HasItsChallenges T.authorizations };
 
     fn nest<S: Alter>(&mut self, alloc: Global, conn: &mut Connection<S>) -> Result<(), ReadFault> {
-        let challenges = find_owned::<S, ChallColumns, _>(
+        let heads = find_owned::<S, ChallColumns, _>(
             alloc,
             conn,
             "SELECT num, authz, kind, token, answered, reported, outcome, status FROM chall WHERE authz = ?1 ORDER BY num",
             self.number,
         )?;
+        let challenges = with_answers(alloc, conn, &heads)?;
         self.challenges = Sequence::new(challenges);
         Ok(())
     }
@@ -190,10 +192,11 @@ pub fn challenge_above<S: Alter>(
     ensures unchanged { HasCleanDisk (state S.Store conn.new) → OnOk result (IsUnchanged (state S.Store conn.old) (state S.Store conn.new)) }
     ensures asks { Asks (state S.Store conn.old) (state S.Store conn.new) }
 {
-    find_owned::<S, ChallColumns, _>(
+    let heads = find_owned::<S, ChallColumns, _>(
         alloc,
         conn,
         "SELECT num, authz, kind, token, answered, reported, outcome, status FROM chall WHERE num > ?1 ORDER BY num LIMIT 1",
         number,
-    )
+    )?;
+    with_answers(alloc, conn, &heads)
 }

@@ -2,15 +2,15 @@
 ghost use Rattle.std.specs.Prelude.{◌≡◌, All, IfErr, IfOk, map};
 ghost use Rattle.sqlite.specs.Order.{Row as SqlRow};
 ghost use Rattle.desk_reading.specs.Failures.{IsOutOfMemory};
-ghost use Rattle.desk_reading.specs.Fitting.{FitsAccount, FitsAuthorization, FitsChallenge, FitsListed, FitsMeta, FitsNonce, FitsOrder};
-ghost use Rattle.desk_reading.specs.Spelled.{account_in, authorization_in, challenge_in, listed_in, meta_in, nonce_in, order_in};
+ghost use Rattle.desk_reading.specs.Fitting.{FitsAccount, FitsAuthorization, FitsChallenge, FitsKey, FitsListed, FitsMeta, FitsNonce, FitsOrder};
+ghost use Rattle.desk_reading.specs.Spelled.{account_in, authorization_in, challenge_in, key_in, listed_in, meta_in, nonce_in, order_in};
 
 use crate::values::{
     both, bytes, bytes_or_none, number_or_none, numbers, numbers_or_none, text, text_or_none,
 };
 use desk_columns::{
-    AccountColumns, AuthzColumns, ChallColumns, Columns, MetaColumns, NonceColumns,
-    OrderAuthzColumns, OrderColumns,
+    AccountColumns, AuthzColumns, ChallColumns, ChallKeyColumns, Columns, MetaColumns,
+    NonceColumns, OrderAuthzColumns, OrderColumns,
 };
 use desk_model::Sequence;
 use sqlite::{Error, Row};
@@ -210,5 +210,17 @@ impl Selected for ChallColumns {
             outcome,
             status,
         })
+    }
+}
+
+impl Selected for ChallKeyColumns {
+    ghost spelled = { key_in };
+
+    ghost Fits = { FitsKey };
+
+    fn of(row: &Row) -> Result<ChallKeyColumns, Error> {
+        let [chall] = numbers(row, [0])?;
+        let thumb = bytes(row, 1)?;
+        Ok(ChallKeyColumns { chall, thumb })
     }
 }

@@ -2,6 +2,7 @@
 #![tactic(auto)]
 
 mod accounts;
+mod answers;
 mod authorizations;
 mod columns;
 mod fault;

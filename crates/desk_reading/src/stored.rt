@@ -12,11 +12,11 @@ ghost use Rattle.desk_reading.specs.Shown.{AreColumnsOf, AreShown};
 
 use crate::query::read_query;
 use crate::tables::{
-    ACCOUNTS, AUTHORIZATIONS, CHALLENGES, LISTED, META, NONCES, ORDERS, then_read,
+    ACCOUNTS, AUTHORIZATIONS, CHALLENGES, KEYS, LISTED, META, NONCES, ORDERS, then_read,
 };
 use desk_columns::{
-    AccountColumns, AuthzColumns, ChallColumns, MetaColumns, NonceColumns, OrderAuthzColumns,
-    OrderColumns, StoredRows,
+    AccountColumns, AuthzColumns, ChallColumns, ChallKeyColumns, MetaColumns, NonceColumns,
+    OrderAuthzColumns, OrderColumns, StoredRows,
 };
 use desk_model::Sequence;
 use sqlite::{Alter, Connection, Error};
@@ -31,13 +31,16 @@ type UpToOrders = (
     Sequence<OrderColumns>,
 );
 
-// .. and `ord_authz`, `authz`, `chall`.
+// .. and `ord_authz`, `authz`, `chall`, `chall_key`.
 type AllTables = (
     (
-        (UpToOrders, Sequence<OrderAuthzColumns>),
-        Sequence<AuthzColumns>,
+        (
+            (UpToOrders, Sequence<OrderAuthzColumns>),
+            Sequence<AuthzColumns>,
+        ),
+        Sequence<ChallColumns>,
     ),
-    Sequence<ChallColumns>,
+    Sequence<ChallKeyColumns>,
 );
 
 // The columns of all tables.
@@ -50,7 +53,8 @@ fn read_tables<S: Alter>(alloc: Global, conn: &mut Connection<S>) -> Result<AllT
     let orders = then_read(accounts, alloc, conn, ORDERS);
     let listed = then_read(orders, alloc, conn, LISTED);
     let authorizations = then_read(listed, alloc, conn, AUTHORIZATIONS);
-    then_read(authorizations, alloc, conn, CHALLENGES)
+    let challenges = then_read(authorizations, alloc, conn, CHALLENGES);
+    then_read(challenges, alloc, conn, KEYS)
 }
 
 /// The rows of all tables, as `stored_rows::from_rows` takes them.
@@ -65,9 +69,8 @@ pub fn load_stored<S: Alter>(alloc: Global, conn: &mut Connection<S>) -> Result<
     ensures unchanged { HasCleanDisk (state S.Store conn.new) → OnOk result (IsUnchanged (state S.Store conn.old) (state S.Store conn.new)) }
     ensures asks { Asks (state S.Store conn.old) (state S.Store conn.new) }
 {
-    let ((((((metas, nonces), accounts), orders), order_authzs), authzs), challs) = read_tables(
-        alloc, conn,
-    )?;
+    let (((((((metas, nonces), accounts), orders), order_authzs), authzs), challs), chall_keys) =
+        read_tables(alloc, conn)?;
     Ok(StoredRows {
         metas,
         nonces,
@@ -76,5 +79,6 @@ pub fn load_stored<S: Alter>(alloc: Global, conn: &mut Connection<S>) -> Result<
         authzs,
         order_authzs,
         challs,
+        chall_keys,
     })
 }

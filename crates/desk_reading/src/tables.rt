@@ -40,6 +40,9 @@ pub(crate) const LISTED: &str = "SELECT ord, place, authz FROM ord_authz ORDER B
 pub(crate) const CHALLENGES: &str =
     "SELECT num, authz, kind, token, answered, reported, outcome, status FROM chall ORDER BY num";
 
+/// The rows of `chall_key`, by challenge.
+pub(crate) const KEYS: &str = "SELECT chall, thumb FROM chall_key ORDER BY chall";
+
 /// The columns of a table, which is read after what was read earlier, and only if that did not fail.
 ///
 /// # Errors

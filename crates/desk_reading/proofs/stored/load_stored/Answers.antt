@@ -2,7 +2,7 @@ use Rattle.std.proofs.lemmas.Result.{IfOk-from_err}
 use Rattle.desk_schema.specs.Failing.{IsFailure}
 use Rattle.desk_reading.proofs.Loading.{shown_columns}
 use Rattle.desk_reading.proofs.Results.{failed_as}
-use Rattle.desk_reading.proofs.TableFailures.{accounts_readable, authorizations_readable, challenges_readable, listed_readable}
+use Rattle.desk_reading.proofs.TableFailures.{accounts_readable, authorizations_readable, challenges_readable, keys_readable, listed_readable}
 use Rattle.desk_reading.proofs.TableFailures.{meta_readable, nonces_readable, orders_readable}
 use Rattle.desk_reading.proofs.stored.load_stored.Goals as goal
 
@@ -10,13 +10,14 @@ pub returns-clause-shown : goal.returns-clause-shown
 returns-clause-shown g c clean =
     let it = c.in_ok-metas.ensures.shown clean in
     record {
-      metas = it.0.0.0.0.0.0;
-      nonces = it.0.0.0.0.0.1;
-      accounts = it.0.0.0.0.1;
-      orders = it.0.0.0.1;
-      listed = it.0.0.1;
-      authorizations = it.0.1;
-      challenges = it.1;
+      metas = it.0.0.0.0.0.0.0;
+      nonces = it.0.0.0.0.0.0.1;
+      accounts = it.0.0.0.0.0.1;
+      orders = it.0.0.0.0.1;
+      listed = it.0.0.0.1;
+      authorizations = it.0.0.1;
+      challenges = it.0.1;
+      keys = it.1;
     }
 
 pub returns-clause-found : goal.returns-clause-found
@@ -40,14 +41,17 @@ returns-in_err-metas-clause-fails g c clean T has may texts =
       (
         (
           (
-            ((meta_readable store conn T has texts, nonces_readable store conn T has texts), accounts_readable store conn T has texts),
-            orders_readable store conn T has texts,
+            (
+              ((meta_readable store conn T has texts, nonces_readable store conn T has texts), accounts_readable store conn T has texts),
+              orders_readable store conn T has texts,
+            ),
+            listed_readable store conn T has texts,
           ),
-          listed_readable store conn T has texts,
+          authorizations_readable store conn T has texts,
         ),
-        authorizations_readable store conn T has texts,
+        challenges_readable store conn T has texts,
       ),
-      challenges_readable store conn T has texts,
+      keys_readable store conn T has texts,
     ))
     c.from_residual.ensures.1
 

@@ -1,8 +1,8 @@
-use Rattle.desk_reading.specs.Fitting.{FitsAccount, FitsAuthorization, FitsChallenge, FitsListed, FitsMeta, FitsNonce, FitsOrder}
-use Rattle.desk_reading.specs.Spelled.{account_in, authorization_in, challenge_in, listed_in, meta_in, nonce_in, order_in}
-use Rattle.desk_reading.specs.Texts.{select_accounts, select_authorizations, select_challenges, select_listed, select_meta, select_nonces, select_orders}
+use Rattle.desk_reading.specs.Fitting.{FitsAccount, FitsAuthorization, FitsChallenge, FitsKey, FitsListed, FitsMeta, FitsNonce, FitsOrder}
+use Rattle.desk_reading.specs.Spelled.{account_in, authorization_in, challenge_in, key_in, listed_in, meta_in, nonce_in, order_in}
+use Rattle.desk_reading.specs.Texts.{select_accounts, select_authorizations, select_challenges, select_keys, select_listed, select_meta, select_nonces, select_orders}
 use Rattle.desk_reading.proofs.ReadsChain.{reads_first, reads_more}
-use Rattle.desk_reading.proofs.Readings.{accounts_reading, authorizations_reading, challenges_reading, listed_reading}
+use Rattle.desk_reading.proofs.Readings.{accounts_reading, authorizations_reading, challenges_reading, keys_reading, listed_reading}
 use Rattle.desk_reading.proofs.Readings.{meta_reading, nonces_reading, orders_reading}
 use Rattle.desk_reading.proofs.stored.read_tables.Goals as goal
 
@@ -24,8 +24,11 @@ then_read-listed-requires g c = listed_reading.selecting
 pub then_read-authorizations-requires : goal.then_read-authorizations-requires
 then_read-authorizations-requires g c = authorizations_reading.selecting
 
+pub then_read-challenges-requires : goal.then_read-challenges-requires
+then_read-challenges-requires g c = challenges_reading.selecting
+
 pub then_read-requires : goal.then_read-requires
-then_read-requires g c = challenges_reading.selecting
+then_read-requires g c = keys_reading.selecting
 
 pub returns : goal.returns
 returns g c =
@@ -45,5 +48,9 @@ returns g c =
     c.then_read-authorizations.new.conn _ _ listed
     c.then_read-authorizations.ensures.shown c.then_read-authorizations.ensures.fails c.then_read-authorizations.ensures.unchanged
     c.then_read-authorizations.ensures.asks in
-    reads_more g.S.Store _ _ select_challenges challenge_in FitsChallenge old c.then_read-authorizations.new.conn c.then_read.new.conn _ _ authorizations
+    let challenges = reads_more g.S.Store _ _ select_challenges challenge_in FitsChallenge old c.then_read-authorizations.new.conn
+    c.then_read-challenges.new.conn _ _ authorizations
+    c.then_read-challenges.ensures.shown c.then_read-challenges.ensures.fails c.then_read-challenges.ensures.unchanged
+    c.then_read-challenges.ensures.asks in
+    reads_more g.S.Store _ _ select_keys key_in FitsKey old c.then_read-challenges.new.conn c.then_read.new.conn _ _ challenges
     c.then_read.ensures.shown c.then_read.ensures.fails c.then_read.ensures.unchanged c.then_read.ensures.asks
