@@ -27,7 +27,8 @@ use Rattle.sqlite.specs.State.{State, Shown}
 use Rattle.sqlite.proofs.Callers.{IsPlain, command_of, reads_as}
 use Rattle.stored_rows.proofs.SortedLists.{same_sorted}
 use Rattle.desk_laws.specs.Ordered.{Ascends}
-use Rattle.desk_schema.specs.Schema.{desk_schema}
+use Rattle.desk_schema.specs.Schema.{desk_schema, first_schema}
+use Rattle.sqlite.specs.Schema.{Schema}
 use Rattle.desk_tables.proofs.Keyed.{ranked, three}
 use Rattle.desk_reading.specs.Selecting.{IsQuery}
 
@@ -75,20 +76,21 @@ some_same : (a b : Made) → Some a ≡ Some b → a ≡ b
 some_same a b same = cc same
 
 -- a text that was compiled to a command alone
-pub record IsCommand (text : List ℕ) (command : Command) : Type 0 where
-  pub is : command_of (understood desk_schema text) ≡ command
-  pub plain : IsPlain (understood desk_schema text)
-  pub unlisted : reads_listing desk_schema text ≡ false
+pub record IsCommand (schema : Schema) (text : List ℕ) (command : Command) : Type 0 where
+  pub is : command_of (understood schema text) ≡ command
+  pub plain : IsPlain (understood schema text)
+  pub unlisted : reads_listing schema text ≡ false
 
 -- what it was compiled to is what is understood, as it names no table that is missing
-pub compiled_alone : (text : List ℕ) (command : Command) → made_of (compiled desk_schema text) ≡ Some (command, None, []) → IsCommand text command
+pub compiled_alone : {schema : Schema} (text : List ℕ) (command : Command) → made_of (compiled schema text) ≡ Some (command, None, [])
+    → IsCommand schema text command
 unfolding understood
-compiled_alone text command means = go (compiled desk_schema text) refl means
+compiled_alone {schema} text command means = go (compiled schema text) refl means
   where
-    go : (r : Result Compiled CompileError) → compiled desk_schema text ≡ r → made_of r ≡ Some (command, None, []) → IsCommand text command
+    go : (r : Result Compiled CompileError) → compiled schema text ≡ r → made_of r ≡ Some (command, None, []) → IsCommand schema text command
     go (Ok c) is made =
-        let unlisted : reads_listing desk_schema text ≡ false = ap misses_table is in
-        let known : understood desk_schema text ≡ Ok c = rw unlisted is in
+        let unlisted : reads_listing schema text ≡ false = ap misses_table is in
+        let known : understood schema text ≡ Ok c = rw unlisted is in
         let same = some_same (c.command, c.returning, c.formats) (command, None, []) made in
         record {
           is = ap command_of known ∙ ap (λ (m : Made). m.0) same;
@@ -97,15 +99,23 @@ compiled_alone text command means = go (compiled desk_schema text) refl means
         }
     go (Err e) is made = absurd (let x = made in cc)
 
--- what a text means
-pub record IsReadingUpTo (limit : Term) (text : List ℕ) (tree : ℕ) (tests project : List Term) (order : List (Term × Key)) : Type 0 where
+-- what a text means over a schema
+pub record IsReadingIn (schema : Schema) (limit : Term) (text : List ℕ) (tree : ℕ) (tests project : List Term) (order : List (Term × Key)) : Type 0 where
   pub names : List (List ℕ)
-  pub means : made_of (compiled desk_schema text) ≡ Some (Select (record { lets = []; body = picked_up_to limit tree tests project order }) names, None, [])
+  pub means : made_of (compiled schema text) ≡ Some (Select (record { lets = []; body = picked_up_to limit tree tests project order }) names, None, [])
   pub selecting : IsQuery text
+
+-- over that of a desk
+abbrev pub IsReadingUpTo : Term → List ℕ → ℕ → List Term → List Term → List (Term × Key) → Type 0
+IsReadingUpTo = IsReadingIn desk_schema
 
 -- a text that reads all rows
 abbrev pub IsReading : List ℕ → ℕ → List Term → List Term → List (Term × Key) → Type 0
 IsReading = IsReadingUpTo all_rows
+
+-- and reads them in format 1
+abbrev pub IsFirstReading : List ℕ → ℕ → List Term → List Term → List (Term × Key) → Type 0
+IsFirstReading = IsReadingIn first_schema all_rows
 
 -- a row passes the tests
 abbrev pub passes : List Term → Row → Row → Bool
@@ -155,16 +165,16 @@ module _ {X Y : Type 0} (image : X → Row) (part : X → Y) (tree : ℕ) (tests
       go false more = more
 
   -- the answer is cut from that of the rows which pass the model's test
-  pub answers_up_to : (limit : Term) (text : List ℕ) → IsReadingUpTo limit text tree tests project order
+  pub answers_up_to : {schema : Schema} (limit : Term) (text : List ℕ) → IsReadingIn schema limit text tree tests project order
       → ((db : Trees) → overlay db [] tree ≡ db tree)
-      → (old new : State) (xs : List X) (rows : List Row) → old.now.schema ≡ desk_schema → old.now.trees tree ≡ map image xs
+      → (old new : State) (xs : List X) (rows : List Row) → old.now.schema ≡ schema → old.now.trees tree ≡ map image xs
       → Shown text params old new rows
       → (all : List Row) × IsOrderedAs (picked tree tests project order) (map shown (filter test (map part xs))) all
       × (rows ≡ limited (as_count (eval limit (params ∷ []))) all)
-  answers_up_to limit text is low old new xs rows schema has h =
+  answers_up_to {schema} limit text is low old new xs rows there has h =
       let q = picked_up_to limit tree tests project order in
       let command = compiled_alone text _ is.means in
-      let read = reads_as text params old new desk_schema schema _ command.is command.plain command.unlisted rows h in
+      let read = reads_as text params old new schema there _ command.is command.plain command.unlisted rows h in
       let a : IsAnswer q (overlay old.now.trees []) params rows = read.answer Null in
       let staged : a.staged ≡ map (λ r. params ∷ r ∷ []) (filter (passes tests params) (old.now.trees tree)) =
       a.grouped ∙ rw (low old.now.trees) (left tests params (old.now.trees tree)) in
@@ -179,8 +189,8 @@ module _ {X Y : Type 0} (image : X → Row) (part : X → Y) (tree : ℕ) (tests
       )
 
   -- of all rows
-  pub answers : (text : List ℕ) → IsReading text tree tests project order → ((db : Trees) → overlay db [] tree ≡ db tree)
-      → (old new : State) (xs : List X) (rows : List Row) → old.now.schema ≡ desk_schema → old.now.trees tree ≡ map image xs
+  pub answers : {schema : Schema} (text : List ℕ) → IsReadingIn schema all_rows text tree tests project order → ((db : Trees) → overlay db [] tree ≡ db tree)
+      → (old new : State) (xs : List X) (rows : List Row) → old.now.schema ≡ schema → old.now.trees tree ≡ map image xs
       → Shown text params old new rows
       → IsOrderedAs (picked tree tests project order) (map shown (filter test (map part xs))) rows
   answers text is low old new xs rows schema has h =

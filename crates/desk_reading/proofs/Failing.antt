@@ -21,10 +21,11 @@ use Rattle.sqlite.specs.State.{State, store_error, IsNoStatement, HasCause, Fail
 use Rattle.sqlite.specs.declared.error.Error.{Error}
 use Rattle.sqlite.proofs.Callers.{IsPlain, command_of}
 use Rattle.desk_schema.specs.Failing.{IsFailure}
-use Rattle.desk_schema.specs.Schema.{desk_schema}
+use Rattle.desk_schema.specs.Schema.{desk_schema, first_schema}
+use Rattle.sqlite.specs.Schema.{Schema}
 use Rattle.desk_schema.specs.Stays.{Asks}
 use Rattle.desk_reading.specs.Failures.{FailsToRead, MayRead}
-use Rattle.desk_reading.proofs.Answered.{IsCommand, IsReading, compiled_alone, picked}
+use Rattle.desk_reading.proofs.Answered.{IsCommand, IsReadingIn, all_rows, compiled_alone, picked}
 
 -- ---- the engine
 
@@ -39,10 +40,17 @@ names_of (Ok c) = c.names
 names_of (Err e) = []
 
 -- the text is one statement without parameters, and compares no values of other kinds
-pub record IsSure (text : List ℕ) (tree : ℕ) (project : List Term) (order : List (Term × Key)) : Type 0 where
-  pub long : tail_of (understood desk_schema text) ≡ length text
-  pub nameless : names_of (understood desk_schema text) ≡ []
-  pub typed : accepts_program desk_schema [] (picked tree [] project order) [] ≡ true
+pub record IsSureIn (schema : Schema) (text : List ℕ) (tree : ℕ) (project : List Term) (order : List (Term × Key)) : Type 0 where
+  pub long : tail_of (understood schema text) ≡ length text
+  pub nameless : names_of (understood schema text) ≡ []
+  pub typed : accepts_program schema [] (picked tree [] project order) [] ≡ true
+
+-- over the schema of a desk, and over that of format 1
+abbrev pub IsSure : List ℕ → ℕ → List Term → List (Term × Key) → Type 0
+IsSure = IsSureIn desk_schema
+
+abbrev pub IsFirstSure : List ℕ → ℕ → List Term → List (Term × Key) → Type 0
+IsFirstSure = IsSureIn first_schema
 
 -- a failure of an open store
 failed : (old new : State) (e : Error) (cause : StoreError) → IsTrue old.is_open → e ≡ store_error cause → HasCause old new ⊥ cause → IsFailure e
@@ -53,20 +61,21 @@ failed old new e store.Full is_open is why = inr (inr (inr is))
 failed old new e store.Broken is_open is why = absurd (let x = sym is_open ∙ why in cc)
 failed old new e store.Unstorable is_open is why = absurd why
 
-module _ (text : List ℕ) (tree : ℕ) (project : List Term) (order : List (Term × Key)) (is : IsReading text tree [] project order)
-    (sure : IsSure text tree project order) (old new : State) (has : old.now.schema ≡ desk_schema) (e : Error) where
+module _ {schema : Schema} (text : List ℕ) (tree : ℕ) (project : List Term) (order : List (Term × Key))
+    (is : IsReadingIn schema all_rows text tree [] project order)
+    (sure : IsSureIn schema text tree project order) (old new : State) (has : old.now.schema ≡ schema) (e : Error) where
   -- what the text means
-  meant : IsCommand text (Select (record { lets = []; body = picked tree [] project order }) is.names)
+  meant : IsCommand schema text (Select (record { lets = []; body = picked tree [] project order }) is.names)
   meant = compiled_alone text _ is.means
 
-  -- what is understood over the schema of a desk
-  known : (c : Compiled) → understood old.now.schema text ≡ Ok c → understood desk_schema text ≡ Ok c
+  -- what is understood over the schema
+  known : (c : Compiled) → understood old.now.schema text ≡ Ok c → understood schema text ≡ Ok c
   known c h = ap (λ s. understood s text) (sym has) ∙ h
 
   -- the text is understood
   no_error : (fault : CompileError) → understood old.now.schema text ≡ Err fault → ⊥
   no_error fault h =
-      let there : understood desk_schema text ≡ Err fault = ap (λ s. understood s text) (sym has) ∙ h in
+      let there : understood schema text ≡ Err fault = ap (λ s. understood s text) (sym has) ∙ h in
       let nothing = sym meant.is ∙ ap command_of there in
       absurd (cc)
 

@@ -1,19 +1,20 @@
 -- The tables of a desk are of no later format.
-use Rattle.std.proofs.Common.{◌≡◌, ◌<ℤ◌, List, [], ◌∷◌, true, refl, sym, ap, subst, ◌∙◌}
+use Rattle.std.proofs.Common.{◌≡◌, ◌<◌, ◌<ℤ◌, ℤ, arith, List, [], ◌∷◌, true, refl, sym, ap, subst, ◌∙◌}
 use Rattle.std.specs.Int.Signed.{<ℤ_irrefl}
 use Rattle.sqlite.specs.declared.types.Value.TheVariants.{Int}
 use Rattle.sqlite_value.specs.Order.{Row, column}
 use Rattle.sqlite_sql.specs.Term.{col}
 use Rattle.sqlite.specs.State.{State, Shown}
 use Rattle.sqlite.proofs.Callers.{one_permutation}
-use Rattle.desk_columns.specs.Columns.{known_format}
+use Rattle.desk_columns.specs.Columns.{first_format, known_format}
 use Rattle.desk_model.specs.Tables.{Tables}
 use Rattle.desk_model.specs.declared.rows.Meta.{Meta}
-use Rattle.desk_tables.specs.Holds.{Holds}
-use Rattle.desk_tables.specs.Images.{meta_image}
+use Rattle.desk_tables.specs.Holds.{Holds, HoldsFirst}
+use Rattle.desk_tables.specs.Images.{formatted_image, meta_image}
 use Rattle.desk_reading.specs.Format.{IsNewer}
 use Rattle.desk_reading.specs.Texts.{select_format}
 use Rattle.desk_reading.proofs.Answered.{answers, picked, shown_somehow}
+use Rattle.desk_reading.proofs.FirstReadings as first
 use Rattle.desk_reading.proofs.Readings.{format_reading}
 
 -- one row of this format is of no later one
@@ -29,3 +30,18 @@ never_newer old new T rows has h newer =
     let same : newer.format ≡ known_format = cc in
     let low : known_format <ℤ known_format = subst (λ n. known_format <ℤ n) same newer.above in
     absurd (<ℤ_irrefl low)
+
+-- nor is one of format 1
+pub first_never_newer : (old new : State) (T : Tables) (rows : List Row) → HoldsFirst old.now T → Shown select_format [] old new rows → ¬ IsNewer rows
+first_never_newer old new T rows has h newer =
+    let project = col 1 2 ∷ [] in
+    let row = λ (m : ℤ × Meta). Int m.0 ∷ [] in
+    let answered = answers formatted_image (λ (m : ℤ × Meta). m) 0 [] project [] [] (λ _. true) (λ m. ([], row m)) (λ _. refl) (λ _. refl)
+    select_format first.format_reading (λ _. refl) old new ((first_format, T.meta) ∷ []) rows has.schema has.meta h in
+    let some = shown_somehow (picked 0 [] project []) (λ (m : ℤ × Meta). ([], row m)) ((first_format, T.meta) ∷ []) rows answered in
+    let one : rows ≡ (Int first_format ∷ []) ∷ [] = one_permutation (Int first_format ∷ []) rows some in
+    let there : newer.row ≡ Int first_format ∷ [] = (let e = sym newer.alone ∙ one in cc) in
+    let format : Int newer.format ≡ Int first_format = sym newer.is ∙ ap (λ r. column r 0) there in
+    let same : newer.format ≡ first_format = cc in
+    let low : known_format <ℤ first_format = subst (λ n. known_format <ℤ n) same newer.above in
+    absurd (omega (arith, low))

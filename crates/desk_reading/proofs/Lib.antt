@@ -3,6 +3,9 @@ pub mod Answered
 pub mod Asking
 pub mod Failing
 pub mod Fits
+pub mod FirstLoading
+pub mod FirstReadings
+pub mod FirstTables
 pub mod FormatLemmas
 pub mod FoundRows
 pub mod KeyRows

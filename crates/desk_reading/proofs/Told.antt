@@ -15,9 +15,9 @@ use Rattle.desk_columns.specs.declared.columns.MetaColumns.{MetaColumns}
 use Rattle.desk_columns.specs.declared.columns.NonceColumns.{NonceColumns}
 use Rattle.desk_columns.specs.declared.columns.OrderAuthzColumns.{OrderAuthzColumns}
 use Rattle.desk_columns.specs.declared.columns.OrderColumns.{OrderColumns}
-use Rattle.desk_tables.specs.Images.{account_params, authorization_params, blob_or_null, challenge_params, int_or_null, key_params}
+use Rattle.desk_tables.specs.Images.{account_params, authorization_params, blob_or_null, challenge_params, formatted_columns, int_or_null, key_params}
 use Rattle.desk_tables.specs.Images.{listed_params, meta_params, nonce_params, order_params, text_or_null}
-use Rattle.desk_tables.specs.Layouts.{Layout, account_layout, authorization_layout, challenge_layout, key_layout, meta_layout, nonce_layout, order_layout}
+use Rattle.desk_tables.specs.Layouts.{Layout, account_layout, authorization_layout, challenge_layout, formatted_layout, key_layout, meta_layout, nonce_layout, order_layout}
 use Rattle.desk_reading.specs.Spelled.{account_in, authorization_in, bytes_or_none, challenge_in, key_in, listed_in, meta_in, nonce_in, number_or_none, order_in}
 
 -- ---- values
@@ -97,6 +97,10 @@ meta_project = col 1 0 ∷ col 1 2 ∷ col 1 3 ∷ col 1 4 ∷ col 1 5 ∷ col 1
 -- `meta` by its key
 abbrev pub meta_spelled : IsSpelled meta_layout meta_columns meta_in meta_project
 meta_spelled = record { row = meta_params; back = meta_back; low = λ _. refl; shows = λ _ _. refl; key = λ _. refl }
+
+-- `meta` in any format
+abbrev pub formatted_spelled : IsSpelled formatted_layout formatted_columns meta_in meta_project
+formatted_spelled = record { row = meta_params; back = meta_back; low = λ _. refl; shows = λ _ _. refl; key = λ _. refl }
 
 -- those of `nonce`
 abbrev pub nonce_project : List Term

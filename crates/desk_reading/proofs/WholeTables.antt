@@ -7,6 +7,7 @@ use Rattle.sqlite.specs.declared.types.Value.TheVariants.{Int}
 use Rattle.sqlite_value.specs.Order.{Row}
 use Rattle.sqlite_sql.specs.Term.{Term}
 use Rattle.sqlite.specs.Effect.{Database}
+use Rattle.sqlite.specs.Schema.{Schema}
 use Rattle.sqlite.specs.State.{State, Shown}
 use Rattle.desk_columns.specs.Columns.{account_columns, authorization_columns, challenge_columns, key_columns, listed_columns, meta_columns, nonce_columns, order_columns}
 use Rattle.desk_columns.specs.Flat.{bare_row, challenge_rows, key_rows, listed_rows}
@@ -21,14 +22,15 @@ use Rattle.desk_columns.specs.declared.columns.OrderColumns.{OrderColumns}
 use Rattle.desk_columns.specs.declared.flat_rows.Owned.{Owned}
 use Rattle.desk_model.specs.Tables.{Tables}
 use Rattle.desk_model.specs.declared.rows.Listed.{Listed}
+use Rattle.desk_model.specs.declared.rows.OrderRow.{OrderRow}
 use Rattle.desk_tables.specs.Hidden.{hidden, row_of}
-use Rattle.desk_tables.specs.Holds.{Holds}
+use Rattle.desk_tables.specs.Holds.{Holds, HoldsListed}
 use Rattle.desk_tables.specs.Images.{listed_cells, listed_params}
 use Rattle.desk_tables.specs.Layouts.{HasRows, Layout, account_layout, authorization_layout, challenge_layout, key_layout, meta_layout, nonce_layout, order_layout}
 use Rattle.desk_tables.proofs.Holding.{accounts_held, authorizations_held, challenges_held, meta_held, nonces_held, orders_held}
 use Rattle.desk_reading.specs.Spelled.{account_in, authorization_in, challenge_in, key_in, listed_in, meta_in, nonce_in, order_in}
 use Rattle.desk_reading.specs.Texts.{select_accounts, select_authorizations, select_challenges, select_keys, select_listed, select_meta, select_nonces, select_orders}
-use Rattle.desk_reading.proofs.Answered.{IsReading, answers, by, shown_somehow, picked}
+use Rattle.desk_reading.proofs.Answered.{IsReading, IsReadingIn, all_rows, answers, by, shown_somehow, picked}
 use Rattle.desk_reading.proofs.KeyRows.{keys_up}
 use Rattle.desk_reading.proofs.KeyedReadings.{columns_of, reads_keyed}
 use Rattle.desk_reading.proofs.Lists.{filter-all}
@@ -50,6 +52,34 @@ whole L columns spelled project is text reading old new xs rows has h =
 pub keys_held : (db : Database) (T : Tables) → Holds db T → HasRows key_layout db (key_rows (challenge_rows T.authorizations))
 keys_held db T has =
     record { schema = has.schema; rows_are = has.keys; rising = keys_up 0 (challenge_rows T.authorizations) has.rising.challenges }
+
+-- over a schema, what orders list is shown in some order
+pub listed_cells_in : {schema : Schema} → IsReadingIn schema all_rows select_listed 6 [] listed_project (by 1 ∷ by 2 ∷ [])
+    → (old new : State) (orders : List OrderRow) (rows : List Row) → old.now.schema ≡ schema → HoldsListed (old.now.trees 6) (listed_rows orders)
+    → Shown select_listed [] old new rows → IsPermutation (map listed_cells (listed_rows orders)) rows
+listed_cells_in reading old new orders rows there held h =
+    let order = by 1 ∷ by 2 ∷ [] in
+    let ts = held.numbered in
+    let sorted_by = λ (l : Owned Listed). Int (listed_columns l).ord ∷ Int (listed_columns l).place ∷ [] in
+    let answered = answers (hidden listed_cells) row_of 6 [] listed_project order [] (λ _. true) (λ l. (sorted_by l, listed_cells l)) (λ _. refl) (λ _. refl)
+    select_listed reading (λ _. refl) old new ts rows there held.has h in
+    let ls = filter (λ _. true) (map row_of ts) in
+    let some = shown_somehow (picked 6 [] listed_project order) (λ (l : Owned Listed). (sorted_by l, listed_cells l)) ls rows answered in
+    let these : ls ≡ map row_of ts = filter-all (map row_of ts) in
+    let cells = subst (λ ls. IsPermutation (map listed_cells ls) rows) these some in
+    IsPermutation-trans (map listed_cells (listed_rows orders)) (map listed_cells (map row_of ts)) rows
+    (IsPermutation-map listed_cells (listed_rows orders) (map row_of ts) (IsPermutation-sym (map row_of ts) (listed_rows orders) held.same)) cells
+
+-- and so read
+pub listed_in_order : (orders : List OrderRow) (rows : List Row) (all : List OrderAuthzColumns)
+    → IsPermutation (map listed_cells (listed_rows orders)) rows → all ≡ map listed_in rows
+    → IsPermutation all (map listed_columns (listed_rows orders))
+listed_in_order orders rows all cells are =
+    let told = IsPermutation-map listed_in (map listed_cells (listed_rows orders)) rows cells in
+    let first : map listed_in (map listed_cells (listed_rows orders)) ≡ map listed_columns (listed_rows orders) =
+    columns_of listed_in listed_params listed_columns listed_back (listed_rows orders) (map listed_cells (listed_rows orders)) refl in
+    IsPermutation-sym (map listed_columns (listed_rows orders)) all
+    (subst (λ cs. IsPermutation (map listed_columns (listed_rows orders)) cs) (sym are) (subst (λ cs. IsPermutation cs (map listed_in rows)) first told))
 
 module _ (old new : State) (T : Tables) (rows : List Row) where
   -- `meta`
@@ -108,25 +138,9 @@ module _ (old new : State) (T : Tables) (rows : List Row) where
 
   -- `ord_authz` is shown in some order
   pub listed_cells_shown : Holds old.now T → Shown select_listed [] old new rows → IsPermutation (map listed_cells (listed_rows T.orders)) rows
-  listed_cells_shown has h =
-      let order = by 1 ∷ by 2 ∷ [] in
-      let ts = has.listed.numbered in
-      let sorted_by = λ (l : Owned Listed). Int (listed_columns l).ord ∷ Int (listed_columns l).place ∷ [] in
-      let answered = answers (hidden listed_cells) row_of 6 [] listed_project order [] (λ _. true) (λ l. (sorted_by l, listed_cells l)) (λ _. refl) (λ _. refl)
-      select_listed listed_reading (λ _. refl) old new ts rows has.schema has.listed.has h in
-      let ls = filter (λ _. true) (map row_of ts) in
-      let some = shown_somehow (picked 6 [] listed_project order) (λ (l : Owned Listed). (sorted_by l, listed_cells l)) ls rows answered in
-      let these : ls ≡ map row_of ts = filter-all (map row_of ts) in
-      let cells = subst (λ ls. IsPermutation (map listed_cells ls) rows) these some in
-      IsPermutation-trans (map listed_cells (listed_rows T.orders)) (map listed_cells (map row_of ts)) rows
-      (IsPermutation-map listed_cells (listed_rows T.orders) (map row_of ts) (IsPermutation-sym (map row_of ts) (listed_rows T.orders) has.listed.same)) cells
+  listed_cells_shown has h = listed_cells_in listed_reading old new T.orders rows has.schema has.listed h
 
   -- and so read
   pub listed_read : (all : List OrderAuthzColumns) → Holds old.now T → Shown select_listed [] old new rows → all ≡ map listed_in rows
       → IsPermutation all (map listed_columns (listed_rows T.orders))
-  listed_read all has h are =
-      let told = IsPermutation-map listed_in (map listed_cells (listed_rows T.orders)) rows (listed_cells_shown has h) in
-      let first : map listed_in (map listed_cells (listed_rows T.orders)) ≡ map listed_columns (listed_rows T.orders) =
-      columns_of listed_in listed_params listed_columns listed_back (listed_rows T.orders) (map listed_cells (listed_rows T.orders)) refl in
-      IsPermutation-sym (map listed_columns (listed_rows T.orders)) all
-      (subst (λ cs. IsPermutation (map listed_columns (listed_rows T.orders)) cs) (sym are) (subst (λ cs. IsPermutation cs (map listed_in rows)) first told))
+  listed_read all has h are = listed_in_order T.orders rows all (listed_cells_shown has h) are

@@ -16,12 +16,15 @@ use Rattle.desk_reading.specs.Shown.{IsShown}
 use Rattle.desk_reading.specs.Spelled.{account_in, authorization_in, challenge_in, key_in, listed_in, meta_in, nonce_in, order_in}
 use Rattle.desk_reading.specs.Texts.{select_accounts, select_authorizations, select_challenges, select_keys, select_listed, select_meta, select_nonces, select_orders}
 
--- their columns, up to those of orders, and all
+-- their columns: up to those of orders, those of the tables that both formats have, and all
 abbrev pub UpToOrders : Type 0
 UpToOrders = ((List MetaColumns × List NonceColumns) × List AccountColumns) × List OrderColumns
 
+abbrev pub FirstTables : Type 0
+FirstTables = ((UpToOrders × List OrderAuthzColumns) × List AuthzColumns) × List ChallColumns
+
 abbrev pub AllTables : Type 0
-AllTables = (((UpToOrders × List OrderAuthzColumns) × List AuthzColumns) × List ChallColumns) × List ChallKeyColumns
+AllTables = FirstTables × List ChallKeyColumns
 
 module _ {S : Type 0} (g : Ghosts S) (conn : Held S) where
   -- the database showed these, up to those of orders
@@ -30,18 +33,24 @@ module _ {S : Type 0} (g : Ghosts S) (conn : Held S) where
       ((IsShown g select_meta meta_in conn all.0.0.0 × IsShown g select_nonces nonce_in conn all.0.0.1)
       × IsShown g select_accounts account_in conn all.0.1) × IsShown g select_orders order_in conn all.1
 
+  -- those of the tables that both formats have
+  abbrev pub AreFirstTablesShown : FirstTables → Type 0
+  AreFirstTablesShown all =
+      ((AreShownToOrders all.0.0.0 × IsShown g select_listed listed_in conn all.0.0.1)
+      × IsShown g select_authorizations authorization_in conn all.0.1) × IsShown g select_challenges challenge_in conn all.1
+
   -- and all of these
   abbrev pub AreAllShown : AllTables → Type 0
-  AreAllShown all =
-      (((AreShownToOrders all.0.0.0.0 × IsShown g select_listed listed_in conn all.0.0.0.1)
-      × IsShown g select_authorizations authorization_in conn all.0.0.1) × IsShown g select_challenges challenge_in conn all.0.1)
-      × IsShown g select_keys key_in conn all.1
+  AreAllShown all = AreFirstTablesShown all.0 × IsShown g select_keys key_in conn all.1
 
-  -- the reading of each of them fails for memory or the disk alone
-  abbrev pub AreReadable : Type 0
-  AreReadable =
-      ((((((IsReadable g conn select_meta FitsMeta × IsReadable g conn select_nonces FitsNonce)
+  -- the reading of each table that both formats have fails for memory or the disk alone
+  abbrev pub AreFirstReadable : Type 0
+  AreFirstReadable =
+      (((((IsReadable g conn select_meta FitsMeta × IsReadable g conn select_nonces FitsNonce)
       × IsReadable g conn select_accounts FitsAccount) × IsReadable g conn select_orders FitsOrder)
       × IsReadable g conn select_listed FitsListed) × IsReadable g conn select_authorizations FitsAuthorization)
-      × IsReadable g conn select_challenges FitsChallenge)
-      × IsReadable g conn select_keys FitsKey
+      × IsReadable g conn select_challenges FitsChallenge
+
+  -- and that of each of them
+  abbrev pub AreReadable : Type 0
+  AreReadable = AreFirstReadable × IsReadable g conn select_keys FitsKey

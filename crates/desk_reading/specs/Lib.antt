@@ -1,6 +1,7 @@
 pub mod AllTables
 pub mod Bounded
 pub mod Failures
+pub mod First
 pub mod Fitting
 pub mod Format
 pub mod Heads

@@ -7,6 +7,7 @@ ghost use Rattle.sqlite.specs.Held.{state};
 ghost use Rattle.desk_schema.specs.Failing.{IsFailure};
 ghost use Rattle.desk_schema.specs.Stays.{Asks};
 ghost use Rattle.desk_reading.specs.Failures.{MayRead};
+ghost use Rattle.desk_reading.specs.First.{ForFirst};
 ghost use Rattle.desk_reading.specs.Format.{IsNewer, ShowsFormats};
 ghost use Rattle.desk_reading.specs.Held.{ForHeld};
 
@@ -38,7 +39,7 @@ fn is_newer_row(rows: &[Row]) -> bool
     }
 }
 
-/// Whether the tables are of a later format: `meta` has one row, whose format is a whole number above 1.
+/// Whether the tables are of a later format: `meta` has one row, whose format is a whole number above 2.
 ///
 /// # Errors
 ///
@@ -49,6 +50,8 @@ pub fn is_newer<S: Alter>(conn: &mut Connection<S>) -> Result<bool, Error>
     ensures known { HasCleanDisk (state S.Store conn.new)
         → IfOk result (λ newer. newer ≡ false → ShowsFormats (state S.Store conn.old) (state S.Store conn.new) (λ rows. ¬ IsNewer rows)) }
     ensures desk { ForHeld (state S.Store conn.old) (state S.Store conn.new) (λ T. IfOk result (λ newer. newer ≡ false)) }
+    ensures first { ForFirst (state S.Store conn.old) (state S.Store conn.new) (λ T. IfOk result (λ newer. newer ≡ false)) }
+    ensures first_fails { ForFirst (state S.Store conn.old) (state S.Store conn.new) (λ T. MayRead (state S.Store conn.old) → IfErr result IsFailure) }
     ensures fails { ForHeld (state S.Store conn.old) (state S.Store conn.new) (λ T. MayRead (state S.Store conn.old) → IfErr result IsFailure) }
     ensures unchanged { HasCleanDisk (state S.Store conn.new) → OnOk result (IsUnchanged (state S.Store conn.old) (state S.Store conn.new)) }
     ensures asks { Asks (state S.Store conn.old) (state S.Store conn.new) }

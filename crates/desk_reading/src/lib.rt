@@ -6,6 +6,7 @@ mod answers;
 mod authorizations;
 mod columns;
 mod fault;
+mod first;
 mod format;
 mod meta;
 mod nonces;
@@ -25,6 +26,7 @@ pub use authorizations::{
     authorizations_past, challenge_above, owners_of,
 };
 pub use fault::ReadFault;
+pub use first::load_first;
 pub use format::is_newer;
 pub use meta::meta_row;
 pub use nonces::{all_nonces, nonces_before, nonces_numbered};

@@ -6,7 +6,7 @@ ghost use Rattle.desk_schema.specs.Failing.{IsFailure};
 ghost use Rattle.desk_schema.specs.Stays.{Asks};
 ghost use Rattle.desk_reading.specs.Failures.{HasTexts, MayRead};
 ghost use Rattle.desk_reading.specs.Held.{ForHeld};
-ghost use Rattle.desk_reading.specs.AllTables.{AreAllShown, AreReadable};
+ghost use Rattle.desk_reading.specs.AllTables.{AreAllShown, AreFirstReadable, AreFirstTablesShown, AreReadable};
 ghost use Rattle.desk_reading.specs.Reads.{Reads};
 ghost use Rattle.desk_reading.specs.Shown.{AreColumnsOf, AreShown};
 
@@ -31,21 +31,24 @@ type UpToOrders = (
     Sequence<OrderColumns>,
 );
 
-// .. and `ord_authz`, `authz`, `chall`, `chall_key`.
-type AllTables = (
+// .. `ord_authz`, `authz`, `chall` ..
+type FirstTables = (
     (
-        (
-            (UpToOrders, Sequence<OrderAuthzColumns>),
-            Sequence<AuthzColumns>,
-        ),
-        Sequence<ChallColumns>,
+        (UpToOrders, Sequence<OrderAuthzColumns>),
+        Sequence<AuthzColumns>,
     ),
-    Sequence<ChallKeyColumns>,
+    Sequence<ChallColumns>,
 );
 
-// The columns of all tables.
-fn read_tables<S: Alter>(alloc: Global, conn: &mut Connection<S>) -> Result<AllTables, Error>
-    ensures { Reads S.Store conn.old conn.new (AreAllShown S.Store conn.old) (AreReadable S.Store conn.old) result }
+// .. and `chall_key`.
+type AllTables = (FirstTables, Sequence<ChallKeyColumns>);
+
+/// The columns of the tables that both formats have.
+pub(crate) fn read_first_tables<S: Alter>(
+    alloc: Global,
+    conn: &mut Connection<S>,
+) -> Result<FirstTables, Error>
+    ensures { Reads S.Store conn.old conn.new (AreFirstTablesShown S.Store conn.old) (AreFirstReadable S.Store conn.old) result }
 {
     let metas = read_query(alloc, conn, META, &[]);
     let nonces = then_read(metas, alloc, conn, NONCES);
@@ -53,8 +56,15 @@ fn read_tables<S: Alter>(alloc: Global, conn: &mut Connection<S>) -> Result<AllT
     let orders = then_read(accounts, alloc, conn, ORDERS);
     let listed = then_read(orders, alloc, conn, LISTED);
     let authorizations = then_read(listed, alloc, conn, AUTHORIZATIONS);
-    let challenges = then_read(authorizations, alloc, conn, CHALLENGES);
-    then_read(challenges, alloc, conn, KEYS)
+    then_read(authorizations, alloc, conn, CHALLENGES)
+}
+
+// The columns of all tables.
+fn read_tables<S: Alter>(alloc: Global, conn: &mut Connection<S>) -> Result<AllTables, Error>
+    ensures { Reads S.Store conn.old conn.new (AreAllShown S.Store conn.old) (AreReadable S.Store conn.old) result }
+{
+    let first = read_first_tables(alloc, conn);
+    then_read(first, alloc, conn, KEYS)
 }
 
 /// The rows of all tables, as `stored_rows::from_rows` takes them.

@@ -1,9 +1,10 @@
 use Rattle.std.proofs.Common.{IsTrue, sym, ◌∙◌}
 use Rattle.sqlite.specs.Held.{state}
-use Rattle.desk_reading.proofs.FormatLemmas.{never_newer}
+use Rattle.desk_reading.proofs.FormatLemmas.{first_never_newer, never_newer}
 use Rattle.desk_reading.proofs.Readings.{format_reading}
 use Rattle.desk_schema.specs.Failing.{IsFailure}
 use Rattle.desk_reading.proofs.Results.{failed_as, not_true}
+use Rattle.desk_reading.proofs.FirstTables as first
 use Rattle.desk_reading.proofs.TableFailures.{format_fails}
 use Rattle.desk_reading.proofs.format.is_newer.Goals as goal
 
@@ -32,4 +33,17 @@ pub returns-in_err-rows-clause-fails : goal.returns-in_err-rows-clause-fails
 returns-in_err-rows-clause-fails g c clean T has may =
     failed_as c.from_residual.result c.in_err-rows.field-0.0 IsFailure
     (format_fails (state g.S.Store c.args.conn.now) (state g.S.Store c.all_rows.new.conn) T c.in_err-rows.field-0.0 has may (c.in_err-rows.ensures.err clean))
+    c.from_residual.ensures.1
+
+pub returns-clause-first : goal.returns-clause-first
+returns-clause-first g c clean T has =
+    not_true c.is_newer_row.result (λ told.
+    first_never_newer (state g.S.Store c.args.conn.now) (state g.S.Store c.all_rows.new.conn) T _ has (c.in_ok-rows.ensures.shown clean)
+    (rw (c.deref.ensures.value) at (c.is_newer_row.ensures.0 told)))
+
+pub returns-in_err-rows-clause-first_fails : goal.returns-in_err-rows-clause-first_fails
+returns-in_err-rows-clause-first_fails g c clean T has may =
+    failed_as c.from_residual.result c.in_err-rows.field-0.0 IsFailure
+    (first.format_fails (state g.S.Store c.args.conn.now) (state g.S.Store c.all_rows.new.conn) T c.in_err-rows.field-0.0 has may
+    (c.in_err-rows.ensures.err clean))
     c.from_residual.ensures.1

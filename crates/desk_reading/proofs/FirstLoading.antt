@@ -1,0 +1,141 @@
+-- The rows of all tables in format 1 are those of tables that tell no keys of answers.
+use Rattle.std.proofs.Common.{◌≡◌, ℕ, pos, ◌++◌, ◌+◌, ◌<◌, length, take, get_or, List, [], ◌∷◌, map, Option, Some, None, refl, sym, ap, subst, ◌∙◌}
+use Rattle.std.specs.List.{cons_option, filter_map}
+use Rattle.std.specs.Prelude.{option_map, option_to_list}
+use Rattle.std.proofs.lemmas.List.{map-append, take_more}
+use Rattle.std.proofs.lemmas.Simd.{map-map}
+use Rattle.sqlite.specs.Held.{Held, state}
+use Rattle.sqlite.specs.Store.{Ghosts}
+use Rattle.desk_columns.specs.Columns.{authorization_columns, challenge_columns, first_format, key_columns, meta_columns}
+use Rattle.desk_columns.specs.Flat.{bare_row, challenge_rows, key_rows, owned_by}
+use Rattle.desk_columns.specs.declared.columns.StoredRows.{StoredRows}
+use Rattle.desk_columns.specs.declared.flat_rows.BareChallenge.{BareChallenge}
+use Rattle.desk_columns.specs.declared.flat_rows.Owned.{Owned}
+use Rattle.desk_model.specs.Tables.{Tables}
+use Rattle.desk_model.specs.declared.objects.Answer.{Answer}
+use Rattle.desk_model.specs.declared.rows.AuthorizationRow.{AuthorizationRow}
+use Rattle.desk_model.specs.declared.rows.ChallengeRow.{ChallengeRow}
+use Rattle.desk_reading.specs.First.{AreFirstShown, blank_key, raised_meta}
+use Rattle.desk_reading.specs.Shown.{AreColumnsOf}
+use Rattle.desk_reading.proofs.FirstTables.{accounts_read, authorizations_read, challenges_read, listed_shown, meta_read, nonces_read, orders_read}
+use Rattle.desk_reading.proofs.ShownRows.{shown_still}
+use Rattle.desk_reading.proofs.WholeTables.{listed_in_order}
+use Rattle.desk_tables.specs.Holds.{HoldsFirst}
+use Rattle.stored_laws.specs.Blank.{blank, blank_answer, blank_authorization, blank_challenge, zeros}
+
+-- ---- challenges without the keys of answers
+
+abbrev blank_row : Owned ChallengeRow → Owned ChallengeRow
+blank_row c = record c { row = blank_challenge c.row }
+
+owned_blank : (n : ℕ) (cs : List ChallengeRow) → owned_by n (map blank_challenge cs) ≡ map blank_row (owned_by n cs)
+owned_blank n [] = refl
+owned_blank n (c ∷ cs) = ap (λ l. (record { owner = n; row = blank_challenge c }) ∷ l) (owned_blank n cs)
+
+rows_blank : (rows : List AuthorizationRow) → challenge_rows (map blank_authorization rows) ≡ map blank_row (challenge_rows rows)
+rows_blank [] = refl
+rows_blank (a ∷ rows) =
+    (λ i. owned_blank a.number a.challenges i ++ rows_blank rows i) ∙ sym (map-append blank_row (owned_by a.number a.challenges) (challenge_rows rows))
+
+-- their bare rows are the same
+bare_same : (cs : List (Owned ChallengeRow)) → map bare_row (map blank_row cs) ≡ map bare_row cs
+bare_same [] = refl
+bare_same (c ∷ cs) = (λ i. one c.row.answered i ∷ bare_same cs i)
+  where
+    one : (o : Option Answer) → ◌≡◌ {A = Owned BareChallenge}
+        (record (bare_row c) { row = record (bare_row c).row { answered = option_map (λ (a : Answer). a.date) (option_map blank_answer o) } })
+        (record (bare_row c) { row = record (bare_row c).row { answered = option_map (λ (a : Answer). a.date) o } })
+    one None = refl
+    one (Some a) = refl
+
+-- a challenge with this answer
+abbrev answered_so : Owned ChallengeRow → Option Answer → Owned ChallengeRow
+answered_so c o = record c { row = record c.row { answered = o } }
+
+-- and zeros are the keys of their answers
+keys_are_blank : (cs : List (Owned ChallengeRow))
+    → filter_map blank_key (map (λ c. challenge_columns (bare_row c)) cs) ≡ map key_columns (key_rows (map blank_row cs))
+keys_are_blank [] = refl
+keys_are_blank (c ∷ cs) = by c.row.answered (keys_are_blank cs)
+  where
+    by : (o : Option Answer) → filter_map blank_key (map (λ c. challenge_columns (bare_row c)) cs) ≡ map key_columns (key_rows (map blank_row cs))
+        → filter_map blank_key (map (λ c. challenge_columns (bare_row c)) (answered_so c o ∷ cs))
+        ≡ map key_columns (key_rows (map blank_row (answered_so c o ∷ cs)))
+    by None rest = rest
+    by (Some a) rest = ap (λ ks. (record { chall = pos c.row.number; thumb = zeros }) ∷ ks) rest
+
+-- ---- one more row
+
+-- what a list of columns gives, by one more
+pub blank_more : {X Y : Type 0} (f : X → Option Y) (xs : List X) (x : X) → filter_map f (xs ++ x ∷ []) ≡ filter_map f xs ++ option_to_list (f x)
+blank_more {X} {Y} f [] x = last (f x)
+  where
+    last : (o : Option Y) → cons_option o [] ≡ option_to_list o
+    last None = refl
+    last (Some y) = refl
+blank_more {X} {Y} f (z ∷ xs) x = first (f z) (blank_more f xs x)
+  where
+    first : (o : Option Y) → filter_map f (xs ++ x ∷ []) ≡ filter_map f xs ++ option_to_list (f x)
+        → cons_option o (filter_map f (xs ++ x ∷ [])) ≡ cons_option o (filter_map f xs) ++ option_to_list (f x)
+    first None rest = rest
+    first (Some y) rest = ap (λ ys. y ∷ ys) rest
+
+-- so the next row of a slice gives one more, or none
+pub blank_step : {X Y : Type 0} (f : X → Option Y) (xs : List X) (i : ℕ) (d : X) (before now : List Y) → i < length xs
+    → now ≡ before ++ option_to_list (f (get_or xs i d)) → before ≡ filter_map f (take i xs) → now ≡ filter_map f (take (i + 1) xs)
+blank_step f xs i d before now low pushed kept =
+    pushed
+    ∙ ap (λ ys. ys ++ option_to_list (f (get_or xs i d))) kept
+    ∙ sym (blank_more f (take i xs) (get_or xs i d))
+    ∙ ap (filter_map f) (sym (take_more xs i d low))
+
+-- ---- all tables
+
+-- what was shown is the columns of the tables without the keys of answers
+pub first_columns : {S : Type 0} (g : Ghosts S) (conn : Held S) (stored : StoredRows) (T : Tables) → HoldsFirst (state g conn).now T
+    → AreFirstShown g conn stored → AreColumnsOf stored (blank T)
+first_columns {S} g conn stored T has it =
+    let held : (before : Held S) → (state g before).now ≡ (state g conn).now → HoldsFirst (state g before).now T =
+    λ before same. subst (λ db. HoldsFirst db T) (sym same) has in
+    let rows = challenge_rows T.authorizations in
+    let challs : stored.challs ≡ map (λ c. challenge_columns (bare_row c)) rows =
+    it.challenges.columns ∙ challenges_read (state g it.challenges.before) (state g it.challenges.after) T it.challenges.rows
+    (held it.challenges.before it.challenges.same) it.challenges.shown in
+    record {
+      metas = it.raised_metas ∙ ap (map raised_meta) (it.metas.columns ∙ meta_read (state g it.metas.before) (state g it.metas.after) T it.metas.rows
+          (held it.metas.before it.metas.same) it.metas.shown);
+      nonces = it.nonces.columns ∙ nonces_read (state g it.nonces.before) (state g it.nonces.after) T it.nonces.rows
+          (held it.nonces.before it.nonces.same) it.nonces.shown;
+      accounts = it.accounts.columns ∙ accounts_read (state g it.accounts.before) (state g it.accounts.after) T it.accounts.rows
+          (held it.accounts.before it.accounts.same) it.accounts.shown;
+      orders = it.orders.columns ∙ orders_read (state g it.orders.before) (state g it.orders.after) T it.orders.rows
+          (held it.orders.before it.orders.same) it.orders.shown;
+      authorizations = it.authorizations.columns ∙ authorizations_read (state g it.authorizations.before) (state g it.authorizations.after) T
+          it.authorizations.rows (held it.authorizations.before it.authorizations.same) it.authorizations.shown
+          ∙ sym (map-map authorization_columns blank_authorization T.authorizations);
+      listed = listed_in_order T.orders it.listed.rows stored.order_authzs
+          (listed_shown (state g it.listed.before) (state g it.listed.after) T it.listed.rows (held it.listed.before it.listed.same) it.listed.shown)
+          it.listed.columns;
+      challenges = challs
+          ∙ sym (map-map challenge_columns bare_row rows)
+          ∙ ap (map challenge_columns) (sym (ap (map bare_row) (rows_blank T.authorizations) ∙ bare_same rows));
+      keys = it.blank_keys ∙ ap (filter_map blank_key) challs ∙ keys_are_blank rows
+          ∙ ap (λ cs. map key_columns (key_rows cs)) (sym (rows_blank T.authorizations));
+    }
+
+-- and so they were before calls that changed nothing
+pub first_before : {S : Type 0} (g : Ghosts S) (old now : Held S) (stored : StoredRows) → (state g now).now ≡ (state g old).now → AreFirstShown g now stored
+    → AreFirstShown g old stored
+first_before g old now stored same it =
+    record {
+      read = it.read;
+      metas = shown_still g _ _ old now it.read same it.metas;
+      raised_metas = it.raised_metas;
+      nonces = shown_still g _ _ old now stored.nonces same it.nonces;
+      accounts = shown_still g _ _ old now stored.accounts same it.accounts;
+      orders = shown_still g _ _ old now stored.orders same it.orders;
+      authorizations = shown_still g _ _ old now stored.authzs same it.authorizations;
+      listed = shown_still g _ _ old now stored.order_authzs same it.listed;
+      challenges = shown_still g _ _ old now stored.challs same it.challenges;
+      blank_keys = it.blank_keys;
+    }
