@@ -1,5 +1,7 @@
 pub mod Books
+pub mod FirstBooks
 pub mod NewDesks
 pub mod OpeningFaults
 pub mod SavedDesks
 pub mod Standing
+pub mod Upgrading

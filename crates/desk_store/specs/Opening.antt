@@ -4,6 +4,7 @@ use Rattle.sqlite.specs.Held.{Held, state}
 use Rattle.sqlite.specs.Store.{Ghosts}
 use Rattle.desk_columns.specs.declared.columns.StoredRows.{StoredRows}
 use Rattle.desk_model.specs.Tables.{Tables}
+use Rattle.desk_reading.specs.First.{AreFirstShown}
 use Rattle.desk_reading.specs.Format.{IsNewer, ShowsFormats}
 use Rattle.desk_reading.specs.Shown.{AreShown}
 use Rattle.desk_schema.specs.Names.{has_all_indexes}
@@ -21,6 +22,18 @@ module _ {S : Type 0} (g : Ghosts S) where
     pub indexes : IsTrue (has_all_indexes (state g conn).now.schema)
     pub book : Tables
     pub shows : ShowsBook conn book
+
+  -- the rows that it showed of format 1, with zeros in the place of the keys of answers, are those of this book
+  pub record ShowsFirstBook (conn : Held S) (book : Tables) : Type 0 where
+    pub stored : StoredRows
+    pub shown : AreFirstShown g conn stored
+    pub is_book : IsBookOfStored stored book
+
+  -- no table of format 1, no column and no index is missing, and the rows are a book's
+  pub record IsWholeFirst (conn : Held S) : Type 0 where
+    pub indexes : IsTrue (has_all_indexes (state g conn).now.schema)
+    pub book : Tables
+    pub shows : ShowsFirstBook conn book
 
   -- asked for the formats in `meta`, the database showed one row whose format is a later one
   abbrev pub ShowsNewerFormat : Held S → Type 0

@@ -1,25 +1,29 @@
 //! The opening of a desk.
-ghost use Rattle.std.specs.Prelude.{◌≡◌, ◌≢◌, ◌⊎◌, Err, IfErr, IfOk, IsTrue, OnOk};
-ghost use Rattle.sqlite.specs.State.{HasCleanDisk, IsUnchanged};
+ghost use Rattle.std.specs.Prelude.{◌≡◌, ◌≢◌, ◌⊎◌, Err, IfErr, IfOk, IsTrue, OnErr, OnOk, false};
+ghost use Rattle.sqlite.specs.State.{HasCleanDisk, IsUnchanged, Survives};
 ghost use Rattle.sqlite.specs.Held.{state};
 ghost use Rattle.desk_model.specs.Tables.{Tables};
 ghost use Rattle.desk_reading.specs.Format.{IsNewer, ShowsFormats};
+ghost use Rattle.desk_saving.specs.Committing.{GoesBack, IsLeft};
 ghost use Rattle.desk_schema.specs.Stays.{Asks};
 ghost use Rattle.desk_storage.specs.declared.fault.StorageFault.TheVariants.{Memory as memory};
 ghost use Rattle.desk_store.specs.Causes.{IsOfOpening, cause_of};
-ghost use Rattle.desk_store.specs.Desks.{HasDesk};
+ghost use Rattle.desk_store.specs.Desks.{AreOfDesk, HasDesk};
 ghost use Rattle.desk_store.specs.Making.{IsOfStorage};
-ghost use Rattle.desk_store.specs.Opening.{IsWhole, ShowsBook, ShowsKnownFormat, ShowsNewerFormat};
+ghost use Rattle.desk_store.specs.Opening.{IsWhole, ShowsBook, ShowsFirstBook, ShowsKnownFormat, ShowsNewerFormat};
 ghost use Rattle.desk_store.specs.declared.open_fault.OpenFault.TheVariants.{NewerFormat as newer_format, NotADesk as not_a_desk, Storage as of_storage};
+ghost use Rattle.desk_upgrading.specs.FirstDesks.{BringsDesk, HasFirst, HasSecond, UpgradesDesk};
+ghost use Rattle.stored_laws.specs.Blank.{blank};
 ghost use Rattle.stored_rows.specs.IsBook.{IsBookOfStored};
 
-use crate::faults::{Cause, cause_of, memory_fault};
+use crate::faults::{Cause, cause_of, memory_fault, saving_fault};
 use crate::open_fault::OpenFault;
 use desk_book::Book;
 use desk_columns::StoredRows;
-use desk_reading::{is_newer, load_stored};
+use desk_reading::{is_newer, load_first, load_stored};
 use desk_schema::has_indexes;
 use desk_storage::StorageFault;
+use desk_upgrading::upgrade;
 use sqlite::{Alter, Connection, Error};
 use std::alloc::Global;
 use stored_rows::{RowsFault, from_rows};
@@ -86,6 +90,81 @@ pub(crate) fn read_book<S: Alter>(
     match load_stored(alloc, conn) {
         Ok(stored) => book_of(alloc, stored),
         Err(error) => Err(opening_fault(conn, error)),
+    }
+}
+
+/// The book of the tables of format 1, with zeros in the place of the keys of answers.
+///
+/// # Errors
+///
+/// As of `read_book`.
+pub(crate) fn read_first<S: Alter>(
+    alloc: Global,
+    conn: &mut Connection<S>,
+) -> Result<Book, OpenFault>
+    ensures book { HasCleanDisk (state S.Store conn.new) → IfOk result (λ book. (T : Tables) → HasFirst (state S.Store conn.old) T → book ≡ blank T) }
+    ensures shown { HasCleanDisk (state S.Store conn.new) → IfOk result (ShowsFirstBook S.Store conn.old) }
+    ensures no_newer { result ≢ Err newer_format }
+    ensures unchanged { HasCleanDisk (state S.Store conn.new) → OnOk result (IsUnchanged (state S.Store conn.old) (state S.Store conn.new)) }
+    ensures desk { HasCleanDisk (state S.Store conn.new) → IfErr result (λ why. (T : Tables) → HasFirst (state S.Store conn.old) T → IsOfStorage why) }
+    ensures answering { HasCleanDisk (state S.Store conn.new) → result ≡ Err (of_storage memory) → IsTrue (state S.Store conn.new).is_open }
+    ensures asks { Asks (state S.Store conn.old) (state S.Store conn.new) }
+{
+    match load_first(alloc, conn) {
+        Ok(stored) => book_of(alloc, stored),
+        Err(error) => Err(opening_fault(conn, error)),
+    }
+}
+
+// Makes of the desk of this book, in format 1, one of today's format, in one transaction.
+fn upgrade_book<S: Alter>(
+    alloc: Global,
+    conn: &mut Connection<S>,
+    book: Book,
+) -> Result<(), StorageFault>
+    requires idle { conn.old.in_transaction ≡ false }
+    ensures idle { conn.new.in_transaction ≡ false }
+    ensures brings { HasCleanDisk (state S.Store conn.new) → OnOk result (BringsDesk book (state S.Store conn.old) (state S.Store conn.new)) }
+    ensures back { (state S.Store conn.old).now ≡ (state S.Store conn.old).committed → HasCleanDisk (state S.Store conn.new)
+        → OnErr result (GoesBack (state S.Store conn.old) (state S.Store conn.new)) }
+    ensures answering { HasCleanDisk (state S.Store conn.new) → result ≡ Err memory → IsTrue (state S.Store conn.new).is_open }
+    ensures left { Survives (state S.Store conn.old) (state S.Store conn.new) (IsLeft (UpgradesDesk book (state S.Store conn.old).now)) }
+{
+    let upgraded = upgrade(alloc, conn, &book);
+    // Before the ways part, so that it is dropped in one place.
+    drop(book);
+    match upgraded {
+        Ok(()) => Ok(()),
+        Err(fault) => Err(saving_fault(conn, fault)),
+    }
+}
+
+/// Makes of a desk in format 1 the same desk in today's format, in one transaction.
+///
+/// # Errors
+///
+/// `NotADesk` where a table, a column or an index is missing, or where no book has the rows. `Storage` where the store failed: a stop leaves
+/// what it left before, or the desk in today's format.
+pub(crate) fn upgrade_desk<S: Alter>(
+    alloc: Global,
+    conn: &mut Connection<S>,
+) -> Result<(), OpenFault>
+    requires idle { conn.old.in_transaction ≡ false }
+    ensures idle { conn.new.in_transaction ≡ false }
+    ensures upgraded { HasCleanDisk (state S.Store conn.new)
+        → OnOk result ((T : Tables) → HasFirst (state S.Store conn.old) T → HasSecond (state S.Store conn.new) T) }
+    ensures back { (state S.Store conn.old).now ≡ (state S.Store conn.old).committed → HasCleanDisk (state S.Store conn.new)
+        → OnErr result (GoesBack (state S.Store conn.old) (state S.Store conn.new)) }
+    ensures left { Survives (state S.Store conn.old) (state S.Store conn.new) (λ trees. (T : Tables) → HasFirst (state S.Store conn.old) T
+        → AreOfDesk trees T) }
+    ensures desk { HasCleanDisk (state S.Store conn.new) → IfErr result (λ why. (T : Tables) → HasFirst (state S.Store conn.old) T → IsOfStorage why) }
+{
+    match read_first(alloc, conn) {
+        Ok(book) => match upgrade_book(alloc, conn, book) {
+            Ok(()) => Ok(()),
+            Err(fault) => Err(OpenFault::Storage(fault)),
+        },
+        Err(fault) => Err(fault),
     }
 }
 

@@ -1,0 +1,69 @@
+-- What a desk's tables in format 1 are to a file.
+use Rattle.std.proofs.Common.{◌≡◌, Result, Ok, Err, inl, inr, sym, subst}
+use Rattle.std.specs.Prelude.{◌⊎◌, IfErr, IfOk}
+use Rattle.sqlite.specs.Effect.{Database}
+use Rattle.sqlite.specs.Held.{Held}
+use Rattle.sqlite.specs.State.{State}
+use Rattle.sqlite.specs.Store.{Ghosts}
+use Rattle.desk_columns.specs.Columns.{rows_columns}
+use Rattle.desk_columns.specs.Flat.{flat}
+use Rattle.desk_columns.specs.Limits.{AreStored}
+use Rattle.desk_columns.specs.declared.columns.StoredRows.{StoredRows}
+use Rattle.desk_model.specs.History.{clock}
+use Rattle.desk_model.specs.Tables.{Tables}
+use Rattle.desk_reading.specs.Failures.{HasTexts, MayRead}
+use Rattle.desk_reading.specs.First.{AreFirstShown}
+use Rattle.desk_reading.specs.Shown.{AreColumnsOf}
+use Rattle.desk_reading.proofs.Loading.{reordered}
+use Rattle.desk_storage.specs.declared.fault.StorageFault.TheVariants.{Memory}
+use Rattle.desk_store.specs.Making.{IsOfStorage}
+use Rattle.desk_store.specs.Opening.{ShowsFirstBook}
+use Rattle.desk_store.specs.declared.open_fault.OpenFault.{OpenFault}
+use Rattle.desk_store.specs.declared.open_fault.OpenFault.TheVariants.{NotADesk, Storage}
+use Rattle.desk_tables.specs.Holds.{HoldsFirst}
+use Rattle.desk_upgrading.specs.FirstDesks.{HasFirst, IsFirstDesk}
+use Rattle.stored_rows.specs.IsBook.{IsBook, IsBookOfStored}
+use Rattle.stored_laws.proofs.BlankBooks.{blank_books}
+use Rattle.stored_laws.proofs.Books.{tables_book}
+use Rattle.stored_laws.proofs.Columns as columns
+use Rattle.stored_laws.proofs.FlatTexts.{tables_are_texts}
+use Rattle.stored_laws.proofs.Rows.{picture_stored}
+use Rattle.stored_laws.specs.Blank.{blank}
+use Rattle.stored_laws.specs.Told.{AreReorderedColumns, IsOnlyBookOf}
+
+-- a file that has their rows, with zeros in the place of the keys of answers, is their book without these keys, and no other
+pub only_blank : (db : Database) (T : Tables) → IsFirstDesk db T → (stored : StoredRows) → AreReorderedColumns stored (rows_columns (flat (blank T)))
+    → IsOnlyBookOf stored (blank T)
+only_blank db T desk stored told =
+    let book : IsBook T = subst IsBook (sym desk.is_picture) (tables_book desk.history desk.legal.each (clock desk.history)) in
+    let limits : AreStored (flat T) = subst (λ (U : Tables). AreStored (flat U)) (sym desk.is_picture) (picture_stored desk.history desk.legal) in
+    columns.book_told (blank T) (blank_books.book T book) (blank_books.stored T limits) stored told
+
+-- its texts are UTF-8
+pub first_texts : (db : Database) (T : Tables) → IsFirstDesk db T → HasTexts T
+first_texts db T desk = subst HasTexts (sym desk.is_picture) (tables_are_texts desk.history desk.legal.each (clock desk.history))
+
+-- it may be read
+pub first_may_read : (s : State) (T : Tables) → HasFirst s T → MayRead s
+first_may_read s T has = record { is_open = has.is_open; unlimited = has.unlimited }
+
+-- the book that was made of the rows that were read
+pub first_told : {E : Type 0} (s : State) (stored : StoredRows) (made : Result Tables E) → IfOk made (λ book. IsBookOfStored stored book)
+    → ((T : Tables) → HoldsFirst s.now T → AreColumnsOf stored (blank T)) → IfOk made (λ book. (T : Tables) → HasFirst s T → book ≡ blank T)
+first_told s stored (Ok book) is told = λ T has. (only_blank s.now T has.desk stored (reordered stored (blank T) (told T has.desk.holds))).only book is
+first_told s stored (Err why) is told = tt
+
+-- there is one, so only memory can have failed
+pub first_fails : (s : State) (stored : StoredRows) (made : Result Tables OpenFault)
+    → IfErr made (λ why. (why ≡ Storage Memory) ⊎ ((why ≡ NotADesk) × ((T : Tables) → IsBookOfStored stored T → ⊥)))
+    → ((T : Tables) → HoldsFirst s.now T → AreColumnsOf stored (blank T)) → IfErr made (λ why. (T : Tables) → HasFirst s T → IsOfStorage why)
+first_fails s stored (Ok book) fault told = tt
+first_fails s stored (Err why) (inl is) told = λ T has. (Memory, is)
+first_fails s stored (Err why) (inr none) told = λ T has.
+    absurd (none.1 (blank T) (only_blank s.now T has.desk stored (reordered stored (blank T) (told T has.desk.holds))).book)
+
+-- the book that was made is that of the rows that were shown
+pub first_shown : {S E : Type 0} (g : Ghosts S) (conn : Held S) (stored : StoredRows) (made : Result Tables E)
+    → IfOk made (λ book. IsBookOfStored stored book) → AreFirstShown g conn stored → IfOk made (ShowsFirstBook g conn)
+first_shown g conn stored (Ok book) is shown = record { stored = stored; shown = shown; is_book = is }
+first_shown g conn stored (Err why) is shown = tt

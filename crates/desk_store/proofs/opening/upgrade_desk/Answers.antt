@@ -1,0 +1,40 @@
+use Rattle.std.proofs.Common.{arith}
+use Rattle.sqlite.proofs.StateLemmas.{survives_then}
+use Rattle.sqlite.specs.Held.{state}
+use Rattle.sqlite.specs.State.{HasCleanDisk}
+use Rattle.desk_store.proofs.Upgrading.{desk_left_by, first_unchanged, same_blank}
+use Rattle.desk_store.proofs.opening.upgrade_desk.Goals as goal
+
+pub upgrade_book-requires : goal.upgrade_book-requires
+upgrade_book-requires g c = record { idle = c.read_first.ensures.asks.idle c.requires.idle }
+
+pub returns-in-Ok-upgrade_book-clause-upgraded : goal.returns-in-Ok-upgrade_book-clause-upgraded
+returns-in-Ok-upgrade_book-clause-upgraded g c clean T has =
+    let old = state g.S.Store c.args.conn.now in
+    let mid = state g.S.Store c.read_first.new.conn in
+    let clean_mid : HasCleanDisk mid = omega (arith, clean, c.upgrade_book.ensures.left.clean) in
+    c.in-Ok-upgrade_book.ensures.brings clean T
+    (first_unchanged old mid T c.read_first.ensures.asks.survives.limit (c.in-Ok.ensures.unchanged clean_mid) has)
+    (same_blank T _ (c.in-Ok.ensures.book clean_mid T has))
+
+pub returns-in-Ok-upgrade_book-clause-left : goal.returns-in-Ok-upgrade_book-clause-left
+returns-in-Ok-upgrade_book-clause-left g c =
+    let old = state g.S.Store c.args.conn.now in
+    let mid = state g.S.Store c.read_first.new.conn in
+    let new = state g.S.Store c.upgrade_book.new.conn in
+    survives_then old mid new _ _ _ (λ _ _ none. absurd none)
+    (λ clean trees left.
+    let clean_mid : HasCleanDisk mid = omega (arith, clean, c.upgrade_book.ensures.left.clean) in
+    desk_left_by old mid _ trees c.read_first.ensures.asks.survives.limit (c.in-Ok.ensures.unchanged clean_mid) (c.in-Ok.ensures.book clean_mid) left)
+    c.read_first.ensures.asks.survives c.upgrade_book.ensures.left
+
+pub returns-in-Err-upgrade_book-clause-left : goal.returns-in-Err-upgrade_book-clause-left
+returns-in-Err-upgrade_book-clause-left g c =
+    let old = state g.S.Store c.args.conn.now in
+    let mid = state g.S.Store c.read_first.new.conn in
+    let new = state g.S.Store c.upgrade_book.new.conn in
+    survives_then old mid new _ _ _ (λ _ _ none. absurd none)
+    (λ clean trees left.
+    let clean_mid : HasCleanDisk mid = omega (arith, clean, c.upgrade_book.ensures.left.clean) in
+    desk_left_by old mid _ trees c.read_first.ensures.asks.survives.limit (c.in-Ok.ensures.unchanged clean_mid) (c.in-Ok.ensures.book clean_mid) left)
+    c.read_first.ensures.asks.survives c.upgrade_book.ensures.left
