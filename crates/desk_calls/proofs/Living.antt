@@ -5,7 +5,7 @@ use Rattle.desk_model.specs.Legal.{Legal}
 use Rattle.desk_model.specs.Tables.{picture}
 use Rattle.desk_model.specs.Decide.{decide}
 use Rattle.desk_model.specs.Run.{IsFormedCall}
-use Rattle.desk_model.specs.Life.{Event, Replied, Faulted, Stopped, Reopened, IsStart, IsLife, history, kept_calls, made_by, EndedRowsStay}
+use Rattle.desk_model.specs.Life.{Event, Replied, Faulted, Stopped, Reopened, IsLife, history, kept_calls, made_by, EndedRowsStay}
 use Rattle.desk_model.specs.declared.call.Call.{Call}
 use Rattle.desk_model.specs.declared.reply.Reply.{Reply}
 use Rattle.desk_lives.proofs.Ended.{ended_stays}
@@ -143,12 +143,12 @@ module _ {S C : Type 0} (v : Sight S C) where
   more start (rests old) seen first x h is = off start old seen first x h is
 
   -- nothing is seen yet
-  begins : (start : History) (first : Place S C) → IsStart start → IsAt v start first → IsLiving start first (Follows v start [])
+  begins : (start : History) (first : Place S C) → Legal start → IsAt v start first → IsLiving start first (Follows v start [])
   begins start (runs s) is at = record { life = []; lives = is; at = at; running = refl; says = refl }
   begins start (rests c) is at = record { life = []; lives = is; at = at; running = tt; says = refl }
 
   -- all that is seen
-  living : (start : History) (first : Place S C) (seen : List (Seen S C)) → IsStart start → IsAt v start first → IsSeen v first seen →
+  living : (start : History) (first : Place S C) (seen : List (Seen S C)) → Legal start → IsAt v start first → IsSeen v first seen →
       IsLiving start (place_after first seen) (Follows v start seen)
   living start first [] is at all = begins start first is at
   living start first (x ∷ seen) is at all = more start (place_after first seen) seen first x (living start first seen is at all.1) all.0

@@ -2,9 +2,9 @@
 use Rattle.std.proofs.Common.{◌≡◌, List, [], ◌∷◌, ℕ, true, false, refl, ap, ◌∙◌}
 use Rattle.desk_model.specs.Entry.{History}
 use Rattle.desk_model.specs.History.{moment_of, record_all, terms, terms_after}
-use Rattle.desk_model.specs.Legal.{EachFollows, Legal, is_empty, may_follow}
+use Rattle.desk_model.specs.Legal.{BeginsMade, EachFollows, Legal, is_empty, may_follow}
 use Rattle.desk_model.specs.Decide.{decide}
-use Rattle.desk_model.specs.Life.{IsStart, made_by}
+use Rattle.desk_model.specs.Life.{made_by}
 use Rattle.desk_model.specs.declared.call.Call.{Call}
 use Rattle.desk_model.specs.declared.entry.Entry.{Entry}
 use Rattle.desk_model.specs.declared.entry.Entry.TheVariants.{Made as made}
@@ -45,6 +45,11 @@ calls_leave start (c ∷ calls) begun h =
     let es = (decide before c).entries in
     terms_stay m es before (made_begun start calls begun) h ∙ calls_leave start calls begun (follows_before m es before h)
 
+-- a history that begins is not empty
+begins_begun : (F : History) → BeginsMade F → is_empty F ≡ false
+begins_begun [] begins = absurd begins
+begins_begun (e ∷ F) begins = refl
+
 -- the policy is the one that the desk was made with
-pub policy_stays : (start : History) (calls : List Call) → IsStart start → Legal (made_by start calls) → terms (made_by start calls) ≡ terms start
-policy_stays start calls is legal = calls_leave start calls (ap is_empty is.is) legal.each
+pub policy_stays : (start : History) (calls : List Call) → Legal start → Legal (made_by start calls) → terms (made_by start calls) ≡ terms start
+policy_stays start calls is legal = calls_leave start calls (begins_begun start is.begins) legal.each

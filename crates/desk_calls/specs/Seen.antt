@@ -5,7 +5,7 @@ use Rattle.desk_model.specs.History.{terms}
 use Rattle.desk_model.specs.Legal.{Legal}
 use Rattle.desk_model.specs.Tables.{picture}
 use Rattle.desk_model.specs.Decide.{decide}
-use Rattle.desk_model.specs.Life.{Event, Replied, Faulted, Stopped, Reopened, IsStart, IsLife, history, is_running, made_by, Passed, EndedRowsStay}
+use Rattle.desk_model.specs.Life.{Event, Replied, Faulted, Stopped, Reopened, IsLife, history, is_running, made_by, Passed, EndedRowsStay}
 use Rattle.desk_model.specs.declared.call.Call.{Call}
 use Rattle.desk_model.specs.declared.reply.Reply.{Reply}
 use Rattle.desk_storage.specs.Sight.{Sight, Keeps, Opens, FailsToOpen}
@@ -158,15 +158,15 @@ module _ {S C : Type 0} (v : Sight S C) where
     pub follows : Follows start seen life
     pub told : replied life ≡ told_by seen
 
-  -- whatever is seen from the making of a desk on is a life
+  -- whatever is seen, from a desk with the tables of any legal history on, is a life
   abbrev pub SeenIsLived : Type 0
   SeenIsLived =
-      (start : History) (first : Place S C) (seen : List (Seen S C)) → IsStart start → IsAt start first → IsSeen first seen
+      (start : History) (first : Place S C) (seen : List (Seen S C)) → Legal start → IsAt start first → IsSeen first seen
       → IsLived start first seen
 
   -- ---- the headline, of what is seen
 
-  -- what is there in the end is the picture of the making of the desk with the entries of some calls, each call's whole: of
+  -- what is there in the end is the picture of the history at the start with the entries of some calls, each call's whole: of
   -- those that were answered and of some that a stop cut off, and of no other; the policy is the one that it was made with
   pub record IsOfCalls (start : History) (first : Place S C) (seen : List (Seen S C)) : Type 0 where
     pub calls : List Call
@@ -178,7 +178,7 @@ module _ {S C : Type 0} (v : Sight S C) where
   -- whatever is seen, it is so of the end
   abbrev pub SeenIsOfCalls : Type 0
   SeenIsOfCalls =
-      (start : History) (first : Place S C) (seen : List (Seen S C)) → IsStart start → IsAt start first → IsSeen first seen → IsOfCalls start first seen
+      (start : History) (first : Place S C) (seen : List (Seen S C)) → Legal start → IsAt start first → IsSeen first seen → IsOfCalls start first seen
 
   -- a reply that was given is the one decided on what the calls before it made; the store then had these and its call, and
   -- what is there in the end is made of these and its call first, and of calls that came later
@@ -196,7 +196,7 @@ module _ {S C : Type 0} (v : Sight S C) where
   abbrev pub RepliesAreKept : Type 0
   RepliesAreKept =
       (start : History) (first : Place S C) (later earlier : List (Seen S C)) (call : Call) (reply : Reply) (new : S)
-      → IsStart start → IsAt start first → IsSeen first (later ++ seen_reply call reply new ∷ earlier)
+      → Legal start → IsAt start first → IsSeen first (later ++ seen_reply call reply new ∷ earlier)
       → IsKeptToTheEnd start first later earlier call reply new
 
   -- the nonce of a request that was answered passes in no later one that is answered
@@ -211,7 +211,7 @@ module _ {S C : Type 0} (v : Sight S C) where
   abbrev pub NoncesSeenOnce : Type 0
   NoncesSeenOnce =
       (start : History) (first : Place S C) (later middle earlier : List (Seen S C)) (one two : Call) (reply other : Reply) (new newer : S)
-      → IsStart start → IsAt start first → IsSeen first (later ++ (seen_reply two other newer ∷ (middle ++ (seen_reply one reply new ∷ earlier))))
+      → Legal start → IsAt start first → IsSeen first (later ++ (seen_reply two other newer ∷ (middle ++ (seen_reply one reply new ∷ earlier))))
       → NonceServesOnce first middle earlier one two reply new
 
   -- what has ended keeps its row from any place on
@@ -226,5 +226,5 @@ module _ {S C : Type 0} (v : Sight S C) where
   abbrev pub EndedSeenStays : Type 0
   EndedSeenStays =
       (start : History) (first : Place S C) (later earlier : List (Seen S C))
-      → IsStart start → IsAt start first → IsSeen first (later ++ earlier)
+      → Legal start → IsAt start first → IsSeen first (later ++ earlier)
       → EndedIsKept first later earlier

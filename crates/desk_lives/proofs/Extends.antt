@@ -96,7 +96,7 @@ histories_are_of_calls start life is = of_calls start life
 
 -- each history is legal
 pub histories_are_legal : HistoriesAreLegal
-histories_are_legal start [] life = life.legal
+histories_are_legal start [] life = life
 histories_are_legal start (Replied c r ∷ es) life = legal_after (history start es) c (histories_are_legal start es life.1) life.0.1 life.0.2
 histories_are_legal start (Faulted c ∷ es) life = histories_are_legal start es life.1
 histories_are_legal start (Stopped c true ∷ es) life = legal_after (history start es) c (histories_are_legal start es life.1) life.0.1 life.0.2

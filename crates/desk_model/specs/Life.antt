@@ -1,8 +1,7 @@
 -- The lives of a desk: what may happen to it, and what holds over every life.
 use Rattle.std.specs.Prelude.{ℕ, ◌≡◌, List, [], ◌∷◌, ◌++◌, Bool, true, false, Option, Some, None, IsTrue, is_some}
-use Rattle.desk_model.specs.Terms.{Terms}
 use Rattle.desk_model.specs.Entry.{History}
-use Rattle.desk_model.specs.History.{first_history, moment_of}
+use Rattle.desk_model.specs.History.{moment_of}
 use Rattle.desk_model.specs.Legal.{Legal}
 use Rattle.desk_model.specs.Authorization.{is_over}
 use Rattle.desk_model.specs.Tables.{Tables, AccountRow, ChallengeRow, AuthorizationRow, OrderRow, tables_at, picture}
@@ -54,15 +53,9 @@ MayHappen (Stopped call true) F earlier = IsTrue (is_running earlier) × IsForme
 MayHappen (Stopped call false) F earlier = IsTrue (is_running earlier)
 MayHappen Reopened F earlier = Unit {0}
 
--- a history that making a desk leaves
-pub record IsStart (F : History) : Type 0 where
-  pub terms : Terms
-  pub date : ℕ
-  pub is : F ≡ first_history terms date
-  pub legal : Legal F
-
+-- a life begins from any legal history: that of a desk just made, or of one that is found in a file
 abbrev pub IsLife : History → List Event → Type 0
-IsLife start [] = IsStart start
+IsLife start [] = Legal start
 IsLife start (e ∷ earlier) = MayHappen e (history start earlier) earlier × IsLife start earlier
 
 -- the calls that were acknowledged and those that a stop kept, the latest first
@@ -79,7 +72,7 @@ abbrev pub made_by : History → List Call → History
 made_by start [] = start
 made_by start (c ∷ calls) = after (made_by start calls) c
 
--- the history is the making of the desk with the entries of these calls, each call's whole: they are the first ones
+-- the history is that at the start with the entries of these calls, each call's whole: they are the first ones
 -- of those that the life acknowledged or kept, and no other
 pub record IsBeginning (start : History) (life : List Event) (calls : List Call) (before : History) : Type 0 where
   pub later : List Call

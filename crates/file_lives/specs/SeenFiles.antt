@@ -6,7 +6,7 @@ use Rattle.sqlite.specs.Files.{over_files}
 use Rattle.sqlite.specs.Recovery.{Image}
 use Rattle.sqlite.specs.Tree.{Trees}
 use Rattle.desk_model.specs.Entry.{History}
-use Rattle.desk_model.specs.Life.{IsStart}
+use Rattle.desk_model.specs.Legal.{Legal}
 use Rattle.desk_model.specs.Tables.{picture}
 use Rattle.desk_calls.specs.Seen.{Place, runs, rests, Seen, seen_reply, seen_fault, seen_stop, seen_end, seen_open, seen_failure}
 use Rattle.desk_calls.specs.Seen.{place_after, IsExit, IsExitInPlace, IsSeen}
@@ -78,5 +78,5 @@ module _ {D : Type 0} (g : disk.Ghosts D) where
   abbrev pub FilesAreSeen : Type 0
   FilesAreSeen =
       (start : History) (first : Store (FileStore D g)) (seen : List (Seen (Store (FileStore D g)) Image))
-      → IsStart start → Keeps by_trees first (picture start) → IsSeenOver first seen
+      → Legal start → Keeps by_trees first (picture start) → IsSeenOver first seen
       → ∥ ((found : List (Seen (Store (FileStore D g)) LeftFiles)) × (map with_bytes found ≡ seen) × IsSeen (file_sight g) (runs first) found) ∥₁
