@@ -37,7 +37,7 @@ use Rattle.desk_decisions.specs.HasTexts.{HasTexts}
 use Rattle.desk_changes.specs.Made.{AreStanding, made_row, next_account, next_order}
 use Rattle.desk_changes.proofs.MadeRows.{find-after, made_found, stood_found}
 use Rattle.desk_laws.proofs.OrderFacts.{numbers_listed}
-use Rattle.desk_rules.proofs.NamesKept.{same_names}
+use Rattle.order_names.proofs.NamesKept.{same_names}
 use Rattle.desk_changes.proofs.Moving.{below_standing, ordered_one}
 use Rattle.desk_decisions.proofs.ShownTexts.{order_ends}
 use Rattle.swept_rows.proofs.SweptRows.{find-moved}

@@ -1,5 +1,5 @@
 -- Rows that are looked up one number after the other, each put into its place.
-use Rattle.std.proofs.Common.{◌≡◌, ℕ, List, [], ◌∷◌, ◌++◌, Result, Ok, Err, IfErr, IfOk, OnOk, ap, append-nil, subst, sym, ◌∙◌}
+use Rattle.std.proofs.Common.{◌≡◌, ℕ, Bool, true, false, cond, refl, filter, List, [], ◌∷◌, ◌++◌, Result, Ok, Err, IfErr, IfOk, OnOk, ap, append-nil, subst, sym, ◌∙◌}
 use Rattle.std.specs.List.{flat_map}
 use Rattle.std.specs.Result.{result_and}
 use Rattle.desk_laws.specs.Placing.{puts}
@@ -17,6 +17,19 @@ gathered number rows_of n before rest found rows later all next looked put_now a
     ∙ sym (puts_append number (rows_of n) (flat_map rows_of rest) rows)
     ∙ ap (λ l. puts number (flat_map rows_of l) rows) (sym next)
     ∙ all_of
+
+-- one more row is put, if it passes
+pub put_passed : {X : Type 0} (number : X → ℕ) (p : X → Bool) (row : X) (before rest table later all : List X) → before ≡ row ∷ rest →
+    later ≡ puts number (filter p (row ∷ [])) table → puts number (filter p before) table ≡ all → puts number (filter p rest) later ≡ all
+put_passed number p row before rest table later all next put_now so_far =
+    ap (puts number (filter p rest)) put_now
+    ∙ by (p row)
+    ∙ ap (λ l. puts number (filter p l) table) (sym next)
+    ∙ so_far
+  where
+    by : (b : Bool) → puts number (filter p rest) (puts number (cond b (row ∷ []) []) table) ≡ puts number (cond b (row ∷ filter p rest) (filter p rest)) table
+    by true = refl
+    by false = refl
 
 -- what was found is put, where there was no fault
 pub put_if_found : {F V B X : Type 0} (number : X → ℕ) (items : V → List X) (found : Result V F) (r : Result B F) (xs rows later : List X) →

@@ -1,11 +1,10 @@
 //! The authorizations that a new order asks for by their names.
 ghost use Rattle.std.specs.Prelude.{◌≡◌, ◌∷◌, [], Err, IfErr, IfOk, OnOk, option_map};
-ghost use Rattle.std.specs.List.{filter, flat_map, list_any};
+ghost use Rattle.std.specs.List.{filter, flat_map};
 ghost use Rattle.desk_laws.specs.Placing.{puts};
-ghost use Rattle.desk_loading.specs.Asking.{asked_of, bears};
 ghost use Rattle.desk_loading.specs.Finding.{Finds};
 ghost use Rattle.desk_model.specs.Name.{same_name};
-ghost use Rattle.desk_parts.specs.LookUps.{authorizations_of};
+ghost use Rattle.desk_parts.specs.Loaded.{authorizations_asked_of, authorizations_for};
 
 use crate::look_ups::LookUps;
 use desk_book::Table;
@@ -13,67 +12,72 @@ use desk_model::{AccountRow, AuthorizationRow, DnsName};
 use desk_storage::StorageFault;
 use std::alloc::{AllocError, Global};
 
-// Whether a name is one of these.
-fn is_asked(names: &[DnsName], name: &DnsName) -> bool
-    ensures { result ≡ list_any (same_name name.now) names.now }
-{
-    for other in names {
-        if name.is_same(other) {
-            return true;
-        }
-    }
-    false
-}
-
-// Puts a row into a table, if it has one of the names.
+// Puts a row into a table, if it has the name.
 fn put_one(
     table: &mut Table<AuthorizationRow>,
     row: AuthorizationRow,
-    names: &[DnsName],
+    name: &DnsName,
 ) -> Result<(), AllocError>
-    ensures { OnOk result (table.new ≡ puts (λ r. r.number) (filter (bears names.now) (row ∷ [])) table.old) }
+    ensures { OnOk result (table.new ≡ puts (λ r. r.number) (filter (λ r. same_name r.name name.now) (row ∷ [])) table.old) }
 {
-    if is_asked(names, &row.name) {
+    if row.name.is_same(name) {
         table.put(row)
     } else {
         Ok(())
     }
 }
 
-// Puts those of the rows that were found into a table that have one of the names.
-fn put_named(
+// Puts those of the rows that were found into a table that have the name.
+fn put_same(
     table: &mut Table<AuthorizationRow>,
     found: Result<Vec<AuthorizationRow>, StorageFault>,
-    names: &[DnsName],
+    name: &DnsName,
 ) -> Result<(), StorageFault>
-    ensures put { IfOk found (λ rows. OnOk result (table.new ≡ puts (λ r. r.number) (filter (bears names.now) rows.items) table.old)) }
+    ensures put { IfOk found (λ rows. OnOk result (table.new ≡ puts (λ r. r.number) (filter (λ r. same_name r.name name.now) rows.items) table.old)) }
     ensures fails { IfErr found (λ fault. result ≡ Err fault) }
 {
     for row in found? {
-        put_one(table, row, names)?;
+        put_one(table, row, name)?;
     }
     Ok(())
 }
 
-// Puts the authorizations of an account that have one of the names into a table.
-fn put_named_of<S: LookUps>(
+// Puts the authorizations of the account of a number for a name into a table.
+fn put_for<S: LookUps>(
     alloc: Global,
     source: &mut S,
     authorizations: &mut Table<AuthorizationRow>,
-    names: &[DnsName],
-    account: &AccountRow,
+    account: u64,
+    name: &DnsName,
 ) -> Result<(), StorageFault>
-    ensures { Finds S.sight source.old source.new result (λ T. authorizations.new ≡ puts (λ r. r.number)
-        (filter (bears names.now) (authorizations_of T account.now.number)) authorizations.old) }
+    ensures { Finds S.sight source.old source.new result (λ T.
+        authorizations.new ≡ puts (λ r. r.number) (authorizations_for T account name.now) authorizations.old) }
 {
-    put_named(
+    put_same(
         authorizations,
-        source.authorizations_of(alloc, account.number),
-        names,
+        source.authorizations_named(alloc, account, name.base()),
+        name,
     )
 }
 
-// Puts the authorizations of these accounts that have one of the names into a table.
+// Puts the authorizations of the account of a number for these names into a table.
+fn put_named<S: LookUps>(
+    alloc: Global,
+    source: &mut S,
+    authorizations: &mut Table<AuthorizationRow>,
+    account: u64,
+    names: &[DnsName],
+) -> Result<(), StorageFault>
+    ensures { Finds S.sight source.old source.new result (λ T.
+        authorizations.new ≡ puts (λ r. r.number) (flat_map (authorizations_for T account) names.now) authorizations.old) }
+{
+    for name in names {
+        put_for(alloc, source, authorizations, account, name)?;
+    }
+    Ok(())
+}
+
+// Puts the authorizations of these accounts for these names into a table.
 fn put_each_named<S: LookUps>(
     alloc: Global,
     source: &mut S,
@@ -82,10 +86,10 @@ fn put_each_named<S: LookUps>(
     accounts: &Table<AccountRow>,
 ) -> Result<(), StorageFault>
     ensures { Finds S.sight source.old source.new result (λ T. authorizations.new ≡ puts (λ r. r.number)
-        (flat_map (λ x. filter (bears names.now) (authorizations_of T x.number)) accounts.now) authorizations.old) }
+        (flat_map (λ x. flat_map (authorizations_for T x.number) names.now) accounts.now) authorizations.old) }
 {
     for account in accounts.iter() {
-        put_named_of(alloc, source, authorizations, names, account)?;
+        put_named(alloc, source, authorizations, account.number, names)?;
     }
     Ok(())
 }
@@ -99,7 +103,7 @@ pub(crate) fn put_asked_names<S: LookUps>(
     accounts: &Table<AccountRow>,
 ) -> Result<(), StorageFault>
     ensures { Finds S.sight source.old source.new result (λ T.
-        authorizations.new ≡ puts (λ r. r.number) (asked_of T (option_map (λ v. v.items) names.now) accounts.now) authorizations.old) }
+        authorizations.new ≡ puts (λ r. r.number) (authorizations_asked_of T (option_map (λ v. v.items) names.now) accounts.now) authorizations.old) }
 {
     match names {
         Some(names) => put_each_named(alloc, source, authorizations, names.as_slice(), accounts),

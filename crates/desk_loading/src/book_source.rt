@@ -107,6 +107,15 @@ impl RowTest<AuthorizationRow> for OfAccount {
     }
 }
 
+// By the account's number and the base name.
+impl RowTest<AuthorizationRow> for (u64, &str) {
+    ghost passed = { λ named row. (row.account == named.0) && bytes_eq row.name.base named.1.now };
+
+    fn passes(&self, row: &AuthorizationRow) -> bool {
+        row.account == self.0 && row.name.base() == self.1
+    }
+}
+
 // By the stored status, with an end before a moment.
 impl RowTest<OrderRow> for (OrderStatus, u64) {
     ghost passed = { λ past row. (order_code row.status == order_code past.0) && nat_lt row.expires past.1 };
@@ -268,6 +277,15 @@ impl LookUps for Book {
         account: u64,
     ) -> Result<Vec<AuthorizationRow>, StorageFault> {
         rows_where(alloc, self.authorizations(), &OfAccount(account))
+    }
+
+    fn authorizations_named(
+        &mut self,
+        alloc: Global,
+        account: u64,
+        base: &str,
+    ) -> Result<Vec<AuthorizationRow>, StorageFault> {
+        rows_where(alloc, self.authorizations(), &(account, base))
     }
 
     fn authorizations_past(

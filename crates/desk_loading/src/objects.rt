@@ -2,10 +2,9 @@
 ghost use Rattle.std.specs.Prelude.{◌≡◌, ◌++◌, [], if◌then◌else◌, option_map, option_to_list};
 ghost use Rattle.std.specs.List.{flat_map};
 ghost use Rattle.desk_laws.specs.Placing.{puts};
-ghost use Rattle.desk_loading.specs.Asking.{asked_of};
 ghost use Rattle.desk_loading.specs.Finding.{Finds};
 ghost use Rattle.desk_loading.specs.Naming.{authorizations_first, orders_first};
-ghost use Rattle.desk_parts.specs.Loaded.{keys as keys_of, listed_authorizations, listing_orders, new_keys};
+ghost use Rattle.desk_parts.specs.Loaded.{authorizations_asked_of, keys as keys_of, listed_authorizations, listing_orders, new_keys};
 ghost use Rattle.desk_parts.specs.LookUps.{accounts_numbered, accounts_with_key, authorizations_numbered, owners_of};
 
 use crate::asked::put_asked_names;
@@ -164,7 +163,7 @@ pub(crate) fn put_further<S: LookUps>(
     ensures { Finds S.sight source.old source.new result (λ T.
         (orders.new ≡ puts (λ o. o.number) (listing_orders T authorizations.old) orders.old)
         × (authorizations.new ≡ puts (λ r. r.number)
-        (listed_authorizations T orders.new ++ asked_of T (option_map (λ v. v.items) names.now) accounts.old) authorizations.old)
+        (listed_authorizations T orders.new ++ authorizations_asked_of T (option_map (λ v. v.items) names.now) accounts.old) authorizations.old)
         × (accounts.new ≡ puts (λ x. x.number)
         (flat_map (λ o. accounts_numbered T o.account) orders.new ++ flat_map (λ r. accounts_numbered T r.account) authorizations.new) accounts.old)) }
 {

@@ -10,7 +10,7 @@ use Rattle.desk_model.specs.Derived.{authz_code, numbers_of, order_code}
 use Rattle.desk_model.specs.Authorization.{is_live}
 use Rattle.desk_model.specs.Effect.{has_row, is_live_order, is_overdue}
 use Rattle.desk_model.specs.Lookup.{holds}
-use Rattle.desk_model.specs.Name.{Name, same_name}
+use Rattle.desk_model.specs.Name.{Name, same_bool, same_name}
 use Rattle.desk_model.specs.Tables.{Tables}
 use Rattle.desk_model.specs.Tokens.{NonceText, nonce_in}
 use Rattle.desk_model.specs.Kept.{EachOf}
@@ -36,21 +36,21 @@ use Rattle.desk_parts.specs.Loaded.{challenge_numbers, first_authorizations, fou
 use Rattle.desk_parts.specs.Loaded.{new_keys, of_key, target_new_keys}
 use Rattle.desk_parts.specs.Loaded.{found_orders, keys, listed_authorizations, listing_orders, loaded, loaded_at, loaded_rows}
 use Rattle.desk_parts.specs.Loaded.{named_accounts, named_authorizations, named_orders, of_text, order_numbers}
-use Rattle.desk_parts.specs.Loaded.{asked_authorizations, own_authorizations, own_orders, past_authorizations, past_orders, serials, target_accounts}
+use Rattle.desk_parts.specs.Loaded.{asked_authorizations, authorizations_asked_of, authorizations_for, own_authorizations, own_orders, past_authorizations, past_orders, serials, target_accounts}
 use Rattle.desk_parts.specs.Loaded.{target_authorization_numbers, target_challenge_numbers, target_order_numbers}
 use Rattle.desk_parts.specs.LookUps.{accounts_numbered, accounts_with_key, authorizations_numbered, authorizations_of, challenges}
 use Rattle.desk_parts.specs.LookUps.{nonces_numbered, orders_listing, orders_numbered, orders_of, orders_past}
 use Rattle.desk_parts.specs.LookUps.{owners_of, places}
 use Rattle.desk_model.specs.Payload.{key_change}
 use Rattle.desk_model.specs.Asked.{has_new_key, target_new_key}
-use Rattle.desk_model.specs.Asked.{asks_authorizations, asks_orders, carries, has_key, names_account, names_authorization, asked_names, asks_name}
+use Rattle.desk_model.specs.Asked.{asks_authorizations, asks_orders, carries, has_key, names_account, names_authorization, asked_names}
 use Rattle.desk_model.specs.Asked.{names_order, names_owner, target_account, target_authorization, target_order, target_owner}
 use Rattle.desk_model.specs.Touched.{is_asked_authorization, is_first_authorization, is_named_account, is_named_authorization, is_named_order}
 use Rattle.desk_model.specs.Touched.{is_own_authorization, is_own_order, is_past_order, is_touched_account}
 use Rattle.desk_model.specs.Touched.{is_touched_authorization, is_touched_nonce, is_touched_order, lists, touched, touched_at}
 use Rattle.desk_model.specs.Touched.{touched_rows}
 use Rattle.desk_parts.proofs.Cut.{numbered}
-use Rattle.desk_parts.proofs.Found.{IsFound, any_filter, found_both, found_by, found_filter, found_filtered, found_if, found_once, found_same, found_table}
+use Rattle.desk_parts.proofs.Found.{IsFound, any_filter, found_both, found_by, found_filter, found_filtered, found_if, found_none, found_once, found_same, found_table}
 
 -- ---- tests on lists
 
@@ -272,22 +272,57 @@ authorizations_own T a h =
     (found_by of_authorization (λ (x : AccountRow) r. r.account == x.number) (λ x. authorizations_of T x.number) T.authorizations
     (λ x. found_filter of_authorization (λ r. r.account == x.number) 1 T.authorizations h.authorizations.0) (accounts_once (named_accounts T a))))
 
--- where no names are asked for, none is
-asked_some : (names : Option (List Name)) (name : Name) (b : Bool) →
-    (is_some names && (holds (list_any (same_name name)) names && b)) ≡ (holds (list_any (same_name name)) names && b)
-asked_some None name b = refl
-asked_some (Some names) name b = refl
+-- a test that knows nothing of the items stands before the others
+any_under : {X : Type 0} (b : Bool) (p : X → Bool) (xs : List X) → list_any (λ x. b && p x) xs ≡ (b && list_any p xs)
+any_under true p xs = refl
+any_under false p [] = refl
+any_under false p (x ∷ xs) = any_under false p xs
+
+-- and behind them
+any_behind : {X : Type 0} (b : Bool) (p : X → Bool) (xs : List X) → list_any (λ x. p x && b) xs ≡ (list_any p xs && b)
+any_behind b p xs = any_beside p b xs ∙ by b (list_any p xs)
+  where
+    by : (c d : Bool) → (c && d) ≡ (d && c)
+    by true true = refl
+    by true false = refl
+    by false true = refl
+    by false false = refl
+
+-- who has the name has its base
+same_bases : (one other : Name) (b : Bool) → (same_name one other && (b && bytes_eq one.base other.base)) ≡ (same_name one other && b)
+same_bases one other b = by (bytes_eq one.base other.base) (same_bool one.wildcard other.wildcard) b
+  where
+    by : (c d e : Bool) → ((c && d) && (e && c)) ≡ ((c && d) && e)
+    by true true true = refl
+    by true true false = refl
+    by true false e = refl
+    by false d e = refl
+
+-- the authorizations of an account for some names
+authorizations_by_names : (T : Tables) (n : ℕ) → IsOrdered T → (names : List Name)
+    → IsFound of_authorization (λ r. list_any (same_name r.name) names && (r.account == n)) T.authorizations (flat_map (authorizations_for T n) names)
+authorizations_by_names T n h names =
+    found_same of_authorization _ _ T.authorizations _
+    (each_all _ T.authorizations (λ r. list_any-same _ _ names (λ name. same_bases r.name name (r.account == n))
+    ∙ any_behind (r.account == n) (same_name r.name) names))
+    (found_by of_authorization (λ name r. same_name r.name name && ((r.account == n) && bytes_eq r.name.base name.base)) (authorizations_for T n) T.authorizations
+    (λ name. found_filtered of_authorization (λ r. same_name r.name name) _ T.authorizations _
+    (found_filter of_authorization (λ r. (r.account == n) && bytes_eq r.name.base name.base) 1 T.authorizations h.authorizations.0)) names)
 
 authorizations_asked : (T : Tables) (a : Ask) → IsOrdered T → IsFound of_authorization (is_asked_authorization T a) T.authorizations (asked_authorizations T a)
-authorizations_asked T a h =
-    found_same of_authorization _ (is_asked_authorization T a) T.authorizations _ (each_all _ T.authorizations (λ r. asked_some (asked_names a) r.name _))
-    (found_if of_authorization (is_some (asked_names a))
-    (λ r. asks_name a r.name && list_any (λ x. is_named_account a x && (r.account == x.number)) T.accounts) T.authorizations _
-    (found_filtered of_authorization (λ r. asks_name a r.name) (λ r. list_any (λ x. is_named_account a x && (r.account == x.number)) T.accounts)
-    T.authorizations _
-    (found_same of_authorization _ _ T.authorizations _ (each_all _ T.authorizations (λ r. (accounts_once_named T a h).tests (λ x. r.account == x.number)))
-    (found_by of_authorization (λ (x : AccountRow) r. r.account == x.number) (λ x. authorizations_of T x.number) T.authorizations
-    (λ x. found_filter of_authorization (λ r. r.account == x.number) 1 T.authorizations h.authorizations.0) (accounts_once (named_accounts T a))))))
+authorizations_asked T a h = by (asked_names a)
+  where
+    by : (names : Option (List Name)) → IsFound of_authorization
+        (λ r. holds (list_any (same_name r.name)) names && list_any (λ x. is_named_account a x && (r.account == x.number)) T.accounts)
+        T.authorizations (authorizations_asked_of T names (accounts_once (named_accounts T a)))
+    by None = found_none of_authorization T.authorizations
+    by (Some names) =
+        found_same of_authorization _ _ T.authorizations _
+        (each_all _ T.authorizations (λ r. any_under (list_any (same_name r.name) names) (λ x. r.account == x.number) (accounts_once (named_accounts T a))
+        ∙ ap (λ b. list_any (same_name r.name) names && b) ((accounts_once_named T a h).tests (λ x. r.account == x.number))))
+        (found_by of_authorization (λ (x : AccountRow) r. list_any (same_name r.name) names && (r.account == x.number))
+        (λ x. flat_map (authorizations_for T x.number) names) T.authorizations
+        (λ x. authorizations_by_names T x.number h names) (accounts_once (named_accounts T a)))
 
 orders_over : (T : Tables) (m : ℕ) → IsOrdered T → IsFound of_order (is_past_order m) T.orders (past_orders T m)
 orders_over T m h =

@@ -1,8 +1,9 @@
 -- The rows that a call touches, as look-ups find them, one after the other.
-use Rattle.std.specs.Prelude.{ℕ, ◌-◌, max, List, [], ◌∷◌, ◌++◌, if◌then◌else◌, Option, Some, None, Ok, Err, is_some, option_and_then}
+use Rattle.std.specs.Prelude.{ℕ, ◌-◌, max, List, [], ◌∷◌, ◌++◌, if◌then◌else◌, Option, Some, None, Ok, Err, option_and_then}
 use Rattle.std.specs.List.{filter, flat_map}
 use Rattle.desk_laws.specs.Placing.{puts}
 use Rattle.desk_model.specs.Derived.{numbers_of}
+use Rattle.desk_model.specs.Name.{Name, same_name}
 use Rattle.desk_model.specs.Payload.{key_change}
 use Rattle.desk_model.specs.Tables.{Tables}
 use Rattle.desk_model.specs.Tokens.{NonceText, nonce_in}
@@ -19,9 +20,9 @@ use Rattle.desk_model.specs.declared.rows.OrderRow.{OrderRow}
 use Rattle.desk_model.specs.declared.status.AuthzStatus.TheVariants as authz
 use Rattle.desk_model.specs.declared.status.OrderStatus.TheVariants as order
 use Rattle.desk_parts.specs.LookUps.{accounts_numbered, accounts_with_key, authorizations_numbered, authorizations_of}
-use Rattle.desk_parts.specs.LookUps.{authorizations_past, nonces_before, nonces_numbered, orders_listing}
+use Rattle.desk_parts.specs.LookUps.{authorizations_named, authorizations_past, nonces_before, nonces_numbered, orders_listing}
 use Rattle.desk_parts.specs.LookUps.{orders_numbered, orders_of, orders_past, owners_of}
-use Rattle.desk_model.specs.Asked.{asked_names, asks_authorizations, asks_name, asks_orders}
+use Rattle.desk_model.specs.Asked.{asked_names, asks_authorizations, asks_orders}
 use Rattle.desk_model.specs.Touched.{only_meta}
 
 -- ---- what an ask names, as lists of numbers
@@ -146,11 +147,18 @@ found_orders T m a = (named_orders T a ++ (own_orders T a ++ past_orders T m)) +
 abbrev pub listed_authorizations : Tables → List OrderRow → List AuthorizationRow
 listed_authorizations T rows = flat_map (λ o. flat_map (authorizations_numbered T) (numbers_of o.listed)) rows
 
+-- the authorizations of an account for this name
+abbrev pub authorizations_for : Tables → (account : ℕ) → Name → List AuthorizationRow
+authorizations_for T n name = filter (λ r. same_name r.name name) (authorizations_named T n name.base)
+
+-- those of these accounts for the names that are asked for
+abbrev pub authorizations_asked_of : Tables → Option (List Name) → List AccountRow → List AuthorizationRow
+authorizations_asked_of T None accounts = []
+authorizations_asked_of T (Some names) accounts = flat_map (λ x. flat_map (authorizations_for T x.number) names) accounts
+
 -- the authorizations of the account that a new order asks for, by their names
 abbrev pub asked_authorizations : Tables → Ask → List AuthorizationRow
-asked_authorizations T a =
-    if is_some (asked_names a) then filter (λ r. asks_name a r.name) (flat_map (λ x. authorizations_of T x.number) (accounts_once (named_accounts T a)))
-    else []
+asked_authorizations T a = authorizations_asked_of T (asked_names a) (accounts_once (named_accounts T a))
 
 abbrev pub found_authorizations : Tables → ℕ → Ask → List AuthorizationRow
 found_authorizations T m a =

@@ -6,7 +6,7 @@ use Rattle.sqlite_sql.specs.declared.ops.CompareOp.TheVariants.{Eq, Lt}
 use Rattle.sqlite_sql.specs.Term.{Term, col, op2}
 use Rattle.sqlite_tied.specs.Compute.{everything}
 use Rattle.desk_reading.specs.Texts.{select_accounts_numbered, select_accounts_with_key, select_authorizations_numbered}
-use Rattle.desk_reading.specs.Texts.{select_authorizations_of, select_authorizations_past, select_challenges_numbered}
+use Rattle.desk_reading.specs.Texts.{select_authorizations_named, select_authorizations_of, select_authorizations_past, select_challenges_numbered}
 use Rattle.desk_reading.specs.Texts.{select_challenges_of, select_keys_of, select_listed_by, select_listing, select_nonces_before}
 use Rattle.desk_reading.specs.Texts.{select_nonces_numbered, select_orders_numbered, select_orders_of, select_orders_past}
 use Rattle.desk_reading.proofs.Answered.{IsReading, by}
@@ -25,6 +25,10 @@ is_lower place = op2 (Compare Lt Binary) (col 1 place) (col 0 0) ∷ []
 -- one column is the first parameter, and another is below the second
 abbrev pub past : ℕ → ℕ → List Term
 past status end = op2 (Compare Eq Binary) (col 1 status) (col 0 0) ∷ op2 (Compare Lt Binary) (col 1 end) (col 0 1) ∷ []
+
+-- one column is the first parameter, and another is the second
+abbrev pub are_equal : ℕ → ℕ → List Term
+are_equal one other = op2 (Compare Eq Binary) (col 1 one) (col 0 0) ∷ op2 (Compare Eq Binary) (col 1 other) (col 0 1) ∷ []
 
 -- ---- texts
 
@@ -108,6 +112,16 @@ authorizations_numbered_reading = record {
 pub authorizations_of_reading : IsReading select_authorizations_of 5 (is_equal 2) authorization_project (by 0 ∷ [])
 unfolding everything
 authorizations_of_reading = record {
+  names = codes "num" ∷ codes "account" ∷ codes "name" ∷ codes "wildcard" ∷ codes "made" ∷ codes "expires"
+      ∷ codes "ended" ∷ codes "end_kind" ∷ codes "status" ∷ [];
+  means = refl;
+  selecting = refl;
+}
+
+-- authorizations of an account for a base name
+pub authorizations_named_reading : IsReading select_authorizations_named 5 (are_equal 2 3) authorization_project (by 0 ∷ [])
+unfolding everything
+authorizations_named_reading = record {
   names = codes "num" ∷ codes "account" ∷ codes "name" ∷ codes "wildcard" ∷ codes "made" ∷ codes "expires"
       ∷ codes "ended" ∷ codes "end_kind" ∷ codes "status" ∷ [];
   means = refl;

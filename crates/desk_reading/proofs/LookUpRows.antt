@@ -25,7 +25,7 @@ use Rattle.desk_model.specs.declared.rows.OrderRow.{OrderRow}
 use Rattle.desk_model.specs.declared.status.AuthzStatus.{AuthzStatus}
 use Rattle.desk_model.specs.declared.status.OrderStatus.{OrderStatus}
 use Rattle.desk_parts.specs.LookUps.{accounts_numbered, accounts_with_key, authorizations_numbered, authorizations_of}
-use Rattle.desk_parts.specs.LookUps.{authorizations_past, nonces_before, nonces_numbered, orders_numbered, orders_of, orders_past}
+use Rattle.desk_parts.specs.LookUps.{authorizations_named, authorizations_past, nonces_before, nonces_numbered, orders_numbered, orders_of, orders_past}
 use Rattle.desk_tables.specs.Holds.{Holds}
 use Rattle.desk_tables.specs.Layouts.{account_layout, authorization_layout, challenge_layout, key_layout, nonce_layout, order_layout}
 use Rattle.desk_tables.proofs.Holding.{accounts_held, authorizations_held, challenges_held, nonces_held, orders_held}
@@ -34,20 +34,20 @@ use Rattle.desk_reading.specs.Keys.{keys_of}
 use Rattle.desk_reading.specs.Spelled.{account_in, authorization_in, challenge_in, key_in, nonce_in, order_in}
 use Rattle.desk_reading.specs.StoredBook.{IsStoredBook}
 use Rattle.desk_reading.specs.Texts.{select_accounts_numbered, select_accounts_with_key}
-use Rattle.desk_reading.specs.Texts.{select_authorizations_numbered, select_authorizations_of, select_authorizations_past}
+use Rattle.desk_reading.specs.Texts.{select_authorizations_named, select_authorizations_numbered, select_authorizations_of, select_authorizations_past}
 use Rattle.desk_reading.specs.Texts.{select_challenges_numbered, select_challenges_of, select_keys_of}
 use Rattle.desk_reading.specs.Texts.{select_nonces_before, select_nonces_numbered, select_orders_numbered}
 use Rattle.desk_reading.specs.Texts.{select_orders_of, select_orders_past}
 use Rattle.desk_reading.proofs.Answered.{IsReading, by, passes}
 use Rattle.desk_reading.proofs.FoundRows.{found_keyed}
 use Rattle.desk_reading.proofs.LookUpReadings.{accounts_numbered_reading, accounts_with_key_reading}
-use Rattle.desk_reading.proofs.LookUpReadings.{authorizations_numbered_reading, authorizations_of_reading}
+use Rattle.desk_reading.proofs.LookUpReadings.{are_equal, authorizations_named_reading, authorizations_numbered_reading, authorizations_of_reading}
 use Rattle.desk_reading.proofs.LookUpReadings.{authorizations_past_reading, challenges_numbered_reading, challenges_of_reading}
 use Rattle.desk_reading.proofs.LookUpReadings.{is_equal, is_lower, keys_of_reading, nonces_before_reading, nonces_numbered_reading}
 use Rattle.desk_reading.proofs.LookUpReadings.{orders_numbered_reading, orders_of_reading, orders_past_reading, past}
 use Rattle.desk_reading.proofs.WholeTables.{keys_held}
 use Rattle.desk_reading.proofs.StatusTests.{authorization_status_test, order_status_test}
-use Rattle.desk_reading.proofs.Tests.{below_bounded, below_test, number_test, same_bounded, text_below_test, text_test}
+use Rattle.desk_reading.proofs.Tests.{below_bounded, below_test, number_test, number_text_test, same_bounded, text_below_test, text_test}
 use Rattle.desk_reading.proofs.Told.{account_project, account_spelled, authorization_project, authorization_spelled}
 use Rattle.desk_reading.proofs.Told.{challenge_project, challenge_spelled, key_project, key_spelled, nonce_project}
 use Rattle.desk_reading.proofs.Told.{nonce_spelled, order_project, order_spelled}
@@ -164,6 +164,14 @@ module _ (old new : State) (T : Tables) (rows : List Row) (values : Row) (has : 
     authorizations_of_found n given h =
         authorizations select_authorizations_of (is_equal 2) (Int (pos (bounded n)) ∷ []) (λ x. x.account == bounded n) (λ x. x.account == n)
         authorizations_of_reading (λ x. number_test x.account (bounded n)) (λ x k. same_bounded x.account n k.account.1) given h
+
+    pub authorizations_named_found : (n : ℕ) (base : List ℕ) → values ≡ Int (pos (bounded n)) ∷ Text base ∷ []
+        → Shown select_authorizations_named values old new rows → found ≡ map without_challenges (authorizations_named T n base)
+    authorizations_named_found n base given h =
+        authorizations select_authorizations_named (are_equal 2 3) (Int (pos (bounded n)) ∷ Text base ∷ [])
+        (λ x. (x.account == bounded n) && bytes_eq x.name.base base) (λ x. (x.account == n) && bytes_eq x.name.base base) authorizations_named_reading
+        (λ x. number_text_test x.account (bounded n) x.name.base base)
+        (λ x k i. same_bounded x.account n k.account.1 i && bytes_eq x.name.base base) given h
 
     pub authorizations_past_found : (status : AuthzStatus) (m : ℕ) → values ≡ Text (authorization_status_text status) ∷ Int (pos (bounded m)) ∷ []
         → Shown select_authorizations_past values old new rows → found ≡ map without_challenges (authorizations_past T status m)

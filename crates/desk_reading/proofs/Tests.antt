@@ -96,6 +96,12 @@ pub text_below_test : (s t : List ℕ) (a n : ℕ)
     ≡ (bytes_eq s t && nat_lt a n)
 text_below_test s t a n = λ i. is_text s t i && below_test a n i
 
+-- a number beside a text
+pub number_text_test : (a n : ℕ) (s t : List ℕ)
+    → (is_true (binary (Compare Eq Binary) (Int (pos a)) (Int (pos n))) && (is_true (binary (Compare Eq Binary) (Text s) (Text t)) && true))
+    ≡ ((a == n) && bytes_eq s t)
+number_text_test a n s t = λ i. is_number a n i && text_test s t i
+
 -- ---- numbers that SQL does not have
 
 -- a number that is bounded is above the greatest of SQL

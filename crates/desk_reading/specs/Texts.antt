@@ -39,7 +39,7 @@ select_keys = codes "SELECT chall, thumb FROM chall_key ORDER BY chall"
 abbrev pub select_format : List ℕ
 select_format = codes "SELECT format FROM meta"
 
--- ---- look-ups by one column, or by a status beside a limit
+-- ---- look-ups by one column, by a status beside a limit, or by an account and a name
 
 -- nonces of a serial
 abbrev pub select_nonces_numbered : List ℕ
@@ -78,6 +78,11 @@ select_authorizations_numbered = codes "SELECT num, account, name, wildcard, mad
 -- authorizations of an account
 abbrev pub select_authorizations_of : List ℕ
 select_authorizations_of = codes "SELECT num, account, name, wildcard, made, expires, ended, end_kind, status FROM authz WHERE account = ?1 ORDER BY num"
+
+-- authorizations of an account for a base name
+abbrev pub select_authorizations_named : List ℕ
+select_authorizations_named =
+    codes "SELECT num, account, name, wildcard, made, expires, ended, end_kind, status FROM authz WHERE account = ?1 AND name = ?2 ORDER BY num"
 
 -- authorizations of a status that expire before a moment
 abbrev pub select_authorizations_past : List ℕ

@@ -4,7 +4,7 @@ ghost use Rattle.sqlite.specs.State.{HasCleanDisk, IsUnchanged};
 ghost use Rattle.sqlite.specs.Held.{state};
 ghost use Rattle.desk_columns.specs.Flat.{without_challenges};
 ghost use Rattle.desk_parts.specs.Above.{authorizations_above, challenges_above, first_of};
-ghost use Rattle.desk_parts.specs.LookUps.{authorizations_numbered, authorizations_of, authorizations_past, owners_of};
+ghost use Rattle.desk_parts.specs.LookUps.{authorizations_named, authorizations_numbered, authorizations_of, authorizations_past, owners_of};
 ghost use Rattle.desk_schema.specs.Stays.{Asks};
 ghost use Rattle.desk_reading.specs.Held.{ForHeld};
 ghost use Rattle.desk_reading.specs.StoredBook.{IsStoredBook};
@@ -13,7 +13,7 @@ ghost use Rattle.desk_reading.specs.Under.{HasItsChallenges};
 use crate::answers::with_answers;
 use crate::fault::ReadFault;
 use crate::owned::owners;
-use crate::params::{number_param, text_and_number};
+use crate::params::{number_and_text, number_param, text_and_number};
 use crate::parents::{Parent, find_owned, find_parents};
 use crate::rows::find_rows;
 use crate::tables::AUTHORIZATIONS;
@@ -100,6 +100,31 @@ pub fn authorizations_of<S: Alter>(
         alloc,
         conn,
         "SELECT num, account, name, wildcard, made, expires, ended, end_kind, status FROM authz WHERE account = ?1 ORDER BY num",
+        &params,
+    )
+}
+
+/// The authorizations of an account for a base name, with a wildcard or without.
+///
+/// # Errors
+///
+/// The engine's, and `NotARow` where a row is not one of a desk; nothing is changed.
+pub fn authorizations_named<S: Alter>(
+    alloc: Global,
+    conn: &mut Connection<S>,
+    account: u64,
+    base: &str,
+) -> Result<Vec<AuthorizationRow>, ReadFault>
+    ensures found { ForHeld (state S.Store conn.old) (state S.Store conn.new) (λ T. IsStoredBook T
+        → IfOk result (λ rows. rows.items ≡ authorizations_named T account base.now)) }
+    ensures unchanged { HasCleanDisk (state S.Store conn.new) → OnOk result (IsUnchanged (state S.Store conn.old) (state S.Store conn.new)) }
+    ensures asks { Asks (state S.Store conn.old) (state S.Store conn.new) }
+{
+    let params = number_and_text(account, base);
+    find_parents::<S, AuthzColumns, _>(
+        alloc,
+        conn,
+        "SELECT num, account, name, wildcard, made, expires, ended, end_kind, status FROM authz WHERE account = ?1 AND name = ?2 ORDER BY num",
         &params,
     )
 }

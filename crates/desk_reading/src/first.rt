@@ -11,9 +11,7 @@ ghost use Rattle.stored_laws.specs.Blank.{blank, zeros};
 
 use crate::stored::read_first_tables;
 use crate::values::both;
-use desk_columns::{
-    ChallColumns, ChallKeyColumns, FIRST_FORMAT, FORMAT, MetaColumns, StoredRows,
-};
+use desk_columns::{ChallColumns, ChallKeyColumns, FIRST_FORMAT, FORMAT, MetaColumns, StoredRows};
 use desk_model::Sequence;
 use sqlite::{Alter, Connection, Error};
 use std::alloc::Global;
@@ -51,10 +49,7 @@ fn raised_meta(row: MetaColumns) -> MetaColumns
 }
 
 // The rows of `meta`, in today's format where they are of format 1.
-fn raised_metas(
-    alloc: Global,
-    metas: Sequence<MetaColumns>,
-) -> Result<Sequence<MetaColumns>, Error>
+fn raised_metas(alloc: Global, metas: Sequence<MetaColumns>) -> Result<Sequence<MetaColumns>, Error>
     ensures raised { IfOk result (λ all. all ≡ map raised_meta metas) }
     ensures fails { IfErr result IsOutOfMemory }
 {

@@ -22,8 +22,8 @@ mod values;
 
 pub use accounts::{account_above, accounts_numbered, accounts_with_key, all_accounts};
 pub use authorizations::{
-    all_authorizations, authorization_above, authorizations_numbered, authorizations_of,
-    authorizations_past, challenge_above, owners_of,
+    all_authorizations, authorization_above, authorizations_named, authorizations_numbered,
+    authorizations_of, authorizations_past, challenge_above, owners_of,
 };
 pub use fault::ReadFault;
 pub use first::load_first;

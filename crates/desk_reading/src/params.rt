@@ -31,6 +31,16 @@ pub(crate) fn text_param<'a>(text: &'a str) -> [ValueRef<'a>; 1]
     [ValueRef::Text(text.as_bytes())]
 }
 
+/// A number and a text.
+pub(crate) fn number_and_text<'a>(number: u64, text: &'a str) -> [ValueRef<'a>; 2]
+    ensures { bound result ≡ Int (pos (bounded number)) ∷ SqlText text.now ∷ [] }
+{
+    [
+        ValueRef::Int(bounded(number)),
+        ValueRef::Text(text.as_bytes()),
+    ]
+}
+
 /// A text and a number.
 pub(crate) fn text_and_number<'a>(text: &'a str, number: u64) -> [ValueRef<'a>; 2]
     ensures { bound result ≡ SqlText text.now ∷ Int (pos (bounded number)) ∷ [] }

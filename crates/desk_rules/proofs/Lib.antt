@@ -1,8 +1,6 @@
 pub mod ContactTests
 pub mod KeyVerdicts
 pub mod Looking
-pub mod NamesKept
-pub mod NamesRead
 pub mod NamesWanted
 pub mod OpenNonces
 pub mod OrderNeeds

@@ -6,7 +6,6 @@ mod authorization_rules;
 mod challenge_rules;
 mod contacts;
 mod fault;
-mod identified;
 mod judging;
 mod key_rules;
 mod limits;

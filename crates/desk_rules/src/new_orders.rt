@@ -9,10 +9,10 @@ ghost use Rattle.desk_model.specs.Run.{count_tokens};
 ghost use Rattle.desk_model.specs.declared.verdict.Verdict.TheVariants.{Orders as orders};
 
 use crate::fault::CoreFault;
-use crate::identified::{Identified, identify};
 use crate::limits::{first_piece, has_room, has_room_for, has_tokens, later_random};
 use crate::verdicts::refused;
 use desk_model::{Counters, DnsName, Identifier, MOST_NAMES, Refusal, Sequence, Verdict, Wanted};
+use order_names::{Identified, identify};
 use std::alloc::{AllocError, Global};
 use swept_rows::At;
 

@@ -1,9 +1,9 @@
 //! The payloads of signed requests: JSON texts in the forms that the routes read.
 ghost use Rattle.std.specs.Prelude.{◌≡◌, Some, Option, option_map, option_and_then, IfOk};
-ghost use Rattle.serde_json.specs.View.{view, items_view};
-ghost use Rattle.desk_model.specs.Payload.{object_in, each_in, texts_in, optional, new_account};
+ghost use Rattle.serde_json.specs.View.{view};
+ghost use Rattle.desk_model.specs.Payload.{object_in, texts_in, optional, new_account};
 ghost use Rattle.desk_model.specs.Payload.{says_deactivated, account_change, key_change};
-ghost use Rattle.desk_model.specs.Payload.{authorization_change, challenge_change, identifier_in};
+ghost use Rattle.desk_model.specs.Payload.{authorization_change, challenge_change};
 ghost use Rattle.desk_model.specs.Payload.{new_order, finalize};
 ghost use Rattle.serde_json.specs.Find.{get, as_bool, as_str};
 ghost use Rattle.serde_json.specs.Read.{read};
@@ -14,6 +14,7 @@ use desk_model::{
 };
 use json_values::{text_of, texts_in};
 use keys::key_change_of;
+use order_names::new_order_in;
 use serde_json::Value;
 use std::alloc::{AllocError, Global};
 
@@ -164,35 +165,6 @@ pub(crate) fn challenge_change(payload: Payload) -> Option<ChallengeChange>
     }
 }
 
-fn identifier_in(alloc: Global, value: &Value) -> Result<Option<Identifier>, AllocError>
-    ensures { IfOk result (λ o. o ≡ identifier_in (view value.now)) }
-{
-    let Some(kind) = text_of(value, "type") else {
-        return Ok(None);
-    };
-    let Some(text) = text_of(value, "value") else {
-        return Ok(None);
-    };
-    Ok(Some(Identifier {
-        kind: Text::new(String::from_str(alloc, kind)?),
-        value: Text::new(String::from_str(alloc, text)?),
-    }))
-}
-
-// The identifiers of a list, `None` where one of its items is none.
-fn identifiers(alloc: Global, items: &[Value]) -> Result<Option<Vec<Identifier>>, AllocError>
-    ensures { IfOk result (λ o. option_map (λ v. v.items) o ≡ each_in identifier_in (items_view items.now)) }
-{
-    let mut found = Vec::new(alloc);
-    for item in items {
-        let Some(identifier) = identifier_in(alloc, item)? else {
-            return Ok(None);
-        };
-        found.push(identifier)?;
-    }
-    Ok(Some(found))
-}
-
 /// The identifiers that a newOrder payload asks for, `None` where it has another form (RFC 8555, 7.4).
 pub(crate) fn new_order(
     alloc: Global,
@@ -204,16 +176,7 @@ pub(crate) fn new_order(
     let Some(value) = payload.object else {
         return Ok(None);
     };
-    if value.get("notBefore").is_some() || value.get("notAfter").is_some() {
-        return Ok(None);
-    }
-    let Some(listed) = value.get("identifiers") else {
-        return Ok(None);
-    };
-    match listed.as_array() {
-        Some(items) => identifiers(alloc, items.as_slice()),
-        None => Ok(None),
-    }
+    new_order_in(alloc, value)
 }
 
 /// The text of the CSR that a finalize payload hands in, `None` where it has another form (RFC 8555, 7.4).

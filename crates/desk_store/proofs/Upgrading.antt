@@ -27,10 +27,13 @@ same_blank T B is = sym (ap blank is ∙ blank_books.twice T)
 pub desk_left_by : (old mid : State) (B : Tables) (trees : Trees) → mid.step_limit ≡ old.step_limit → IsUnchanged old mid
     → ((T : Tables) → HasFirst old T → B ≡ blank T) → IsLeft (UpgradesDesk B mid.now) trees → (T : Tables) → HasFirst old T → AreOfDesk trees T
 desk_left_by old mid B trees limit same book left T has =
-    let there = first_unchanged old mid T limit same has in
-    (left.0, left.1, record {
-      holds = left.2 T there.desk (same_blank T B (book T has));
-      history = there.desk.history;
-      legal = there.desk.legal;
-      is_picture = there.desk.is_picture;
-    })
+    let there = first_unchanged old mid T limit same has in (
+      left.0,
+      left.1,
+      record {
+        holds = left.2 T there.desk (same_blank T B (book T has));
+        history = there.desk.history;
+        legal = there.desk.legal;
+        is_picture = there.desk.is_picture;
+      },
+    )

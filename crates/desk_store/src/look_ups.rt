@@ -112,6 +112,16 @@ impl<S: Alter> LookUps for Store<S> {
         self.told(read)
     }
 
+    fn authorizations_named(
+        &mut self,
+        alloc: Global,
+        account: u64,
+        base: &str,
+    ) -> Result<Vec<AuthorizationRow>, StorageFault> {
+        let read = rows::authorizations_named(alloc, &mut self.conn, account, base);
+        self.told(read)
+    }
+
     fn authorizations_past(
         &mut self,
         alloc: Global,

@@ -7,4 +7,4 @@ mod payload;
 
 pub use asked::asked_names;
 pub use identified::{Identified, identify};
-pub use payload::new_order;
+pub use payload::new_order_in;

@@ -50,8 +50,12 @@ fn identifiers(alloc: Global, items: &[Value]) -> Result<Option<Vec<Identifier>>
     Ok(Some(found))
 }
 
-// The identifiers that an object asks for.
-fn new_order_in(alloc: Global, value: &Value) -> Result<Option<Vec<Identifier>>, AllocError>
+/// The identifiers that the object of a newOrder payload asks for, `None` where it has another form (RFC 8555, 7.4).
+///
+/// # Errors
+///
+/// Where there is no memory for them.
+pub fn new_order_in(alloc: Global, value: &Value) -> Result<Option<Vec<Identifier>>, AllocError>
     ensures { IfOk result (λ o. option_map (λ v. v.items) o ≡ new_order_in (view value.now)) }
 {
     if value.get("notBefore").is_some() || value.get("notAfter").is_some() {
@@ -66,12 +70,8 @@ fn new_order_in(alloc: Global, value: &Value) -> Result<Option<Vec<Identifier>>,
     }
 }
 
-/// The identifiers that a newOrder payload asks for, `None` where it has another form (RFC 8555, 7.4).
-///
-/// # Errors
-///
-/// Where there is no memory for them.
-pub fn new_order(alloc: Global, text: &str) -> Result<Option<Vec<Identifier>>, AllocError>
+/// The identifiers that a newOrder payload asks for, `None` where it has another form.
+pub(crate) fn new_order(alloc: Global, text: &str) -> Result<Option<Vec<Identifier>>, AllocError>
     ensures { IfOk result (λ o. option_map (λ v. v.items) o ≡ new_order text.now) }
 {
     let value = value_of(alloc, text)?;

@@ -1,14 +1,13 @@
-use Rattle.std.proofs.Common.{◌≡◌, filter}
+use Rattle.std.proofs.Common.{◌≡◌}
 use Rattle.std.specs.Prelude.{Ok}
 use Rattle.std.specs.List.{flat_map}
 use Rattle.desk_laws.specs.Placing.{puts}
-use Rattle.desk_loading.specs.Asking.{bears}
 use Rattle.desk_loading.specs.Finding.{Finds}
-use Rattle.desk_parts.specs.LookUps.{authorizations_of}
+use Rattle.desk_parts.specs.Loaded.{authorizations_for}
 use Rattle.desk_loading.proofs.asked.put_each_named.Given as goal
 
 abbrev pub invariant-loop-account : goal.invariant-loop-account
 invariant-loop-account g l =
     Finds g.S.LookUps.sight {A = Unit {0}} l.fn.source l.source (Ok tt) (λ T.
-    puts (λ r. r.number) (flat_map (λ x. filter (bears l.names) (authorizations_of T x.number)) l.account-iterator) l.authorizations
-    ≡ puts (λ r. r.number) (flat_map (λ x. filter (bears l.names) (authorizations_of T x.number)) l.accounts) l.fn.authorizations)
+    puts (λ r. r.number) (flat_map (λ x. flat_map (authorizations_for T x.number) l.names) l.account-iterator) l.authorizations
+    ≡ puts (λ r. r.number) (flat_map (λ x. flat_map (authorizations_for T x.number) l.names) l.accounts) l.fn.authorizations)

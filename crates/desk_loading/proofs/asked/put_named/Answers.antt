@@ -1,23 +1,16 @@
-use Rattle.std.proofs.Common.{arith, filter, sym, ap, ◌∙◌}
-use Rattle.std.proofs.lemmas.List.{nil_from_length}
-use Rattle.std.proofs.lemmas.Result.{IfOk-from_err, IfOk-weaker}
-use Rattle.desk_laws.specs.Placing.{puts}
-use Rattle.desk_loading.proofs.NamedAgain.{named_step}
-use Rattle.desk_loading.specs.Asking.{bears}
+use Rattle.std.proofs.Common.{add-one, ap, arith, drop-cons}
+use Rattle.desk_loading.proofs.Found.{fails_behind, finds_then}
+use Rattle.desk_loading.proofs.Gathered.{gathered}
 use Rattle.desk_model.specs.declared.rows.AuthorizationRow.{AuthorizationRow}
+use Rattle.desk_parts.specs.Loaded.{authorizations_for}
 use Rattle.desk_loading.proofs.asked.put_named.Goals as goal
 
-pub loop-row-preserved : goal.loop-row-preserved
-loop-row-preserved c =
-    IfOk-weaker c.args.found _ _ (λ rows so_far. named_step (λ (r : AuthorizationRow). r.number) (bears c.args.names.now) c.in-Some.row _ _ _ _ _
-    c.in-Some.ensures.steps.0 c.in_ok-put_one.ensures so_far) c.loop-row.invariant
+pub loop-name-preserved : goal.loop-name-preserved
+loop-name-preserved g c =
+    rw (add-one c.loop-name.name-index)
+    (finds_then _ c.loop-name.invariant c.in_ok-put_for.ensures (λ T so_far put_now.
+    gathered (λ (r : AuthorizationRow). r.number) (authorizations_for T c.args.account) _ _ _ _ _ _ _
+    (drop-cons c.args.names.now c.loop-name.name-index _ (omega arith)) (ap (authorizations_for T c.args.account) c.name-item.is) put_now so_far))
 
-pub returns-clause-put : goal.returns-clause-put
-returns-clause-put c =
-    let none = nil_from_length c.loop-row.row-iterator.rest.items (omega (arith, c.loop-row.row-iterator.rest.ok, c.in-None.ensures.steps.0)) in
-    IfOk-weaker c.args.found _ _ (λ rows so_far. ap (λ l. puts (λ (r : AuthorizationRow). r.number) (filter (bears c.args.names.now) l) c.loop-row.table) (sym none)
-    ∙ so_far) c.loop-row.invariant
-
-pub returns-in_err-put_one-clause-put : goal.returns-in_err-put_one-clause-put
-returns-in_err-put_one-clause-put c =
-    IfOk-weaker c.args.found _ _ (λ rows so_far. IfOk-from_err c.from_residual-in_err-put_one.result _ c.from_residual-in_err-put_one.ensures.0) c.loop-row.invariant
+pub returns-in_err-put_for : goal.returns-in_err-put_for
+returns-in_err-put_for g c = fails_behind _ c.loop-name.invariant c.in_err-put_for.ensures c.from_residual.ensures.1

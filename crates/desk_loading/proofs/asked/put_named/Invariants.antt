@@ -1,9 +1,13 @@
-use Rattle.std.proofs.Common.{◌≡◌, IfOk, filter}
+use Rattle.std.proofs.Common.{◌≡◌, drop}
+use Rattle.std.specs.Prelude.{Ok}
+use Rattle.std.specs.List.{flat_map}
 use Rattle.desk_laws.specs.Placing.{puts}
-use Rattle.desk_loading.specs.Asking.{bears}
+use Rattle.desk_loading.specs.Finding.{Finds}
+use Rattle.desk_parts.specs.Loaded.{authorizations_for}
 use Rattle.desk_loading.proofs.asked.put_named.Given as goal
 
-abbrev pub invariant-loop-row : goal.invariant-loop-row
-invariant-loop-row l =
-    IfOk l.fn.found (λ rows. puts (λ r. r.number) (filter (bears l.names) l.row-iterator.rest.items) l.table
-    ≡ puts (λ r. r.number) (filter (bears l.names) rows.items) l.fn.table)
+abbrev pub invariant-loop-name : goal.invariant-loop-name
+invariant-loop-name g l =
+    Finds g.S.LookUps.sight {A = Unit {0}} l.fn.source l.source (Ok tt) (λ T.
+    puts (λ r. r.number) (flat_map (authorizations_for T l.account) (drop l.name-index l.names)) l.authorizations
+    ≡ puts (λ r. r.number) (flat_map (authorizations_for T l.account) l.names) l.fn.authorizations)

@@ -6,8 +6,7 @@ use Rattle.desk_loading.proofs.objects.put_further.Goals as goal
 use Rattle.desk_model.specs.declared.rows.AccountRow.{AccountRow}
 use Rattle.desk_model.specs.declared.rows.AuthorizationRow.{AuthorizationRow}
 use Rattle.desk_model.specs.declared.rows.OrderRow.{OrderRow}
-use Rattle.desk_loading.specs.Asking.{asked_of}
-use Rattle.desk_parts.specs.Loaded.{listed_authorizations}
+use Rattle.desk_parts.specs.Loaded.{authorizations_asked_of, listed_authorizations}
 use Rattle.desk_parts.specs.LookUps.{accounts_numbered}
 
 pub returns : goal.returns
@@ -17,7 +16,7 @@ returns g c =
     (λ T so_far asked of_orders of_authorizations. (
       so_far.0,
       put_then (λ (a : AuthorizationRow). a.number) (listed_authorizations T c.put_linked.new.table)
-          (asked_of T (option_map (λ v. v.items) c.args.names.now) c.args.accounts.now) _ _ _ so_far.1 asked,
+          (authorizations_asked_of T (option_map (λ v. v.items) c.args.names.now) c.args.accounts.now) _ _ _ so_far.1 asked,
       put_then (λ (x : AccountRow). x.number) (flat_map (λ (o : OrderRow). accounts_numbered T o.account) _)
           (flat_map (λ (a : AuthorizationRow). accounts_numbered T a.account) _) _ _ _ of_orders of_authorizations,
     ))

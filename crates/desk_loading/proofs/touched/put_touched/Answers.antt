@@ -11,7 +11,7 @@ use Rattle.desk_model.specs.declared.rows.AuthorizationRow.{AuthorizationRow}
 use Rattle.desk_model.specs.declared.rows.OrderRow.{OrderRow}
 use Rattle.desk_parts.specs.Loaded.{account_numbers, authorizations_once, first_authorizations, found_authorizations, found_nonces, found_orders}
 use Rattle.desk_parts.specs.Loaded.{keys, listed_authorizations, listing_orders, named_accounts, named_orders, new_keys, orders_once, own_orders, past_orders, asked_authorizations}
-use Rattle.desk_loading.proofs.NamedAgain.{asked_are}
+use Rattle.desk_parts.specs.Loaded.{authorizations_asked_of}
 use Rattle.desk_parts.specs.LookUps.{accounts_numbered, accounts_with_key}
 
 pub returns : goal.returns
@@ -51,7 +51,7 @@ returns g c =
     let all_authorizations =
     put_then authorization first (listed_authorizations T (orders_once (found_orders T moment ask)) ++ asked_authorizations T ask) [] _ _ authorizations
     (put_by_both authorization (λ (os : List OrderRow) (rows : List AuthorizationRow). listed_authorizations T os ++ rows) _ _ _ _ _ _ further.1 orders
-    (asked_are T ask _ _ c.requires accounts)) in
+    (λ i. authorizations_asked_of T (c.requires i) (accounts i))) in
     record {
       nonces = put_into_none (λ (n : Nonce). n.serial) (found_nonces T moment ask) _ _ (so_far.0.0.0 same) none.nonces;
       accounts = put_then account (named_accounts T ask)
