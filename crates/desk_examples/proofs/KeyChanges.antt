@@ -6,7 +6,7 @@ use Rattle.desk_examples.specs.KeyChanges.{ChangesKey, ChangesToTaken, ChangesTo
 use Rattle.desk_examples.specs.KeyChanges.{ChangesKeyOfEnded, ChangesKeyOfUnknown, OpensByGivenUp, OpensByChanged}
 use Rattle.desk_examples.specs.KeyChanges.{KeysNow, KeyIsChanged, KeyOfAnother, KeyOfItsOwn, UrlOfAnother}
 use Rattle.desk_examples.specs.KeyChanges.{OldKeyOfAnother, OldKeyFirst, NewKeyIsNone, NewKeyNoObject, WithoutOldKey}
-use Rattle.desk_examples.specs.KeyChanges.{GivenUpKey, WorkByOldKey, ReportByOldKey, AnsweredByNewKey}
+use Rattle.desk_examples.specs.KeyChanges.{EndedKeepsKey, GivenUpKey, WorkByOldKey, ReportByOldKey, ReportByNewKey, AnsweredThenMatched, AnsweredByNewKey}
 
 -- an account gets a key that no account has
 pub changes_key : ChangesKey
@@ -63,7 +63,7 @@ pub key_is_changed : KeyIsChanged
 unfolding computing
 key_is_changed = refl
 
--- the key has another account: its URL is said
+-- another account has the key: its URL is said
 pub key_of_another : KeyOfAnother
 unfolding computing
 key_of_another = refl
@@ -103,6 +103,11 @@ pub without_old_key : WithoutOldKey
 unfolding computing
 without_old_key = refl
 
+-- an account that ended is given no key
+pub ended_keeps_key : EndedKeepsKey
+unfolding computing
+ended_keeps_key = refl
+
 -- a request by a key that the account gave up
 pub given_up_key : GivenUpKey
 unfolding computing
@@ -118,7 +123,17 @@ pub report_by_old_key : ReportByOldKey
 unfolding computing hashing
 report_by_old_key = refl
 
--- answered after the change, it wants the new key
+-- not with the key of now
+pub report_by_new_key : ReportByNewKey
+unfolding computing hashing
+report_by_new_key = refl
+
+-- answered after the change, it is matched with the new key
+pub answered_then_matched : AnsweredThenMatched
+unfolding computing hashing
+answered_then_matched = refl
+
+-- and not with the old one
 pub answered_by_new_key : AnsweredByNewKey
 unfolding computing hashing
 answered_by_new_key = refl

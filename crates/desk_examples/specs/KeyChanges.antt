@@ -10,7 +10,7 @@ use Rattle.desk_examples.specs.Entries.{incorrect_response}
 use Rattle.desk_examples.specs.Calls.{on, zeros, account_desk, first_key, second_key, request, nonce_two}
 use Rattle.desk_examples.specs.Following.{May, MayNot}
 use Rattle.desk_examples.specs.Offices.{waiting_desk, http_desk, handed, report, Repeats}
-use Rattle.desk_examples.specs.Texts.{malformed, bad_public_key, key_in_use, no_account}
+use Rattle.desk_examples.specs.Texts.{malformed, bad_public_key, key_in_use, no_account, unauthorized}
 
 -- the canonical text of a third key
 abbrev pub third_key : List ℕ
@@ -89,7 +89,7 @@ KeyIsChanged =
     (plain 200 (Json (codes "{\"contact\":[],\"orders\":\"https://ca.example/account/1/orders\",\"status\":\"valid\"}")))
     (key_changed 1 third_key ∷ [])
 
--- the key has another account: its URL is said
+-- another account has the key: its URL is said
 abbrev pub KeyOfAnother : Type 0
 KeyOfAnother =
     Rekeys (rekey first_url second_key first_key) (located (codes "https://ca.example/account/2") (plain 409 (Problem true key_in_use))) []
@@ -123,6 +123,12 @@ abbrev pub WithoutOldKey : Type 0
 WithoutOldKey =
     Rekeys (codes "{\"account\":\"https://ca.example/account/1\",\"newKey\":{}}") (plain 400 (Problem true malformed)) []
 
+-- an account that ended is given no key
+abbrev pub EndedKeepsKey : Type 0
+EndedKeepsKey =
+    Gives (on 0 (account_ended 1 deactivated) ∷ two_accounts) (request to.KeyChange (rekey first_url third_key first_key))
+    (refuses 401 unauthorized nonce_two) (spent 1 ∷ issued (zeros 16) ∷ [])
+
 -- a request by a key that the account gave up
 abbrev pub GivenUpKey : Type 0
 GivenUpKey = Gives rekeyed_desk (request to.NewOrder (codes "{}")) (refuses 400 no_account nonce_two) (spent 1 ∷ issued (zeros 16) ∷ [])
@@ -147,7 +153,24 @@ ReportByOldKey =
     "{\"status\":\"valid\",\"token\":\"AAAAAAAAAAAAAAAAAAAAAA\",\"type\":\"http-01\",\"url\":\"https://ca.example/chall/1\",\"validated\":\"1970-01-01T00:00:00Z\"}"))
     (reported 1 good ∷ [])
 
--- answered after the change, it wants the new key
+-- not with the key of now
+abbrev pub ReportByNewKey : Type 0
+ReportByNewKey =
+    Gives later_key (handed (report (found.Body (codes "AAAAAAAAAAAAAAAAAAAAAA.pF1dcf6lIm6B95gxRV0_u2O1e7FkRx6C8-vJxcZYuDw"))))
+    (shows (codes
+    "{\"error\":{\"detail\":\"the response did not match\",\"status\":403,\"type\":\"urn:ietf:params:acme:error:incorrectResponse\"},\"status\":\"invalid\",\"token\":\"AAAAAAAAAAAAAAAAAAAAAA\",\"type\":\"http-01\",\"url\":\"https://ca.example/chall/1\"}"))
+    (reported 1 incorrect_response ∷ [])
+
+-- answered after the change, it is matched with the new key
+abbrev pub AnsweredThenMatched : Type 0
+AnsweredThenMatched =
+    Gives (on 0 (answered 1) ∷ on 0 (key_changed 1 second_key) ∷ waiting_desk)
+    (handed (report (found.Body (codes "AAAAAAAAAAAAAAAAAAAAAA.pF1dcf6lIm6B95gxRV0_u2O1e7FkRx6C8-vJxcZYuDw"))))
+    (shows (codes
+    "{\"status\":\"valid\",\"token\":\"AAAAAAAAAAAAAAAAAAAAAA\",\"type\":\"http-01\",\"url\":\"https://ca.example/chall/1\",\"validated\":\"1970-01-01T00:00:00Z\"}"))
+    (reported 1 good ∷ [])
+
+-- and not with the old one
 abbrev pub AnsweredByNewKey : Type 0
 AnsweredByNewKey =
     Gives (on 0 (answered 1) ∷ on 0 (key_changed 1 second_key) ∷ waiting_desk)

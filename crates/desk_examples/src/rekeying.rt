@@ -3,8 +3,8 @@ ghost use Rattle.desk_examples.specs.KeyChanges.{ChangesKey, ChangesToTaken, Cha
 ghost use Rattle.desk_examples.specs.KeyChanges.{ChangesToGivenUp, ChangesKeyOfEnded, ChangesKeyOfUnknown};
 ghost use Rattle.desk_examples.specs.KeyChanges.{OpensByGivenUp, OpensByChanged, KeysNow, KeyIsChanged, KeyOfAnother};
 ghost use Rattle.desk_examples.specs.KeyChanges.{KeyOfItsOwn, UrlOfAnother, OldKeyOfAnother, OldKeyFirst, NewKeyIsNone};
-ghost use Rattle.desk_examples.specs.KeyChanges.{NewKeyNoObject, WithoutOldKey, GivenUpKey, WorkByOldKey};
-ghost use Rattle.desk_examples.specs.KeyChanges.{ReportByOldKey, AnsweredByNewKey};
+ghost use Rattle.desk_examples.specs.KeyChanges.{NewKeyNoObject, WithoutOldKey, EndedKeepsKey, GivenUpKey, WorkByOldKey};
+ghost use Rattle.desk_examples.specs.KeyChanges.{ReportByOldKey, ReportByNewKey, AnsweredThenMatched, AnsweredByNewKey};
 
 /// Which keys an account may get, and which it may be opened by (RFC 8555, 7.3.5).
 pub fn keys_are_free()
@@ -31,8 +31,11 @@ pub fn keys_are_changed()
     ensures new_key_is_none { NewKeyIsNone }
     ensures new_key_no_object { NewKeyNoObject }
     ensures without_old_key { WithoutOldKey }
+    ensures ended_keeps_key { EndedKeepsKey }
     ensures given_up_key { GivenUpKey }
     ensures work_by_old_key { WorkByOldKey }
     ensures report_by_old_key { ReportByOldKey }
+    ensures report_by_new_key { ReportByNewKey }
+    ensures answered_then_matched { AnsweredThenMatched }
     ensures answered_by_new_key { AnsweredByNewKey }
 {}

@@ -2,7 +2,7 @@ use Rattle.desk_examples.proofs.rekeying.keys_are_changed.Goals as goal
 use Rattle.desk_examples.proofs.KeyChanges.{key_is_changed, key_of_another, key_of_its_own, url_of_another}
 use Rattle.desk_examples.proofs.KeyChanges.{old_key_of_another, old_key_first, new_key_is_none, new_key_no_object}
 use Rattle.desk_examples.proofs.KeyChanges.{without_old_key, given_up_key, work_by_old_key, report_by_old_key}
-use Rattle.desk_examples.proofs.KeyChanges.{answered_by_new_key}
+use Rattle.desk_examples.proofs.KeyChanges.{answered_by_new_key, answered_then_matched, ended_keeps_key, report_by_new_key}
 
 pub returns-clause-key_is_changed : goal.returns-clause-key_is_changed
 returns-clause-key_is_changed c = key_is_changed
@@ -42,3 +42,12 @@ returns-clause-report_by_old_key c = report_by_old_key
 
 pub returns-clause-answered_by_new_key : goal.returns-clause-answered_by_new_key
 returns-clause-answered_by_new_key c = answered_by_new_key
+
+pub returns-clause-ended_keeps_key : goal.returns-clause-ended_keeps_key
+returns-clause-ended_keeps_key c = ended_keeps_key
+
+pub returns-clause-report_by_new_key : goal.returns-clause-report_by_new_key
+returns-clause-report_by_new_key c = report_by_new_key
+
+pub returns-clause-answered_then_matched : goal.returns-clause-answered_then_matched
+returns-clause-answered_then_matched c = answered_then_matched
