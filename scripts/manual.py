@@ -43,8 +43,8 @@ def page(program):
     for line in exits:
         status, meaning = line.split(None, 1)
         lines += [".TP", f"\\fB{status}\\fR", roff(meaning)]
-    lines += [".SH FILES", ".TP", "\\fIFILE\\fR", "the desk", ".TP", roff("FILE-wal"), "the engine's log, until the file is closed",
-              ".SH SEE ALSO", "RFC 8555"]
+    lines += [".SH FILES", ".TP", "\\fIFILE\\fR", "the desk; one of an earlier format is brought into today's when it is opened",
+              ".TP", roff("FILE-wal"), "the engine's log, until the file is closed", ".SH SEE ALSO", "RFC 8555"]
     return lines
 
 

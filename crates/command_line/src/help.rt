@@ -3,10 +3,15 @@
 /// The version of the program.
 pub(crate) const VERSION: &str = "0.1.0";
 
-// What stands below the options of a word: an example, and the exit statuses, which all words share.
+// What stands below the options of a word: an example, and the exit statuses, which all words share; below the words, what
+// stands before these.
 macro_rules! after {
     ($example:literal) => {
+        after!("", $example)
+    };
+    ($before:literal, $example:literal) => {
         concat!(
+            $before,
             "Example:\n  ",
             $example,
             "\n\nExit statuses:\n",
@@ -19,7 +24,10 @@ macro_rules! after {
 }
 
 /// Below the words.
-pub(crate) const DESK: &str = after!("desk status --help");
+pub(crate) const DESK: &str = after!(
+    "Files:\n  The first word that opens a file of an earlier format brings it into today's, status\n  and check too. There is no way back, and an older program refuses the file then: keep a copy.\n\n",
+    "desk status --help"
+);
 
 /// Below the options of `make`.
 pub(crate) const MAKE: &str = after!(
