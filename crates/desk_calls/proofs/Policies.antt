@@ -1,5 +1,5 @@
 -- No call changes the policy.
-use Rattle.std.proofs.Common.{◌≡◌, List, [], ◌∷◌, ℕ, true, false, refl, ap, ◌∙◌}
+use Rattle.std.proofs.Common.{◌≡◌, List, [], ◌∷◌, ℕ, true, false, refl, ◌∙◌}
 use Rattle.desk_model.specs.Entry.{History}
 use Rattle.desk_model.specs.History.{moment_of, record_all, terms, terms_after}
 use Rattle.desk_model.specs.Legal.{BeginsMade, EachFollows, Legal, is_empty, may_follow}
