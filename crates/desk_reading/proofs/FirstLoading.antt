@@ -1,19 +1,17 @@
 -- The rows of all tables in format 1 are those of tables that tell no keys of answers.
 use Rattle.std.proofs.Common.{◌≡◌, ℕ, pos, ◌++◌, ◌+◌, ◌<◌, length, take, get_or, List, [], ◌∷◌, map, Option, Some, None, refl, sym, ap, subst, ◌∙◌}
 use Rattle.std.specs.List.{cons_option, filter_map}
-use Rattle.std.specs.Prelude.{option_map, option_to_list}
-use Rattle.std.proofs.lemmas.List.{map-append, take_more}
+use Rattle.std.specs.Prelude.{option_to_list}
+use Rattle.std.proofs.lemmas.List.{take_more}
 use Rattle.std.proofs.lemmas.Simd.{map-map}
 use Rattle.sqlite.specs.Held.{Held, state}
 use Rattle.sqlite.specs.Store.{Ghosts}
-use Rattle.desk_columns.specs.Columns.{authorization_columns, challenge_columns, first_format, key_columns, meta_columns}
-use Rattle.desk_columns.specs.Flat.{bare_row, challenge_rows, key_rows, owned_by}
+use Rattle.desk_columns.specs.Columns.{authorization_columns, challenge_columns, key_columns}
+use Rattle.desk_columns.specs.Flat.{bare_row, challenge_rows, key_rows}
 use Rattle.desk_columns.specs.declared.columns.StoredRows.{StoredRows}
-use Rattle.desk_columns.specs.declared.flat_rows.BareChallenge.{BareChallenge}
 use Rattle.desk_columns.specs.declared.flat_rows.Owned.{Owned}
 use Rattle.desk_model.specs.Tables.{Tables}
 use Rattle.desk_model.specs.declared.objects.Answer.{Answer}
-use Rattle.desk_model.specs.declared.rows.AuthorizationRow.{AuthorizationRow}
 use Rattle.desk_model.specs.declared.rows.ChallengeRow.{ChallengeRow}
 use Rattle.desk_reading.specs.First.{AreFirstShown, blank_key, raised_meta}
 use Rattle.desk_reading.specs.Shown.{AreColumnsOf}
@@ -21,32 +19,10 @@ use Rattle.desk_reading.proofs.FirstTables.{accounts_read, authorizations_read, 
 use Rattle.desk_reading.proofs.ShownRows.{shown_still}
 use Rattle.desk_reading.proofs.WholeTables.{listed_in_order}
 use Rattle.desk_tables.specs.Holds.{HoldsFirst}
-use Rattle.stored_laws.specs.Blank.{blank, blank_answer, blank_authorization, blank_challenge, zeros}
+use Rattle.stored_laws.proofs.BlankBooks.{bare_same, blank_row, rows_blank}
+use Rattle.stored_laws.specs.Blank.{blank, blank_authorization, zeros}
 
 -- ---- challenges without the keys of answers
-
-abbrev blank_row : Owned ChallengeRow → Owned ChallengeRow
-blank_row c = record c { row = blank_challenge c.row }
-
-owned_blank : (n : ℕ) (cs : List ChallengeRow) → owned_by n (map blank_challenge cs) ≡ map blank_row (owned_by n cs)
-owned_blank n [] = refl
-owned_blank n (c ∷ cs) = ap (λ l. (record { owner = n; row = blank_challenge c }) ∷ l) (owned_blank n cs)
-
-rows_blank : (rows : List AuthorizationRow) → challenge_rows (map blank_authorization rows) ≡ map blank_row (challenge_rows rows)
-rows_blank [] = refl
-rows_blank (a ∷ rows) =
-    (λ i. owned_blank a.number a.challenges i ++ rows_blank rows i) ∙ sym (map-append blank_row (owned_by a.number a.challenges) (challenge_rows rows))
-
--- their bare rows are the same
-bare_same : (cs : List (Owned ChallengeRow)) → map bare_row (map blank_row cs) ≡ map bare_row cs
-bare_same [] = refl
-bare_same (c ∷ cs) = (λ i. one c.row.answered i ∷ bare_same cs i)
-  where
-    one : (o : Option Answer) → ◌≡◌ {A = Owned BareChallenge}
-        (record (bare_row c) { row = record (bare_row c).row { answered = option_map (λ (a : Answer). a.date) (option_map blank_answer o) } })
-        (record (bare_row c) { row = record (bare_row c).row { answered = option_map (λ (a : Answer). a.date) o } })
-    one None = refl
-    one (Some a) = refl
 
 -- a challenge with this answer
 abbrev answered_so : Owned ChallengeRow → Option Answer → Owned ChallengeRow

@@ -87,7 +87,8 @@ blank_book T book = record {
 
 -- ---- in its limits
 
-abbrev blank_row : Owned ChallengeRow → Owned ChallengeRow
+-- a challenge without the key of its answer
+abbrev pub blank_row : Owned ChallengeRow → Owned ChallengeRow
 blank_row c = record c { row = blank_challenge c.row }
 
 abbrev blank_key : AnswerKey → AnswerKey
@@ -97,12 +98,14 @@ owned_blank : (n : ℕ) (cs : List ChallengeRow) → owned_by n (map blank_chall
 owned_blank n [] = refl
 owned_blank n (c ∷ cs) = ap (λ l. (record { owner = n; row = blank_challenge c }) ∷ l) (owned_blank n cs)
 
-rows_blank : (rows : List AuthorizationRow) → challenge_rows (map blank_authorization rows) ≡ map blank_row (challenge_rows rows)
+-- the challenges of authorizations without the keys of answers
+pub rows_blank : (rows : List AuthorizationRow) → challenge_rows (map blank_authorization rows) ≡ map blank_row (challenge_rows rows)
 rows_blank [] = refl
 rows_blank (a ∷ rows) =
     (λ i. owned_blank a.number a.challenges i ++ rows_blank rows i) ∙ sym (map-append blank_row (owned_by a.number a.challenges) (challenge_rows rows))
 
-bare_same : (cs : List (Owned ChallengeRow)) → map bare_row (map blank_row cs) ≡ map bare_row cs
+-- their bare rows are the same
+pub bare_same : (cs : List (Owned ChallengeRow)) → map bare_row (map blank_row cs) ≡ map bare_row cs
 bare_same [] = refl
 bare_same (c ∷ cs) = (λ i. one c.row.answered i ∷ bare_same cs i)
   where
