@@ -71,15 +71,12 @@ book_shown g conn stored (Ok book) is shown = record { stored = stored; shown = 
 book_shown g conn stored (Err why) is shown = tt
 
 -- and so it was before calls that changed nothing
-pub whole_still : {S E : Type 0} (g : Ghosts S) (old mid : Held S) (checked : Result (Unit {0}) E) → (state g mid).now ≡ (state g old).now
-    → OnOk checked (IsWhole g mid) → OnOk checked (IsWhole g old)
-whole_still g old mid (Ok done) same whole =
-    record {
-      indexes = subst (λ (db : Database). IsTrue (has_all_indexes db.schema)) same whole.indexes;
-      book = whole.book;
-      shows = record { stored = whole.shows.stored; shown = shown_before g old mid whole.shows.stored same whole.shows.shown; is_book = whole.shows.is_book };
-    }
-whole_still g old mid (Err why) same whole = tt
+pub whole_still : {S : Type 0} (g : Ghosts S) (old mid : Held S) → (state g mid).now ≡ (state g old).now → IsWhole g mid → IsWhole g old
+whole_still g old mid same whole = record {
+  indexes = subst (λ (db : Database). IsTrue (has_all_indexes db.schema)) same whole.indexes;
+  book = whole.book;
+  shows = record { stored = whole.shows.stored; shown = shown_before g old mid whole.shows.stored same whole.shows.shown; is_book = whole.shows.is_book };
+}
 
 -- what is so anyhow
 pub always_ok : {R E P : Type 0} (result : Result R E) → P → OnOk result P

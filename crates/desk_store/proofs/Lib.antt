@@ -1,4 +1,5 @@
 pub mod Books
+pub mod EitherFormat
 pub mod FirstBooks
 pub mod NewDesks
 pub mod OpeningFaults

@@ -5,8 +5,7 @@ use Rattle.sqlite.specs.State.{State, IsUnchanged}
 use Rattle.sqlite.specs.Schema.{Schema}
 use Rattle.sqlite_schema.specs.Names.{same_name}
 use Rattle.desk_model.specs.Tables.{Tables}
-use Rattle.desk_schema.specs.Names.{has_all_indexes, uses_names}
-use Rattle.desk_schema.specs.Schema.{desk_schema}
+use Rattle.desk_schema.specs.Names.{uses_names}
 use Rattle.desk_store.specs.Desks.{HasDesk}
 use Rattle.desk_store.proofs.Standing.{desk_unchanged}
 use Rattle.sqlite.specs.declared.error.Error.{Error}
@@ -35,14 +34,6 @@ pub fails_later : {R : Type 0} (old mid : State) (result : Result R OpenFault) �
     → IfErr result (λ why. (T : Tables) → HasDesk mid T → IsOfStorage why) → IfErr result (λ why. (T : Tables) → HasDesk old T → IsOfStorage why)
 fails_later old mid (Ok done) limit same fault = tt
 fails_later old mid (Err why) limit same fault = λ T has. fault T (desk_unchanged old mid T limit same has)
-
--- a desk lacks no index
-pub lacks_none : (schema : Schema) (found : Bool) → found ≡ has_all_indexes schema → schema ≡ desk_schema → found ≡ false → ⊥
-unfolding same_name
-lacks_none schema found is of_desk none =
-    let all : found ≡ true = is ∙ ap has_all_indexes of_desk in
-    let never : true ≡ false = sym all ∙ none in
-    absurd (cc never)
 
 -- a reading that failed tells of no later format
 pub reading_is_known : (cause : Cause) (why : OpenFault) → IsOfOpening cause why → why ≡ NewerFormat → ⊥

@@ -1,13 +1,17 @@
--- What an opening finds.
-use Rattle.std.specs.Prelude.{IsTrue}
+-- What an opening finds, and what it leaves.
+use Rattle.std.specs.Prelude.{◌≡◌, false, IsTrue}
 use Rattle.sqlite.specs.Held.{Held, state}
+use Rattle.sqlite.specs.State.{State}
 use Rattle.sqlite.specs.Store.{Ghosts}
+use Rattle.sqlite.specs.Tree.{Trees}
 use Rattle.desk_columns.specs.declared.columns.StoredRows.{StoredRows}
 use Rattle.desk_model.specs.Tables.{Tables}
 use Rattle.desk_reading.specs.First.{AreFirstShown}
 use Rattle.desk_reading.specs.Format.{IsNewer, ShowsFormats}
 use Rattle.desk_reading.specs.Shown.{AreShown}
-use Rattle.desk_schema.specs.Names.{has_all_indexes}
+use Rattle.desk_schema.specs.Names.{has_all_indexes, uses_key_table}
+use Rattle.desk_store.specs.Desks.{AreOfDesk}
+use Rattle.desk_upgrading.specs.FirstDesks.{HasFirst}
 use Rattle.stored_rows.specs.IsBook.{IsBookOfStored}
 
 module _ {S : Type 0} (g : Ghosts S) where
@@ -42,3 +46,8 @@ module _ {S : Type 0} (g : Ghosts S) where
   -- it showed anything else
   abbrev pub ShowsKnownFormat : Held S → Type 0
   ShowsKnownFormat conn = (after : Held S) × ShowsFormats (state g conn) (state g after) (λ rows. ¬ IsNewer rows)
+
+-- of a database without the table of keys: whatever desk the connection had in format 1, the trees are those of the same desk in today's format
+pub record IsUpgraded (old : State) (trees : Trees) : Type 0 where
+  pub first : uses_key_table old.now.schema ≡ false
+  pub desk : (T : Tables) → HasFirst old T → AreOfDesk trees T

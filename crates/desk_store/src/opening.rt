@@ -5,12 +5,13 @@ ghost use Rattle.sqlite.specs.Held.{state};
 ghost use Rattle.desk_model.specs.Tables.{Tables};
 ghost use Rattle.desk_reading.specs.Format.{IsNewer, ShowsFormats};
 ghost use Rattle.desk_saving.specs.Committing.{GoesBack, IsLeft};
+ghost use Rattle.desk_schema.specs.Names.{uses_key_table};
 ghost use Rattle.desk_schema.specs.Stays.{Asks};
 ghost use Rattle.desk_storage.specs.declared.fault.StorageFault.TheVariants.{Memory as memory};
 ghost use Rattle.desk_store.specs.Causes.{IsOfOpening, cause_of};
 ghost use Rattle.desk_store.specs.Desks.{AreOfDesk, HasDesk};
 ghost use Rattle.desk_store.specs.Making.{IsOfStorage};
-ghost use Rattle.desk_store.specs.Opening.{IsWhole, ShowsBook, ShowsFirstBook, ShowsKnownFormat, ShowsNewerFormat};
+ghost use Rattle.desk_store.specs.Opening.{IsUpgraded, IsWhole, IsWholeFirst, ShowsBook, ShowsFirstBook, ShowsKnownFormat, ShowsNewerFormat};
 ghost use Rattle.desk_store.specs.declared.open_fault.OpenFault.TheVariants.{NewerFormat as newer_format, NotADesk as not_a_desk, Storage as of_storage};
 ghost use Rattle.desk_upgrading.specs.FirstDesks.{BringsDesk, HasFirst, HasSecond, UpgradesDesk};
 ghost use Rattle.stored_laws.specs.Blank.{blank};
@@ -21,7 +22,7 @@ use crate::open_fault::OpenFault;
 use desk_book::Book;
 use desk_columns::StoredRows;
 use desk_reading::{is_newer, load_first, load_stored};
-use desk_schema::has_indexes;
+use desk_schema::{has_indexes, uses_key_table};
 use desk_storage::StorageFault;
 use desk_upgrading::upgrade;
 use sqlite::{Alter, Connection, Error};
@@ -48,6 +49,7 @@ fn check_format<S: Alter>(conn: &mut Connection<S>) -> Result<(), OpenFault>
     ensures newer { HasCleanDisk (state S.Store conn.new) → result ≡ Err newer_format → ShowsFormats (state S.Store conn.old) (state S.Store conn.new) IsNewer }
     ensures unchanged { HasCleanDisk (state S.Store conn.new) → OnOk result (IsUnchanged (state S.Store conn.old) (state S.Store conn.new)) }
     ensures desk { HasCleanDisk (state S.Store conn.new) → IfErr result (λ why. (T : Tables) → HasDesk (state S.Store conn.old) T → IsOfStorage why) }
+    ensures first { HasCleanDisk (state S.Store conn.new) → IfErr result (λ why. (T : Tables) → HasFirst (state S.Store conn.old) T → IsOfStorage why) }
     ensures answering { HasCleanDisk (state S.Store conn.new) → result ≡ Err (of_storage memory) → IsTrue (state S.Store conn.new).is_open }
     ensures asks { Asks (state S.Store conn.old) (state S.Store conn.new) }
 {
@@ -129,6 +131,7 @@ fn upgrade_book<S: Alter>(
         → OnErr result (GoesBack (state S.Store conn.old) (state S.Store conn.new)) }
     ensures answering { HasCleanDisk (state S.Store conn.new) → result ≡ Err memory → IsTrue (state S.Store conn.new).is_open }
     ensures left { Survives (state S.Store conn.old) (state S.Store conn.new) (IsLeft (UpgradesDesk book (state S.Store conn.old).now)) }
+    ensures spared { result ≡ Err memory → Survives (state S.Store conn.old) (state S.Store conn.new) (λ _. ⊥) }
 {
     let upgraded = upgrade(alloc, conn, &book);
     // Before the ways part, so that it is dropped in one place.
@@ -139,25 +142,22 @@ fn upgrade_book<S: Alter>(
     }
 }
 
-/// Makes of a desk in format 1 the same desk in today's format, in one transaction.
-///
-/// # Errors
-///
-/// `NotADesk` where a table, a column or an index is missing, or where no book has the rows. `Storage` where the store failed: a stop leaves
-/// what it left before, or the desk in today's format.
-pub(crate) fn upgrade_desk<S: Alter>(
-    alloc: Global,
-    conn: &mut Connection<S>,
-) -> Result<(), OpenFault>
+// Makes of a desk in format 1 the same desk in today's format, in one transaction; or says why not, as `read_first` or `upgrade_book`.
+fn upgrade_desk<S: Alter>(alloc: Global, conn: &mut Connection<S>) -> Result<(), OpenFault>
     requires idle { conn.old.in_transaction ≡ false }
     ensures idle { conn.new.in_transaction ≡ false }
     ensures upgraded { HasCleanDisk (state S.Store conn.new)
         → OnOk result ((T : Tables) → HasFirst (state S.Store conn.old) T → HasSecond (state S.Store conn.new) T) }
+    ensures shown { HasCleanDisk (state S.Store conn.new) → OnOk result ((book : Tables) × ShowsFirstBook S.Store conn.old book) }
+    ensures no_newer { result ≢ Err newer_format }
+    ensures refused { result ≡ Err not_a_desk → Asks (state S.Store conn.old) (state S.Store conn.new) }
     ensures back { (state S.Store conn.old).now ≡ (state S.Store conn.old).committed → HasCleanDisk (state S.Store conn.new)
         → OnErr result (GoesBack (state S.Store conn.old) (state S.Store conn.new)) }
     ensures left { Survives (state S.Store conn.old) (state S.Store conn.new) (λ trees. (T : Tables) → HasFirst (state S.Store conn.old) T
         → AreOfDesk trees T) }
+    ensures spared { result ≡ Err (of_storage memory) → Survives (state S.Store conn.old) (state S.Store conn.new) (λ _. ⊥) }
     ensures desk { HasCleanDisk (state S.Store conn.new) → IfErr result (λ why. (T : Tables) → HasFirst (state S.Store conn.old) T → IsOfStorage why) }
+    ensures answering { HasCleanDisk (state S.Store conn.new) → result ≡ Err (of_storage memory) → IsTrue (state S.Store conn.new).is_open }
 {
     match read_first(alloc, conn) {
         Ok(book) => match upgrade_book(alloc, conn, book) {
@@ -168,18 +168,15 @@ pub(crate) fn upgrade_desk<S: Alter>(
     }
 }
 
-// That the indexes are there, and that the rows are a book's.
+// That the rows are a book's.
 fn check_rows<S: Alter>(alloc: Global, conn: &mut Connection<S>) -> Result<(), OpenFault>
-    ensures whole { HasCleanDisk (state S.Store conn.new) → OnOk result (IsWhole S.Store conn.old) }
+    ensures shown { HasCleanDisk (state S.Store conn.new) → OnOk result ((book : Tables) × ShowsBook S.Store conn.old book) }
     ensures no_newer { result ≢ Err newer_format }
     ensures unchanged { HasCleanDisk (state S.Store conn.new) → OnOk result (IsUnchanged (state S.Store conn.old) (state S.Store conn.new)) }
     ensures desk { HasCleanDisk (state S.Store conn.new) → IfErr result (λ why. (T : Tables) → HasDesk (state S.Store conn.old) T → IsOfStorage why) }
     ensures answering { HasCleanDisk (state S.Store conn.new) → result ≡ Err (of_storage memory) → IsTrue (state S.Store conn.new).is_open }
     ensures asks { Asks (state S.Store conn.old) (state S.Store conn.new) }
 {
-    if !has_indexes(conn.schema()) {
-        return Err(OpenFault::NotADesk);
-    }
     match read_book(alloc, conn) {
         Ok(book) => {
             drop(book);
@@ -189,23 +186,71 @@ fn check_rows<S: Alter>(alloc: Global, conn: &mut Connection<S>) -> Result<(), O
     }
 }
 
-/// That the tables and indexes are those of a desk, of this format.
+// As `open_desk`, where the tables are not of a later format.
+fn open_known<S: Alter>(alloc: Global, conn: &mut Connection<S>) -> Result<(), OpenFault>
+    requires idle { conn.old.in_transaction ≡ false }
+    ensures idle { conn.new.in_transaction ≡ false }
+    ensures asks { IsTrue (uses_key_table (state S.Store conn.old).now.schema) → Asks (state S.Store conn.old) (state S.Store conn.new) }
+    ensures unchanged { IsTrue (uses_key_table (state S.Store conn.old).now.schema) → HasCleanDisk (state S.Store conn.new)
+        → OnOk result (IsUnchanged (state S.Store conn.old) (state S.Store conn.new)) }
+    ensures refused { result ≡ Err not_a_desk → Asks (state S.Store conn.old) (state S.Store conn.new) }
+    ensures no_newer { result ≢ Err newer_format }
+    ensures upgraded { HasCleanDisk (state S.Store conn.new)
+        → OnOk result ((T : Tables) → HasFirst (state S.Store conn.old) T → HasSecond (state S.Store conn.new) T) }
+    ensures back { (state S.Store conn.old).now ≡ (state S.Store conn.old).committed → HasCleanDisk (state S.Store conn.new)
+        → OnErr result (GoesBack (state S.Store conn.old) (state S.Store conn.new)) }
+    ensures left { Survives (state S.Store conn.old) (state S.Store conn.new) (IsUpgraded (state S.Store conn.old)) }
+    ensures spared { result ≡ Err (of_storage memory) → Survives (state S.Store conn.old) (state S.Store conn.new) (λ _. ⊥) }
+    ensures whole { HasCleanDisk (state S.Store conn.new)
+        → OnOk result (IsTrue (uses_key_table (state S.Store conn.old).now.schema) → IsWhole S.Store conn.old) }
+    ensures whole_first { HasCleanDisk (state S.Store conn.new)
+        → OnOk result (uses_key_table (state S.Store conn.old).now.schema ≡ false → IsWholeFirst S.Store conn.old) }
+    ensures desk { HasCleanDisk (state S.Store conn.new) → IfErr result (λ why. (T : Tables) → HasDesk (state S.Store conn.old) T → IsOfStorage why) }
+    ensures first { HasCleanDisk (state S.Store conn.new) → IfErr result (λ why. (T : Tables) → HasFirst (state S.Store conn.old) T → IsOfStorage why) }
+    ensures answering { HasCleanDisk (state S.Store conn.new) → result ≡ Err (of_storage memory) → IsTrue (state S.Store conn.new).is_open }
+{
+    if !has_indexes(conn.schema()) {
+        return Err(OpenFault::NotADesk);
+    }
+    if uses_key_table(conn.schema()) {
+        check_rows(alloc, conn)
+    } else {
+        upgrade_desk(alloc, conn)
+    }
+}
+
+/// Finds a desk in today's format, or makes one of a desk in format 1, in one transaction.
 ///
 /// # Errors
 ///
 /// `NewerFormat`, where `meta` has one row of a later format; else `NotADesk`, where a table, a column or an index is missing,
-/// or no book has these rows; `Storage` where the store failed.
-pub(crate) fn check_desk<S: Alter>(alloc: Global, conn: &mut Connection<S>) -> Result<(), OpenFault>
-    ensures known { HasCleanDisk (state S.Store conn.new) → OnOk result (ShowsKnownFormat S.Store conn.old) }
+/// or no book has these rows: nothing was changed. `Storage` where the store failed: of a desk in format 1 a stop leaves what it
+/// left before, or the same desk in today's format.
+pub(crate) fn open_desk<S: Alter>(alloc: Global, conn: &mut Connection<S>) -> Result<(), OpenFault>
+    requires idle { conn.old.in_transaction ≡ false }
+    ensures idle { conn.new.in_transaction ≡ false }
+    ensures asks { IsTrue (uses_key_table (state S.Store conn.old).now.schema) → Asks (state S.Store conn.old) (state S.Store conn.new) }
+    ensures unchanged { IsTrue (uses_key_table (state S.Store conn.old).now.schema) → HasCleanDisk (state S.Store conn.new)
+        → OnOk result (IsUnchanged (state S.Store conn.old) (state S.Store conn.new)) }
+    ensures refused { IfErr result (λ why. (why ≡ not_a_desk) ⊎ (why ≡ newer_format) → Asks (state S.Store conn.old) (state S.Store conn.new)) }
     ensures newer { HasCleanDisk (state S.Store conn.new) → result ≡ Err newer_format → ShowsNewerFormat S.Store conn.old }
-    ensures whole { HasCleanDisk (state S.Store conn.new) → OnOk result (IsWhole S.Store conn.old) }
-    ensures unchanged { HasCleanDisk (state S.Store conn.new) → OnOk result (IsUnchanged (state S.Store conn.old) (state S.Store conn.new)) }
+    ensures known { HasCleanDisk (state S.Store conn.new) → OnOk result (ShowsKnownFormat S.Store conn.old) }
+    ensures upgraded { HasCleanDisk (state S.Store conn.new)
+        → OnOk result ((T : Tables) → HasFirst (state S.Store conn.old) T → HasSecond (state S.Store conn.new) T) }
+    ensures back { (state S.Store conn.old).now ≡ (state S.Store conn.old).committed → HasCleanDisk (state S.Store conn.new)
+        → OnErr result (GoesBack (state S.Store conn.old) (state S.Store conn.new)) }
+    ensures left { Survives (state S.Store conn.old) (state S.Store conn.new) (IsUpgraded (state S.Store conn.old)) }
+    ensures spared { result ≡ Err (of_storage memory) → Survives (state S.Store conn.old) (state S.Store conn.new) (λ _. ⊥) }
+    ensures whole { HasCleanDisk (state S.Store conn.new)
+        → OnOk result (IsTrue (uses_key_table (state S.Store conn.old).now.schema) → IsWhole S.Store conn.old) }
+    ensures whole_first { HasCleanDisk (state S.Store conn.new)
+        → OnOk result (uses_key_table (state S.Store conn.old).now.schema ≡ false → IsWholeFirst S.Store conn.old) }
     ensures desk { HasCleanDisk (state S.Store conn.new) → IfErr result (λ why. (T : Tables) → HasDesk (state S.Store conn.old) T → IsOfStorage why) }
+    ensures first { HasCleanDisk (state S.Store conn.new) → IfErr result (λ why. (T : Tables) → HasFirst (state S.Store conn.old) T → IsOfStorage why) }
     ensures answering { HasCleanDisk (state S.Store conn.new) → result ≡ Err (of_storage memory) → IsTrue (state S.Store conn.new).is_open }
-    ensures asks { Asks (state S.Store conn.old) (state S.Store conn.new) }
 {
     match check_format(conn) {
-        Ok(()) => check_rows(alloc, conn),
+        Ok(()) => open_known(alloc, conn),
         Err(fault) => Err(fault),
     }
 }

@@ -1,24 +1,25 @@
 //! The store of a desk.
-ghost use Rattle.std.specs.Prelude.{◌≡◌, false, Err, IfErr, IfOk, IsTrue, MatchResult, Ok, OnOk};
+ghost use Rattle.std.specs.Prelude.{◌≡◌, ◌⊎◌, false, Err, IfErr, IfOk, IsTrue, MatchResult, Ok, OnOk};
 ghost use Rattle.sqlite.specs.State.{HasCleanDisk, IsUnchanged, Survives};
 ghost use Rattle.sqlite.specs.Held.{state};
 ghost use Rattle.desk_model.specs.Tables.{Tables};
 ghost use Rattle.desk_model.specs.Touched.{touched};
 ghost use Rattle.desk_saving.specs.Committing.{GoesBack};
-ghost use Rattle.desk_schema.specs.Names.{uses_names};
+ghost use Rattle.desk_schema.specs.Names.{uses_key_table, uses_names};
 ghost use Rattle.desk_schema.specs.Stays.{Asks};
 ghost use Rattle.desk_storage.specs.Sight.{ForTables, Keeps, Reads};
 ghost use Rattle.desk_storage.specs.Storing.{Loads};
 ghost use Rattle.desk_storage.specs.declared.fault.StorageFault.TheVariants.{Memory as memory};
 ghost use Rattle.desk_store.specs.Desks.{HasDesk, store_sight};
 ghost use Rattle.desk_store.specs.Making.{IsNewDesk, IsOfStorage, Makes};
-ghost use Rattle.desk_store.specs.Opening.{IsWhole, ShowsKnownFormat, ShowsNewerFormat};
+ghost use Rattle.desk_store.specs.Opening.{IsUpgraded, IsWhole, IsWholeFirst, ShowsKnownFormat, ShowsNewerFormat};
 ghost use Rattle.desk_store.specs.declared.open_fault.OpenFault.TheVariants.{NewerFormat as newer_format, NotADesk as not_a_desk, Storage as of_storage};
+ghost use Rattle.desk_upgrading.specs.FirstDesks.{HasFirst};
 
 use crate::faults::reading_fault;
 use crate::making::make_desk;
 use crate::open_fault::OpenFault;
-use crate::opening::{check_desk, read_book};
+use crate::opening::{open_desk, read_book};
 use desk_book::Book;
 use desk_loading::load_part;
 use desk_model::{Call, Clock, Policy};
@@ -84,26 +85,42 @@ impl<S: Alter> Store<S> {
         }
     }
 
-    /// Opens the desk that the database of a connection holds, which changes nothing.
+    /// Opens the desk that the database of a connection holds; one of format 1 becomes one of today's format first, by one transaction.
     ///
     /// # Errors
     ///
     /// `NewerFormat` where `meta` has one row of a later format; else `NotADesk` where a table, a column or an index is
-    /// missing, or where no book has the rows. `Storage` where the store failed.
+    /// missing, or where no book has the rows: nothing was changed. `Storage` where the store failed: after `Memory` the
+    /// database is as it was; else a stop leaves what it left before or, of a desk in format 1, the same desk in today's format.
     pub fn open(alloc: Global, conn: Connection<S>) -> Result<Store<S>, Unopened<S>>
-        ensures asks { MatchResult result (λ store. Asks (state S.Store conn) (state S.Store store.conn)) (λ un. Asks (state S.Store conn)
-            (state S.Store un.conn)) }
-        ensures unchanged { IfOk result (λ store. HasCleanDisk (state S.Store store.conn) → IsUnchanged (state S.Store conn) (state S.Store store.conn)) }
+        requires idle { conn.in_transaction ≡ false }
+        ensures idle { MatchResult result (λ store. store.conn.in_transaction ≡ false) (λ un. un.conn.in_transaction ≡ false) }
+        ensures asks { IsTrue (uses_key_table (state S.Store conn).now.schema)
+            → MatchResult result (λ store. Asks (state S.Store conn) (state S.Store store.conn)) (λ un. Asks (state S.Store conn) (state S.Store un.conn)) }
+        ensures unchanged { IsTrue (uses_key_table (state S.Store conn).now.schema)
+            → IfOk result (λ store. HasCleanDisk (state S.Store store.conn) → IsUnchanged (state S.Store conn) (state S.Store store.conn)) }
+        ensures refused { IfErr result (λ un. (un.fault ≡ not_a_desk) ⊎ (un.fault ≡ newer_format) → Asks (state S.Store conn) (state S.Store un.conn)) }
         ensures kept { IfOk result (λ store. HasCleanDisk (state S.Store store.conn) → (T : Tables) → HasDesk (state S.Store conn) T
             → Keeps (store_sight S.Store) store T) }
+        ensures upgraded { IfOk result (λ store. HasCleanDisk (state S.Store store.conn) → (T : Tables) → HasFirst (state S.Store conn) T
+            → Keeps (store_sight S.Store) store T) }
+        ensures back { (state S.Store conn).now ≡ (state S.Store conn).committed
+            → IfErr result (λ un. HasCleanDisk (state S.Store un.conn) → GoesBack (state S.Store conn) (state S.Store un.conn)) }
+        ensures left { MatchResult result (λ store. Survives (state S.Store conn) (state S.Store store.conn) (IsUpgraded (state S.Store conn)))
+            (λ un. Survives (state S.Store conn) (state S.Store un.conn) (IsUpgraded (state S.Store conn))) }
+        ensures spared { IfErr result (λ un. un.fault ≡ of_storage memory → Survives (state S.Store conn) (state S.Store un.conn) (λ _. ⊥)) }
         ensures newer { IfErr result (λ un. HasCleanDisk (state S.Store un.conn) → un.fault ≡ newer_format → ShowsNewerFormat S.Store conn) }
         ensures known { IfOk result (λ store. HasCleanDisk (state S.Store store.conn) → ShowsKnownFormat S.Store conn) }
-        ensures whole { IfOk result (λ store. HasCleanDisk (state S.Store store.conn) → IsWhole S.Store conn) }
+        ensures whole { IfOk result (λ store. HasCleanDisk (state S.Store store.conn) → IsTrue (uses_key_table (state S.Store conn).now.schema)
+            → IsWhole S.Store conn) }
+        ensures whole_first { IfOk result (λ store. HasCleanDisk (state S.Store store.conn) → uses_key_table (state S.Store conn).now.schema ≡ false
+            → IsWholeFirst S.Store conn) }
         ensures desk { IfErr result (λ un. HasCleanDisk (state S.Store un.conn) → (T : Tables) → HasDesk (state S.Store conn) T → IsOfStorage un.fault) }
+        ensures first { IfErr result (λ un. HasCleanDisk (state S.Store un.conn) → (T : Tables) → HasFirst (state S.Store conn) T → IsOfStorage un.fault) }
         ensures answering { IfErr result (λ un. HasCleanDisk (state S.Store un.conn) → un.fault ≡ of_storage memory → IsTrue (state S.Store un.conn).is_open) }
     {
         let mut conn = conn;
-        match check_desk(alloc, &mut conn) {
+        match open_desk(alloc, &mut conn) {
             Ok(()) => Ok(Store { conn }),
             Err(fault) => Err(Unopened { fault, conn }),
         }

@@ -3,6 +3,7 @@ use Rattle.sqlite.specs.Held.{state}
 use Rattle.sqlite.specs.State.{HasCleanDisk}
 use Rattle.desk_schema.proofs.StaysLemmas.{asks_then}
 use Rattle.desk_store.proofs.Books.{may_read}
+use Rattle.desk_store.proofs.FirstBooks.{first_may_read}
 use Rattle.desk_store.proofs.OpeningFaults.{failure_is_storage, reading_is_known}
 use Rattle.desk_store.proofs.Standing.{same_fault}
 use Rattle.desk_store.specs.Causes.{cause_of}
@@ -17,6 +18,12 @@ returns-in-Err-clause-desk g c clean T has =
     let clean_mid : HasCleanDisk (state g.S.Store c.is_newer.new.conn) = let le = c.opening_fault.ensures.asks.survives.clean in omega (arith, clean, le) in
     failure_is_storage c.in-Err.error c.opening_fault.result
     (c.in-Err.ensures.fails clean_mid T has.desk.holds (may_read (state g.S.Store c.args.conn.now) T has)) c.opening_fault.ensures.fault
+
+pub returns-in-Err-clause-first : goal.returns-in-Err-clause-first
+returns-in-Err-clause-first g c clean T has =
+    let clean_mid : HasCleanDisk (state g.S.Store c.is_newer.new.conn) = let le = c.opening_fault.ensures.asks.survives.clean in omega (arith, clean, le) in
+    failure_is_storage c.in-Err.error c.opening_fault.result
+    (c.in-Err.ensures.first_fails clean_mid T has.desk.holds (first_may_read (state g.S.Store c.args.conn.now) T has)) c.opening_fault.ensures.fault
 
 pub returns-in-Err-clause-answering : goal.returns-in-Err-clause-answering
 returns-in-Err-clause-answering g c clean memory = (c.opening_fault.ensures.unchanged clean (same_fault _ _ memory)).0.is_open

@@ -19,3 +19,8 @@ pub returns-in-Err-clause-left : goal.returns-in-Err-clause-left
 returns-in-Err-clause-left g c =
     survives_then (state g.S.Store c.args.conn.now) (state g.S.Store c.upgrade-upgraded.new.conn) (state g.S.Store c.saving_fault.new.conn) _ _ _
     (λ _ trees left. left) (λ _ _ none. absurd none) c.upgrade-upgraded.ensures.left c.saving_fault.ensures.asks.survives
+
+pub returns-in-Err-clause-spared : goal.returns-in-Err-clause-spared
+returns-in-Err-clause-spared g c memory =
+    survives_then (state g.S.Store c.args.conn.now) (state g.S.Store c.upgrade-upgraded.new.conn) (state g.S.Store c.saving_fault.new.conn) _ _ _
+    (λ _ _ none. none) (λ _ _ none. none) (c.in-Err.ensures.before (c.saving_fault.ensures.early (same_fault _ _ memory))) c.saving_fault.ensures.asks.survives

@@ -1,23 +1,69 @@
-use Rattle.std.proofs.Common.{subst}
+use Rattle.std.proofs.Common.{ap, subst}
 use Rattle.sqlite.specs.Effect.{Database}
 use Rattle.sqlite.specs.Held.{state}
 use Rattle.desk_store.specs.Desks.{IsDesk}
-use Rattle.desk_store.proofs.Standing.{desk_unchanged}
+use Rattle.desk_store.proofs.EitherFormat.{keeps_second, uses_keys}
+use Rattle.desk_store.proofs.Standing.{desk_unchanged, failed}
 use Rattle.desk_store.proofs.store.Store.open.Goals as goal
+
+pub returns-in-Ok-clause-asks : goal.returns-in-Ok-clause-asks
+returns-in-Ok-clause-asks g c = c.open_desk.ensures.asks
+
+pub returns-in-Ok-clause-unchanged : goal.returns-in-Ok-clause-unchanged
+returns-in-Ok-clause-unchanged g c = c.in-Ok.ensures.unchanged
 
 pub returns-in-Ok-clause-kept : goal.returns-in-Ok-clause-kept
 returns-in-Ok-clause-kept g c clean T has =
-    let new = state g.S.Store c.check_desk.new.conn in
-    let desk = desk_unchanged (state g.S.Store c.args.conn) new T c.check_desk.ensures.asks.survives.limit (c.in-Ok.ensures.unchanged clean) has in
+    let old = state g.S.Store c.args.conn in
+    let new = state g.S.Store c.open_desk.new.conn in
+    let uses = uses_keys old.now.schema has.desk.holds.schema in
+    let desk = desk_unchanged old new T c.open_desk.ensures.left.limit (c.in-Ok.ensures.unchanged uses clean) has in
     record {
       tables = desk;
       left = λ trees may. (
         new.committed,
-        g.met.S.Store.settled c.check_desk.new.conn.store trees desk.is_open may,
+        g.met.S.Store.settled c.open_desk.new.conn.store trees desk.is_open may,
         subst
             (λ (db : Database). IsDesk db T) desk.settled desk.desk,
       );
     }
 
+pub returns-in-Ok-clause-upgraded : goal.returns-in-Ok-clause-upgraded
+returns-in-Ok-clause-upgraded g c clean T has =
+    keeps_second g.S.Store (state g.S.Store c.args.conn) (record { conn = c.open_desk.new.conn }) T has (c.in-Ok.ensures.upgraded clean T has)
+
+pub returns-in-Ok-clause-left : goal.returns-in-Ok-clause-left
+returns-in-Ok-clause-left g c = c.open_desk.ensures.left
+
+pub returns-in-Ok-clause-whole : goal.returns-in-Ok-clause-whole
+returns-in-Ok-clause-whole g c = c.in-Ok.ensures.whole
+
+pub returns-in-Ok-clause-whole_first : goal.returns-in-Ok-clause-whole_first
+returns-in-Ok-clause-whole_first g c = c.in-Ok.ensures.whole_first
+
+pub returns-in-Err-clause-asks : goal.returns-in-Err-clause-asks
+returns-in-Err-clause-asks g c = c.open_desk.ensures.asks
+
+pub returns-in-Err-clause-refused : goal.returns-in-Err-clause-refused
+returns-in-Err-clause-refused g c = c.in-Err.ensures.refused
+
+pub returns-in-Err-clause-back : goal.returns-in-Err-clause-back
+returns-in-Err-clause-back g c = c.in-Err.ensures.back
+
+pub returns-in-Err-clause-left : goal.returns-in-Err-clause-left
+returns-in-Err-clause-left g c = c.open_desk.ensures.left
+
+pub returns-in-Err-clause-spared : goal.returns-in-Err-clause-spared
+returns-in-Err-clause-spared g c memory = c.open_desk.ensures.spared (ap (failed (Unit {0})) memory)
+
 pub returns-in-Err-clause-newer : goal.returns-in-Err-clause-newer
-returns-in-Err-clause-newer g c clean newer = c.check_desk.ensures.newer clean (let e = newer in cc)
+returns-in-Err-clause-newer g c clean newer = c.open_desk.ensures.newer clean (ap (failed (Unit {0})) newer)
+
+pub returns-in-Err-clause-desk : goal.returns-in-Err-clause-desk
+returns-in-Err-clause-desk g c = c.in-Err.ensures.desk
+
+pub returns-in-Err-clause-first : goal.returns-in-Err-clause-first
+returns-in-Err-clause-first g c = c.in-Err.ensures.first
+
+pub returns-in-Err-clause-answering : goal.returns-in-Err-clause-answering
+returns-in-Err-clause-answering g c clean memory = c.open_desk.ensures.answering clean (ap (failed (Unit {0})) memory)
