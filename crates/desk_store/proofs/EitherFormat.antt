@@ -50,9 +50,9 @@ pub first_indexes : (schema : Schema) → schema ≡ first_schema → has_all_in
 unfolding same_name
 first_indexes schema is = ap has_all_indexes is
 
--- a test is not both
+-- a test does not both hold and fail
 pub not_both : {A : Type 0} (b c : Bool) → b ≡ c → c ≡ true → b ≡ false → A
-not_both b c is yes no = absurd (let never : true ≡ false = sym yes ∙ sym is ∙ no in cc)
+not_both b c is holds fails = absurd (let never : true ≡ false = sym holds ∙ sym is ∙ fails in cc)
 
 -- ---- a connection that was only asked
 

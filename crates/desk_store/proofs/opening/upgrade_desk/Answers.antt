@@ -50,11 +50,11 @@ pub returns-in-Err-upgrade_book-clause-spared : goal.returns-in-Err-upgrade_book
 returns-in-Err-upgrade_book-clause-spared g c memory =
     survives_then (state g.S.Store c.args.conn.now) (state g.S.Store c.read_first.new.conn) (state g.S.Store c.upgrade_book.new.conn) _ _ _
     (λ _ _ none. none) (λ _ _ none. none) c.read_first.ensures.asks.survives
-    (c.upgrade_book.ensures.spared (ap (failed (Unit {0})) (same_storage _ _ (same_fault _ _ memory))))
+    (c.in-Err-upgrade_book.ensures.spared (ap (failed (Unit {0})) (same_storage _ _ (same_fault _ _ memory))))
 
 pub returns-in-Err-upgrade_book-clause-answering : goal.returns-in-Err-upgrade_book-clause-answering
 returns-in-Err-upgrade_book-clause-answering g c clean memory =
-    c.upgrade_book.ensures.answering clean (ap (failed (Unit {0})) (same_storage _ _ (same_fault _ _ memory)))
+    c.in-Err-upgrade_book.ensures.answering clean (ap (failed (Unit {0})) (same_storage _ _ (same_fault _ _ memory)))
 
 pub returns-in-Err-clause-refused : goal.returns-in-Err-clause-refused
 returns-in-Err-clause-refused g c no_desk = c.read_first.ensures.asks

@@ -54,10 +54,10 @@ pub returns-in-Err-clause-left : goal.returns-in-Err-clause-left
 returns-in-Err-clause-left g c = c.open_desk.ensures.left
 
 pub returns-in-Err-clause-spared : goal.returns-in-Err-clause-spared
-returns-in-Err-clause-spared g c memory = c.open_desk.ensures.spared (ap (failed (Unit {0})) memory)
+returns-in-Err-clause-spared g c memory = c.in-Err.ensures.spared (ap (failed (Unit {0})) memory)
 
 pub returns-in-Err-clause-newer : goal.returns-in-Err-clause-newer
-returns-in-Err-clause-newer g c clean newer = c.open_desk.ensures.newer clean (ap (failed (Unit {0})) newer)
+returns-in-Err-clause-newer g c clean newer = c.in-Err.ensures.newer clean (ap (failed (Unit {0})) newer)
 
 pub returns-in-Err-clause-desk : goal.returns-in-Err-clause-desk
 returns-in-Err-clause-desk g c = c.in-Err.ensures.desk
@@ -66,4 +66,4 @@ pub returns-in-Err-clause-first : goal.returns-in-Err-clause-first
 returns-in-Err-clause-first g c = c.in-Err.ensures.first
 
 pub returns-in-Err-clause-answering : goal.returns-in-Err-clause-answering
-returns-in-Err-clause-answering g c clean memory = c.open_desk.ensures.answering clean (ap (failed (Unit {0})) memory)
+returns-in-Err-clause-answering g c clean memory = c.in-Err.ensures.answering clean (ap (failed (Unit {0})) memory)
