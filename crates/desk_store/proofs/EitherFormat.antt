@@ -12,7 +12,7 @@ use Rattle.sqlite_schema.specs.Names.{same_name}
 use Rattle.desk_model.specs.Tables.{Tables}
 use Rattle.desk_reading.proofs.FirstLoading.{first_before}
 use Rattle.desk_saving.specs.Committing.{GoesBack}
-use Rattle.desk_schema.proofs.StaysLemmas.{asks_then, stays_then, stays_unchanged}
+use Rattle.desk_schema.proofs.StaysLemmas.{stays_then, stays_unchanged}
 use Rattle.desk_schema.specs.Names.{has_all_indexes, uses_key_table}
 use Rattle.desk_schema.specs.Schema.{desk_schema, first_schema}
 use Rattle.desk_schema.specs.Stays.{Asks}
