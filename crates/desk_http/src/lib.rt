@@ -13,6 +13,8 @@ mod tests;
 #[cfg(test)]
 mod thousand_orders;
 #[cfg(test)]
+mod worked_key_changes;
+#[cfg(test)]
 mod worked_replies;
 
 pub use http_replies::reply_text;

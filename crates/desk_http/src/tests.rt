@@ -1,4 +1,5 @@
 use crate::failing_streams::{FailingReader, FailingWriter};
+use crate::worked_key_changes::KEY_CHANGES;
 use crate::worked_replies::{ASKS_NONCE, FIRST_NONCE, WORKED, new_desk, serve};
 use crate::{IoFault, Served};
 use desk_calls::{Desk, DeskFault, Memory};
@@ -21,9 +22,9 @@ fn gives(alloc: Global, desk: &mut Desk<Memory>, asked: &[u8], reply: &[u8]) -> 
     served == Ok(whole) && output.as_slice() == reply
 }
 
-// Whether the desk gives the worked replies, one after the other.
-fn gives_worked(alloc: Global, desk: &mut Desk<Memory>) -> bool {
-    for (asked, reply) in WORKED {
+// Whether the desk gives these worked replies, one after the other.
+fn gives_all(alloc: Global, desk: &mut Desk<Memory>, worked: &[(&[u8], &[u8])]) -> bool {
+    for &(asked, reply) in worked {
         if !gives(alloc, desk, asked, reply) {
             return false;
         }
@@ -59,7 +60,15 @@ fn new_desk_gives_worked(rt: &impl Abort, alloc: Global) -> Result<bool, Fail> {
 
 // Whether a desk gives the worked replies after readers that fail.
 fn gives_worked_after_failures(alloc: Global, desk: &mut Desk<Memory>) -> bool {
-    fails_to_read_all(alloc, desk) && gives_worked(alloc, desk)
+    fails_to_read_all(alloc, desk) && gives_all(alloc, desk, &WORKED)
+}
+
+// Whether a new desk gives the worked replies of key changes.
+fn new_desk_changes_keys(rt: &impl Abort, alloc: Global) -> Result<bool, Fail> {
+    let mut desk = new_desk(rt, alloc)?;
+    let gives = gives_all(alloc, &mut desk, &KEY_CHANGES);
+    drop(desk);
+    Ok(gives)
 }
 
 // Whether a writer that fails behind so many bytes is told, and a new desk gives the nonce all the same.
@@ -87,6 +96,12 @@ fn has_text(alloc: Global, fault: DeskFault, wanted: &str) -> Result<bool, Fail>
 #[test]
 fn worked_replies_are_given_after_readers_that_fail(rt: HostRuntime) -> Result<(), Fail> {
     assert!(rt; new_desk_gives_worked(&rt, rt.alloc())?);
+    Ok(())
+}
+
+#[test]
+fn key_changes_are_answered(rt: HostRuntime) -> Result<(), Fail> {
+    assert!(rt; new_desk_changes_keys(&rt, rt.alloc())?);
     Ok(())
 }
 
