@@ -16,6 +16,8 @@ mod thousand_orders;
 mod worked_key_changes;
 #[cfg(test)]
 mod worked_replies;
+#[cfg(test)]
+mod worked_reports;
 
 pub use http_replies::reply_text;
 pub use http_requests::{Heard, Manner, ReadFailed, read_call};

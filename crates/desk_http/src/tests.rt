@@ -1,6 +1,7 @@
 use crate::failing_streams::{FailingReader, FailingWriter};
 use crate::worked_key_changes::KEY_CHANGES;
 use crate::worked_replies::{ASKS_NONCE, FIRST_NONCE, WORKED, new_desk, serve};
+use crate::worked_reports::REPORTS;
 use crate::{IoFault, Served};
 use desk_calls::{Desk, DeskFault, Memory};
 use std::alloc::Global;
@@ -63,10 +64,14 @@ fn gives_worked_after_failures(alloc: Global, desk: &mut Desk<Memory>) -> bool {
     fails_to_read_all(alloc, desk) && gives_all(alloc, desk, &WORKED)
 }
 
-// Whether a new desk gives the worked replies of key changes.
-fn new_desk_changes_keys(rt: &impl Abort, alloc: Global) -> Result<bool, Fail> {
+// Whether a new desk gives these worked replies, one after the other.
+fn new_desk_gives_all(
+    rt: &impl Abort,
+    alloc: Global,
+    worked: &[(&[u8], &[u8])],
+) -> Result<bool, Fail> {
     let mut desk = new_desk(rt, alloc)?;
-    let gives = gives_all(alloc, &mut desk, &KEY_CHANGES);
+    let gives = gives_all(alloc, &mut desk, worked);
     drop(desk);
     Ok(gives)
 }
@@ -101,7 +106,8 @@ fn worked_replies_are_given_after_readers_that_fail(rt: HostRuntime) -> Result<(
 
 #[test]
 fn key_changes_are_answered(rt: HostRuntime) -> Result<(), Fail> {
-    assert!(rt; new_desk_changes_keys(&rt, rt.alloc())?);
+    assert!(rt; new_desk_gives_all(&rt, rt.alloc(), &KEY_CHANGES)?);
+    assert!(rt; new_desk_gives_all(&rt, rt.alloc(), &REPORTS)?);
     Ok(())
 }
 
