@@ -9,9 +9,12 @@ use Rattle.sqlite.specs.Start.{FindsIn}
 use Rattle.sqlite.specs.Tree.{Trees}
 use Rattle.desk_model.specs.Tables.{Tables}
 use Rattle.desk_schema.specs.Schema.{no_schema}
-use Rattle.desk_store.specs.Desks.{HasDesk}
+use Rattle.desk_storage.specs.Sight.{FailsToOpen}
+use Rattle.desk_store.specs.Desks.{AreOfDesk, HasDesk}
 use Rattle.desk_store.specs.declared.store.Store.{Store}
-use Rattle.desk_openings.specs.LeftFiles.{LeftFiles, IsNumbered, LeavesDesks, LeavesFound, MayLeave, file_sight}
+use Rattle.desk_upgrading.specs.FirstDesks.{HasFirst}
+use Rattle.desk_openings.specs.Formats.{AreOfFirst}
+use Rattle.desk_openings.specs.LeftFiles.{AreOfOpening, LeftFiles, IsNumbered, LeavesDesks, LeavesFound, MayLeave, file_sight}
 
 module _ {D : Type 0} (g : disk.Ghosts D) where
   -- whatever bytes a stop leaves of a store that leaves desks, they hold a database that the store's sight lets it leave
@@ -26,11 +29,24 @@ module _ {D : Type 0} (g : disk.Ghosts D) where
       (conn : Held (FileStore D g)) (files : LeftFiles) → IsNumbered conn → ((trees : Trees) → (file_state conn).may_leave trees → trees ≡ files.trees)
       → (image : Image) → MayLeave conn image → ∥ ((after : LeftFiles) × (after.image ≡ image) × (after.trees ≡ files.trees)) ∥₁
 
-  -- a connection that was newly opened on files with these tables has them
+  -- whatever bytes a stop leaves of an opening of files with a desk, they hold each desk that the files hold, in one of the formats
+  abbrev pub UpgradedFilesAreFound : Type 0
+  UpgradedFilesAreFound =
+      (conn : Held (FileStore D g)) (files : LeftFiles) (T : Tables) → IsNumbered conn → (file_sight g).has files T
+      → ((trees : Trees) → (file_state conn).may_leave trees → AreOfOpening files trees) → (image : Image) → MayLeave conn image
+      → ∥ ((after : LeftFiles) × (after.image ≡ image) × FailsToOpen (file_sight g) files after) ∥₁
+
+  -- a connection that was newly opened on files with these tables in today's format has them so
   abbrev pub FoundFilesAreOpened : Type 0
   FoundFilesAreOpened =
       (conn : Held (FileStore D g)) (files : LeftFiles) (T : Tables) → IsNew conn → IsOpened conn → FindsIn files.image (file_state conn)
-      → (file_sight g).has files T → HasDesk (file_state conn) T
+      → AreOfDesk files.trees T → HasDesk (file_state conn) T
+
+  -- and one on files with them in format 1 has them in format 1
+  abbrev pub FirstFilesAreOpened : Type 0
+  FirstFilesAreOpened =
+      (conn : Held (FileStore D g)) (files : LeftFiles) (T : Tables) → IsNew conn → IsOpened conn → FindsIn files.image (file_state conn)
+      → AreOfFirst files.trees T → HasFirst (file_state conn) T
 
   -- a connection that was newly opened on a database file without bytes has no object and no row
   abbrev pub EmptyFilesAreOpened : Type 0
