@@ -1,17 +1,18 @@
--- What may be seen over time of a desk over two files, where stops leave bytes.
+-- What may be seen over time of a desk over two files, where stops leave bytes. They may hold the desk in format 1 until it is opened.
 use Rattle.std.specs.Prelude.{◌≡◌, ◌⊎◌, List, [], ◌∷◌, map, Ok, Err}
 use Rattle.sqlite_disk.specs.declared.Disk as disk
 use Rattle.sqlite_store.specs.declared.store.FileStore.{FileStore}
-use Rattle.sqlite.specs.Files.{over_files}
+use Rattle.sqlite.specs.Files.{file_state, over_files}
+use Rattle.sqlite.specs.Held.{Held}
 use Rattle.sqlite.specs.Recovery.{Image}
 use Rattle.sqlite.specs.Tree.{Trees}
 use Rattle.desk_model.specs.Entry.{History}
 use Rattle.desk_model.specs.Legal.{Legal}
-use Rattle.desk_model.specs.Tables.{picture}
+use Rattle.desk_model.specs.Tables.{Tables, picture}
 use Rattle.desk_calls.specs.Seen.{Place, runs, rests, Seen, seen_reply, seen_fault, seen_stop, seen_end, seen_open, seen_failure}
-use Rattle.desk_calls.specs.Seen.{place_after, IsExit, IsExitInPlace, IsSeen}
-use Rattle.desk_openings.specs.LeftFiles.{LeftFiles, IsNumbered, LeavesFound, MayLeave, file_sight}
-use Rattle.desk_storage.specs.Sight.{Sight, Keeps, Opens}
+use Rattle.desk_calls.specs.Seen.{place_after, IsAt, IsExit, IsExitInPlace, IsSeen}
+use Rattle.desk_openings.specs.LeftFiles.{AreOfOpening, LeftFiles, IsNumbered, LeavesFound, MayLeave, file_sight}
+use Rattle.desk_storage.specs.Sight.{Sight, FailsToOpen, Keeps, Opens}
 use Rattle.desk_store.specs.Desks.{store_sight}
 use Rattle.desk_store.specs.declared.store.Store.{Store}
 
@@ -23,6 +24,11 @@ with_bytes (seen_stop call exit new files) = seen_stop call exit new files.image
 with_bytes (seen_end files) = seen_end files.image
 with_bytes (seen_open new) = seen_open new
 with_bytes (seen_failure files) = seen_failure files.image
+
+-- where a desk is, by the bytes
+abbrev pub place_bytes : {S : Type 0} → Place S LeftFiles → Place S Image
+place_bytes (runs store) = runs store
+place_bytes (rests files) = rests files.image
 
 module _ {D : Type 0} (g : disk.Ghosts D) where
   -- what a call promises of a store over files, it promises by the trees that a stop leaves
@@ -38,13 +44,22 @@ module _ {D : Type 0} (g : disk.Ghosts D) where
   abbrev pub EndsBy : Store (FileStore D g) → Image → Type 0
   EndsBy store image = IsStop store image ⊎ LeavesFound store image
 
-  -- an opening of these bytes: the store has whatever desk they hold
+  -- an opening of these bytes: the store has whatever desk they hold, in either format
   pub record IsOpening (image : Image) (new : Store (FileStore D g)) : Type 0 where
     pub opens : (files : LeftFiles) → files.image ≡ image → Opens (file_sight g) files new
 
-  -- an opening that failed left the database that the bytes held
+  -- an opening that failed, or that a stop cut off, left whatever desk the bytes held, in one of the formats
   pub record IsFailure (image left : Image) : Type 0 where
-    pub leaves : (files : LeftFiles) → files.image ≡ image → ∥ ((after : LeftFiles) × (after.image ≡ left) × (after.trees ≡ files.trees)) ∥₁
+    pub leaves :
+        (files : LeftFiles) → files.image ≡ image → (T : Tables) → (file_sight g).has files T
+        → ∥ ((after : LeftFiles) × (after.image ≡ left) × FailsToOpen (file_sight g) files after) ∥₁
+
+  -- so it is of a connection that an opening which failed left, as its contract says, whatever bytes a stop then leaves
+  abbrev pub FailuresAreSeen : Type 0
+  FailuresAreSeen =
+      (conn : Held (FileStore D g)) (image left : Image) → IsNumbered conn
+      → ((files : LeftFiles) → files.image ≡ image → (trees : Trees) → (file_state conn).may_leave trees → AreOfOpening files trees)
+      → MayLeave conn left → IsFailure image left
 
   -- what may be seen of a desk that runs
   abbrev pub MaySeeOn : Seen (Store (FileStore D g)) Image → Store (FileStore D g) → Type 0
@@ -70,13 +85,26 @@ module _ {D : Type 0} (g : disk.Ghosts D) where
   MaySeeNext x (rests image) = MaySeeOff x image
 
   -- each thing that was seen might be seen where the desk then was
-  abbrev pub IsSeenOver : Store (FileStore D g) → List (Seen (Store (FileStore D g)) Image) → Type 0
+  abbrev pub IsSeenOver : Place (Store (FileStore D g)) Image → List (Seen (Store (FileStore D g)) Image) → Type 0
   IsSeenOver first [] = Unit {0}
-  IsSeenOver first (x ∷ earlier) = MaySeeNext x (place_after (runs first) earlier) × IsSeenOver first earlier
+  IsSeenOver first (x ∷ earlier) = MaySeeNext x (place_after first earlier) × IsSeenOver first earlier
 
-  -- what is seen over files, from a desk on that a stop leaves alone, is seen of a store whose stops leave files with databases
+  -- a life begins with a desk that runs, and that a stop leaves alone, or in bytes that hold one in either format
+  abbrev pub IsBegun : History → Place (Store (FileStore D g)) Image → Type 0
+  IsBegun start (runs store) = Keeps by_trees store (picture start)
+  IsBegun start (rests image) = ∥ ((files : LeftFiles) × (files.image ≡ image) × (file_sight g).has files (picture start)) ∥₁
+
+  -- what is seen, with the files that are left and the databases in them, is seen of a store whose stops leave these
+  pub record IsFound (start : History) (first : Place (Store (FileStore D g)) Image) (seen : List (Seen (Store (FileStore D g)) Image)) : Type 0 where
+    pub begun : Place (Store (FileStore D g)) LeftFiles
+    pub begins : place_bytes begun ≡ first
+    pub at : IsAt (file_sight g) start begun
+    pub found : List (Seen (Store (FileStore D g)) LeftFiles)
+    pub shows : map with_bytes found ≡ seen
+    pub is_seen : IsSeen (file_sight g) begun found
+
+  -- so it is of whatever is seen over files
   abbrev pub FilesAreSeen : Type 0
   FilesAreSeen =
-      (start : History) (first : Store (FileStore D g)) (seen : List (Seen (Store (FileStore D g)) Image))
-      → Legal start → Keeps by_trees first (picture start) → IsSeenOver first seen
-      → ∥ ((found : List (Seen (Store (FileStore D g)) LeftFiles)) × (map with_bytes found ≡ seen) × IsSeen (file_sight g) (runs first) found) ∥₁
+      (start : History) (first : Place (Store (FileStore D g)) Image) (seen : List (Seen (Store (FileStore D g)) Image))
+      → Legal start → IsBegun start first → IsSeenOver first seen → ∥ IsFound start first seen ∥₁

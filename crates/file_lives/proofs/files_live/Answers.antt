@@ -1,10 +1,13 @@
 use Rattle.desk_calls.proofs.Living.{ended_seen_stays, nonces_seen_once, replies_are_kept, seen_is_lived, seen_is_of_calls}
 use Rattle.desk_openings.specs.LeftFiles.{file_sight}
-use Rattle.file_lives.proofs.SeenInFiles.{files_are_seen}
+use Rattle.file_lives.proofs.SeenInFiles.{failures_are_seen, files_are_seen}
 use Rattle.file_lives.proofs.files_live.Goals as goal
 
 pub returns-clause-seen : goal.returns-clause-seen
 returns-clause-seen g c = files_are_seen g.D.Disk
+
+pub returns-clause-failed : goal.returns-clause-failed
+returns-clause-failed g c = failures_are_seen g.D.Disk
 
 pub returns-clause-lived : goal.returns-clause-lived
 returns-clause-lived g c = seen_is_lived (file_sight g.D.Disk)
