@@ -1,5 +1,5 @@
 -- From a new connection to the desk that its files held.
-use Rattle.std.proofs.Common.{ℕ, Bool, true, false, ◌≡◌, ◌≤◌, [], refl, inl, inr, sym, subst, arith}
+use Rattle.std.proofs.Common.{ℕ, Bool, true, false, ◌≡◌, ◌⊎◌, ◌≤◌, ◌∙◌, [], refl, inl, inr, sym, subst, arith}
 use Rattle.std.specs.Prelude.{IsTrue}
 use Rattle.sqlite_disk.specs.declared.Disk as disk
 use Rattle.sqlite_store.specs.declared.store.FileStore.{FileStore}
@@ -7,28 +7,42 @@ use Rattle.sqlite.specs.Files.{IsEmpty, IsOpened, file_state}
 use Rattle.sqlite.specs.Held.{Held, IsNew}
 use Rattle.sqlite.specs.Recovery.{Image}
 use Rattle.sqlite.specs.Start.{FindsIn}
-use Rattle.sqlite.specs.State.{State, HasCleanDisk}
+use Rattle.sqlite.specs.State.{State, HasCleanDisk, Survives}
 use Rattle.sqlite.specs.Tree.{Trees}
 use Rattle.sqlite.specs.View.{doubt}
 use Rattle.desk_model.specs.Tables.{Tables}
 use Rattle.desk_model.specs.Terms.{Terms}
+use Rattle.desk_schema.specs.Names.{uses_key_table}
 use Rattle.desk_schema.specs.Schema.{no_schema}
 use Rattle.desk_schema.specs.Stays.{Asks}
-use Rattle.desk_store.specs.Desks.{HasDesk}
+use Rattle.desk_storage.specs.declared.fault.StorageFault.TheVariants as fault
+use Rattle.desk_store.specs.Opening.{IsUpgraded}
 use Rattle.desk_store.specs.declared.open_fault.OpenFault.{OpenFault}
-use Rattle.desk_openings.specs.LeftFiles.{LeftFiles, file_sight}
-use Rattle.desk_openings.proofs.Finding.{empty_files_are_opened, found_files_are_opened}
-use Rattle.desk_files.specs.Opening.{LeavesNewDesk}
+use Rattle.desk_store.specs.declared.open_fault.OpenFault.TheVariants.{NewerFormat, NotADesk, Storage}
+use Rattle.desk_upgrading.specs.FirstDesks.{HasFirst}
+use Rattle.desk_openings.specs.Formats.{AreOfFirst, HasEither}
+use Rattle.desk_openings.specs.LeftFiles.{AreOfOpening, LeftFiles, file_sight, schema_in}
+use Rattle.desk_openings.proofs.Finding.{empty_files_are_opened, first_files_are_opened, found_files_are_opened, reads_files}
+use Rattle.desk_files.specs.Opening.{IsEarly, LeavesNewDesk}
 
 -- by cases on a test
 pub by_cases : (test : Bool) (P : Type 0) → (test ≡ true → P) → (test ≡ false → P) → P
 by_cases true P on_true on_false = on_true refl
 by_cases false P on_true on_false = on_false refl
 
--- an opening that failed and changed nothing leaves what was committed
-pub same_left : (old new : State) → Asks old new → HasCleanDisk new → ((trees : Trees) → old.may_leave trees → trees ≡ old.committed.trees)
+-- an opening that failed early committed nothing
+pub early_survives : (why : OpenFault) (old new : State) → IsEarly why → ((why ≡ NotADesk) ⊎ (why ≡ NewerFormat) → Asks old new)
+    → (why ≡ Storage fault.Memory → Survives old new (λ _. ⊥)) → Survives old new (λ _. ⊥)
+early_survives NotADesk old new early refused spared = (refused (inl refl)).survives
+early_survives NewerFormat old new early refused spared = (refused (inr refl)).survives
+early_survives (Storage fault.Memory) old new early refused spared = spared refl
+early_survives (Storage fault.Device) old new early refused spared = absurd early
+early_survives (Storage fault.Reopen) old new early refused spared = absurd early
+
+-- then a stop leaves what was committed
+pub same_left : (old new : State) → Survives old new (λ _. ⊥) → HasCleanDisk new → ((trees : Trees) → old.may_leave trees → trees ≡ old.committed.trees)
     → (trees : Trees) → new.may_leave trees → trees ≡ old.committed.trees
-same_left old new asks clean settled trees may = elim (asks.survives.crash clean trees may) [ inl was ↦ settled trees was | inr none ↦ absurd none ]
+same_left old new survives clean settled trees may = elim (survives.crash clean trees may) [ inl was ↦ settled trees was | inr none ↦ absurd none ]
 
 -- what was there, said otherwise
 pub new_desk_left : (policy : Terms) (at : ℕ) (Was Is : Trees → Type 0) (why : OpenFault) (s : State) → ((trees : Trees) → Was trees → Is trees)
@@ -45,27 +59,41 @@ module _ {D : Type 0} {g : disk.Ghosts D} where
     pub opened : HasCleanDisk (file_state conn) → IsOpened conn
     pub found : HasCleanDisk (file_state conn) → FindsIn image (file_state conn)
 
-  -- it has the desk that its files held
-  pub desk_found : (image : Image) (conn : Held (FileStore D g)) → Connects image conn → (new : State)
-      → doubt (file_state conn).is_clean ≤ doubt new.is_clean → HasCleanDisk new
-      → (files : LeftFiles) → files.image ≡ image → (T : Tables) → (file_sight g).has files T → HasDesk (file_state conn) T
-  desk_found image conn connects new le clean files same T has =
-      let early : HasCleanDisk (file_state conn) = omega (arith, le, clean) in
-      let found = subst (λ i. FindsIn i (file_state conn)) (sym same) (connects.found early) in
-      found_files_are_opened conn files T connects.fresh (connects.opened early) found has
-
-  -- the database that its files held, on an open connection
+  -- what its files held is what it has
   pub record HasFound (files : LeftFiles) (conn : Held (FileStore D g)) : Type 0 where
     pub is_open : IsTrue (file_state conn).is_open
     pub trees : (file_state conn).committed.trees ≡ files.trees
+    pub schema : schema_in files ≡ (file_state conn).now.schema
+    pub desk : (T : Tables) → (file_sight g).has files T → HasEither (file_state conn) T
+    pub first : (T : Tables) → AreOfFirst files.trees T → HasFirst (file_state conn) T
 
-  -- it has the database that its files held
-  pub trees_found : (image : Image) (conn : Held (FileStore D g)) → Connects image conn → (new : State)
+  -- it is so, where the disk was clean until later
+  pub files_found : (image : Image) (conn : Held (FileStore D g)) → Connects image conn → (new : State)
       → doubt (file_state conn).is_clean ≤ doubt new.is_clean → HasCleanDisk new → (files : LeftFiles) → files.image ≡ image → HasFound files conn
-  trees_found image conn connects new le clean files same =
+  files_found image conn connects new le clean files same =
       let early : HasCleanDisk (file_state conn) = omega (arith, le, clean) in
+      let opened = connects.opened early in
       let found = subst (λ i. FindsIn i (file_state conn)) (sym same) (connects.found early) in
-      record { is_open = (connects.opened early).0.is_open; trees = found.holds files.trees files.holds }
+      let first = λ T. first_files_are_opened conn files T connects.fresh opened found in
+      record {
+        is_open = opened.0.is_open;
+        trees = found.holds files.trees files.holds;
+        schema = (reads_files conn files opened found).schema;
+        desk = λ T has. elim has [
+          | inl desk ↦ inl (found_files_are_opened conn files T connects.fresh opened found desk)
+          | inr is ↦ inr (first T is)
+        ];
+        first = first;
+      }
+
+  -- what a stop leaves of an opening of the connection is what it leaves of one of the files
+  pub opening_left : (files : LeftFiles) (conn : Held (FileStore D g)) → HasFound files conn → (trees : Trees)
+      → (trees ≡ (file_state conn).committed.trees) ⊎ IsUpgraded (file_state conn) trees → AreOfOpening files trees
+  opening_left files conn found trees (inl was) = inl (was ∙ found.trees)
+  opening_left files conn found trees (inr is) = inr (record {
+    first = subst (λ schema. uses_key_table schema ≡ false) (sym found.schema) is.first;
+    desk = λ T first. is.desk T (found.first T first);
+  })
 
   -- a connection to an empty file
   pub record IsOnNothing (conn : Held (FileStore D g)) : Type 0 where

@@ -23,9 +23,9 @@ use Rattle.desk_storage.specs.declared.fault.StorageFault.TheVariants as fault
 use Rattle.desk_store.specs.declared.faults.Cause.{Cause}
 use Rattle.desk_store.specs.declared.faults.Cause.TheVariants as cause
 use Rattle.desk_store.specs.declared.open_fault.OpenFault.{OpenFault}
-use Rattle.desk_store.specs.declared.open_fault.OpenFault.TheVariants.{NotADesk, Storage}
+use Rattle.desk_store.specs.declared.open_fault.OpenFault.TheVariants.{NewerFormat, NotADesk, Storage}
 use Rattle.desk_store.specs.declared.store.Store.{Store}
-use Rattle.desk_openings.specs.LeftFiles.{LeftFiles, file_sight}
+use Rattle.desk_openings.specs.LeftFiles.{AreOfOpening, LeftFiles, file_sight}
 
 -- memory was refused, or the disk failed
 abbrev pub fault_of_files : Cause → StorageFault
@@ -38,13 +38,20 @@ fault_of_refusal (SqliteFailure code.NotADatabase) = NotADesk
 fault_of_refusal (SqliteFailure code.DatabaseCorrupt) = NotADesk
 fault_of_refusal error = Storage (fault_of_files (cause_of error))
 
+-- the fault comes before an opening commits anything: memory was refused, or what the database holds
+abbrev pub IsEarly : OpenFault → Type 0
+IsEarly NotADesk = Unit {0}
+IsEarly NewerFormat = Unit {0}
+IsEarly (Storage fault.Memory) = Unit {0}
+IsEarly (Storage _) = ⊥
+
 -- a making that failed: the fault is the store's, and a stop leaves what was there, or the new desk
 pub record LeavesNewDesk (policy : Terms) (at : ℕ) (Was : Trees → Type 0) (why : OpenFault) (s : State) : Type 0 where
   pub fault : IsOfStorage why
   pub left : (trees : Trees) → s.may_leave trees → Was trees ⊎ AreOfDesk trees (picture (first_history policy at))
 
 module _ {D : Type 0} {g : disk.Ghosts D} where
-  -- whatever desk the bytes held, the store has it
+  -- whatever desk the bytes held, in either format, the store has it in today's, and a stop leaves that alone
   abbrev pub OpensFiles : Image → Store (FileStore D g) → Type 0
   OpensFiles image store = (file_sight g).is_honest store → (files : LeftFiles) → files.image ≡ image → Opens (file_sight g) files store
 
@@ -52,15 +59,21 @@ module _ {D : Type 0} {g : disk.Ghosts D} where
   abbrev pub RefusesNoDatabase : Image → OpenFault → Leftover D g → Type 0
   RefusesNoDatabase image why left = IsCleanLeft left → faults_left left ≡ 0 → (files : LeftFiles) → files.image ≡ image → IsOfStorage why
 
-  -- where the bytes held a desk, the fault is the store's
+  -- where the bytes held a desk, in either format, the fault is the store's
   abbrev pub RefusesNoDesk : Image → OpenFault → Held (FileStore D g) → Type 0
   RefusesNoDesk image why conn =
       HasCleanDisk (file_state conn) → (files : LeftFiles) → files.image ≡ image → (T : Tables) → (file_sight g).has files T → IsOfStorage why
 
-  -- a stop leaves the database that the bytes held, and no other
-  abbrev pub LeavesAsFound : Image → Held (FileStore D g) → Type 0
-  LeavesAsFound image conn =
+  -- a stop leaves the database that the bytes held, or their desk of format 1 in today's format
+  abbrev pub LeavesAnOpening : Image → Held (FileStore D g) → Type 0
+  LeavesAnOpening image conn =
       HasCleanDisk (file_state conn) → (files : LeftFiles) → files.image ≡ image → (trees : Trees) → (file_state conn).may_leave trees
+      → AreOfOpening files trees
+
+  -- after a fault that came early, the database that the bytes held, and no other
+  abbrev pub LeavesAsFound : Image → OpenFault → Held (FileStore D g) → Type 0
+  LeavesAsFound image why conn =
+      IsEarly why → HasCleanDisk (file_state conn) → (files : LeftFiles) → files.image ≡ image → (trees : Trees) → (file_state conn).may_leave trees
       → trees ≡ files.trees
 
   -- in a database file without bytes there is the new desk, and that alone

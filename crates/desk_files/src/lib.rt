@@ -3,9 +3,11 @@
 //! The two are the database at a path and the log beside it. A contract here stands over whatever bytes they held before the
 //! call, while the disk is clean: nobody else writes them, and the disk returns what was written. Then
 //!
-//! - of files that held a desk, `open_from` gives that desk (`opened`), or fails for memory or the disk alone (`unopened`);
+//! - of files that held a desk, in format 1 or in today's, `open_from` gives that desk, in today's (`opened`), or fails for
+//!   memory or the disk alone (`unopened`);
 //! - of files that held a database, the engine refuses none but for memory or the disk (`refused`), and where no desk is
-//!   opened, a stop leaves the database that was there and no other (`left`);
+//!   opened, a stop leaves the database that was there, or the desk of format 1 that was there in today's format (`left`);
+//!   the second only where the disk failed (`spared`);
 //! - in a database file without bytes, `make_from` makes the new desk and nothing else (`made`); where it fails, a stop
 //!   leaves an empty database or the new desk (`unmade`);
 //! - `close_from` leaves the desk in the database file, with the log beside it and without (`closed`), and nothing that a

@@ -5,7 +5,7 @@ ghost use Rattle.sqlite.specs.Held.{IsNew};
 ghost use Rattle.sqlite.specs.Start.{FindsIn};
 ghost use Rattle.sqlite.specs.State.{HasCleanDisk};
 ghost use Rattle.sqlite.specs.WalFiles.{image_at};
-ghost use Rattle.desk_files.specs.Opening.{FailsToMake, LeavesAsFound, MakesFiles, OpensFiles, RefusesNoDatabase, RefusesNoDesk};
+ghost use Rattle.desk_files.specs.Opening.{FailsToMake, LeavesAnOpening, LeavesAsFound, MakesFiles, OpensFiles, RefusesNoDatabase, RefusesNoDesk};
 ghost use Rattle.desk_store.specs.Making.{IsOfStorage};
 
 use crate::fault::refusal_fault;
@@ -64,7 +64,8 @@ fn begin_from<S: Start>(
     ensures unreached { IfErr result (λ un. un.conn ≡ None → un.refused ≡ None → IsOfStorage un.fault) }
     ensures refused { IfErr result (λ un. IfSome un.refused (RefusesNoDatabase (image_at S.Start) un.fault)) }
     ensures unopened { first ≡ None → IfErr result (λ un. IfSome un.conn (RefusesNoDesk (image_at S.Start) un.fault)) }
-    ensures left { first ≡ None → IfErr result (λ un. IfSome un.conn (LeavesAsFound (image_at S.Start))) }
+    ensures left { first ≡ None → IfErr result (λ un. IfSome un.conn (LeavesAnOpening (image_at S.Start))) }
+    ensures spared { first ≡ None → IfErr result (λ un. IfSome un.conn (LeavesAsFound (image_at S.Start) un.fault)) }
     ensures unmade { IfSome first (λ it. IfErr result (λ un. IfSome un.conn (FailsToMake it.policy it.at (image_at S.Start) un.fault))) }
 {
     let conn = match connect(rt, path, start) {
@@ -84,8 +85,8 @@ fn begin_from<S: Start>(
 /// Opens the desk that the files at a path hold, where `S` stands for their bytes. No clause ties these to the path.
 ///
 /// What a log holds that was not copied into the database file is read with it, so that a desk whose program was stopped is
-/// opened as its last commit left it. Opening writes nothing that changes the desk: until the first call that is recorded,
-/// a stop leaves what was there.
+/// opened as its last commit left it. A desk in format 1 becomes the same desk in today's format, by one transaction: a stop
+/// meanwhile leaves it in one of the two. Beside that, opening writes nothing that changes the desk.
 ///
 /// # Errors
 ///
@@ -100,7 +101,8 @@ pub fn open_from<S: Start>(
     ensures unreached { IfErr result (λ un. un.conn ≡ None → un.refused ≡ None → IsOfStorage un.fault) }
     ensures refused { IfErr result (λ un. IfSome un.refused (RefusesNoDatabase (image_at S.Start) un.fault)) }
     ensures unopened { IfErr result (λ un. IfSome un.conn (RefusesNoDesk (image_at S.Start) un.fault)) }
-    ensures left { IfErr result (λ un. IfSome un.conn (LeavesAsFound (image_at S.Start))) }
+    ensures left { IfErr result (λ un. IfSome un.conn (LeavesAnOpening (image_at S.Start))) }
+    ensures spared { IfErr result (λ un. IfSome un.conn (LeavesAsFound (image_at S.Start) un.fault)) }
 {
     begin_from(rt, path, start, None)
 }

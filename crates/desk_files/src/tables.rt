@@ -1,5 +1,5 @@
 //! Desks over a connection, and what a stop leaves where they are not opened or made.
-ghost use Rattle.std.specs.Prelude.{◌≡◌, ◌≤◌, false, None, IfErr, IfOk, IfSome, IsTrue, MatchResult};
+ghost use Rattle.std.specs.Prelude.{◌≡◌, ◌≤◌, ◌⊎◌, false, None, IfErr, IfOk, IfSome, IsTrue, MatchResult};
 ghost use Rattle.sqlite.specs.Held.{state};
 ghost use Rattle.sqlite.specs.State.{HasCleanDisk};
 ghost use Rattle.sqlite.specs.Tree.{Trees};
@@ -8,25 +8,30 @@ ghost use Rattle.desk_model.specs.History.{first_history};
 ghost use Rattle.desk_model.specs.Tables.{Tables, picture};
 ghost use Rattle.desk_schema.specs.Schema.{no_schema};
 ghost use Rattle.desk_storage.specs.Sight.{Keeps};
-ghost use Rattle.desk_store.specs.Desks.{HasDesk, store_sight};
+ghost use Rattle.desk_store.specs.Desks.{store_sight};
 ghost use Rattle.desk_store.specs.Making.{IsOfStorage};
-ghost use Rattle.desk_files.specs.Opening.{LeavesNewDesk};
+ghost use Rattle.desk_store.specs.Opening.{IsUpgraded};
+ghost use Rattle.desk_openings.specs.Formats.{HasEither};
+ghost use Rattle.desk_files.specs.Opening.{IsEarly, LeavesNewDesk};
 
 use desk_model::{Clock, Policy};
 use desk_store::{Store, Unopened};
 use sqlite::{Alter, Connection};
 use std::alloc::Global;
 
-// Opens the desk of a connection; `Store::open` says when not.
+// Opens the desk of a connection, in either format; `Store::open` says when not.
 fn open_tables<A: Alter>(alloc: Global, conn: Connection<A>) -> Result<Store<A>, Unopened<A>>
+    requires idle { conn.in_transaction ≡ false }
     ensures honest { MatchResult result
         (λ store. doubt (state A.Store conn).is_clean ≤ doubt (state A.Store store.conn).is_clean)
         (λ un. doubt (state A.Store conn).is_clean ≤ doubt (state A.Store un.conn).is_clean) }
-    ensures opened { IfOk result (λ store. HasCleanDisk (state A.Store store.conn) → (T : Tables) → HasDesk (state A.Store conn) T
+    ensures opened { IfOk result (λ store. HasCleanDisk (state A.Store store.conn) → (T : Tables) → HasEither (state A.Store conn) T
         → Keeps (store_sight A.Store) store T) }
-    ensures unopened { IfErr result (λ un. HasCleanDisk (state A.Store un.conn) → (T : Tables) → HasDesk (state A.Store conn) T → IsOfStorage un.fault) }
+    ensures unopened { IfErr result (λ un. HasCleanDisk (state A.Store un.conn) → (T : Tables) → HasEither (state A.Store conn) T → IsOfStorage un.fault) }
     ensures left { IfErr result (λ un. HasCleanDisk (state A.Store un.conn) → IsTrue (state A.Store conn).is_open → (trees : Trees)
-        → (state A.Store un.conn).may_leave trees → trees ≡ (state A.Store conn).committed.trees) }
+        → (state A.Store un.conn).may_leave trees → (trees ≡ (state A.Store conn).committed.trees) ⊎ IsUpgraded (state A.Store conn) trees) }
+    ensures spared { IfErr result (λ un. IsEarly un.fault → HasCleanDisk (state A.Store un.conn) → IsTrue (state A.Store conn).is_open
+        → (trees : Trees) → (state A.Store un.conn).may_leave trees → trees ≡ (state A.Store conn).committed.trees) }
 {
     match Store::open(alloc, conn) {
         Ok(store) => Ok(store),
@@ -71,16 +76,18 @@ pub(crate) fn begin<A: Alter>(
     conn: Connection<A>,
     first: Option<First>,
 ) -> Result<Store<A>, Unopened<A>>
-    requires idle { IfSome first (λ _. conn.in_transaction ≡ false) }
+    requires idle { conn.in_transaction ≡ false }
     ensures honest { MatchResult result
         (λ store. doubt (state A.Store conn).is_clean ≤ doubt (state A.Store store.conn).is_clean)
         (λ un. doubt (state A.Store conn).is_clean ≤ doubt (state A.Store un.conn).is_clean) }
-    ensures opened { first ≡ None → IfOk result (λ store. HasCleanDisk (state A.Store store.conn) → (T : Tables) → HasDesk (state A.Store conn) T
+    ensures opened { first ≡ None → IfOk result (λ store. HasCleanDisk (state A.Store store.conn) → (T : Tables) → HasEither (state A.Store conn) T
         → Keeps (store_sight A.Store) store T) }
-    ensures unopened { first ≡ None → IfErr result (λ un. HasCleanDisk (state A.Store un.conn) → (T : Tables) → HasDesk (state A.Store conn) T
+    ensures unopened { first ≡ None → IfErr result (λ un. HasCleanDisk (state A.Store un.conn) → (T : Tables) → HasEither (state A.Store conn) T
         → IsOfStorage un.fault) }
     ensures left { first ≡ None → IfErr result (λ un. HasCleanDisk (state A.Store un.conn) → IsTrue (state A.Store conn).is_open → (trees : Trees)
-        → (state A.Store un.conn).may_leave trees → trees ≡ (state A.Store conn).committed.trees) }
+        → (state A.Store un.conn).may_leave trees → (trees ≡ (state A.Store conn).committed.trees) ⊎ IsUpgraded (state A.Store conn) trees) }
+    ensures spared { first ≡ None → IfErr result (λ un. IsEarly un.fault → HasCleanDisk (state A.Store un.conn) → IsTrue (state A.Store conn).is_open
+        → (trees : Trees) → (state A.Store un.conn).may_leave trees → trees ≡ (state A.Store conn).committed.trees) }
     ensures made { IfSome first (λ it. IfOk result (λ store. HasCleanDisk (state A.Store store.conn) → (state A.Store conn).now.schema ≡ no_schema
         → (state A.Store conn).step_limit ≡ None → Keeps (store_sight A.Store) store (picture (first_history it.policy it.at)))) }
     ensures unmade { IfSome first (λ it. IfErr result (λ un. HasCleanDisk (state A.Store un.conn) → (state A.Store conn).now.schema ≡ no_schema

@@ -3,8 +3,9 @@ use Rattle.sqlite.specs.Files.{IsEmpty, file_state}
 use Rattle.sqlite.specs.State.{HasCleanDisk}
 use Rattle.sqlite.specs.Tree.{Trees}
 use Rattle.sqlite.specs.WalFiles.{image_at}
-use Rattle.desk_openings.proofs.Finding.{keeps_within}
-use Rattle.desk_files.proofs.Opened.{Connects, desk_found, new_desk_left, nothing_found, trees_found}
+use Rattle.desk_openings.specs.LeftFiles.{files_have}
+use Rattle.desk_openings.proofs.Finding.{in_todays, keeps_within}
+use Rattle.desk_files.proofs.Opened.{Connects, files_found, new_desk_left, nothing_found, opening_left}
 use Rattle.desk_files.proofs.Refused.{if_there}
 use Rattle.desk_files.proofs.opening.begin_from.Goals as goal
 
@@ -13,9 +14,8 @@ returns-in-Ok-begin-clause-opened g c none clean files same T has =
     let connected = c.in-Ok.ensures in
     let opened = c.in-Ok-begin.ensures in
     let connects : Connects (image_at g.S.Start) c.in-Ok.conn = record { fresh = connected.fresh; opened = connected.opened; found = connected.found } in
-    keeps_within _ _ c.in-Ok-begin.store T
-    (opened.opened none clean T (desk_found (image_at g.S.Start) c.in-Ok.conn connects (file_state c.in-Ok-begin.store.conn) opened.honest
-    clean files same T has))
+    let found = files_found (image_at g.S.Start) c.in-Ok.conn connects (file_state c.in-Ok-begin.store.conn) opened.honest clean files same in
+    keeps_within _ files_have _ in_todays c.in-Ok-begin.store T (opened.opened none clean T (found.desk T has))
 
 pub returns-in-Ok-begin-clause-made : goal.returns-in-Ok-begin-clause-made
 returns-in-Ok-begin-clause-made g c =
@@ -25,23 +25,31 @@ returns-in-Ok-begin-clause-made g c =
     if_there c.args.first made.made (λ first it clean none.
     let early : HasCleanDisk (file_state c.in-Ok.conn) = omega (arith, made.honest, clean) in
     let nothing = nothing_found (image_at g.S.Start) c.in-Ok.conn connects early none in
-    keeps_within _ _ c.in-Ok-begin.store _ (it clean nothing.schema connects.fresh.unlimited))
+    keeps_within _ files_have _ in_todays c.in-Ok-begin.store _ (it clean nothing.schema connects.fresh.unlimited))
 
 pub returns-in-Err-begin-clause-unopened : goal.returns-in-Err-begin-clause-unopened
 returns-in-Err-begin-clause-unopened g c none clean files same T has =
     let connected = c.in-Ok.ensures in
     let failed = c.in-Err-begin.ensures in
     let connects : Connects (image_at g.S.Start) c.in-Ok.conn = record { fresh = connected.fresh; opened = connected.opened; found = connected.found } in
-    failed.unopened none clean T (desk_found (image_at g.S.Start) c.in-Ok.conn connects (file_state c.in-Err-begin.unopened.conn)
-    failed.honest clean files same T has)
+    let found = files_found (image_at g.S.Start) c.in-Ok.conn connects (file_state c.in-Err-begin.unopened.conn) failed.honest clean files same in
+    failed.unopened none clean T (found.desk T has)
 
 pub returns-in-Err-begin-clause-left : goal.returns-in-Err-begin-clause-left
 returns-in-Err-begin-clause-left g c none clean files same trees may =
     let connected = c.in-Ok.ensures in
     let failed = c.in-Err-begin.ensures in
     let connects : Connects (image_at g.S.Start) c.in-Ok.conn = record { fresh = connected.fresh; opened = connected.opened; found = connected.found } in
-    let found = trees_found (image_at g.S.Start) c.in-Ok.conn connects (file_state c.in-Err-begin.unopened.conn) failed.honest clean files same in
-    failed.left none clean found.is_open trees may ∙ found.trees
+    let found = files_found (image_at g.S.Start) c.in-Ok.conn connects (file_state c.in-Err-begin.unopened.conn) failed.honest clean files same in
+    opening_left files c.in-Ok.conn found trees (failed.left none clean found.is_open trees may)
+
+pub returns-in-Err-begin-clause-spared : goal.returns-in-Err-begin-clause-spared
+returns-in-Err-begin-clause-spared g c none early clean files same trees may =
+    let connected = c.in-Ok.ensures in
+    let failed = c.in-Err-begin.ensures in
+    let connects : Connects (image_at g.S.Start) c.in-Ok.conn = record { fresh = connected.fresh; opened = connected.opened; found = connected.found } in
+    let found = files_found (image_at g.S.Start) c.in-Ok.conn connects (file_state c.in-Err-begin.unopened.conn) failed.honest clean files same in
+    failed.spared none early clean found.is_open trees may ∙ found.trees
 
 pub returns-in-Err-begin-clause-unmade : goal.returns-in-Err-begin-clause-unmade
 returns-in-Err-begin-clause-unmade g c =
