@@ -1,11 +1,10 @@
 -- What a stop left is what the next opening finds.
-use Rattle.std.proofs.Common.{Bool, true, false, ◌≡◌, refl, inl, inr, sym, subst, ◌∙◌, ap, length, arith}
+use Rattle.std.proofs.Common.{true, ◌≡◌, refl, inl, inr, sym, subst, ◌∙◌, ap, length, arith}
 use Rattle.std.proofs.Math.Logic.{∥∥₁_map}
 use Rattle.sqlite_disk.specs.declared.Disk as disk
 use Rattle.sqlite_store.specs.declared.store.FileStore.{FileStore}
 use Rattle.sqlite_catalog.proofs.ReadLemmas.{lists_once}
 use Rattle.sqlite_catalog.specs.Listing.{IsSound, Lists}
-use Rattle.sqlite_schema.specs.Names.{same_name}
 use Rattle.sqlite_trees.specs.Objects.{catalog_tree}
 use Rattle.sqlite.specs.Effect.{Database, IsDatabase}
 use Rattle.sqlite.specs.FileStore.{recovers}
@@ -22,6 +21,7 @@ use Rattle.desk_schema.specs.Schema.{no_schema}
 use Rattle.desk_storage.specs.Sight.{Sight, Keeps}
 use Rattle.desk_store.specs.Desks.{AreOfDesk, IsDesk}
 use Rattle.desk_store.specs.declared.store.Store.{Store}
+use Rattle.desk_store.proofs.EitherFormat.{not_both, uses_keys}
 use Rattle.desk_tables.proofs.Holding.{same_database}
 use Rattle.desk_upgrading.specs.FirstDesks.{IsFirstDesk}
 use Rattle.desk_openings.specs.Formats.{AreOfEither}
@@ -41,10 +41,6 @@ in_todays files T desk = inl desk
 
 -- ---- databases
 
--- a test does not end both ways
-not_both : (b : Bool) → b ≡ true → b ≡ false → ⊥
-not_both b holds fails = absurd (let never : true ≡ false = sym holds ∙ fails in cc)
-
 -- trees have one schema
 one_schema : (trees : Trees) (schema : Schema) (db : Database) → trees ≡ db.trees → IsSound schema trees → IsDatabase db → schema ≡ db.schema
 one_schema trees schema db same sound is =
@@ -57,14 +53,13 @@ is_database trees T (inr first) = (first.0.schema, subst (IsSound first.0.schema
 
 -- files with a desk in today's format have the table of keys
 has_key_table : (files : LeftFiles) (T : Tables) → AreOfDesk files.trees T → uses_key_table (schema_in files) ≡ true
-unfolding same_name
 has_key_table files T desk =
-    ap uses_key_table (one_schema files.trees (schema_in files) desk.0 desk.1 files.holds.2.sound desk.2.holds.sound ∙ desk.2.holds.schema)
+    uses_keys (schema_in files) (one_schema files.trees (schema_in files) desk.0 desk.1 files.holds.2.sound desk.2.holds.sound ∙ desk.2.holds.schema)
 
 -- what an opening leaves has each desk of the files
 pub desk_kept : (files : LeftFiles) (trees : Trees) → AreOfOpening files trees → (T : Tables) → AreOfEither files.trees T → AreOfEither trees T
 desk_kept files trees (inl same) T has = subst (λ t. AreOfEither t T) (sym same) has
-desk_kept files trees (inr is) T (inl desk) = absurd (not_both _ (has_key_table files T desk) is.first)
+desk_kept files trees (inr is) T (inl desk) = not_both _ _ refl (has_key_table files T desk) is.first
 desk_kept files trees (inr is) T (inr first) = inl (is.desk T first)
 
 -- ---- what a stop left
