@@ -74,7 +74,8 @@ module _ {D : Type 0} {g : disk.Ghosts D} where
       let early : HasCleanDisk (file_state conn) = omega (arith, le, clean) in
       let opened = connects.opened early in
       let found = subst (λ i. FindsIn i (file_state conn)) (sym same) (connects.found early) in
-      let first = λ T. first_files_are_opened conn files T connects.fresh opened found in
+      let first : (T : Tables) → AreOfFirst files.trees T → HasFirst (file_state conn) T =
+      λ T is. first_files_are_opened conn files T connects.fresh opened found is in
       record {
         is_open = opened.0.is_open;
         trees = found.holds files.trees files.holds;

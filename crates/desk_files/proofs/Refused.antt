@@ -1,5 +1,5 @@
 -- Files that the engine refuses.
-use Rattle.std.proofs.Common.{ℕ, ◌≡◌, IfSome, None, Option, Some, ap, inl, inr, sym, subst, ◌∙◌, arith, min}
+use Rattle.std.proofs.Common.{ℕ, ◌≡◌, IfSome, None, Option, Some, ap, inl, inr, sym, subst, ◌∙◌, arith}
 use Rattle.sqlite_disk.specs.declared.Disk as disk
 use Rattle.sqlite_disk.specs.declared.Files.{Files}
 use Rattle.sqlite_disk.specs.Disk.{MoreFaults}
