@@ -93,5 +93,7 @@ bench:
 	@python3 bench/loopback.py >> bin/PERFORMANCE.md
 	@echo 'Timing the reports.'
 	@python3 bench/reports.py >> bin/PERFORMANCE.md
+	@echo 'Timing the opening of a file of format 1.'
+	@python3 bench/upgrade.py >> bin/PERFORMANCE.md
 	@mv bin/PERFORMANCE.md docs/PERFORMANCE.md
 	@cat docs/PERFORMANCE.md

@@ -39,13 +39,13 @@ def base64url(data):
     return base64.urlsafe_b64encode(data).rstrip(b"=").decode()
 
 
-def key(account):
-    """The key of an account, with coordinates of 32 bytes."""
+def key(account, changes=0):
+    """The key of an account after so many changes, with coordinates of 32 bytes."""
     return {
         "crv": "P-256",
         "kty": "EC",
         "x": base64url(account.to_bytes(32, "big")),
-        "y": base64url(bytes(31) + b"\1"),
+        "y": base64url((1 + changes).to_bytes(32, "big")),
     }
 
 
@@ -62,23 +62,24 @@ def made_at(order, orders):
     return OPENED + (NOW - OPENED) * (order - 1) // orders
 
 
-def definitions():
-    """The statements that make the tables and indexes, as the program's own source has them."""
+def definitions(form=2):
+    """The statements that make the tables and indexes of a format, as the program's own source has them."""
     with open(os.path.join(TOP, "crates/desk_saving/src/definitions.rt"), encoding="utf-8") as source:
-        return re.findall(r'"(CREATE [^"]+)"', source.read())
+        found = re.findall(r'"(CREATE [^"]+)"', source.read())
+    return found if form > 1 else [text for text in found if "TABLE chall_key" not in text]
 
 
-def make_file(path, orders):
+def make_file(path, orders, form=2):
     """A desk's file with so many pending orders of one name each."""
     accounts = account_of(orders)
     numbers = range(1, orders + 1)
     database = sqlite3.connect(path, isolation_level=None)
     database.execute("PRAGMA journal_mode = WAL")
     database.execute("BEGIN")
-    for statement in definitions():
+    for statement in definitions(form):
         database.execute(statement)
     counters = (0, accounts, orders, orders, 2 * orders)
-    meta = (1, 1, BASE, NONCE_LIFE, ORDER_LIFE, AUTHZ_LIFE, NOW) + counters
+    meta = (1, form, BASE, NONCE_LIFE, ORDER_LIFE, AUTHZ_LIFE, NOW) + counters
     database.execute(f"INSERT INTO meta VALUES ({','.join('?' * 12)})", meta)
     database.executemany(
         "INSERT INTO account VALUES (?, ?, '[]', ?, NULL, NULL, 'valid')",
@@ -113,7 +114,11 @@ class Lines:
     """The calls, as lines. All are made at one moment with random bytes that are zero."""
 
     def __init__(self):
-        self.nonces = 0
+        self.nonces, self.changes = 0, {}
+
+    def key(self, account):
+        """The key that an account has after the lines so far."""
+        return key(account, self.changes.get(account, 0))
 
     def line(self, method, path, body="", random=16):
         call = {"at": NOW, "body": body, "method": method, "path": path, "random": "00" * random}
@@ -126,20 +131,32 @@ class Lines:
     def signed(self, account, path, payload, random=16):
         nonce = base64url(self.nonces.to_bytes(8, "big") + bytes(16))
         self.nonces += 1
-        body = json.dumps({"jwk": key(account), "nonce": nonce, "payload": payload})
+        body = json.dumps({"jwk": self.key(account), "nonce": nonce, "payload": payload})
         return self.line("POST", path, body, random)
 
     def of_order(self, order, path, payload="", random=16):
         return self.signed(account_of(order), path.format(order), payload, random)
 
     def report(self, order):
-        thumbprint = hashlib.sha256(canonical(key(account_of(order))).encode()).digest()
+        thumbprint = hashlib.sha256(canonical(self.key(account_of(order))).encode()).digest()
         found = base64url(TOKEN) + "." + base64url(thumbprint)
         return self.line("POST", f"/office/report/{2 * order - 1}", json.dumps({"body": base64url(found.encode())}))
 
-    def new_order(self, order):
-        payload = json.dumps({"identifiers": [{"type": "dns", "value": f"m{self.nonces}.example"}]})
+    def new_order(self, order, name=None):
+        name = name or f"m{self.nonces}.example"
+        payload = json.dumps({"identifiers": [{"type": "dns", "value": name}]})
         return self.of_order(order, "/new-order", payload, 48)
+
+    def renewal(self, order):
+        return self.new_order(order, f"n{order}.example")
+
+    def key_change(self, order):
+        account = account_of(order)
+        changes = 1 + self.changes.get(account, 0)
+        keys = {"newKey": key(account, changes), "oldKey": self.key(account)}
+        line = self.of_order(order, "/key-change", json.dumps({"account": f"{BASE}/account/{account}", **keys}))
+        self.changes[account] = changes
+        return line
 
 
 CSR = base64url(bytes(range(256)) * 2)
@@ -167,6 +184,8 @@ KINDS = (
     ("order work", lambda lines, n: lines.line("GET", "/office/orders")),
     ("certify", lambda lines, n: lines.line("POST", f"/office/certify/{n}", CERTIFICATE)),
     ("read a certificate", lambda lines, n: lines.of_order(n, "/cert/{}")),
+    ("newOrder, its name validated", Lines.renewal),
+    ("key change", Lines.key_change),
     ("end an authorization", lambda lines, n: lines.of_order(n, "/authz/{}", '{"status":"deactivated"}')),
 )
 

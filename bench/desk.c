@@ -289,11 +289,11 @@ static void put_string(Text *text, Slice string)
 typedef enum {
     BEGIN, COMMIT, META, PUT_META,
     NONCE, PUT_NONCE, DROP_NONCE, DROP_NONCES,
-    ACCOUNT, ACCOUNT_BY_KEY, PUT_ACCOUNT, PUT_CONTACTS, END_ACCOUNT,
+    ACCOUNT, ACCOUNT_BY_KEY, PUT_ACCOUNT, PUT_CONTACTS, PUT_KEY, END_ACCOUNT,
     ORDER, ORDERS_OF, ORDERS_PAST, PUT_ORDER, FINALIZE, CERTIFY, FALL, MAKE_READY, ORDER_WORK,
     LISTED, LISTING, PUT_LISTED,
-    AUTHORIZATION, AUTHORIZATIONS_OF, AUTHORIZATIONS_PAST, PUT_AUTHORIZATION, PUT_STATUS, END_AUTHORIZATION,
-    CHALLENGE, CHALLENGES_OF, PUT_CHALLENGE, ANSWER, REPORT, CHALLENGE_WORK,
+    AUTHORIZATION, AUTHORIZATIONS_OF, AUTHORIZATIONS_PAST, SERVING, PUT_AUTHORIZATION, PUT_STATUS, END_AUTHORIZATION,
+    CHALLENGE, CHALLENGES_OF, PUT_CHALLENGE, ANSWER, ANSWER_KEY, PUT_ANSWER_KEY, REPORT, CHALLENGE_WORK,
     STATEMENTS
 } Name;
 
@@ -311,6 +311,7 @@ static const char *const TEXTS[STATEMENTS] = {
     [ACCOUNT_BY_KEY] = "SELECT num, jwk, contacts, status FROM account WHERE jwk = ?1",
     [PUT_ACCOUNT] = "INSERT INTO account (num, jwk, contacts, opened, status) VALUES (?1, ?2, ?3, ?4, 'valid')",
     [PUT_CONTACTS] = "UPDATE account SET contacts = ?2 WHERE num = ?1",
+    [PUT_KEY] = "UPDATE account SET jwk = ?2 WHERE num = ?1",
     [END_ACCOUNT] = "UPDATE account SET ended = ?2, end_kind = 'deactivated', status = 'deactivated' WHERE num = ?1",
     [ORDER] = "SELECT account, expires, status, csr, cert FROM ord WHERE num = ?1",
     [ORDERS_OF] = "SELECT num, status FROM ord WHERE account = ?1 ORDER BY num",
@@ -330,6 +331,8 @@ static const char *const TEXTS[STATEMENTS] = {
     [AUTHORIZATION] = "SELECT account, name, wildcard, expires, status FROM authz WHERE num = ?1",
     [AUTHORIZATIONS_OF] = "SELECT num FROM authz WHERE account = ?1 AND status IN ('pending', 'valid')",
     [AUTHORIZATIONS_PAST] = "SELECT num FROM authz WHERE status = ?1 AND expires < ?2",
+    [SERVING] = "SELECT num FROM authz WHERE account = ?1 AND name = ?2 AND wildcard = ?3 AND status = 'valid' AND "
+                "expires >= ?4 ORDER BY num LIMIT 1",
     [PUT_AUTHORIZATION] = "INSERT INTO authz (num, account, name, wildcard, made, expires, status) "
                           "VALUES (?1, ?2, ?3, ?4, ?5, ?6, 'pending')",
     [PUT_STATUS] = "UPDATE authz SET status = ?2 WHERE num = ?1",
@@ -339,10 +342,12 @@ static const char *const TEXTS[STATEMENTS] = {
         "SELECT num, kind, token, reported, outcome, status, authz FROM chall WHERE authz = ?1 ORDER BY num",
     [PUT_CHALLENGE] = "INSERT INTO chall (num, authz, kind, token, status) VALUES (?1, ?2, ?3, ?4, 'pending')",
     [ANSWER] = "UPDATE chall SET answered = ?2, status = 'processing' WHERE num = ?1",
+    [ANSWER_KEY] = "SELECT thumb FROM chall_key WHERE chall = ?1",
+    [PUT_ANSWER_KEY] = "INSERT INTO chall_key (chall, thumb) VALUES (?1, ?2)",
     [REPORT] = "UPDATE chall SET reported = ?2, outcome = ?3, status = ?4 WHERE num = ?1",
     [CHALLENGE_WORK] =
-        "SELECT chall.num, chall.kind, chall.token, authz.name, account.jwk FROM chall JOIN authz ON authz.num "
-        "= chall.authz JOIN account ON account.num = authz.account WHERE chall.status = 'processing' AND "
+        "SELECT chall.num, chall.kind, chall.token, authz.name, chall_key.thumb FROM chall JOIN authz ON authz.num "
+        "= chall.authz JOIN chall_key ON chall_key.chall = chall.num WHERE chall.status = 'processing' AND "
         "authz.status = 'pending' ORDER BY chall.num",
 };
 
@@ -708,27 +713,25 @@ static void show_authorization(int64_t number)
     sqlite3_reset(statements[AUTHORIZATION]);
 }
 
-/* The key authorization of a token and a key. */
-static void put_key_authorization(Text *text, const uint8_t token[16], Slice jwk)
+/* The key authorization of a token and the thumbprint of a key. */
+static void put_key_authorization(Text *text, const uint8_t token[16], const uint8_t thumb[32])
 {
-    uint8_t digest[32];
-    sha256(jwk, digest);
     put_base64url(text, token, 16);
     put(text, ".");
-    put_base64url(text, digest, 32);
+    put_base64url(text, thumb, 32);
 }
 
 /* What the validator has to find. */
-static void put_expected(Text *text, bool is_dns, const uint8_t token[16], Slice jwk)
+static void put_expected(Text *text, bool is_dns, const uint8_t token[16], const uint8_t thumb[32])
 {
     if (!is_dns) {
-        put_key_authorization(text, token, jwk);
+        put_key_authorization(text, token, thumb);
         return;
     }
     static Text authorization;
     uint8_t digest[32];
     clear(&authorization);
-    put_key_authorization(&authorization, token, jwk);
+    put_key_authorization(&authorization, token, thumb);
     sha256(slice_of(&authorization), digest);
     put_base64url(text, digest, 32);
 }
@@ -773,25 +776,31 @@ static bool spend(Slice text)
 }
 
 /* The canonical text of an EC key. */
-static void read_key(Slice jwk)
+static void read_key(Text *text, Slice jwk)
 {
     static const char *const NAMES_OF_EC[] = {"crv", "kty", "x", "y"};
-    clear(&call.jwk);
+    clear(text);
     for (int i = 0; i < 4; i++) {
-        put(&call.jwk, i ? ",\"" : "{\"");
-        put(&call.jwk, NAMES_OF_EC[i]);
-        put(&call.jwk, "\":");
-        put_slice(&call.jwk, member(jwk, NAMES_OF_EC[i]));
+        put(text, i ? ",\"" : "{\"");
+        put(text, NAMES_OF_EC[i]);
+        put(text, "\":");
+        put_slice(text, member(jwk, NAMES_OF_EC[i]));
     }
-    put(&call.jwk, "}");
+    put(text, "}");
 }
 
-/* Whether the key has an account, which is then the call's. */
-static bool find_account(void)
+/* Whether a key has an account, whose row is then read. */
+static bool find_owner(const Text *jwk)
 {
     start(ACCOUNT_BY_KEY);
-    set_text(ACCOUNT_BY_KEY, 1, slice_of(&call.jwk));
-    if (!next(ACCOUNT_BY_KEY))
+    set_text(ACCOUNT_BY_KEY, 1, slice_of(jwk));
+    return next(ACCOUNT_BY_KEY);
+}
+
+/* Whether the request's key has an account, which is then the call's. */
+static bool find_account(void)
+{
+    if (!find_owner(&call.jwk))
         return false;
     Slice status = text_at(ACCOUNT_BY_KEY, 3);
     call.account = number_at(ACCOUNT_BY_KEY, 0);
@@ -826,6 +835,34 @@ static void new_account(bool is_known)
     show_account(call.account, slice_of(&call.contacts), "valid");
 }
 
+/* Gives the account another key, where no account has it. */
+static void key_change(void)
+{
+    static Text jwk, account, url;
+    Slice payload = slice_of(&call.payload);
+    clear(&account);
+    clear(&url);
+    put_string(&account, member(payload, "account"));
+    put_url(&url, "/account/", call.account);
+    read_key(&jwk, member(payload, "oldKey"));
+    if (!is(slice_of(&account), url.bytes) || !is(slice_of(&jwk), call.jwk.bytes)) {
+        refuse(400, "malformed", "the request is not well formed");
+        return;
+    }
+    read_key(&jwk, member(payload, "newKey"));
+    if (find_owner(&jwk)) {
+        put_url(&reply.location, "/account/", number_at(ACCOUNT_BY_KEY, 0));
+        sqlite3_reset(statements[ACCOUNT_BY_KEY]);
+        refuse(409, "malformed", "the key has an account");
+        return;
+    }
+    start(PUT_KEY);
+    set(PUT_KEY, 1, call.account);
+    set_text(PUT_KEY, 2, slice_of(&jwk));
+    perform(PUT_KEY);
+    show_account(call.account, slice_of(&call.contacts), "valid");
+}
+
 static void put_challenge(const char *kind)
 {
     meta.challs++;
@@ -837,11 +874,22 @@ static void put_challenge(const char *kind)
     perform(PUT_CHALLENGE);
 }
 
-/* The authorization of one name, at its place in the order. */
-static void put_name(Slice name, int64_t place)
+/* The authorization that a name uses again, or 0. */
+static int64_t serving(Slice base, bool is_wildcard)
 {
-    bool is_wildcard = name.length > 2 && memcmp(name.at, "*.", 2) == 0;
-    Slice base = is_wildcard ? (Slice){name.at + 2, name.length - 2} : name;
+    start(SERVING);
+    set(SERVING, 1, call.account);
+    set_text(SERVING, 2, base);
+    set(SERVING, 3, is_wildcard);
+    set(SERVING, 4, call.at + meta.order_life);
+    int64_t found = next(SERVING) ? number_at(SERVING, 0) : 0;
+    sqlite3_reset(statements[SERVING]);
+    return found;
+}
+
+/* A new authorization of a name, with its challenges. */
+static int64_t put_authorization(Slice base, bool is_wildcard)
+{
     meta.authzs++;
     start(PUT_AUTHORIZATION);
     set(PUT_AUTHORIZATION, 1, meta.authzs);
@@ -851,14 +899,24 @@ static void put_name(Slice name, int64_t place)
     set(PUT_AUTHORIZATION, 5, call.at);
     set(PUT_AUTHORIZATION, 6, call.at + meta.authz_life);
     perform(PUT_AUTHORIZATION);
-    start(PUT_LISTED);
-    set(PUT_LISTED, 1, meta.orders);
-    set(PUT_LISTED, 2, place);
-    set(PUT_LISTED, 3, meta.authzs);
-    perform(PUT_LISTED);
     if (!is_wildcard)
         put_challenge("http-01");
     put_challenge("dns-01");
+    return meta.authzs;
+}
+
+/* The authorization of one name, at its place in the order; whether it is used again. */
+static bool put_name(Slice name, int64_t place)
+{
+    bool is_wildcard = name.length > 2 && memcmp(name.at, "*.", 2) == 0;
+    Slice base = is_wildcard ? (Slice){name.at + 2, name.length - 2} : name;
+    int64_t found = serving(base, is_wildcard), listed = found ? found : put_authorization(base, is_wildcard);
+    start(PUT_LISTED);
+    set(PUT_LISTED, 1, meta.orders);
+    set(PUT_LISTED, 2, place);
+    set(PUT_LISTED, 3, listed);
+    perform(PUT_LISTED);
+    return found != 0;
 }
 
 /* Reads the different names of a list of identifiers, in lower case. */
@@ -898,8 +956,11 @@ static void new_order(void)
     set(PUT_ORDER, 3, call.at);
     set(PUT_ORDER, 4, call.at + meta.order_life);
     perform(PUT_ORDER);
+    bool is_ready = true;
     for (int i = 0; i < count; i++)
-        put_name(names[i], i + 1);
+        is_ready &= put_name(names[i], i + 1);
+    if (is_ready)
+        perform_with(MAKE_READY, meta.orders, 0);
     reply.status = 201;
     put_url(&reply.location, "/order/", meta.orders);
     show_order(meta.orders);
@@ -1055,8 +1116,15 @@ static void challenge(int64_t number)
         refuse_missing();
         return;
     }
-    if (answers)
+    if (answers) {
+        uint8_t thumb[32];
         perform_with(ANSWER, number, call.at);
+        sha256(slice_of(&call.jwk), thumb);
+        start(PUT_ANSWER_KEY);
+        set(PUT_ANSWER_KEY, 1, number);
+        set_bytes(PUT_ANSWER_KEY, 2, thumb, sizeof thumb);
+        perform(PUT_ANSWER_KEY);
+    }
     if (find(CHALLENGE, number))
         show_challenge(CHALLENGE);
     sqlite3_reset(statements[CHALLENGE]);
@@ -1082,7 +1150,7 @@ static bool is_signed_path(Slice path)
     for (int i = 0; i < 5; i++)
         if (number_in(path, PATHS[i], &rest))
             return true;
-    return is(path, "/new-account") || is(path, "/new-order");
+    return is(path, "/new-account") || is(path, "/new-order") || is(path, "/key-change");
 }
 
 static void serve_account(Slice path)
@@ -1091,6 +1159,8 @@ static void serve_account(Slice path)
     Slice rest;
     if (is(path, "/new-order"))
         new_order();
+    else if (is(path, "/key-change"))
+        key_change();
     else if ((number = number_in(path, "/account/", &rest)))
         number != call.account ? refuse_missing() : rest.length ? orders_list() : account();
     else if ((number = number_in(path, "/order/", &rest)))
@@ -1111,7 +1181,7 @@ static void serve_signed(Slice path)
     clear(&call.payload);
     put_string(&nonce, member(body, "nonce"));
     put_string(&call.payload, member(body, "payload"));
-    read_key(member(body, "jwk"));
+    read_key(&call.jwk, member(body, "jwk"));
     sweep();
     bool is_open = spend(slice_of(&nonce));
     issue();
@@ -1133,13 +1203,13 @@ static void serve_signed(Slice path)
 
 /* ---- the offices */
 
-/* Whether the finding in the body is what the challenge in the row asks for. */
-static bool is_found(bool is_dns, Slice jwk)
+/* Whether the finding in the body is what the challenge in the row asks for, by the key that was answered with. */
+static bool is_found(bool is_dns, const uint8_t thumb[32])
 {
     static Text found, expected;
     static uint8_t bytes[LINE_BYTES];
     clear(&expected);
-    put_expected(&expected, is_dns, sqlite3_column_blob(statements[CHALLENGE], 2), jwk);
+    put_expected(&expected, is_dns, sqlite3_column_blob(statements[CHALLENGE], 2), thumb);
     Slice records = member(slice_of(&call.body), "records");
     if (is_dns) {
         for (const char *at = skip_blanks(records.at + 1); records.length && *at == '"';
@@ -1194,17 +1264,18 @@ static void report(int64_t number)
     int64_t owner = number_at(CHALLENGE, 6);
     bool is_dns = is(text_at(CHALLENGE, 1), "dns-01"), is_tried = is(text_at(CHALLENGE, 5), "processing");
     Slice error = member(slice_of(&call.body), "error");
-    if (!find(AUTHORIZATION, owner) || !find(ACCOUNT, number_at(AUTHORIZATION, 0)))
+    if (!find(AUTHORIZATION, owner))
         fail("an authorization is missing");
-    const char *outcome = is(error, "\"connection\"")             ? "connection"
-                          : is(error, "\"dns\"")                  ? "dns"
-                          : is_found(is_dns, text_at(ACCOUNT, 1)) ? "good"
-                                                                  : "incorrectResponse";
+    const uint8_t *thumb = find(ANSWER_KEY, number) ? sqlite3_column_blob(statements[ANSWER_KEY], 0) : NULL;
+    const char *outcome = is(error, "\"connection\"")        ? "connection"
+                          : is(error, "\"dns\"")             ? "dns"
+                          : thumb && is_found(is_dns, thumb) ? "good"
+                                                             : "incorrectResponse";
     bool is_repeated = is(text_at(CHALLENGE, 4), outcome);
     bool fits = is_tried && is(text_at(AUTHORIZATION, 4), "pending");
     sqlite3_reset(statements[CHALLENGE]);
     sqlite3_reset(statements[AUTHORIZATION]);
-    sqlite3_reset(statements[ACCOUNT]);
+    sqlite3_reset(statements[ANSWER_KEY]);
     if (!is_repeated && !fits) {
         refuse_report();
         return;
@@ -1247,7 +1318,8 @@ static void challenge_work(void)
         put(d, first ? "{\"challenge\":" : ",{\"challenge\":");
         put_number(d, number_at(CHALLENGE_WORK, 0));
         put(d, ",\"expected\":\"");
-        put_expected(d, is(text_at(CHALLENGE_WORK, 1), "dns-01"), token, text_at(CHALLENGE_WORK, 4));
+        const uint8_t *thumb = sqlite3_column_blob(statements[CHALLENGE_WORK], 4);
+        put_expected(d, is(text_at(CHALLENGE_WORK, 1), "dns-01"), token, thumb);
         put(d, "\",\"name\":\"");
         put_slice(d, text_at(CHALLENGE_WORK, 3));
         put(d, "\",\"token\":\"");
@@ -1286,10 +1358,11 @@ static void order_work(void)
 
 static void directory(void)
 {
-    static const char *const MEMBERS[][2] = {{"{\"newAccount\":\"", "/new-account\""},
+    static const char *const MEMBERS[][2] = {{"{\"keyChange\":\"", "/key-change\""},
+                                             {",\"newAccount\":\"", "/new-account\""},
                                              {",\"newNonce\":\"", "/new-nonce\""},
                                              {",\"newOrder\":\"", "/new-order\"}"}};
-    for (int i = 0; i < 3; i++) {
+    for (int i = 0; i < 4; i++) {
         put(&reply.document, MEMBERS[i][0]);
         put(&reply.document, meta.base);
         put(&reply.document, MEMBERS[i][1]);

@@ -1,9 +1,9 @@
 """Requests that are none, and those just within the limits: a part of scripts/serve.py."""
 import json
 
-from served import (BODY, CERTIFICATE, DIRECTORY, FIELDS, HEAD, LAST, STOPPED, Client, Reply, Server, envelope, make, masked,
-                    nonce_text, refusal, request, see, signed)
-from stops import KEY, tables_of
+from served import (BODY, CERTIFICATE, DIRECTORY, FIELDS, HEAD, LAST, STOPPED, Client, Reply, Server, envelope, masked,
+                    refusal, request, signed)
+from trying import KEY, fresh, nonce_text, see, tables_of
 
 
 def padded(size, method="GET", path="/directory"):
@@ -160,7 +160,7 @@ def certificates():
 
 def bad_requests(program, folder):
     """The table of bad requests: each has its reply, and none records anything; the nonce that they carried serves then."""
-    server = Server(program, make(program, f"{folder}/bad.db"))
+    server = Server(program, fresh(program, folder, "bad"))
     nonce = Client(server).fetch()
     before, count = tables_of(server.path, folder), 0
     for group in (heads(), lengths(nonce), bodies(nonce), paths(nonce), certificates(), cuts(nonce)):
@@ -178,7 +178,7 @@ UNREAD = [("Content-Length", "+5"), ("Content-Length", ""), ("Transfer-Encoding"
 
 def limits(program, folder):
     """What is just within a limit is read."""
-    server = Server(program, make(program, f"{folder}/limits.db"))
+    server = Server(program, fresh(program, folder, "limits"))
     client = Client(server)
     directory = server.ask(DIRECTORY)
     see("the directory", Reply(directory).status, 200)

@@ -2,7 +2,8 @@
 """Tries the program over files: scripts/files.py PROGRAM
 
 A desk in a file gives the replies of the batches in examples/, in one run and in two, cut at each line; wrong words, files
-and terms end as docs/SPECIFICATION.md says, section 14; and where SQLite's own shell is there, it reads the file.
+and terms end as docs/SPECIFICATION.md says, section 14; files of format 1 become format 2 (upgrades.py); and where SQLite's own
+shell is there, it reads the file.
 """
 import os
 import resource
@@ -12,68 +13,45 @@ import socket
 import sqlite3
 import struct
 import subprocess
-import sys
 import tempfile
 
-ROOT = os.path.dirname(os.path.dirname(os.path.abspath(__file__)))
-TABLES = {
-    "meta": "id format base nonce_life order_life authz_life clock nonces accounts orders authzs challs",
-    "nonce": "serial random issued",
-    "account": "num jwk contacts opened ended end_kind status",
-    "ord": "num account made expires finalized csr certified cert failed problem status",
-    "authz": "num account name wildcard made expires ended end_kind status",
-    "ord_authz": "ord place authz",
-    "chall": "num authz kind token answered reported outcome status",
-}
-faults = []
+from trying import NOT_A_DESK, ROOT, TABLES, begin, change, example, finish, fresh, run, see
+from upgrades import later_calls, strange_upgrades, upgrades
 
 
-def run(program, *words, given=b""):
-    """The exit status, the output and the errors of the program."""
-    ran = subprocess.run([program, *words], input=given, stdout=subprocess.PIPE, stderr=subprocess.PIPE)
-    return ran.returncode, ran.stdout, ran.stderr
-
-
-def see(what, found, wanted):
-    """Notes what is not as it should be."""
-    if found != wanted:
-        faults.append(f"{what}: {found!r}, not {wanted!r}")
-
-
-def fresh(program, folder, name):
-    """A file with a new desk."""
-    path = f"{folder}/{name}.db"
-    see(f"make {name}", run(program, "make", path, "--base", "https://ca.example"), (0, b"made\n", b""))
-    return path
+# The lives of the desks that answer the batches of a folder of examples/, where they are not the default ones.
+LIVES = {"": (), "short-lives/": ("--order-life", "100", "--authz-life", "100")}
 
 
 def batches(program, folder):
     """Each batch of examples/ over a file, whole and in two runs."""
-    for name in sorted(os.listdir(f"{ROOT}/examples")):
-        if not name.endswith(".jsonl"):
-            continue
-        with open(f"{ROOT}/examples/{name}", "rb") as file:
-            calls = file.read().splitlines(keepends=True)
-        with open(f"{ROOT}/examples/{name[:-6]}.expected", "rb") as file:
-            wanted = file.read()
-        path = fresh(program, folder, name)
-        see(f"{name} over a file", run(program, "batch", "--file", path, given=b"".join(calls)), (0, wanted, b""))
-        for cut in sorted({1, len(calls) // 3, len(calls) // 2, len(calls) - 1} - {0, len(calls)}):
-            path = fresh(program, folder, f"{name}-{cut}")
-            first = run(program, "batch", "--file", path, given=b"".join(calls[:cut]))
-            second = run(program, "batch", "--file", path, given=b"".join(calls[cut:]))
-            see(f"{name} cut at {cut}", (first[0], second[0], first[1] + second[1]), (0, 0, wanted))
+    for group, lives in LIVES.items():
+        for file in sorted(os.listdir(f"{ROOT}/examples/{group}")):
+            if file.endswith(".jsonl"):
+                whole_and_cut(program, folder, group, file[:-6], lives)
+
+
+def whole_and_cut(program, folder, group, name, lives):
+    """A batch over a file, whole and in two runs."""
+    calls, wanted = example(group + name)
+    path = fresh(program, folder, name, *lives)
+    see(f"{name} over a file", run(program, "batch", "--file", path, given=b"".join(calls)), (0, wanted, b""))
+    for cut in sorted({1, len(calls) // 3, len(calls) // 2, len(calls) - 1} - {0, len(calls)}):
+        path = fresh(program, folder, f"{name}-{cut}", *lives)
+        first = run(program, "batch", "--file", path, given=b"".join(calls[:cut]))
+        second = run(program, "batch", "--file", path, given=b"".join(calls[cut:]))
+        see(f"{name} cut at {cut}", (first[0], second[0], first[1] + second[1]), (0, 0, wanted))
 
 
 def ends(program, folder):
     """Wrong words, files and terms."""
     path = fresh(program, folder, "again")
-    see("a file that holds bytes", run(program, "make", path, "--base", "https://ca.example"), (1, b"", b"desk: fault 23 not a desk\n"))
-    see("a missing file", run(program, "batch", "--file", f"{folder}/none.db"), (1, b"", b"desk: fault 23 not a desk\n"))
+    see("a file that holds bytes", run(program, "make", path, "--base", "https://ca.example"), NOT_A_DESK)
+    see("a missing file", run(program, "batch", "--file", f"{folder}/none.db"), NOT_A_DESK)
     see("no file is made", os.path.exists(f"{folder}/none.db"), False)
     with open(f"{folder}/empty.db", "wb"):
         pass
-    see("an empty file", run(program, "batch", "--file", f"{folder}/empty.db"), (1, b"", b"desk: fault 23 not a desk\n"))
+    see("an empty file", run(program, "batch", "--file", f"{folder}/empty.db"), NOT_A_DESK)
     see("a bad base", run(program, "make", f"{folder}/bad.db", "--base", "ca"), (2, b"", b"desk: bad policy\n"))
     see("no file for a bad base", os.path.exists(f"{folder}/bad.db"), False)
     see("a life of 0", run(program, "make", f"{folder}/bad.db", "--base", "https://ca.example", "--order-life", "0")[::2], (2, b"desk: bad policy\n"))
@@ -95,7 +73,14 @@ STRANGE = [
     ("a capital in a base name", ["UPDATE authz SET name = 'Example.org'"], 23),
     ("a number above its counter", ["UPDATE meta SET orders = 0"], 23),
     ("an order lists an authorization that is none", ["PRAGMA foreign_keys = OFF", "UPDATE ord_authz SET authz = 99"], 23),
-    ("a later format", ["UPDATE meta SET format = 2"], 27),
+    ("no key of an answered challenge", ["DELETE FROM chall_key"], 23),
+    ("a key of a challenge that nobody answered", ["INSERT INTO chall_key VALUES (2, zeroblob(32))"], 23),
+    ("a thumbprint of 31 bytes", ["UPDATE chall_key SET thumb = zeroblob(31)"], 23),
+    ("another key's thumbprint", ["UPDATE chall_key SET thumb = zeroblob(32)"], None),
+    ("format 1 with a table of keys", ["UPDATE meta SET format = 1"], 23),
+    ("format 2 without its table of keys", ["DROP TABLE chall_key"], 23),
+    ("a later format", ["UPDATE meta SET format = 3"], 27),
+    ("a later format without a table of keys", ["DROP TABLE chall_key", "UPDATE meta SET format = 3"], 27),
     ("a status that is wrong", ["UPDATE ord SET status = 'ready'"], None),
 ]
 
@@ -103,15 +88,11 @@ STRANGE = [
 def strange(program, folder):
     """Files that are no desk's, or a later one's, are refused and left as they are."""
     texts = {23: b"desk: fault 23 not a desk\n", 27: b"desk: fault 27 newer format\n", None: b""}
-    with open(f"{ROOT}/examples/order.jsonl", "rb") as file:
-        calls = b"".join(file.read().splitlines(keepends=True)[:4])
+    calls = b"".join(example("order")[0][:7])
     for at, (name, changes, fault) in enumerate(STRANGE):
         path = fresh(program, folder, f"strange-{at}")
         see(f"{name}: the calls before", run(program, "batch", "--file", path, given=calls)[0], 0)
-        with sqlite3.connect(path) as found:
-            for change in changes:
-                found.execute(change)
-        found.close()
+        change(path, *changes)
         rows = rows_of(path)
         see(name, run(program, "batch", "--file", path), (0 if fault is None else 1, b"", texts[fault]))
         see(f"{name}: nothing written", rows_of(path), rows)
@@ -120,12 +101,9 @@ def strange(program, folder):
 def used_up(program, folder):
     """A desk whose nonces are used up opens, and gives no more of them."""
     path = fresh(program, folder, "used-up")
-    with sqlite3.connect(path) as found:
-        found.execute("UPDATE meta SET nonces = ?", (1 << 62,))
-    found.close()
+    change(path, f"UPDATE meta SET nonces = {1 << 62}")
     rows = rows_of(path)
-    with open(f"{ROOT}/examples/first.jsonl", "rb") as file:
-        call = file.readline()
+    call = example("first")[0][0]
     see("a nonce past the last", run(program, "batch", "--file", path, given=call), (1, b"", b"desk: fault 26 full\n"))
     see("a nonce past the last: nothing changed", rows_of(path), rows)
 
@@ -134,8 +112,7 @@ def cut_short(program, folder):
     """A file that was cut ends a command by a fault, or holds a desk; nothing is written."""
     ends = {(1, b"", b"desk: fault %s\n" % text) for text in (b"20 memory", b"21 device", b"23 not a desk")} | {(0, b"", b"")}
     whole = fresh(program, folder, "whole")
-    with open(f"{ROOT}/examples/order.jsonl", "rb") as file:
-        see("the calls before a cut", run(program, "batch", "--file", whole, given=file.read())[0], 0)
+    see("the calls before a cut", run(program, "batch", "--file", whole, given=b"".join(example("order")[0]))[0], 0)
     with open(whole, "rb") as file:
         data = file.read()
     for length in range(0, len(data), 512):
@@ -160,10 +137,8 @@ def rows_of(path):
 def together(program, folder):
     """A second program on the file of a first one, which goes on."""
     path = fresh(program, folder, "together")
-    with open(f"{ROOT}/examples/first.jsonl", "rb") as file:
-        calls = file.read().splitlines(keepends=True)
-    with open(f"{ROOT}/examples/first.expected", "rb") as file:
-        wanted = file.read().splitlines(keepends=True)
+    calls, replies = example("first")
+    wanted = replies.splitlines(keepends=True)
     with subprocess.Popen([program, "batch", "--file", path], stdin=subprocess.PIPE, stdout=subprocess.PIPE) as first:
         first.stdin.write(calls[0])
         first.stdin.flush()
@@ -180,8 +155,7 @@ def shell(program, folder):
         print("SQLite's shell is not here, so it was not asked.")
         return
     path = fresh(program, folder, "shell")
-    with open(f"{ROOT}/examples/order.jsonl", "rb") as file:
-        see("order.jsonl", run(program, "batch", "--file", path, given=file.read())[0], 0)
+    see("order.jsonl", run(program, "batch", "--file", path, given=b"".join(example("order")[0]))[0], 0)
 
     def ask(text):
         return subprocess.run(["sqlite3", path, text], stdout=subprocess.PIPE, stderr=subprocess.STDOUT, text=True).stdout.split()
@@ -196,16 +170,13 @@ def shell(program, folder):
 
 def full_output(program, folder):
     """An output that takes so many bytes and no more ends a batch."""
-    with open(f"{ROOT}/examples/first.jsonl", "rb") as file:
-        calls = file.read()
-    with open(f"{ROOT}/examples/first.expected", "rb") as file:
-        wanted = file.read()
+    calls, wanted = example("first")
     for room in (0, 5, wanted.index(b"\n"), wanted.index(b"\n") + 1, len(wanted) - 1):
         def limit():
             signal.signal(signal.SIGXFSZ, signal.SIG_IGN)
             resource.setrlimit(resource.RLIMIT_FSIZE, (room, room))
         with open(f"{folder}/full", "w+b") as out:
-            ran = subprocess.run([program, "batch"], input=calls, stdout=out, stderr=subprocess.PIPE, preexec_fn=limit)
+            ran = subprocess.run([program, "batch"], input=b"".join(calls), stdout=out, stderr=subprocess.PIPE, preexec_fn=limit)
             see(f"an output of {room} bytes", (ran.returncode, ran.stderr), (1, b"desk: output\n"))
             out.seek(0)
             see(f"what an output of {room} bytes has", out.read(), wanted[:room])
@@ -213,10 +184,8 @@ def full_output(program, folder):
 
 def broken_input(program, _):
     """An input that fails after a line, or in a line, ends a batch; the lines before it are answered."""
-    with open(f"{ROOT}/examples/first.jsonl", "rb") as file:
-        calls = file.read().splitlines(keepends=True)
-    with open(f"{ROOT}/examples/first.expected", "rb") as file:
-        wanted = file.read().splitlines(keepends=True)
+    calls, replies = example("first")
+    wanted = replies.splitlines(keepends=True)
     for part in (b"", calls[1][:9]):
         with socket.create_server(("127.0.0.1", 0)) as server:
             given = socket.create_connection(server.getsockname())
@@ -231,13 +200,11 @@ def broken_input(program, _):
 
 def main(program):
     with tempfile.TemporaryDirectory(prefix="desk-") as folder:
-        for tries in (batches, ends, strange, used_up, cut_short, full_output, broken_input, together, shell):
+        for tries in (batches, ends, strange, used_up, cut_short, upgrades, strange_upgrades, later_calls, full_output, broken_input, together,
+                      shell):
             tries(program, folder)
-    print("\n".join(faults + [f"Files: {len(faults)} not as they should be."]))
-    return 1 if faults else 0
+    return finish("Files")
 
 
 if __name__ == "__main__":
-    if len(sys.argv) != 2:
-        sys.exit(__doc__)
-    sys.exit(main(os.path.abspath(sys.argv[1])))
+    begin(main, __doc__)

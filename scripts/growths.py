@@ -23,8 +23,10 @@ import subprocess
 import sys
 import tempfile
 
-from served import DIRECTORY, NEW_NONCE, Client, Reply, Server, finish, make, refusal, see
-from stops import KEY, ROOT, SCENARIOS, Desk, checked, copy, first_calls, tables_of
+from first_format import first_files, restore
+from served import DIRECTORY, NEW_NONCE, Client, Reply, Server, refusal, signed
+from stops import SCENARIOS, Desk, Whole, first_calls
+from trying import BASE, KEY, ROOT, finish, fresh, see, tables_of
 
 ALL = 2**62
 # The ends of the program that a refused growth may bring, by their line on standard error.
@@ -55,13 +57,19 @@ def counters(tables):
     return tables["meta"][0][-5:]
 
 
-def statuses(tables):
-    """The statuses of the orders."""
-    return [row[-1] for row in sorted(tables["ord"])]
+def count_processing(tables):
+    """How many orders are processing."""
+    return sum(row[-1] == b"processing" for row in tables["ord"])
+
+
+def has_other_key(before, after):
+    """Whether an account has another key than before."""
+    keys = {row[0]: row[1] for row in after["account"]}
+    return any(keys[row[0]] != row[1] for row in before["account"])
 
 
 class Kind:
-    """A kind of request: how the counters move, the status of its reply, and whether orders change their status."""
+    """A kind of request: the status of its reply, and how the counters move."""
 
     def __init__(self, name, status, moves):
         self.name, self.status, self.moves = name, status, moves
@@ -69,14 +77,17 @@ class Kind:
     def is_after(self, before, after):
         """Whether the tables have the request's entries."""
         moved = tuple(new - old for old, new in zip(counters(before), counters(after)))
-        finalized = statuses(after).count(b"processing") - statuses(before).count(b"processing")
-        return moved == self.moves and finalized == (self.name == "finalize")
+        finalized = count_processing(after) - count_processing(before)
+        changed = (finalized, has_other_key(before, after))
+        return moved == self.moves and changed == (self.name == "finalize", self.name == "keyChange")
 
 
 KINDS = [
     Kind("newNonce", 204, (1, 0, 0, 0, 0)),
     Kind("newAccount", 201, (1, 1, 0, 0, 0)),
+    Kind("keyChange", 200, (1, 0, 0, 0, 0)),
     Kind("newOrder", 201, (1, 0, 1, 1, 2)),
+    Kind("renewal", 201, (1, 0, 1, 0, 0)),
     Kind("finalize", 200, (1, 0, 0, 0, 0)),
 ]
 
@@ -85,10 +96,12 @@ class Tries:
     """A desk whose memory is refused."""
 
     def __init__(self, program, preload, folder):
-        self.program, self.folder, self.keys, self.order, self.count = program, folder, 0, None, 0
+        self.program, self.folder, self.count = program, folder, 0
+        # How many requests were prepared, the new key of the last one, and an order that is ready.
+        self.prepared_count, self.key, self.order = 0, KEY, None
         self.env = {**os.environ, "LD_PRELOAD": preload, "GROWTHS": f"{folder}/growths"}
         self.growths = Growths(f"{folder}/growths")
-        self.server = Server(program, make(program, f"{folder}/desk.db"), env=self.env)
+        self.server = Server(program, fresh(program, folder, "desk"), env=self.env)
         self.client = Client(self.server)
         self.client.open_account()
 
@@ -97,16 +110,23 @@ class Tries:
         self.client.fetch()
         if kind.name == "newNonce":
             return NEW_NONCE
+        self.prepared_count += 1
+        self.key = {**KEY, "x": base64.urlsafe_b64encode(self.prepared_count.to_bytes(6, "big")).decode()}
         if kind.name == "newAccount":
-            self.keys += 1
-            other = Client(self.server, {**KEY, "x": base64.urlsafe_b64encode(self.keys.to_bytes(6, "big")).decode()})
-            other.nonce = self.client.nonce
-            return other.signed("/new-account", {"contact": ["mailto:a@b.example"]})
+            return signed("/new-account", self.client.nonce, {"contact": ["mailto:a@b.example"]}, self.key)
+        if kind.name == "keyChange":
+            return self.client.signed("/key-change", {"account": f"{BASE}/account/1", "newKey": self.key, "oldKey": self.client.key})
         if kind.name == "newOrder":
-            return self.client.signed("/new-order", {"identifiers": [{"type": "dns", "value": "a.example"}]})
+            return self.ordered(f"n{self.prepared_count}.example")
         if self.order is None:
             self.order = self.client.ready_order()
+        if kind.name == "renewal":
+            return self.ordered("a.example")
         return self.client.signed(f"/order/{self.order}/finalize", {"csr": "AQID"})
+
+    def ordered(self, name):
+        """The bytes of a newOrder of one name."""
+        return self.client.signed("/new-order", {"identifiers": [{"type": "dns", "value": name}]})
 
     def once(self, kind, first, last):
         """Refuses some growths of a request: what came of it, or None where none was refused."""
@@ -123,8 +143,10 @@ class Tries:
         after = tables_of(self.server.path, self.folder)
         is_after = kind.is_after(before, after)
         see(f"{said}: the tables before or after", before == after or is_after, True)
-        if is_after:
+        if is_after and kind.name == "finalize":
             self.order = None
+        if is_after and kind.name == "keyChange":
+            self.client.key = self.key
         if refused:
             return self.outcome(kind, said, came, is_after, ended)
         see(f"{said}: no growth", Reply(came).status, kind.status)
@@ -177,48 +199,44 @@ def ended(ran, whole, has_entries):
     return None
 
 
-def batch_of_one(name, desk, call, preload, folder, step):
-    """Refuses each growth of a batch of one call in turn, alone or with those after it."""
-    path = f"{folder}/refused.db"
-    words = [desk.program, "batch", "--file", path]
-    copy(desk.path, path)
-    before = tables_of(path, folder)
-    whole = subprocess.run(words, input=call, stdout=subprocess.PIPE).stdout
-    after = tables_of(path, folder)
-    growths = Growths(f"{folder}/growths")
-    env = {**os.environ, "LD_PRELOAD": preload, "GROWTHS": f"{folder}/growths", "GROWTHS_OF_ALL": "1"}
+def refuse_batch(whole, preload, step):
+    """Refuses each growth of a batch in turn, alone or with those after it."""
+    growths = Growths(f"{whole.folder}/growths")
+    env = {**os.environ, "LD_PRELOAD": preload, "GROWTHS": f"{whole.folder}/growths", "GROWTHS_OF_ALL": "1"}
     for is_alone in (True, False):
         came = collections.Counter()
         for first in range(1, ALL, 17 * step):
-            copy(desk.path, path)
+            whole.again()
             growths.refuse(first, first if is_alone else ALL)
-            ran = subprocess.run(words, input=call, stdout=subprocess.PIPE, stderr=subprocess.PIPE, env=env)
+            ran = subprocess.run(whole.words, input=whole.call, stdout=subprocess.PIPE, stderr=subprocess.PIPE, env=env)
             count, refused = growths.counted()
             if not refused:
-                see(f"{name}: no growth refused", (ran.returncode, ran.stdout), (0, whole))
+                see(f"{whole.name}: no growth refused", (ran.returncode, ran.stdout), (0, whole.reply))
                 break
-            said, left = f"{name} without growth {first}{'' if is_alone else ' and those after it'}", tables_of(path, folder)
-            found = ended(ran, whole, left == after)
+            said = f"{whole.name} without growth {first}{'' if is_alone else ' and those after it'}"
+            found = ended(ran, whole.reply, whole.left() == whole.after)
             see(f"{said}: its end {ran!r}", found is None, False)
-            see(f"{said}: tables as before or after", left in ((after,) if ran.stdout else (before, after)), True)
-            see(f"{said}: opened again", checked(desk.program, path), (0, b"no fault\n", b""))
+            whole.look(said, bool(ran.stdout))
             came[found] += 1
         told = ", ".join(f"{what} {times}" for what, times in came.most_common())
-        print(f"{name}, a batch with {count} growths, {'each alone' if is_alone else 'each and all after it'}: {told}", flush=True)
+        print(f"{whole.name}, a batch with {count} growths, {'each alone' if is_alone else 'each and all after it'}: {told}", flush=True)
 
 
 def batches(program, preload, folder, step):
-    """The calls that scripts/stops.py stops, without memory."""
+    """The calls and the openings that scripts/stops.py stops, without memory."""
     for number, (name, prepared, terms, _) in enumerate(SCENARIOS):
         room = f"{folder}/{number}"
         os.mkdir(room)
         desk = Desk(program, room, terms)
-        batch_of_one(name, desk, prepared(desk), preload, folder, step)
+        refuse_batch(Whole(name, program, desk.path, prepared(desk), folder), preload, step)
     os.mkdir(f"{folder}/first")
     desk = Desk(program, f"{folder}/first")
     for name, call, _ in first_calls(desk):
-        batch_of_one(name, desk, call, preload, folder, step)
+        refuse_batch(Whole(name, program, desk.path, call, folder), preload, step)
         desk.answer(call)
+    for name in first_files():
+        first = restore(name, f"{folder}/{name}.db")
+        refuse_batch(Whole(f"the upgrade of {name}", program, first, b"", folder), preload, step)
 
 
 def main():

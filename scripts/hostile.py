@@ -16,15 +16,13 @@ import re
 import signal
 import socket
 import sqlite3
-import subprocess
 import sys
 import tempfile
 import time
 
 from serve import reset
-from served import (BASE, BODY, HEAD, NEW_NONCE, PHRASES, ROUTES, Client, Reply, Server, envelope, faults, finish, make, received,
-                    request, see, serial_of)
-from stops import KEY, tables_of
+from served import BASE, BODY, HEAD, NEW_NONCE, PHRASES, ROUTES, Client, Reply, Server, envelope, received, request, serial_of
+from trying import KEY, faults, finish, fresh, run, see, tables_of
 
 # The desk is asked for so many orders at most: the offices' lists grow with them.
 ORDERS = 400
@@ -78,14 +76,28 @@ class Requests:
     def __init__(self, server, told, chance):
         self.server, self.told, self.chance = server, told, chance
         self.keys, self.first, self.nonce, self.orders = 1, 1, None, 0
+        # The number of the key that the last request was signed by, and of the one that its account is to have.
+        self.key, self.wanted = 1, None
 
     def signed(self, path, payload):
-        key = self.chance.choice((self.first,) * 3 + (self.chance.randint(1, self.keys),))
-        return request("POST", path, envelope(self.nonce or "AAAA", payload, key_of(key)))
+        self.key = self.chance.choice((self.first,) * 3 + (self.chance.randint(1, self.keys),))
+        return self.signed_again(path, payload)
+
+    def signed_again(self, path, payload):
+        return request("POST", path, envelope(self.nonce or "AAAA", payload, key_of(self.key)))
 
     def new_account(self):
         self.keys += self.chance.random() < 0.2
         return self.signed("/new-account", self.chance.choice(ACCOUNTS))
+
+    def key_change(self):
+        """The change of a key to a new one or to one that an account may have."""
+        self.keys += self.chance.random() < 0.5
+        self.key = self.chance.choice((self.first,) * 3 + (self.chance.randint(1, self.keys),))
+        self.wanted = self.chance.choice((self.keys, self.keys, self.chance.randint(1, self.keys)))
+        account = self.told.account_of(self.key) or self.chance.randint(1, self.told.accounts.last + 1)
+        payload = {"account": f"{BASE}/account/{account}", "newKey": key_of(self.wanted), "oldKey": key_of(self.key)}
+        return self.signed_again("/key-change", payload)
 
     def move_on(self):
         """Asks by another account, as the first has ended."""
@@ -112,6 +124,7 @@ class Requests:
 
     def one(self):
         """A request of any route."""
+        self.key, self.wanted = None, None
         route = self.chance.choice([*ROUTES, "/new-account", "/new-order", "/new-order"])
         number = self.chance.choice((1, 2, self.chance.randint(1, self.told.orders.last + 3), self.chance.randint(1, 10**6)))
         path = route.replace("{n}", str(number))
@@ -119,6 +132,8 @@ class Requests:
             return self.new_account()
         if route == "/new-order":
             return self.new_order()
+        if route == "/key-change":
+            return self.key_change()
         if "GET" in ROUTES[route]:
             return request(self.chance.choice(ROUTES[route].split(", ")), path)
         if route.startswith("/office/"):
@@ -250,6 +265,8 @@ class Told:
     def __init__(self):
         self.nonces, self.accounts, self.orders = map(Numbers, ("nonces", "accounts", "orders"))
         self.documents, self.unseen, self.statuses = {}, 0, collections.Counter()
+        # The numbers of the accounts' keys, where they are known.
+        self.keys = {}
 
     def miss(self, sent):
         """Counts a request whose reply nobody sees, by what it may make."""
@@ -257,6 +274,24 @@ class Told:
         self.nonces.unseen += 1
         self.accounts.unseen += b"new-account" in sent
         self.orders.unseen += b"new-order" in sent
+
+    def account_of(self, key):
+        """The account that is known to have a key, by their numbers, or None."""
+        return next((account for account, known in self.keys.items() if known == key), None)
+
+    def hear_key(self, key, wanted, found):
+        """Takes in what a reply says of the key of its request; whether the account has the key that was asked for now."""
+        location = (found.field("Location") or "").rsplit("/account/", 1)
+        account, is_changed = self.account_of(key), wanted is not None and found.status == 200
+        if wanted is None and found.status in (200, 201) and len(location) == 2:
+            self.keys[int(location[1])] = key
+        elif is_changed and account:
+            self.keys[account] = wanted
+        return is_changed
+
+    def doubt_key(self, key):
+        """Forgets whose key this is: nobody knows whether its account has another one now."""
+        self.keys.pop(self.account_of(key), None)
 
     def hear(self, found):
         """Takes a reply in, and gives its nonce."""
@@ -276,6 +311,9 @@ class Told:
         for numbers, counter in zip((self.nonces, self.accounts, self.orders), counters):
             numbers.end(counter)
         see("the rows by the counters", [len(tables[name]) for name in ("account", "ord", "authz", "chall")], list(counters[1:]))
+        keys = {row[0]: row[1].decode() for row in tables["account"]}
+        for account, key in self.keys.items():
+            see(f"the key of account {account}", keys[account], json.dumps(key_of(key), separators=(",", ":"), sort_keys=True))
         names = {row[0]: (b"*." if row[3] else b"") + row[2] for row in tables["authz"]}
         listed = collections.defaultdict(list)
         for order, _, authz in sorted(tables["ord_authz"]):
@@ -300,6 +338,17 @@ def see_statuses(tables):
         listed[order].append(authzs[authz])
     wrong = [row[0] for row in tables["ord"] if row[-1] != order_status(row, listed[row[0]])]
     see("orders whose status is another", wrong, [])
+
+
+def see_shared(tables):
+    """An authorization that several orders list was validated, is of the account of each, and stands in none of them twice."""
+    orders, authzs = ({row[0]: row[1] for row in tables[name]} for name in ("ord", "authz"))
+    good = {row[1] for row in tables["chall"] if row[6] == b"good"}
+    uses = collections.Counter(authz for _, _, authz in tables["ord_authz"])
+    see("authorizations of several orders that were not validated", {authz for authz, count in uses.items() if count > 1} - good, set())
+    see("orders with another account's authorization", [row for row in tables["ord_authz"] if orders[row[0]] != authzs[row[2]]], [])
+    see("orders that list one twice", len({(order, authz) for order, _, authz in tables["ord_authz"]}), len(tables["ord_authz"]))
+    return sum(count > 1 for count in uses.values())
 
 
 # ---- the run
@@ -346,15 +395,16 @@ class Run:
         return found
 
     def order(self):
-        """A whole order, from its nonce to its certificate, by an account of its own."""
+        """A whole order by an account of its own, from its nonce to its certificate; and the same name again, by another key."""
         client = Client(self.server, key_of(10**6 + self.count))
         client.heard = lambda data: self.taken(client, data)
-        client.open_account()
-        number = client.ready_order("whole.example")
-        client.post(f"/order/{number}/finalize", {"csr": "AQID"})
-        certificate = self.chance.randbytes(500)
-        self.good(request("POST", f"/office/certify/{number}", certificate), 200)
-        see("a certificate", client.post(f"/cert/{number}", "").body, certificate)
+        account = int(client.open_account().field("Location").rsplit("/", 1)[1])
+        client.certify(client.ready_order("whole.example"), self.chance.randbytes(500))
+        client.change_key(account, key_of(2 * 10**6 + self.count))
+        number = client.order("whole.example")
+        see("a renewal", client.post(f"/order/{number}", "").document()["status"], "ready")
+        client.certify(number, self.chance.randbytes(500))
+        self.told.keys[account] = 2 * 10**6 + self.count
 
     def taken(self, client, data):
         found = self.heard(self.server.ask(data), data)
@@ -364,7 +414,12 @@ class Run:
     def one(self):
         kind, manner = self.chance.choice(KINDS), self.chance.choice(MANNERS)
         data = getattr(self.changes, kind)(self.requests.one())
-        self.send(data, manner)
+        found, key, wanted = self.send(data, manner), self.requests.key, self.requests.wanted
+        if kind == "whole" and found and key:
+            is_changed = self.told.hear_key(key, wanted, found)
+            self.requests.first = wanted if is_changed and key == self.requests.first else self.requests.first
+        elif wanted:
+            self.told.doubt_key(key)
         self.counts[kind] += 1
         self.count += 1
 
@@ -391,8 +446,7 @@ class Run:
 
 def see_file(program, path):
     """The file is sound, and a desk."""
-    ran = subprocess.run([program, "batch", "--file", path], input=b"", stdout=subprocess.PIPE, stderr=subprocess.PIPE)
-    see("the file, opened again", (ran.returncode, ran.stdout, ran.stderr), (0, b"", b""))
+    see("the file, opened again", run(program, "batch", "--file", path), (0, b"", b""))
     with sqlite3.connect(f"file:{path}?mode=ro", uri=True) as found:
         see("integrity_check", found.execute("PRAGMA integrity_check").fetchall(), [("ok",)])
         see("foreign_key_check", found.execute("PRAGMA foreign_key_check").fetchall(), [])
@@ -408,7 +462,7 @@ def main():
     program = os.path.abspath(words.program)
     print(f"hostile: seed {words.seed}, {words.seconds:.0f} seconds", flush=True)
     with tempfile.TemporaryDirectory(prefix="desk-hostile-") as folder:
-        run = Run(Server(program, make(program, f"{folder}/desk.db")), random.Random(words.seed))
+        run = Run(Server(program, fresh(program, folder, "desk")), random.Random(words.seed))
         run.go_on(time.monotonic() + words.seconds)
         see("the program still runs", run.server.run.poll(), None)
         run.good(NEW_NONCE, 204)
@@ -417,8 +471,10 @@ def main():
         see("the end", (status, set(said.splitlines()) - {b"desk: connection"}), (-signal.SIGTERM, set()))
         run.told.compare(tables)
         see_statuses(tables)
+        shared = see_shared(tables)
         see_file(program, run.server.path)
         run.tell(words.seed, said, tables)
+        print(f"  {len(run.told.keys)} keys of accounts known; {shared} authorizations of several orders")
     return finish("Hostile")
 
 

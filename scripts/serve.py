@@ -10,7 +10,6 @@ import resource
 import signal
 import socket
 import struct
-import subprocess
 import sys
 import tempfile
 import threading
@@ -18,10 +17,9 @@ import time
 
 from bad_requests import bad_requests, limits, padded
 from served import (BASE, BODY, DIRECTORY, HEAD, NEW_NONCE, ROUTES, STOPPED, WORKED, Client, Reply, Server, compact,
-                    directory_reply, faults, finish, make, masked, nonce_reply, nonce_text, received, refusal, reply, request,
-                    see, serial_of)
-from stops import tables_of
+                    directory_reply, masked, nonce_reply, received, refusal, reply, request, serial_of, signed)
 from stories import set_machine, stories
+from trying import KEY, NOT_A_DESK, faults, finish, fresh, nonce_text, run, see, tables_of
 
 # How long the desk waits for a client, in seconds, and how much later its end may be seen.
 LIMIT, LATER = 10, 4
@@ -41,7 +39,7 @@ def worked(program, folder):
     """The worked replies of section 12, and what makes them."""
     see("the worked replies of the specification", len(WORKED), 4)
     for name, line, text in WORKED:
-        server = Server(program, make(program, f"{folder}/{name}.db"), "--count", "1")
+        server = Server(program, fresh(program, folder, name), "--count", "1")
         found = server.ask(f"{line}\r\n\r\n".encode())
         see(name, masked(found), bytes_of(text))
         see(f"{name}: the end", server.ended(), (0, b"", b""))
@@ -49,7 +47,7 @@ def worked(program, folder):
 
 def methods(program, folder):
     """Each path with each method: those that are not its own are refused with `Allow`."""
-    server = Server(program, make(program, f"{folder}/methods.db"))
+    server = Server(program, fresh(program, folder, "methods"))
     before = tables_of(server.path, folder)
     for route, allowed in ROUTES.items():
         path = route.replace("{n}", "7")
@@ -65,12 +63,48 @@ def methods(program, folder):
     see("methods: the end", server.stop()[0], -signal.SIGTERM)
 
 
+def key_changes(program, folder):
+    """A key change, and one to a key that has an account; the directory names the path."""
+    server = Server(program, fresh(program, folder, "keys"))
+    found = server.ask(DIRECTORY)
+    see("the directory", (found, Reply(found).field("Content-Length")), (directory_reply(), "175"))
+    client = Client(server)
+    client.open_account()
+    other, account = {**KEY, "x": "Aw"}, {"contact": [], "orders": f"{BASE}/account/1/orders", "status": "valid"}
+    for said, key, wanted in (
+        ("a key change", KEY, lambda nonce: reply(200, compact(account), path="/key-change", nonce=nonce)),
+        ("a key that has an account", other, lambda nonce: refusal(17, "/key-change", location=f"{BASE}/account/1", nonce=nonce)),
+        ("a key that was given up", KEY, lambda nonce: refusal(6, "/key-change", nonce=nonce)),
+    ):
+        payload = {"account": f"{BASE}/account/1", "newKey": other, "oldKey": key}
+        data = server.ask(signed("/key-change", client.nonce, payload, key))
+        client.nonce = Reply(data).field("Replay-Nonce")
+        see(said, masked(data), wanted(nonce_text(serial_of(client.nonce))))
+    see("keys: the end", server.stop(), STOPPED)
+
+
+def renewed(program, folder):
+    """A name that was validated is ordered again: the order is ready in its 201, and certified without a challenge."""
+    server = Server(program, fresh(program, folder, "renewed"))
+    client = Client(server)
+    client.open_account()
+    client.certify(client.ready_order(), b"certificate")
+    challenges = tables_of(server.path, folder)["chall"]
+    found = client.post("/new-order", {"identifiers": [{"type": "dns", "value": "A.example"}]}, 201)
+    document = found.document()
+    see("a renewal", (found.field("Location"), document["status"], document["authorizations"]), (f"{BASE}/order/2", "ready", [f"{BASE}/authz/1"]))
+    client.certify(2, b"another certificate")
+    see("a renewal: the challenges", tables_of(server.path, folder)["chall"], challenges)
+    see("a renewal: nothing to try", Reply(server.ask(request("GET", "/office/challenges"))).document(), {"challenges": []})
+    see("renewed: the end", server.stop(), STOPPED)
+
+
 # ---- clients
 
 
 def slow(program, folder):
     """A client that sends a byte at a time gets the same reply; so do clients that send in pieces."""
-    server = Server(program, make(program, f"{folder}/slow.db"))
+    server = Server(program, fresh(program, folder, "slow"))
     for serial, piece in enumerate((1, 2, 7, 100), 1):
         see(f"a nonce, {piece} bytes at a time", masked(server.ask(NEW_NONCE, piece=piece)), nonce_reply(serial))
     client = Client(server)
@@ -88,7 +122,7 @@ def slow(program, folder):
 
 def pipelined(program, folder):
     """What follows a request is read away, and its reply arrives whole; nothing of it is answered."""
-    server = Server(program, make(program, f"{folder}/pipelined.db"))
+    server = Server(program, fresh(program, folder, "pipelined"))
     directory = server.ask(DIRECTORY)
     second = NEW_NONCE
     before = tables_of(server.path, folder)
@@ -115,7 +149,7 @@ def reset(client):
 
 def gone(program, folder):
     """Clients that close early, half close, or reset: the next one is served, and at most `desk: connection` is said."""
-    server = Server(program, make(program, f"{folder}/gone.db"))
+    server = Server(program, fresh(program, folder, "gone"))
     whole, short = DIRECTORY, request("POST", "/new-account", b" " * 50)[:-9]
     count = 0
     for end in (socket.socket.close, reset):
@@ -136,7 +170,7 @@ def gone(program, folder):
 
 def waiting(program, folder):
     """Clients together: each is served in its turn, with random bytes of its own."""
-    server = Server(program, make(program, f"{folder}/waiting.db"))
+    server = Server(program, fresh(program, folder, "waiting"))
     clients = [server.connect() for _ in range(20)]
     for client in clients:
         client.sendall(NEW_NONCE)
@@ -154,7 +188,7 @@ def waiting(program, folder):
 
 def silent(program, folder):
     """A client that sends nothing is dropped after ten seconds, and the next is served."""
-    server = Server(program, make(program, f"{folder}/silent.db"), "--count", "2")
+    server = Server(program, fresh(program, folder, "silent"), "--count", "2")
     start = time.monotonic()
     with server.connect() as client:
         see("a silent client", received(client) in (b"", b"(reset)"), True)
@@ -166,7 +200,7 @@ def silent(program, folder):
 
 def dripping(program, folder):
     """A client that sends a byte now and then has ten seconds in all."""
-    server = Server(program, make(program, f"{folder}/dripping.db"), "--count", "2")
+    server = Server(program, fresh(program, folder, "dripping"), "--count", "2")
     start, data = time.monotonic(), request("POST", "/new-account", b" " * 100)
     with server.connect() as client:
         client.settimeout(0.7)
@@ -190,7 +224,7 @@ def dripping(program, folder):
 
 def staying(program, folder):
     """A client that stays after its reply holds up the next for ten seconds at most."""
-    server = Server(program, make(program, f"{folder}/staying.db"), "--count", "2")
+    server = Server(program, fresh(program, folder, "staying"), "--count", "2")
     with server.connect() as client:
         client.sendall(DIRECTORY)
         see("a client that stays", received(client), directory_reply())
@@ -204,7 +238,7 @@ def staying(program, folder):
 
 def flooding(program, folder):
     """A client that sends without an end is cut off, and the next is served."""
-    server = Server(program, make(program, f"{folder}/flooding.db"), "--count", "2")
+    server = Server(program, fresh(program, folder, "flooding"), "--count", "2")
     start = time.monotonic()
     with server.connect() as client:
         try:
@@ -223,16 +257,9 @@ def flooding(program, folder):
 # ---- what ends the program
 
 
-def run(program, *words, **options):
-    """The exit status, the output and the errors of a command that ends by itself."""
-    streams = {"stdin": subprocess.DEVNULL, "stdout": subprocess.PIPE, "stderr": subprocess.PIPE}
-    ran = subprocess.run([program, *words], timeout=30, **{**streams, **options})
-    return ran.returncode, ran.stdout, ran.stderr
-
-
 def counts(program, folder):
     """`--count` ends the program with status 0; a connection that fails counts."""
-    path = make(program, f"{folder}/counts.db")
+    path = fresh(program, folder, "counts")
     see("a count of 0", Server(program, path, "--count", "0").ended(), (0, b"", b""))
     server = Server(program, path, "--count", "3")
     for _ in range(2):
@@ -245,7 +272,7 @@ def counts(program, folder):
 
 def words(program, folder):
     """Wrong words; and faults in the order words, file, port."""
-    path = make(program, f"{folder}/words.db")
+    path = fresh(program, folder, "words")
     missing = f"{folder}/missing.db"
     wrong = ("", "--port", "--port 65536", "--port -1", "--port x", "--port 0 --count -1", "--port 0 --count x",
              "--port 0 --count", "--port 0 more", f"--port 0 --base {BASE}")
@@ -256,12 +283,12 @@ def words(program, folder):
     see("serve without a file", (status, out, said != b""), (2, b"", True))
     with socket.create_server(("127.0.0.1", 0)) as other:
         port = str(other.getsockname()[1])
-        see("a missing file", run(program, "serve", missing, "--port", port), (1, b"", b"desk: fault 23 not a desk\n"))
+        see("a missing file", run(program, "serve", missing, "--port", port), NOT_A_DESK)
         see("no file is made", os.path.exists(missing), False)
         see("a port that is taken", run(program, "serve", path, "--port", port, "--count", "0"), (1, b"", b"desk: bind\n"))
     with open(f"{folder}/empty.db", "wb"):
         pass
-    see("an empty file", run(program, "serve", f"{folder}/empty.db", "--port", "0"), (1, b"", b"desk: fault 23 not a desk\n"))
+    see("an empty file", run(program, "serve", f"{folder}/empty.db", "--port", "0"), NOT_A_DESK)
     with open(f"{folder}/other.db", "wb") as file:
         file.write(b"no database at all, but bytes")
     see("another file", run(program, "serve", f"{folder}/other.db", "--port", "0")[0], 1)
@@ -269,13 +296,13 @@ def words(program, folder):
 
 def together(program, folder):
     """A second program on the file of one that serves; two that serve two files."""
-    path = make(program, f"{folder}/together.db")
+    path = fresh(program, folder, "together")
     server = Server(program, path)
     device = (1, b"", b"desk: fault 21 device\n")
     see("a second serve on the file", run(program, "serve", path, "--port", "0"), device)
     see("a batch on the file", run(program, "batch", "--file", path), device)
-    other = Server(program, make(program, f"{folder}/other-desk.db"))
-    third = run(program, "serve", make(program, f"{folder}/third.db"), "--port", str(other.port))
+    other = Server(program, fresh(program, folder, "other-desk"))
+    third = run(program, "serve", fresh(program, folder, "third"), "--port", str(other.port))
     see("the port of another desk", third, (1, b"", b"desk: bind\n"))
     for found in (server, other):
         see("the first, then", found.ask(DIRECTORY), directory_reply())
@@ -284,7 +311,7 @@ def together(program, folder):
 
 def outputs(program, folder):
     """A standard output that can't be written ends the program."""
-    path = make(program, f"{folder}/outputs.db")
+    path = fresh(program, folder, "outputs")
     ended = (1, b"desk: output\n")
     with open("/dev/full", "wb") as full:
         see("a full standard output", run(program, "serve", path, "--port", "0", stdout=full)[::2], ended)
@@ -299,7 +326,7 @@ def outputs(program, folder):
 
 def terminated(program, folder):
     """SIGTERM ends the program as a stop does: what was replied to is there."""
-    path = make(program, f"{folder}/terminated.db")
+    path = fresh(program, folder, "terminated")
     server = Server(program, path)
     client = Client(server)
     client.open_account()
@@ -319,7 +346,7 @@ def small_files(size):
 
 def full_disk(program, folder):
     """A fault that closes the desk is answered by 15 and ends the program; the file is as before the request or as after it."""
-    path = make(program, f"{folder}/full.db")
+    path = fresh(program, folder, "full")
     size = max(os.path.getsize(path + end) for end in ("", "-wal") if os.path.exists(path + end))
     server = Server(program, path, restore_signals=False, preexec_fn=lambda: small_files(size + 60000))
     serial = 0
@@ -341,7 +368,7 @@ def full_disk(program, folder):
 
 
 PATIENT = (silent, dripping, staying, flooding)
-PROMPT = (worked, methods, stories, set_machine, bad_requests, limits, slow, pipelined, gone, waiting, counts, words, together,
+PROMPT = (worked, methods, key_changes, renewed, stories, set_machine, bad_requests, limits, slow, pipelined, gone, waiting, counts, words, together,
           outputs, terminated, full_disk)
 
 

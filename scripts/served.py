@@ -13,9 +13,8 @@ import subprocess
 import tempfile
 import time
 
-from stops import KEY, ROOT, faults, nonce_text, see
+from trying import BASE, KEY, ROOT, nonce_text, see
 
-BASE = "https://ca.example"
 # How long a script waits for a reply, in seconds: longer than the desk waits for a client.
 PATIENCE = 20
 # The bytes of a body, at most, and those of a certificate; the bytes of a head and its fields, at most.
@@ -112,7 +111,7 @@ def nonce_reply(serial):
 
 def directory_reply():
     """The bytes of the reply to the directory."""
-    names = {"newAccount": "new-account", "newNonce": "new-nonce", "newOrder": "new-order"}
+    names = {"keyChange": "key-change", "newAccount": "new-account", "newNonce": "new-nonce", "newOrder": "new-order"}
     return reply(200, compact({name: f"{BASE}/{path}" for name, path in names.items()}), path="/directory")
 
 
@@ -149,13 +148,6 @@ def masked(data):
 
 
 # ---- the program
-
-
-def make(program, path, *terms):
-    """Makes a desk in a file."""
-    made = subprocess.run([program, "make", path, "--base", BASE, *terms], stdout=subprocess.PIPE, stderr=subprocess.PIPE)
-    see("make", (made.returncode, made.stdout), (0, b"made\n"))
-    return path
 
 
 # How a program ends that the script ended, when it said nothing.
@@ -250,6 +242,14 @@ class Client:
         self.fetch()
         return self.post("/new-account", {}, 201)
 
+    def change_key(self, account, key, status=200):
+        """Asks for another key for an account, which has it from then on where the reply says so."""
+        wanted = {"account": f"{BASE}/account/{account}", "newKey": key, "oldKey": self.key}
+        found = self.post("/key-change", wanted, status)
+        if found.status == 200:
+            self.key = key
+        return found
+
     def order(self, *names):
         """Orders names, and gives the number of the order."""
         wanted = {"identifiers": [{"type": "dns", "value": name} for name in names]}
@@ -257,9 +257,12 @@ class Client:
         return int((found.field("Location") or "0").rsplit("/", 1)[1])
 
     def ready_order(self, name="a.example"):
-        """An order of one name that is ready, by its number."""
+        """An order of one name that is ready, by its number; the name is validated where it wasn't before."""
         number = self.order(name)
-        authz = self.post(f"/order/{number}", "").document()["authorizations"][0]
+        found = self.post(f"/order/{number}", "").document()
+        if found["status"] == "ready":
+            return number
+        authz = found["authorizations"][0]
         challenges = self.post(authz[len(BASE):], "").document()["challenges"]
         challenge = int(challenges[0]["url"].rsplit("/", 1)[1])
         self.post(f"/chall/{challenge}", "{}")
@@ -270,8 +273,8 @@ class Client:
         see("a report", report.status, 200)
         return number
 
-
-def finish(name):
-    """Prints the faults, and gives the exit status."""
-    print("\n".join(faults + [f"{name}: {len(faults)} not as they should be."]))
-    return 1 if faults else 0
+    def certify(self, number, certificate):
+        """Finalizes an order that is ready, has it certified, and fetches the certificate."""
+        self.post(f"/order/{number}/finalize", {"csr": "AQID"})
+        see("a certificate", self.heard(request("POST", f"/office/certify/{number}", certificate)).status, 200)
+        see("the certificate, fetched", self.post(f"/cert/{number}", "").body, certificate)

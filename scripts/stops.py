@@ -4,37 +4,23 @@
 Each scenario is a call that is made again and again on copies of one file, while the program is stopped before, or half way
 through, its first write, its second, and so on, until a run ends by itself. Then the same with a disk that fails once: the first read,
 write or sync fails, the second, and so on, and the program goes on. After each stop or failure the program opens the file
-again, and its tables are those before the call or those after it: the latter, where the reply was printed. Without gcc
-nothing is tried, and it says so.
+again, and its tables are those before the call or those after it: the latter, where the reply was printed. So it is with the
+opening of files of format 1, which makes them format 2. Without gcc nothing is tried, and it says so.
 """
 import base64
 import collections
 import json
 import os
 import shutil
-import sqlite3
 import subprocess
-import sys
 import tempfile
 
-ROOT = os.path.dirname(os.path.dirname(os.path.abspath(__file__)))
-KEY = {"crv": "P-256", "kty": "EC", "x": "AQ", "y": "Ag"}
+from first_format import first_files, is_first, restore, upgraded
+from trying import BASE, KEY, ROOT, begin, checked, copy, faults, finish, fresh, nonce_text, remove, run, see, tables_of
+
 STOPPED = 77
 # How a command ends where a call to the disk failed.
 FAILED = [(1, b"desk: fault %s\n" % text) for text in (b"21 device", b"22 reopen", b"23 not a desk")]
-TABLES = ("meta", "nonce", "account", "ord", "authz", "ord_authz", "chall")
-faults = []
-
-
-def nonce_text(serial):
-    """The text of the nonce of a serial, with zero random bytes."""
-    return base64.urlsafe_b64encode(serial.to_bytes(8, "big") + bytes(16)).decode()
-
-
-def see(what, found, wanted):
-    """Notes what is not as it should be."""
-    if found != wanted:
-        faults.append(f"{what}: {found!r}, not {wanted!r}")
 
 
 class Desk:
@@ -42,8 +28,7 @@ class Desk:
 
     def __init__(self, program, folder, terms=()):
         self.program, self.path, self.nonce = program, f"{folder}/desk.db", None
-        made = subprocess.run([program, "make", self.path, "--base", "https://ca.example", *terms], stdout=subprocess.PIPE)
-        see("make", made.stdout, b"made\n")
+        fresh(program, folder, "desk", *terms)
 
     def line(self, method, path, body="", at=0, random=""):
         """The line of a call."""
@@ -90,31 +75,6 @@ class Desk:
         see("a report", self.answer(self.validate(1))[0], "200")
 
 
-def tables_of(path, folder):
-    """The rows of each table of the file and its log, read in a copy by SQLite."""
-    with tempfile.TemporaryDirectory(dir=folder) as room:
-        for end in ("", "-wal"):
-            if os.path.exists(path + end):
-                shutil.copy(path + end, f"{room}/copy.db{end}")
-        with sqlite3.connect(f"{room}/copy.db") as found:
-            found.text_factory = bytes
-            try:
-                if found.execute("PRAGMA integrity_check").fetchone() != (b"ok",):
-                    return "no sound database"
-            except sqlite3.DatabaseError as error:
-                return str(error)
-            known = {name.decode() for (name,) in found.execute("SELECT name FROM sqlite_schema WHERE type = 'table'")}
-            return {name: sorted(found.execute(f"SELECT * FROM {name}"), key=repr) for name in TABLES if name in known}
-
-
-def copy(path, to):
-    for end in ("", "-wal"):
-        if os.path.exists(to + end):
-            os.remove(to + end)
-        if os.path.exists(path + end):
-            shutil.copy(path + end, to + end)
-
-
 def stopped(preload, path, at, half, words, given):
     """A run of the program that is stopped at a write."""
     env = {**os.environ, "LD_PRELOAD": preload, "STOP_FILE": path, "STOP_AT": str(at), "STOP_HALF": "1" if half else "0"}
@@ -132,58 +92,83 @@ def failed(preload, path, at, words, given):
     return ran, True
 
 
-def checked(program, path):
-    """The end, the output and the errors of a check of the stored statuses, which opens the file again."""
-    ran = subprocess.run([program, "check", path], stdout=subprocess.PIPE, stderr=subprocess.PIPE)
-    return ran.returncode, ran.stdout, ran.stderr
+class Whole:
+    """A batch over a copy of a file, run to its end: the reply, and the tables before it and after it."""
+
+    def __init__(self, name, program, source, call, folder):
+        self.name, self.program, self.source, self.call, self.folder = name, program, source, call, folder
+        self.path = f"{folder}/copy-{os.path.basename(source)}"
+        self.words = [program, "batch", "--file", self.path]
+        self.again()
+        self.before = tables_of(self.path, folder)
+        self.status, self.reply, _ = run(*self.words, given=call)
+        self.after = tables_of(self.path, folder)
+
+    def again(self):
+        copy(self.source, self.path)
+
+    def left(self):
+        return tables_of(self.path, self.folder)
+
+    def look(self, said, is_after):
+        """The tables that are left are those after the batch, or else those before; the file is opened again, and is a desk."""
+        allowed = (self.after,) if is_after else (self.before, self.after)
+        if is_first(self.before):
+            see(f"{said}: tables as before or after", self.left() in allowed, True)
+            allowed = (self.after,)
+        see(f"{said}: opened again", checked(self.program, self.path), (0, b"no fault\n", b""))
+        see(f"{said}: tables as before or after, opened again", self.left() in allowed, True)
 
 
-def try_call(name, desk, call, statuses, preload, folder):
-    """Stops at each write of a call on a copy of the desk's file; the orders have these statuses before it and after it."""
-    path, words = f"{folder}/stopped.db", [desk.program, "batch", "--file", f"{folder}/stopped.db"]
-    copy(desk.path, path)
-    before = tables_of(path, folder)
-    whole = subprocess.run(words, input=call, stdout=subprocess.PIPE)
-    see(f"{name}: the whole run", (whole.returncode, whole.stdout[:2] in (b"20", b"40")), (0, True))
-    after = tables_of(path, folder)
-    see(f"{name}: the orders", tuple(" ".join(row[-1].decode() for row in found["ord"]) for found in (before, after)), statuses)
+def try_stops(whole, preload):
+    """Stops at each write of a batch, and half way through it."""
     count = 0
     for half in (False, True):
         for at in range(1, 10000):
-            copy(desk.path, path)
-            ran = stopped(preload, path, at, half, words, call)
+            whole.again()
+            ran = stopped(preload, whole.path, at, half, whole.words, whole.call)
             if ran.returncode != STOPPED:
-                see(f"{name}: a run that is not stopped", (ran.returncode, ran.stdout), (0, whole.stdout))
+                see(f"{whole.name}: a run that is not stopped", (ran.returncode, ran.stdout), (0, whole.reply))
                 break
             count += 1
-            see(f"{name}, stopped at write {at}: opened again", checked(desk.program, path), (0, b"no fault\n", b""))
-            left = tables_of(path, folder)
-            see(f"{name}, stopped at write {at}: tables as before or after", left in ((after,) if ran.stdout else (before, after)), True)
-    print(f"{name}: stopped at {count} writes")
+            whole.look(f"{whole.name}, stopped at write {at}", bool(ran.stdout))
+    print(f"{whole.name}: stopped at {count} writes")
 
 
-def try_failures(name, desk, call, preload, folder):
-    """Has each call to the disk fail in turn while the program answers a call on a copy of the desk's file."""
-    path = f"{folder}/failed.db"
-    words = [desk.program, "batch", "--file", path]
-    copy(desk.path, path)
-    before = tables_of(path, folder)
-    whole = subprocess.run(words, input=call, stdout=subprocess.PIPE)
-    after = tables_of(path, folder)
+def try_failures(whole, preload):
+    """Has each call to the disk fail in turn while the program answers a batch."""
     ends = collections.Counter()
     for at in range(1, 10000):
-        copy(desk.path, path)
-        ran, has_failed = failed(preload, path, at, words, call)
+        whole.again()
+        ran, has_failed = failed(preload, whole.path, at, whole.words, whole.call)
         if not has_failed:
-            see(f"{name}: a run that does not fail", (ran.returncode, ran.stdout), (0, whole.stdout))
+            see(f"{whole.name}: a run that does not fail", (ran.returncode, ran.stdout), (0, whole.reply))
             break
+        said = f"{whole.name}, call {at} failed"
         ends[ran.stderr.decode().strip() or "answered"] += 1
-        see(f"{name}, call {at} failed: its end", ran.returncode == 0 if not ran.stderr else (ran.returncode, ran.stderr) in FAILED, True)
-        see(f"{name}, call {at} failed: opened again", checked(desk.program, path), (0, b"no fault\n", b""))
-        see(f"{name}, call {at} failed: the reply", ran.stdout in (b"", whole.stdout), True)
-        left = tables_of(path, folder)
-        see(f"{name}, call {at} failed: tables as before or after", left in ((after,) if ran.stdout else (before, after)), True)
-    print(f"{name}: {sum(ends.values())} calls to the disk failed: {', '.join(f'{end} {count}' for end, count in sorted(ends.items()))}")
+        see(f"{said}: its end", ran.returncode == 0 if not ran.stderr else (ran.returncode, ran.stderr) in FAILED, True)
+        see(f"{said}: the reply", ran.stdout in (b"", whole.reply), True)
+        whole.look(said, bool(ran.stdout))
+    print(f"{whole.name}: {sum(ends.values())} calls to the disk failed: {', '.join(f'{end} {count}' for end, count in sorted(ends.items()))}")
+
+
+def try_call(name, desk, call, statuses, preload, folder):
+    """Stops and fails a call on a desk, whose orders have these statuses before it and after it."""
+    whole = Whole(name, desk.program, desk.path, call, folder)
+    see(f"{name}: the whole run", (whole.status, whole.reply[:2] in (b"20", b"40")), (0, True))
+    found = tuple(" ".join(row[-1].decode() for row in tables["ord"]) for tables in (whole.before, whole.after))
+    see(f"{name}: the orders", found, statuses)
+    try_stops(whole, preload)
+    try_failures(whole, preload)
+
+
+def try_upgrades(program, preload, folder):
+    """Stops and fails the opening of each file of format 1."""
+    for name in first_files():
+        whole = Whole(f"the upgrade of {name}", program, restore(name, f"{folder}/first.db"), b"", folder)
+        see(f"{whole.name}: the whole run", (whole.status, whole.reply, whole.after), (0, b"", upgraded(whole.before)))
+        try_stops(whole, preload)
+        try_failures(whole, preload)
 
 
 def try_make(program, preload, folder):
@@ -194,9 +179,7 @@ def try_make(program, preload, folder):
     after = tables_of(path, folder)
     for half in (False, True):
         for at in range(1, 10000):
-            for end in ("", "-wal"):
-                if os.path.exists(path + end):
-                    os.remove(path + end)
+            remove(path)
             ran = stopped(preload, path, at, half, words, b"")
             if ran.returncode != STOPPED:
                 see("make: a run that is not stopped", (ran.returncode, ran.stdout), (0, b"made\n"))
@@ -244,7 +227,6 @@ def first_requests(desk, preload, folder):
     """The first requests on a new desk, each stopped at each write."""
     for name, call, statuses in first_calls(desk):
         try_call(name, desk, call, statuses, preload, folder)
-        try_failures(name, desk, call, preload, folder)
         desk.answer(call)
 
 
@@ -276,12 +258,39 @@ def certificate(desk):
     return desk.line("POST", "/office/certify/1", "A" * 65536)
 
 
+def key_change(desk):
+    """A key change while a challenge is answered."""
+    desk.open_account()
+    desk.order("a.example")
+    desk.answer(desk.signed("/chall/1", "{}"))
+    return desk.signed("/key-change", {"account": f"{BASE}/account/1", "newKey": {**KEY, "x": "Aw"}, "oldKey": KEY})
+
+
+def renewal(desk):
+    """An order of a name that was validated, and of another."""
+    desk.answer(certificate(desk))
+    wanted = {"identifiers": [{"type": "dns", "value": name} for name in ("a.example", "b.example")]}
+    return desk.signed("/new-order", wanted, random="00" * 48)
+
+
+def shared_end(desk):
+    """The end of an authorization that four orders list: one has its certificate, one is processing, and two are ready."""
+    desk.answer(certificate(desk))
+    for _ in range(3):
+        desk.order("a.example")
+    desk.answer(desk.signed("/order/2/finalize", {"csr": "AQID"}))
+    return desk.signed("/authz/1", {"status": "deactivated"})
+
+
 SCENARIOS = [
     ("finalize", finalize, (), ("ready", "processing")),
     ("a report past the end of three orders", three_ends, ("--order-life", "100", "--nonce-life", "10"),
      ("pending pending pending pending", "invalid invalid invalid ready")),
     ("the end of an account", account_end, (), ("ready pending", "invalid invalid")),
     ("a certificate of 65536 bytes", certificate, (), ("processing", "valid")),
+    ("a key change", key_change, (), ("pending", "pending")),
+    ("a renewal", renewal, (), ("valid", "valid pending")),
+    ("the end of an authorization that three orders wait for", shared_end, (), ("valid processing ready ready", "valid invalid invalid invalid")),
 ]
 
 
@@ -297,18 +306,14 @@ def main(program):
             room = f"{folder}/{number}"
             os.mkdir(room)
             desk = Desk(program, room, terms)
-            call = prepared(desk)
-            try_call(name, desk, call, statuses, preload, folder)
-            try_failures(name, desk, call, preload, folder)
+            try_call(name, desk, prepared(desk), statuses, preload, folder)
         os.mkdir(f"{folder}/first")
         first_requests(Desk(program, f"{folder}/first"), preload, folder)
         os.mkdir(f"{folder}/nonce")
         new_nonce(Desk(program, f"{folder}/nonce"), preload, folder)
-    print("\n".join(faults + [f"Stops: {len(faults)} not as they should be."]))
-    return 1 if faults else 0
+        try_upgrades(program, preload, folder)
+    return finish("Stops")
 
 
 if __name__ == "__main__":
-    if len(sys.argv) != 2:
-        sys.exit(__doc__)
-    sys.exit(main(os.path.abspath(sys.argv[1])))
+    begin(main, __doc__)

@@ -11,11 +11,17 @@ import struct
 import subprocess
 import time
 
-from served import (BASE, LAST, NEW_NONCE, NONCE, ROUTES, STOPPED, Server, make, masked, nonce_reply, nonce_text, refusal, reply,
-                    request, route_of, see, serial_of)
-from stops import ROOT, tables_of
+from served import (BASE, LAST, NEW_NONCE, NONCE, ROUTES, STOPPED, Server, masked, nonce_reply, refusal, reply, request, route_of,
+                    serial_of)
+from trying import ROOT, fresh, nonce_text, see, tables_of
 
-ZERO_TOKEN = base64.urlsafe_b64encode(bytes(16)).rstrip(b"=").decode()
+
+def spelled(data):
+    """The base64url of some bytes."""
+    return base64.urlsafe_b64encode(data).rstrip(b"=")
+
+
+ZERO_TOKEN = spelled(bytes(16))
 
 
 def seconds_of(moment):
@@ -26,7 +32,7 @@ MOMENT = re.compile(rb"\d{4}-\d\d-\d\dT\d\d:\d\d:\d\dZ")
 
 
 def digest(text):
-    return base64.urlsafe_b64encode(hashlib.sha256(text).digest()).rstrip(b"=")
+    return spelled(hashlib.sha256(text).digest())
 
 
 def part_of(text):
@@ -42,19 +48,21 @@ class Story:
         self.server, self.folder, self.start = server, folder, int(time.time())
         # From the batch's text to the served one.
         self.nonces, self.proofs = {}, {}
-        self.uses = {}
+        self.uses, self.thumbprints = {}, set()
 
     def learn(self):
-        """The tokens of the challenges, and what proves them."""
+        """The tokens of the challenges, and what proves them by each key that an account has or had."""
         tables = tables_of(self.server.path, self.folder)
-        accounts = {row[0]: digest(row[1]) for row in tables["account"]}
-        authzs = {row[0]: accounts[row[1]] for row in tables["authz"]}
+        self.thumbprints |= {digest(row[1]) for row in tables["account"]}
         self.uses = {row[0]: row[1] for row in tables["chall"]}
-        self.proofs = {}
-        for number, authz, _, token, *_ in tables["chall"]:
-            token = base64.urlsafe_b64encode(token).rstrip(b"=")
-            zero, served = (text + b"." + authzs[authz] for text in (ZERO_TOKEN.encode(), token))
-            self.proofs[number] = [(zero, served), (digest(zero), digest(served)), (ZERO_TOKEN.encode(), token)]
+        self.proofs = {row[0]: list(self.proofs_by(spelled(row[3]))) for row in tables["chall"]}
+
+    def proofs_by(self, token):
+        """The texts that prove a challenge: that of the batch, whose token is zero, and the served one."""
+        for thumbprint in sorted(self.thumbprints):
+            zero, served = (text + b"." + thumbprint for text in (ZERO_TOKEN, token))
+            yield from ((zero, served), (digest(zero), digest(served)))
+        yield ZERO_TOKEN, token
 
     def bytes_of(self, call):
         """The bytes of the request of a line."""
@@ -110,7 +118,7 @@ class Story:
 
     def tell(self, name, number, call, line):
         data = self.server.ask(self.bytes_of(call))
-        if call["path"] in ("/new-order", "/new-account"):
+        if call["path"] in ("/new-order", "/new-account", "/key-change"):
             self.learn()
         wanted = self.wanted(call, line)
         see(f"{name}, line {number}: {call['method']} {call['path']}", self.restored(data, wanted), wanted)
@@ -152,13 +160,13 @@ def set_machine(program, folder):
         print("There is no gcc, so the machine's clock was not set.")
         return
     machine = Machine(folder)
-    for name in ("clock", "moments", "order"):
+    for name in ("clock", "moments", "order", "renewal"):
         calls, lines = batch_of(name)
-        story = SetStory(Server(program, make(program, f"{folder}/{name}.db"), env=machine.env), folder, machine)
+        story = SetStory(Server(program, fresh(program, folder, name), env=machine.env), folder, machine)
         for number, (call, line) in enumerate(zip(calls, lines), 1):
             story.tell(name, number, call, line)
         see(f"{name} at its moments: the end", story.server.stop(), STOPPED)
-    path = make(program, f"{folder}/machine.db")
+    path = fresh(program, folder, "machine")
     server = Server(program, path, env=machine.env)
     before = tables_of(path, folder)
     machine.set(250000000001)
@@ -200,7 +208,7 @@ def stories(program, folder):
         if any(call["at"] for call in calls):
             continue
         names.append(name)
-        story = Story(Server(program, make(program, f"{folder}/{name}.db")), folder)
+        story = Story(Server(program, fresh(program, folder, name)), folder)
         for number, (call, line) in enumerate(zip(calls, lines), 1):
             if is_sendable(call):
                 story.tell(name, number, call, line)

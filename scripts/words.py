@@ -5,15 +5,12 @@
 status that it gives; the reports change nothing. Help names the options of each word, their limits, and the exit statuses.
 """
 import os
-import sqlite3
-import subprocess
-import sys
 import tempfile
 import time
 
-from stops import Desk, faults, see, tables_of
+from stops import Desk
+from trying import NOT_A_DESK, begin, change, finish, run, see, tables_of
 
-NOT_A_DESK = (1, b"", b"desk: fault 23 not a desk\n")
 NO_FIT = (1, b"", b"desk: the report does not fit the records\n")
 NOTHING_HERE = (1, b"", b"desk: there is nothing here\n")
 FULL = (1, None, b"desk: output\n")
@@ -32,12 +29,6 @@ HELP = {
 EXITS = ("0  done", "1  a fault or a refusal", "2  wrong words, or a limit that is broken", "3  check found a stored status that is wrong")
 
 
-def run(program, *words, out=subprocess.PIPE):
-    """The exit status, the output and the errors of the program."""
-    ran = subprocess.run([program, *words], stdin=subprocess.DEVNULL, stdout=out, stderr=subprocess.PIPE)
-    return ran.returncode, ran.stdout, ran.stderr
-
-
 def desk_with_orders(program, folder, name, at=0):
     """A desk with an account and two orders of one name each, made at a moment."""
     room = f"{folder}/{name}"
@@ -48,15 +39,6 @@ def desk_with_orders(program, folder, name, at=0):
     for wanted in ("a.example", "b.example"):
         desk.order(wanted, at=at)
     return desk
-
-
-def change(path, *statements):
-    """Changes a file by another program."""
-    found = sqlite3.connect(path)
-    for statement in statements:
-        found.execute(statement)
-    found.commit()
-    found.close()
 
 
 def order_line(number, account, status, expires):
@@ -81,11 +63,11 @@ def reports(program, folder):
     see("reports change nothing", tables_of(desk.path, folder), before)
     with open("/dev/full", "wb") as full:
         for word in ("status", "check"):
-            see(f"{word} on a full output", run(program, word, desk.path, out=full), FULL)
+            see(f"{word} on a full output", run(program, word, desk.path, stdout=full), FULL)
     reader, writer = os.pipe()
     os.close(reader)
     for word in ("status", "check"):
-        see(f"{word} to a closed pipe", run(program, word, desk.path, out=writer), FULL)
+        see(f"{word} to a closed pipe", run(program, word, desk.path, stdout=writer), FULL)
     os.close(writer)
 
 
@@ -123,8 +105,8 @@ def narrowed(program, folder):
         documents = b"".join(order_document(*orders[number]) for number in numbers)
         see(f"status {words} as JSON", run(program, "status", desk.path, *words, "--json"), (0, documents, b""))
     with open("/dev/full", "wb") as full:
-        see("JSON on a full output", run(program, "status", desk.path, "--json", out=full), FULL)
-        see("no JSON on a full output", run(program, "status", desk.path, "--json", *two, *ready, out=full), (0, None, b""))
+        see("JSON on a full output", run(program, "status", desk.path, "--json", stdout=full), FULL)
+        see("no JSON on a full output", run(program, "status", desk.path, "--json", *two, *ready, stdout=full), (0, None, b""))
     wrong = [("--account", number) for number in ("0", str(LAST + 1), "-1", "one", "")]
     wrong += [("--status", word) for word in ("expired", "Pending", "pend", "")]
     for words in (*wrong, ("--account",), ("--status",), one + two, pending + ready, ("--json", "--json"), ("--json=true",)):
@@ -139,7 +121,7 @@ def wrong_statuses_as_json(program, folder):
     check = (program, "check", desk.path, "--json")
     see("no document", run(*check), (0, b"", b""))
     with open("/dev/full", "wb") as full:
-        see("no document on a full output", run(*check, out=full), (0, None, b""))
+        see("no document on a full output", run(*check, stdout=full), (0, None, b""))
     change(desk.path, "UPDATE account SET status = 'revoked'", "UPDATE chall SET status = 'processing' WHERE num = 4",
            "UPDATE authz SET status = 'expired' WHERE num = 2")
     ended, said, errors = run(*check)
@@ -149,7 +131,7 @@ def wrong_statuses_as_json(program, folder):
     see("documents, in order", said.splitlines(), wanted)
     see("a last line end", said[-1:], b"\n")
     with open("/dev/full", "wb") as full:
-        see("documents on a full output", run(*check, out=full), FULL)
+        see("documents on a full output", run(*check, stdout=full), FULL)
 
 
 def revocations(program, folder):
@@ -208,11 +190,8 @@ def main(program):
     with tempfile.TemporaryDirectory(prefix="desk-words-") as folder:
         for tries in (reports, wrong_statuses, narrowed, wrong_statuses_as_json, revocations, wrong_words, helps):
             tries(program, folder)
-    print("\n".join(faults + [f"Words: {len(faults)} not as they should be."]))
-    return 1 if faults else 0
+    return finish("Words")
 
 
 if __name__ == "__main__":
-    if len(sys.argv) != 2:
-        sys.exit(__doc__)
-    sys.exit(main(os.path.abspath(sys.argv[1])))
+    begin(main, __doc__)

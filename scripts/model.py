@@ -1,0 +1,720 @@
+"""A second desk, written from docs/SPECIFICATION.md alone: it says how a line of a batch is answered.
+
+It keeps facts with their dates, and finds each status afresh from them. Of the names it knows those of ASCII, and of the
+heads those that httparse reads.
+"""
+import base64
+import dataclasses
+import hashlib
+import json
+import re
+import time
+
+BASE = "https://ca.example"
+# Lives of nonces, orders and authorizations, in seconds.
+LIVES = (3600, 604800, 2592000)
+LATEST, LAST, BODY, CERTIFICATE, HEAD = 250000000000, 2**62, 131072, 65536, 16384
+REFUSALS = {
+    1: ("malformed", 400, "the request is not well formed"),
+    2: ("malformed", 404, "there is nothing here"),
+    3: ("malformed", 405, "this method is not served here"),
+    4: ("badNonce", 400, "the nonce is not open"),
+    5: ("badPublicKey", 400, "the key is not accepted"),
+    6: ("accountDoesNotExist", 400, "no account has this key"),
+    7: ("unauthorized", 401, "the account is not valid"),
+    8: ("unsupportedContact", 400, "the contact scheme is not supported"),
+    9: ("invalidContact", 400, "the contact is not accepted"),
+    10: ("unsupportedIdentifier", 400, "the identifier type is not supported"),
+    11: ("rejectedIdentifier", 400, "the name is not accepted"),
+    12: ("orderNotReady", 403, "the order is not ready"),
+    13: ("badCSR", 400, "the CSR is not accepted"),
+    14: ("malformed", 409, "the report does not fit the records"),
+    16: ("malformed", 413, "the request is too large"),
+    17: ("malformed", 409, "the key has an account"),
+}
+# What the error of a challenge says after an outcome, and that of an order after a type.
+OUTCOMES = {
+    "incorrectResponse": (403, "the response did not match"),
+    "connection": (400, "the validator could not connect"),
+    "dns": (400, "the validator found no records"),
+}
+PROBLEMS = {"badCSR": 400, "serverInternal": 500}
+ROUTES = [(re.compile(path.replace("{n}", "([1-9][0-9]*)")), methods, call) for path, methods, call in (
+    ("/directory", ("GET",), "directory"),
+    ("/new-nonce", ("GET", "HEAD"), "new_nonce"),
+    ("/new-account", ("POST",), "new_account"),
+    ("/key-change", ("POST",), "key_change"),
+    ("/new-order", ("POST",), "new_order"),
+    ("/account/{n}", ("POST",), "account"),
+    ("/account/{n}/orders", ("POST",), "account_orders"),
+    ("/order/{n}", ("POST",), "order"),
+    ("/order/{n}/finalize", ("POST",), "finalize"),
+    ("/cert/{n}", ("POST",), "certificate"),
+    ("/authz/{n}", ("POST",), "authorization"),
+    ("/chall/{n}", ("POST",), "challenge"),
+    ("/office/key/{n}", ("GET",), "key_of"),
+    ("/office/challenges", ("GET",), "challenge_work"),
+    ("/office/orders", ("GET",), "order_work"),
+    ("/office/report/{n}", ("POST",), "report"),
+    ("/office/certify/{n}", ("POST",), "certify"),
+    ("/office/fail/{n}", ("POST",), "fail"),
+)]
+UNSIGNED = {"directory", "new_nonce", "key_of", "challenge_work", "order_work", "report", "certify", "fail"}
+
+
+class Refused(Exception):
+    """A refusal by its number, with a Location or subproblems where it has them."""
+
+    def __init__(self, number, location=None, subproblems=()):
+        super().__init__(number)
+        self.number, self.location, self.subproblems = number, location, subproblems
+
+
+class Fault(Exception):
+    """A fault by the text of the program."""
+
+
+@dataclasses.dataclass
+class Account:
+    key: str
+    contacts: list
+    opened: int
+    end: tuple | None = None
+
+    def status(self):
+        return self.end[0] if self.end else "valid"
+
+
+@dataclasses.dataclass
+class Challenge:
+    authorization: int
+    kind: str
+    token: bytes
+    # The date of the answer, and the thumbprint of the key that the account had then.
+    answered: tuple | None = None
+    # The outcome and the date of the report.
+    reported: tuple | None = None
+
+    def status(self):
+        if self.reported:
+            return "valid" if self.reported[0] == "good" else "invalid"
+        return "processing" if self.answered else "pending"
+
+
+@dataclasses.dataclass
+class Authorization:
+    account: int
+    base: str
+    wildcard: bool
+    made: int
+    expires: int
+    challenges: list
+    # The first end that is dated no later than `expires`: its kind and its date.
+    end: tuple | None = None
+
+
+@dataclasses.dataclass
+class Order:
+    account: int
+    made: int
+    expires: int
+    names: list
+    authorizations: list
+    # Bytes and a date.
+    csr: tuple | None = None
+    certificate: tuple | None = None
+    # The type and the detail, and the date.
+    problem: tuple | None = None
+
+
+# ---- texts
+
+
+def spelled(data):
+    """The base64url of some bytes."""
+    return base64.urlsafe_b64encode(data).rstrip(b"=").decode()
+
+
+def bytes_of(text):
+    """The bytes that a base64url text spells, or None."""
+    if not re.fullmatch(r"[A-Za-z0-9_-]*", text) or len(text) % 4 == 1:
+        return None
+    data = base64.urlsafe_b64decode(text + "=" * (-len(text) % 4))
+    return data if spelled(data) == text else None
+
+
+def moment_text(moment):
+    return time.strftime("%Y-%m-%dT%H:%M:%SZ", time.gmtime(moment)).zfill(20)
+
+
+def compact(document):
+    return json.dumps(document, separators=(",", ":"), sort_keys=True, ensure_ascii=False)
+
+
+def dated(fact):
+    """The date and the content of a fact, as two columns."""
+    return (fact[1], fact[0]) if fact else (None, None)
+
+
+KEYS = {"EC": ("crv", "kty", "x", "y"), "RSA": ("e", "kty", "n"), "OKP": ("crv", "kty", "x")}
+CURVES = {"EC": ("P-256", "P-384", "P-521"), "OKP": ("Ed25519",), "RSA": (None,)}
+
+
+def canonical(key):
+    """The canonical text of a key, or None where it is not accepted."""
+    kind = key.get("kty") if isinstance(key, dict) else None
+    if not isinstance(kind, str) or kind not in KEYS:
+        return None
+    members = {name: key.get(name) for name in KEYS[kind]}
+    if members.get("crv") not in CURVES[kind]:
+        return None
+    numbers = [members[name] for name in KEYS[kind] if name not in ("crv", "kty")]
+    good = all(isinstance(number, str) and re.fullmatch(r"[A-Za-z0-9_-]{1,4096}", number) for number in numbers)
+    return compact(members) if good else None
+
+
+def thumbprint(key):
+    return hashlib.sha256(key.encode()).digest()
+
+
+def read_name(text):
+    """The base and the wildcard flag of a name, or None."""
+    wildcard = text.startswith("*.")
+    base = (text[2:] if wildcard else text).lower()
+    labels = base.split(".")
+    good = all(re.fullmatch(r"(?!-)[a-z0-9-]{1,63}(?<!-)", label) and not label.startswith("xn--") for label in labels)
+    return (base, wildcard) if good and len(labels) > 1 and len(base) <= 253 and not labels[-1].isdigit() else None
+
+
+def shown(name):
+    return ("*." if name[1] else "") + name[0]
+
+
+def is_texts(value):
+    return isinstance(value, list) and all(isinstance(text, str) for text in value)
+
+
+def read_contacts(contacts):
+    """The contacts, where they pass."""
+    if len(contacts) > 10:
+        raise Refused(9)
+    for contact in contacts:
+        scheme, colon, rest = contact.partition(":")
+        if len(contact.encode()) > 320 or not colon:
+            raise Refused(9)
+        if scheme.lower() != "mailto":
+            raise Refused(8)
+        if not rest or "?" in rest or "," in rest:
+            raise Refused(9)
+    return contacts
+
+
+def read_object(text):
+    """The JSON object of a text, else refusal 1."""
+    try:
+        value = json.loads(text)
+    except ValueError:
+        value = None
+    if not isinstance(value, dict):
+        raise Refused(1)
+    return value
+
+
+def is_all(*tests):
+    """Refusal 1 where a test fails."""
+    if not all(tests):
+        raise Refused(1)
+
+
+# ---- the desk
+
+
+class Desk:
+    """A desk: what was recorded, and how a line is answered."""
+
+    def __init__(self, lives=LIVES, base=BASE):
+        self.base, (self.nonce_life, self.order_life, self.authz_life) = base, lives
+        self.clock, self.m, self.random = 0, 0, b""
+        # Of a nonce: its 16 bytes, its date, and whether it was spent; serial 1 first.
+        self.nonces, self.accounts, self.orders, self.authorizations, self.challenges = [], [], [], [], []
+
+    # ---- statuses at m
+
+    def authorization_status(self, number):
+        found = self.authorizations[number - 1]
+        if found.end:
+            return found.end[0]
+        if self.m > found.expires:
+            return "expired"
+        is_valid = any(self.challenges[at - 1].status() == "valid" for at in found.challenges)
+        return "valid" if is_valid else "pending"
+
+    def order_status(self, number):
+        found = self.orders[number - 1]
+        statuses = {self.authorization_status(at) for at in found.authorizations}
+        if found.certificate:
+            return "valid"
+        if found.problem or self.m > found.expires or statuses & {"invalid", "expired", "deactivated", "revoked"}:
+            return "invalid"
+        return "processing" if found.csr else "ready" if statuses == {"valid"} else "pending"
+
+    def is_open(self, text):
+        data = bytes_of(text) if text is not None else None
+        if data is None or len(data) != 24:
+            return False
+        serial = int.from_bytes(data[:8], "big")
+        if not 1 <= serial <= len(self.nonces):
+            return False
+        random, issued, spent = self.nonces[serial - 1]
+        return random == data[8:] and not spent and self.m <= issued + self.nonce_life
+
+    def account_of(self, key):
+        """The number of the account that has a key, or None."""
+        return next((number for number, found in enumerate(self.accounts, 1) if found.key == key), None)
+
+    # ---- the tables
+
+    def tables(self, form=2):
+        """The rows of each table of the file, with the statuses at the clock."""
+        self.m = self.clock
+        tables = {
+            "meta": [(1, form, self.base, self.nonce_life, self.order_life, self.authz_life, self.clock, *map(len, (
+                self.nonces, self.accounts, self.orders, self.authorizations, self.challenges)))],
+            "nonce": [(serial, random, issued) for serial, (random, issued, spent) in enumerate(self.nonces, 1)
+                      if not spent and self.clock <= issued + self.nonce_life],
+            "account": [(number, found.key, compact(found.contacts), found.opened, *dated(found.end), found.status())
+                        for number, found in enumerate(self.accounts, 1)],
+            "ord": [self.order_row(number, found) for number, found in enumerate(self.orders, 1)],
+            "authz": [(number, found.account, found.base, int(found.wildcard), found.made, found.expires, *dated(found.end),
+                       self.authorization_status(number)) for number, found in enumerate(self.authorizations, 1)],
+            "ord_authz": [(number, place, at) for number, found in enumerate(self.orders, 1)
+                          for place, at in enumerate(found.authorizations, 1)],
+            "chall": [(number, found.authorization, found.kind, found.token, found.answered and found.answered[0],
+                       *dated(found.reported), found.status()) for number, found in enumerate(self.challenges, 1)],
+        }
+        keys = [(number, found.answered[1]) for number, found in enumerate(self.challenges, 1) if found.answered]
+        return {**tables, "chall_key": keys} if form > 1 else tables
+
+    def order_row(self, number, found):
+        problem = found.problem and compact({"detail": found.problem[0][1], "type": found.problem[0][0]})
+        return (number, found.account, found.made, found.expires, *dated(found.csr), *dated(found.certificate),
+                found.problem and found.problem[1], problem, self.order_status(number))
+
+    # ---- documents
+
+    def url(self, *parts):
+        return "/".join((self.base, *map(str, parts)))
+
+    def account_document(self, number):
+        found = self.accounts[number - 1]
+        return {"contact": found.contacts, "orders": self.url("account", number, "orders"), "status": found.status()}
+
+    def order_document(self, number):
+        found = self.orders[number - 1]
+        document = {
+            "authorizations": [self.url("authz", at) for at in found.authorizations],
+            "expires": moment_text(found.expires),
+            "finalize": self.url("order", number, "finalize"),
+            "identifiers": [{"type": "dns", "value": shown(name)} for name in found.names],
+            "status": self.order_status(number),
+        }
+        if found.certificate:
+            document["certificate"] = self.url("cert", number)
+        if found.problem:
+            kind, detail = found.problem[0]
+            document["error"] = {"detail": detail, "status": PROBLEMS[kind], "type": f"urn:ietf:params:acme:error:{kind}"}
+        return document
+
+    def authorization_document(self, number):
+        found = self.authorizations[number - 1]
+        reported = [at for at in found.challenges if self.challenges[at - 1].reported]
+        document = {
+            "challenges": [self.challenge_document(at) for at in reported or found.challenges],
+            "expires": moment_text(found.expires),
+            "identifier": {"type": "dns", "value": found.base},
+            "status": self.authorization_status(number),
+        }
+        return {**document, "wildcard": True} if found.wildcard else document
+
+    def challenge_document(self, number):
+        found = self.challenges[number - 1]
+        document = {"status": found.status(), "token": spelled(found.token), "type": found.kind, "url": self.url("chall", number)}
+        if found.status() == "valid":
+            document["validated"] = moment_text(found.reported[1])
+        if found.status() == "invalid":
+            status, detail = OUTCOMES[found.reported[0]]
+            document["error"] = {"detail": detail, "status": status, "type": f"urn:ietf:params:acme:error:{found.reported[0]}"}
+        return document
+
+    def expected(self, number):
+        """What proves a challenge: by the key that its account had when it was answered."""
+        found = self.challenges[number - 1]
+        text = f"{spelled(found.token)}.{spelled(found.answered[1])}"
+        return text if found.kind == "http-01" else spelled(hashlib.sha256(text.encode()).digest())
+
+    # ---- a line
+
+    def answer(self, call):
+        """The line of the reply to a call."""
+        if call["at"] > LATEST:
+            if self.is_call(call):
+                raise Fault("fault 24 moment")
+        self.m, self.random = max(call["at"], self.clock), bytes.fromhex(call["random"])
+        try:
+            status, location, nonce, body = self.told(call)
+        except Refused as refused:
+            status, location, nonce, body = self.problem(refused)
+        return f"{status} {location or '-'} {nonce or '-'} {body or '-'}"
+
+    def is_call(self, call):
+        """Whether a line can be read as a call."""
+        try:
+            self.read(call)
+        except Refused:
+            return False
+        return True
+
+    def problem(self, refused, nonce=None):
+        name, status, detail = REFUSALS[refused.number]
+        document = {"detail": detail, "status": status, "type": f"urn:ietf:params:acme:error:{name}"}
+        if refused.subproblems:
+            document["subproblems"] = [self.subproblem(*found) for found in refused.subproblems]
+        return status, refused.location, nonce, compact(document)
+
+    def subproblem(self, number, kind, value):
+        name, _, detail = REFUSALS[number]
+        return {"detail": detail, "identifier": {"type": kind, "value": value}, "type": f"urn:ietf:params:acme:error:{name}"}
+
+    def route(self, call):
+        """The name of a call and the number in its path."""
+        method, path, body = call["method"], call["path"], call["body"].encode()
+        if any(not "!" <= letter <= "~" for letter in method + path):
+            raise Refused(1)
+        if path and method and len(f"{method} {path} HTTP/1.1\r\nContent-Length: {len(body)}\r\n\r\n") > HEAD:
+            raise Refused(16)
+        for pattern, methods, name in ROUTES:
+            found = pattern.fullmatch(path)
+            if found and all(int(number) <= LAST for number in found.groups()):
+                if method not in methods:
+                    raise Refused(3)
+                if method == "POST" and len(body) > (CERTIFICATE if name == "certify" else BODY):
+                    raise Refused(16)
+                return name, [int(number) for number in found.groups()]
+        raise Refused(2)
+
+    def read(self, call):
+        """A call: its name, the number in its path, and what its body says."""
+        name, numbers = self.route(call)
+        if name not in UNSIGNED:
+            return name, numbers, self.read_envelope(call["body"])
+        if name == "report":
+            return name, numbers, self.read_report(call["body"])
+        if name == "fail":
+            problem = read_object(call["body"])
+            is_all(isinstance(problem.get("type"), str), isinstance(problem.get("detail"), str))
+            return name, numbers, (problem["type"], problem["detail"])
+        return name, numbers, call["method"] if name == "new_nonce" else call["body"].encode()
+
+    @staticmethod
+    def read_envelope(body):
+        envelope = read_object(body)
+        nonce = envelope.get("nonce", "AAAA")
+        is_all("jwk" in envelope, isinstance(envelope.get("payload"), str), isinstance(nonce, str))
+        is_all(re.fullmatch(r"[A-Za-z0-9_-]+", nonce), len(nonce) % 4 != 1)
+        return envelope
+
+    @staticmethod
+    def read_report(body):
+        report = read_object(body)
+        kinds = [name for name in ("body", "records", "error") if name in report]
+        is_all(len(kinds) == 1)
+        kind, value = kinds[0], report[kinds[0]]
+        if kind == "body":
+            is_all(isinstance(value, str) and bytes_of(value) is not None)
+        is_all(kind != "records" or is_texts(value), kind != "error" or value in ("connection", "dns"))
+        return kind, value
+
+    def told(self, call):
+        name, numbers, said = self.read(call)
+        if name in UNSIGNED:
+            return getattr(self, name)(*numbers, said)
+        return self.signed(name, numbers, said)
+
+    # ---- signed requests
+
+    def take(self, at):
+        """The random bytes of the nonce, at 0, or of a token."""
+        data = self.random[16 * at:16 * at + 16]
+        if len(data) < 16:
+            raise Fault("fault 25 short random")
+        return data
+
+    def issue(self):
+        """Issues a nonce, which sets the clock."""
+        if len(self.nonces) >= LAST:
+            raise Fault("fault 26 full")
+        random = self.take(0)
+        self.nonces.append((random, self.m, False))
+        self.clock = self.m
+        return spelled(len(self.nonces).to_bytes(8, "big") + random)
+
+    def signed(self, name, numbers, envelope):
+        """A signed request: its nonce, its key, its account, and what it asks."""
+        nonce = envelope.get("nonce")
+        if not self.is_open(nonce):
+            return self.problem(Refused(4), self.issue())
+        try:
+            account = self.checked(name, envelope["jwk"])
+            reply = getattr(self, name)(*numbers, account, envelope["payload"])
+        except Refused as refused:
+            self.spend(nonce)
+            return self.problem(refused, self.issue())
+        self.spend(nonce)
+        status, location, body = reply
+        return status, location, self.issue(), body if isinstance(body, str) else compact(body())
+
+    def spend(self, nonce):
+        self.take(0)
+        serial = int.from_bytes(bytes_of(nonce)[:8], "big")
+        random, issued, _ = self.nonces[serial - 1]
+        self.nonces[serial - 1] = (random, issued, True)
+
+    def checked(self, name, key):
+        """The number of the account of a request's key; that of a new account has the text of its key beside it."""
+        text = canonical(key)
+        if text is None:
+            raise Refused(5)
+        number = self.account_of(text)
+        if number is None and name != "new_account":
+            raise Refused(6)
+        if number is not None and self.accounts[number - 1].status() != "valid":
+            raise Refused(7)
+        return (number, text) if name == "new_account" else number
+
+    def new_account(self, account, payload):
+        number, key = account
+        wanted = read_object(payload)
+        is_all(is_texts(wanted.get("contact", [])), isinstance(wanted.get("onlyReturnExisting", False), bool))
+        if number is not None:
+            return 200, self.url("account", number), lambda: self.account_document(number)
+        if wanted.get("onlyReturnExisting"):
+            raise Refused(6)
+        contacts = read_contacts(wanted.get("contact", []))
+        self.take(0)
+        self.accounts.append(Account(key, contacts, self.m))
+        made = len(self.accounts)
+        return 201, self.url("account", made), lambda: self.account_document(made)
+
+    def key_change(self, account, payload):
+        wanted = read_object(payload)
+        is_all(isinstance(wanted.get("account"), str), *(isinstance(wanted.get(name), dict) for name in ("newKey", "oldKey")))
+        old, new = canonical(wanted["oldKey"]), canonical(wanted["newKey"])
+        is_all(wanted["account"] == self.url("account", account), old == self.accounts[account - 1].key)
+        if new is None:
+            raise Refused(5)
+        owner = self.account_of(new)
+        if owner is not None:
+            raise Refused(17, self.url("account", owner))
+        self.take(0)
+        self.accounts[account - 1].key = new
+        return 200, None, lambda: self.account_document(account)
+
+    def account(self, number, account, payload):
+        if number != account:
+            raise Refused(2)
+        wanted = read_object(payload) if payload else {}
+        if wanted.get("status") == "deactivated":
+            self.take(0)
+            self.end_account(account, "deactivated")
+        else:
+            is_all(is_texts(wanted.get("contact", [])))
+            contacts = read_contacts(wanted.get("contact", self.accounts[account - 1].contacts))
+            self.take(0)
+            self.accounts[account - 1].contacts = contacts
+        return 200, None, lambda: self.account_document(account)
+
+    def end_account(self, account, kind):
+        for number, found in enumerate(self.authorizations, 1):
+            if found.account == account and self.authorization_status(number) in ("pending", "valid"):
+                found.end = (kind, self.m)
+        self.accounts[account - 1].end = (kind, self.m)
+
+    def account_orders(self, number, account, payload):
+        if number != account:
+            raise Refused(2)
+        is_all(not payload)
+        numbers = [at for at, found in enumerate(self.orders, 1) if found.account == account and self.order_status(at) != "invalid"]
+        return 200, None, lambda: {"orders": [self.url("order", at) for at in numbers]}
+
+    # ---- orders
+
+    def new_order(self, account, payload):
+        names = self.kept_names(read_object(payload))
+        expires = self.m + self.order_life
+        serving = [self.serving(account, name, expires) for name in names]
+        tokens = sum(1 if name[1] else 2 for name, found in zip(names, serving) if found is None)
+        drawn = [self.take(at) for at in range(1 + tokens)][1:]
+        listed = [found or self.make_authorization(account, name, drawn) for name, found in zip(names, serving)]
+        self.orders.append(Order(account, self.m, expires, names, listed))
+        made = len(self.orders)
+        return 201, self.url("order", made), lambda: self.order_document(made)
+
+    @staticmethod
+    def kept_names(wanted):
+        """The names of a newOrder, each once."""
+        identifiers = wanted.get("identifiers")
+        is_all("notBefore" not in wanted, "notAfter" not in wanted, isinstance(identifiers, list) and 1 <= len(identifiers) <= 50)
+        is_all(*(isinstance(found, dict) and is_texts([found.get("type"), found.get("value")]) for found in identifiers))
+        faulty = []
+        for found in identifiers:
+            number = 10 if found["type"] != "dns" else 11 if read_name(found["value"]) is None else None
+            if number:
+                faulty.append((number, found["type"], found["value"]))
+        if faulty:
+            raise Refused(faulty[0][0], None, faulty)
+        return list(dict.fromkeys(read_name(found["value"]) for found in identifiers))
+
+    def serving(self, account, name, expires):
+        """The least authorization that a name of a new order uses again, or None."""
+        for number, found in enumerate(self.authorizations, 1):
+            is_same = (found.account, found.base, found.wildcard) == (account, *name)
+            if is_same and self.authorization_status(number) == "valid" and expires <= found.expires:
+                return number
+        return None
+
+    def make_authorization(self, account, name, drawn):
+        made, numbers = len(self.authorizations) + 1, []
+        for kind in ("dns-01",) if name[1] else ("http-01", "dns-01"):
+            self.challenges.append(Challenge(made, kind, drawn.pop(0)))
+            numbers.append(len(self.challenges))
+        self.authorizations.append(Authorization(account, *name, self.m, self.m + self.authz_life, numbers))
+        return made
+
+    def own_order(self, number, account):
+        if not 1 <= number <= len(self.orders) or self.orders[number - 1].account != account:
+            raise Refused(2)
+        return self.orders[number - 1]
+
+    def order(self, number, account, payload):
+        self.own_order(number, account)
+        is_all(not payload)
+        return 200, None, lambda: self.order_document(number)
+
+    def finalize(self, number, account, payload):
+        found = self.own_order(number, account)
+        wanted = read_object(payload)
+        is_all(isinstance(wanted.get("csr"), str))
+        if self.order_status(number) != "ready":
+            raise Refused(12)
+        csr = bytes_of(wanted["csr"])
+        if csr is None or not 1 <= len(csr) <= 8192:
+            raise Refused(13)
+        self.take(0)
+        found.csr = (csr, self.m)
+        return 200, self.url("order", number), lambda: self.order_document(number)
+
+    def certificate(self, number, account, payload):
+        found = self.own_order(number, account)
+        is_all(not payload)
+        if self.order_status(number) != "valid":
+            raise Refused(2)
+        return 200, None, f"hex:{found.certificate[0].hex()}"
+
+    # ---- authorizations and challenges
+
+    def authorization(self, number, account, payload):
+        if not 1 <= number <= len(self.authorizations) or self.authorizations[number - 1].account != account:
+            raise Refused(2)
+        is_all(not payload or read_object(payload).get("status") == "deactivated")
+        if payload and self.authorization_status(number) in ("pending", "valid"):
+            self.take(0)
+            self.authorizations[number - 1].end = ("deactivated", self.m)
+        return 200, None, lambda: self.authorization_document(number)
+
+    def challenge(self, number, account, payload):
+        found = self.challenges[number - 1] if 1 <= number <= len(self.challenges) else None
+        if found is None or self.authorizations[found.authorization - 1].account != account:
+            raise Refused(2)
+        if payload:
+            read_object(payload)
+            if found.status() == self.authorization_status(found.authorization) == "pending":
+                self.take(0)
+                found.answered = (self.m, thumbprint(self.accounts[account - 1].key))
+        return 200, None, lambda: self.challenge_document(number)
+
+    # ---- what is not signed
+
+    def directory(self, _):
+        names = {"keyChange": "key-change", "newAccount": "new-account", "newNonce": "new-nonce", "newOrder": "new-order"}
+        return 200, None, None, compact({name: self.url(path) for name, path in names.items()})
+
+    def new_nonce(self, method):
+        return 200 if method == "HEAD" else 204, None, self.issue(), None
+
+    def key_of(self, number, _):
+        if not 1 <= number <= len(self.accounts):
+            raise Refused(2)
+        return 200, None, None, self.accounts[number - 1].key
+
+    def challenge_work(self, _):
+        listed = []
+        for number, found in enumerate(self.challenges, 1):
+            if found.status() == "processing" and self.authorization_status(found.authorization) == "pending":
+                name = self.authorizations[found.authorization - 1].base
+                listed.append({"challenge": number, "expected": self.expected(number), "name": name, "token": spelled(found.token), "type": found.kind})
+        return 200, None, None, compact({"challenges": listed})
+
+    def order_work(self, _):
+        listed = []
+        for number, found in enumerate(self.orders, 1):
+            if self.order_status(number) == "processing":
+                listed.append({"csr": spelled(found.csr[0]), "names": [shown(name) for name in found.names], "order": number})
+        return 200, None, None, compact({"orders": listed})
+
+    def outcome(self, number, kind, value):
+        """The outcome of a finding."""
+        if kind == "error":
+            return value
+        if not self.challenges[number - 1].answered:
+            return None
+        expected = self.expected(number)
+        if kind == "records":
+            return "good" if expected in value else "incorrectResponse"
+        return "good" if bytes_of(value).rstrip(b" \t\r\n") == expected.encode() else "incorrectResponse"
+
+    def report(self, number, said):
+        kind, value = said
+        if not 1 <= number <= len(self.challenges):
+            raise Refused(2)
+        found = self.challenges[number - 1]
+        is_all(kind != "body" or found.kind == "http-01", kind != "records" or found.kind == "dns-01")
+        outcome = self.outcome(number, kind, value)
+        if not (found.reported and found.reported[0] == outcome):
+            if found.status() != "processing" or self.authorization_status(found.authorization) != "pending":
+                raise Refused(14)
+            found.reported, self.clock = (outcome, self.m), self.m
+            if outcome != "good":
+                self.authorizations[found.authorization - 1].end = ("invalid", self.m)
+        return 200, None, None, compact(self.challenge_document(number))
+
+    def certify(self, number, data):
+        if not 1 <= number <= len(self.orders):
+            raise Refused(2)
+        is_all(data)
+        found = self.orders[number - 1]
+        if not (found.certificate and found.certificate[0] == data):
+            if self.order_status(number) != "processing":
+                raise Refused(14)
+            found.certificate, self.clock = (data, self.m), self.m
+        return 200, None, None, compact(self.order_document(number))
+
+    def fail(self, number, problem):
+        if not 1 <= number <= len(self.orders):
+            raise Refused(2)
+        is_all(problem[0] in PROBLEMS, 1 <= len(problem[1].encode()) <= 256)
+        found = self.orders[number - 1]
+        if not (found.problem and found.problem[0] == problem):
+            if self.order_status(number) != "processing":
+                raise Refused(14)
+            found.problem, self.clock = (problem, self.m), self.m
+        return 200, None, None, compact(self.order_document(number))

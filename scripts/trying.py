@@ -1,0 +1,112 @@
+"""What the scripts that try the program share: what is not as it should be, runs of the program, and what a desk's file holds."""
+import base64
+import os
+import shutil
+import sqlite3
+import subprocess
+import sys
+import tempfile
+
+ROOT = os.path.dirname(os.path.dirname(os.path.abspath(__file__)))
+BASE = "https://ca.example"
+KEY = {"crv": "P-256", "kty": "EC", "x": "AQ", "y": "Ag"}
+TABLES = {
+    "meta": "id format base nonce_life order_life authz_life clock nonces accounts orders authzs challs",
+    "nonce": "serial random issued",
+    "account": "num jwk contacts opened ended end_kind status",
+    "ord": "num account made expires finalized csr certified cert failed problem status",
+    "authz": "num account name wildcard made expires ended end_kind status",
+    "ord_authz": "ord place authz",
+    "chall": "num authz kind token answered reported outcome status",
+    "chall_key": "chall thumb",
+}
+# How the program ends without a desk.
+NOT_A_DESK = (1, b"", b"desk: fault 23 not a desk\n")
+faults = []
+
+
+def see(what, found, wanted):
+    """Notes what is not as it should be."""
+    if found != wanted:
+        faults.append(f"{what}: {found!r}, not {wanted!r}")
+
+
+def finish(name):
+    """Prints the faults, and gives the exit status."""
+    print("\n".join(faults + [f"{name}: {len(faults)} not as they should be."]))
+    return 1 if faults else 0
+
+
+def begin(main, doc):
+    """Ends the script by what `main` makes of the program that its one word names."""
+    if len(sys.argv) != 2:
+        sys.exit(doc)
+    sys.exit(main(os.path.abspath(sys.argv[1])))
+
+
+def run(program, *words, given=b"", **options):
+    """The exit status, the output and the errors of the program."""
+    ran = subprocess.run([program, *words], **{"input": given, "stdout": subprocess.PIPE, "stderr": subprocess.PIPE, **options})
+    return ran.returncode, ran.stdout, ran.stderr
+
+
+def example(name):
+    """The lines of a batch of examples/, and its replies."""
+    with open(f"{ROOT}/examples/{name}.jsonl", "rb") as calls, open(f"{ROOT}/examples/{name}.expected", "rb") as replies:
+        return calls.read().splitlines(keepends=True), replies.read()
+
+
+def fresh(program, folder, name, *terms):
+    """A file with a new desk."""
+    path = f"{folder}/{name}.db"
+    see(f"make {name}", run(program, "make", path, "--base", BASE, *terms), (0, b"made\n", b""))
+    return path
+
+
+def checked(program, path):
+    """The end, the output and the errors of a check of the stored statuses, which opens the file again."""
+    return run(program, "check", path)
+
+
+def nonce_text(serial):
+    """The text of the nonce of a serial, with zero random bytes."""
+    return base64.urlsafe_b64encode(serial.to_bytes(8, "big") + bytes(16)).decode()
+
+
+def copy(path, to):
+    """Copies a file and its log over another."""
+    remove(to)
+    for end in ("", "-wal"):
+        if os.path.exists(path + end):
+            shutil.copy(path + end, to + end)
+
+
+def remove(path):
+    """Removes a file and its log, where they are there."""
+    for end in ("", "-wal"):
+        if os.path.exists(path + end):
+            os.remove(path + end)
+
+
+def change(path, *statements):
+    """Changes a file by another program."""
+    found = sqlite3.connect(path)
+    for statement in statements:
+        found.execute(statement)
+    found.commit()
+    found.close()
+
+
+def tables_of(path, folder):
+    """The rows of each table of the file and its log, read in a copy by SQLite."""
+    with tempfile.TemporaryDirectory(dir=folder) as room:
+        copy(path, f"{room}/copy.db")
+        with sqlite3.connect(f"{room}/copy.db") as found:
+            found.text_factory = bytes
+            try:
+                if found.execute("PRAGMA integrity_check").fetchone() != (b"ok",):
+                    return "no sound database"
+            except sqlite3.DatabaseError as error:
+                return str(error)
+            known = {name.decode() for (name,) in found.execute("SELECT name FROM sqlite_schema WHERE type = 'table'")}
+            return {name: sorted(found.execute(f"SELECT * FROM {name}"), key=repr) for name in TABLES if name in known}
