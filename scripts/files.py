@@ -1,10 +1,11 @@
 #!/usr/bin/env python3
 """Tries the program over files: scripts/files.py PROGRAM
 
-A desk in a file gives the replies of the batches in examples/, in one run and in two, cut at each line; wrong words, files
+A desk in a file gives the replies of the batches in examples/, in one run and in two, cut at some lines; wrong words, files
 and terms end as docs/SPECIFICATION.md says, section 14; files of format 1 become format 2 (upgrades.py); and where SQLite's own
 shell is there, it reads the file.
 """
+import json
 import os
 import resource
 import shutil
@@ -15,32 +16,49 @@ import struct
 import subprocess
 import tempfile
 
-from trying import NOT_A_DESK, ROOT, TABLES, begin, change, example, finish, fresh, run, see
+from model import LIVES, Desk
+from trying import NOT_A_DESK, ROOT, TABLES, begin, change, example, finish, fresh, run, see, tables_of
 from upgrades import later_calls, strange_upgrades, upgrades
 
 
-# The lives of the desks that answer the batches of a folder of examples/, where they are not the default ones.
-LIVES = {"": (), "short-lives/": ("--order-life", "100", "--authz-life", "100")}
+# The folders of batches below examples/, with the lives of nonces, orders and authorizations of the desks that answer them.
+BATCHES = {"": LIVES, "short-lives": (3600, 100, 100)}
+# The batches that have names and heads of which scripts/model.py knows nothing.
+UNKNOWN = ("names", "limits")
 
 
 def batches(program, folder):
-    """Each batch of examples/ over a file, whole and in two runs."""
-    for group, lives in LIVES.items():
+    """Each batch of examples/ over a file, whole and in two runs; the model gives the same replies and tables."""
+    for group, lives in BATCHES.items():
+        room = f"{folder}/batches-{group}"
+        os.mkdir(room)
         for file in sorted(os.listdir(f"{ROOT}/examples/{group}")):
             if file.endswith(".jsonl"):
-                whole_and_cut(program, folder, group, file[:-6], lives)
+                calls, wanted = example(f"{group}/{file[:-6]}")
+                path = whole_and_cut(program, room, file[:-6], lives, calls, wanted)
+                if file[:-6] not in UNKNOWN:
+                    model = Desk(lives)
+                    see(f"{file}: the model's replies", "".join(model.answer(json.loads(call)) + "\n" for call in calls).encode(), wanted)
+                    see(f"{file}: the model's tables", tables_of(path, folder), stored(model.tables()))
 
 
-def whole_and_cut(program, folder, group, name, lives):
-    """A batch over a file, whole and in two runs."""
-    calls, wanted = example(group + name)
-    path = fresh(program, folder, name, *lives)
-    see(f"{name} over a file", run(program, "batch", "--file", path, given=b"".join(calls)), (0, wanted, b""))
+def stored(tables):
+    """A model's tables as they are read from a file."""
+    return {name: sorted((tuple(text.encode() if isinstance(text, str) else text for text in row) for row in rows), key=repr)
+            for name, rows in tables.items()}
+
+
+def whole_and_cut(program, folder, name, lives, calls, wanted):
+    """A batch over a file, whole and in two runs; the file of the whole one."""
+    terms = [word for kind, life in zip(("nonce", "order", "authz"), lives) for word in (f"--{kind}-life", str(life))]
+    whole = fresh(program, folder, name, *terms)
+    see(f"{name} over a file", run(program, "batch", "--file", whole, given=b"".join(calls)), (0, wanted, b""))
     for cut in sorted({1, len(calls) // 3, len(calls) // 2, len(calls) - 1} - {0, len(calls)}):
-        path = fresh(program, folder, f"{name}-{cut}", *lives)
+        path = fresh(program, folder, f"{name}-{cut}", *terms)
         first = run(program, "batch", "--file", path, given=b"".join(calls[:cut]))
         second = run(program, "batch", "--file", path, given=b"".join(calls[cut:]))
         see(f"{name} cut at {cut}", (first[0], second[0], first[1] + second[1]), (0, 0, wanted))
+    return whole
 
 
 def ends(program, folder):

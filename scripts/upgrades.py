@@ -115,6 +115,7 @@ def later_calls(program, folder):
         see(f"{name}, then a key change and a report by the new key", outcomes(program, path, calls), [(200, "valid"), (200, "invalid")])
     path = restore("several", f"{folder}/several.db")
     serial = tables_of(path, folder)["nonce"][-1][0]
+    other = {**KEY, "x": "BQ"}
     calls = [key_change(serial, KEY, other), report(6, KEY), report(3, other), report(20, fourth, is_dns=True), report(18, KEY)]
     wanted = [(200, "valid"), (200, "valid"), (200, "invalid"), (200, "valid"), (409, 409)]
     see("several, then a key change and reports", outcomes(program, path, calls), wanted)
