@@ -128,7 +128,7 @@ PATHS = f"""
     /order/1?x /order/{LAST + 1} /order/99999999999999999999 /Order/1 /order/01 /order/0 /order/ /order /order/+1 /order/1/
     //order/1 /order/1/finalize/ /order/1/finalize?x /order/1/x /order/%31 /order/1#x /order/1;x /new-order? /new-order/ / *
     /directory?x http://ca.example/new-order /directory/../new-order /office /office/ /office/order /office/report /key/1 /account/1/order
-    /revoke-cert /key-change
+    /revoke-cert /keyChange /key-change/ /key-change/1
 """
 
 

@@ -17,7 +17,7 @@ import subprocess
 import tempfile
 
 from model import LIVES, Desk
-from trying import NOT_A_DESK, ROOT, TABLES, begin, change, example, finish, fresh, run, see, tables_of
+from trying import NOT_A_DESK, ROOT, TABLES, begin, change, example, finish, fresh, run, see, stored, tables_of, terms_of
 from upgrades import later_calls, strange_upgrades, upgrades
 
 
@@ -42,15 +42,9 @@ def batches(program, folder):
                     see(f"{file}: the model's tables", tables_of(path, folder), stored(model.tables()))
 
 
-def stored(tables):
-    """A model's tables as they are read from a file."""
-    return {name: sorted((tuple(text.encode() if isinstance(text, str) else text for text in row) for row in rows), key=repr)
-            for name, rows in tables.items()}
-
-
 def whole_and_cut(program, folder, name, lives, calls, wanted):
     """A batch over a file, whole and in two runs; the file of the whole one."""
-    terms = [word for kind, life in zip(("nonce", "order", "authz"), lives) for word in (f"--{kind}-life", str(life))]
+    terms = terms_of(lives)
     whole = fresh(program, folder, name, *terms)
     see(f"{name} over a file", run(program, "batch", "--file", whole, given=b"".join(calls)), (0, wanted, b""))
     for cut in sorted({1, len(calls) // 3, len(calls) // 2, len(calls) - 1} - {0, len(calls)}):

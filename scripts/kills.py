@@ -24,7 +24,7 @@ from served import NEW_NONCE, Client, Reply, Server, serial_of
 from trying import BASE, KEY, checked, faults, finish, fresh, see, tables_of
 
 # How long the program serves, and how long it opens a file of format 1, before it is killed, in seconds, at most.
-LONGEST, LONGEST_OPENING = 0.08, 0.03
+LONGEST, LONGEST_OPENING = 0.08, 0.1
 # The name that is validated before the kills.
 VALIDATED = "a.example"
 

@@ -348,8 +348,12 @@ class Desk:
 
     def expected(self, number):
         """What proves a challenge: by the key that its account had when it was answered."""
+        return self.proof(number, self.challenges[number - 1].answered[1])
+
+    def proof(self, number, thumbprint):
+        """What would prove a challenge by the key of a thumbprint."""
         found = self.challenges[number - 1]
-        text = f"{spelled(found.token)}.{spelled(found.answered[1])}"
+        text = f"{spelled(found.token)}.{spelled(thumbprint)}"
         return text if found.kind == "http-01" else spelled(hashlib.sha256(text.encode()).digest())
 
     # ---- a line

@@ -63,6 +63,11 @@ def fresh(program, folder, name, *terms):
     return path
 
 
+def terms_of(lives):
+    """The words of `make` that give the lives of nonces, orders and authorizations."""
+    return [word for kind, life in zip(("nonce", "order", "authz"), lives) for word in (f"--{kind}-life", str(life))]
+
+
 def checked(program, path):
     """The end, the output and the errors of a check of the stored statuses, which opens the file again."""
     return run(program, "check", path)
@@ -110,3 +115,9 @@ def tables_of(path, folder):
                 return str(error)
             known = {name.decode() for (name,) in found.execute("SELECT name FROM sqlite_schema WHERE type = 'table'")}
             return {name: sorted(found.execute(f"SELECT * FROM {name}"), key=repr) for name in TABLES if name in known}
+
+
+def stored(tables):
+    """A model's tables as they are read from a file."""
+    return {name: sorted((tuple(text.encode() if isinstance(text, str) else text for text in row) for row in rows), key=repr)
+            for name, rows in tables.items()}
