@@ -5,7 +5,7 @@ HAS_RT := command -v rt >/dev/null || { echo 'desk: rt is not on PATH; the kit h
 
 PREFIX ?= /usr/local
 
-.PHONY: all bench edits first growths hostile install kills planted test try
+.PHONY: all bench edits first growths hostile install kills planted predicted test try
 
 all: bin/desk
 
@@ -50,11 +50,13 @@ test: edits
 		diff $${calls%.jsonl}.expected bin/output && diff $${calls%.jsonl}.errors bin/errors || exit 1; \
 	done; rm -f bin/output bin/errors
 	@echo 'The replies are the expected ones.'
-	@echo 'Trying the program over files: the same batches, whole and cut in two, and what ends a command.'
+	@echo 'Trying the program over files: the same batches, whole and cut in two, files of format 1, and what ends a command.'
 	@python3 -B scripts/files.py bin/desk
+	@echo 'Comparing random batches with a model of the specification, 40 of them (make predicted: 100).'
+	@python3 -B scripts/predicted.py bin/desk --batches 40
 	@echo "Trying the operator's words: reports and revocations."
 	@python3 -B scripts/words.py bin/desk
-	@echo 'Stopping the program at each write to a file, and failing each call to the disk once.'
+	@echo 'Stopping the program at each write to a file, the upgrade of a file too, and failing each call to the disk once.'
 	@python3 -B scripts/stops.py bin/desk
 	@echo 'Serving over loopback: replies byte for byte, requests that are none, clients that are gone, what ends the program.'
 	@python3 -B scripts/serve.py bin/desk
@@ -65,8 +67,9 @@ test: edits
 	@echo 'Answering the first batch without proof, as make try does.'
 	@python3 -B scripts/try.py
 
-# Each growth of memory of a request refused in turn, minutes; five minutes of hostile requests; 200 kills while it serves.
-growths hostile kills:
+# Each growth of memory of a request refused in turn, minutes; five minutes of hostile requests; 200 kills while it serves; 100
+# random batches beside the model.
+growths hostile kills predicted:
 	@test -x bin/desk || { echo 'desk: there is no bin/desk; make builds it' >&2; exit 1; }
 	@python3 -B scripts/$@.py bin/desk
 

@@ -8,6 +8,7 @@ same length. Where gcc or /dev/shm is missing, so are its lines.
     python3 bench/loopback.py [--program bin/desk] [--turns 30] [--calls 50]
 """
 import argparse
+import base64
 import json
 import os
 import shutil
@@ -21,9 +22,18 @@ import time
 
 HERE = os.path.dirname(os.path.abspath(__file__))
 TOP = os.path.dirname(HERE)
-KEY = {"crv": "P-256", "kty": "EC", "x": "AQ", "y": "Ag"}
+BASE = "https://ca.example"
+KEYS = [{"crv": "P-256", "kty": "EC", "x": text, "y": "Ag"} for text in ("AQ", "Aw")]
 NONCE = b"GET /new-nonce HTTP/1.1\r\nHost: 127.0.0.1\r\n\r\n"
-KINDS = ("newNonce", "newOrder")
+# The kinds of requests, with the status of the reply.
+KINDS = {"newNonce": 204, "newOrder": 201, "newOrder, its name validated": 201, "key change": 200}
+VALIDATED = "validated.example"
+
+
+def posted(path, document):
+    """The bytes of a POST of a document."""
+    body = json.dumps(document).encode()
+    return b"POST %s HTTP/1.1\r\nHost: 127.0.0.1\r\nContent-Length: %d\r\n\r\n%s" % (path.encode(), len(body), body)
 
 
 class Server:
@@ -33,6 +43,8 @@ class Server:
         self.run = subprocess.Popen(words, stdin=subprocess.DEVNULL, stdout=subprocess.PIPE)
         self.address = ("127.0.0.1", int(self.run.stdout.readline().rsplit(b":", 1)[1]))
         self.nonce, self.orders, self.seconds = b"A" * 32, 0, {kind: [] for kind in KINDS}
+        # The account's key, and the one that it changes to.
+        self.keys = KEYS
 
     def ask(self, data):
         """The reply to a request, on a connection of its own."""
@@ -44,15 +56,33 @@ class Server:
         return b"".join(parts)
 
     def signed(self, path, payload):
-        body = json.dumps({"jwk": KEY, "nonce": self.nonce.decode(), "payload": json.dumps(payload)}).encode()
-        return b"POST %s HTTP/1.1\r\nHost: 127.0.0.1\r\nContent-Length: %d\r\n\r\n%s" % (path.encode(), len(body), body)
+        return posted(path, {"jwk": self.keys[0], "nonce": self.nonce.decode(), "payload": json.dumps(payload)})
 
     def request(self, kind):
         """The bytes of a request of a kind."""
         if kind == "newNonce":
             return NONCE
-        self.orders += 1
-        return self.signed("/new-order", {"identifiers": [{"type": "dns", "value": f"n{self.orders:06}.example"}]})
+        if kind == "key change":
+            return self.signed("/key-change", {"account": f"{BASE}/account/1", "newKey": self.keys[1], "oldKey": self.keys[0]})
+        self.orders += kind == "newOrder"
+        return self.ordered(f"n{self.orders:06}.example" if kind == "newOrder" else VALIDATED)
+
+    def ordered(self, name):
+        return self.signed("/new-order", {"identifiers": [{"type": "dns", "value": name}]})
+
+    def asked(self, kind, data):
+        """Asks a request of a kind, and takes up the nonce and the account's key."""
+        reply = self.call(data, KINDS[kind])
+        self.keys = self.keys[::-1] if kind == "key change" else self.keys
+        return reply
+
+    def validate(self):
+        """Has the first challenge validated."""
+        self.call(self.ordered(VALIDATED), 201)
+        self.call(self.signed("/chall/1", {}), 200)
+        tried = json.loads(self.ask(b"GET /office/challenges HTTP/1.1\r\n\r\n").partition(b"\r\n\r\n")[2])
+        expected = tried["challenges"][0]["expected"].encode()
+        self.ask(posted("/office/report/1", {"body": base64.urlsafe_b64encode(expected).rstrip(b"=").decode()}))
 
     def call(self, data, status):
         """Asks, and takes up the nonce."""
@@ -68,7 +98,7 @@ class Server:
         for _ in range(calls):
             data = self.request(kind)
             start = time.perf_counter()
-            self.call(data, 204 if kind == "newNonce" else 201)
+            self.asked(kind, data)
             total += time.perf_counter() - start
         self.seconds[kind].append(total / calls)
 
@@ -81,12 +111,13 @@ class Server:
 
 
 def desk(program, folder):
-    """A desk over a new file in a folder, with an account."""
+    """A desk over a new file in a folder, with an account that has a name validated."""
     path = f"{folder}/desk.db"
-    subprocess.run([program, "make", path, "--base", "https://ca.example"], stdout=subprocess.DEVNULL, check=True)
+    subprocess.run([program, "make", path, "--base", BASE], stdout=subprocess.DEVNULL, check=True)
     server = Server(program, "serve", path, "--port", "0")
     server.call(NONCE, 204)
     server.call(server.signed("/new-account", {}), 201)
+    server.validate()
     return server
 
 
@@ -105,7 +136,7 @@ def measure(program, turns, calls):
     with tempfile.TemporaryDirectory(dir=f"{TOP}/bin") as folder, tempfile.TemporaryDirectory(dir=shared) as memory:
         desks = {"disk": desk(program, folder)} | ({"memory": desk(program, memory)} if shared else {})
         first = desks["disk"]
-        replies = {kind: first.call(first.request(kind), 204 if kind == "newNonce" else 201) for kind in KINDS}
+        replies = {kind: first.asked(kind, first.request(kind)) for kind in KINDS}
         idle = nothing(folder, replies)
         for _ in range(turns):
             for kind in KINDS:

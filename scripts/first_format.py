@@ -12,6 +12,8 @@ import sqlite3
 from trying import ROOT, remove
 
 FOLDER = f"{ROOT}/examples/format-1"
+# Those whose opening is stopped at each write: one has its log beside it, one has rows of each kind.
+RICH = ("killed", "several")
 
 
 def first_files():

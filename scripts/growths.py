@@ -7,9 +7,10 @@ refusal 15 without a nonce, or nothing; the tables are those before the request 
 is the one with ample memory. The next request is served, or the program ended by a fault that closes the desk, and a new one
 serves over its file.
 
-Then each growth of a `batch` of one call over a file is refused, those of its opening and closing too. It ends as with ample
-memory, or by fault 20 or 22 and with status 1; the tables are those before the call or those after it, and `check` finds no
-fault. With a step only each N-th growth is refused, and of a batch each 17 N-th. Without gcc nothing is tried, and it says so.
+Then each growth of a `batch` of one call over a file is refused, those of its opening and closing too, and of one without calls
+over files of format 1, which their opening makes format 2. It ends as with ample memory, or by fault 20 or 22 and with status
+1; the tables are those before the call or those after it, and `check` finds no fault. With a step only each N-th growth is
+refused, and of a batch each 17 N-th. Without gcc nothing is tried, and it says so.
 """
 import argparse
 import base64
@@ -23,7 +24,7 @@ import subprocess
 import sys
 import tempfile
 
-from first_format import first_files, restore
+from first_format import RICH, restore
 from served import DIRECTORY, NEW_NONCE, Client, Reply, Server, refusal, signed
 from stops import SCENARIOS, Desk, Whole, first_calls
 from trying import BASE, KEY, ROOT, finish, fresh, see, tables_of
@@ -234,7 +235,7 @@ def batches(program, preload, folder, step):
     for name, call, _ in first_calls(desk):
         refuse_batch(Whole(name, program, desk.path, call, folder), preload, step)
         desk.answer(call)
-    for name in first_files():
+    for name in RICH:
         first = restore(name, f"{folder}/{name}.db")
         refuse_batch(Whole(f"the upgrade of {name}", program, first, b"", folder), preload, step)
 

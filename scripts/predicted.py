@@ -140,10 +140,9 @@ class Calls:
         """A batch; it ends early where a call ends in a fault."""
         kinds = (self.new_nonce, self.key_change, self.account, self.authorization, *(self.new_account, self.office) * 2,
                  *(self.new_order, self.order, self.challenge, self.report) * 4)
-        self.call("GET", "/new-nonce")
-        for _ in range(CALLS):
-            if not self.chance.choice(kinds)():
-                break
+        is_going = self.call("GET", "/new-nonce")
+        while is_going and len(self.lines) < CALLS:
+            is_going = self.chance.choice(kinds)()
 
 
 def compare(name, program, folder, chance):

@@ -15,7 +15,7 @@ import shutil
 import subprocess
 import tempfile
 
-from first_format import first_files, is_first, restore, upgraded
+from first_format import RICH, is_first, restore, upgraded
 from trying import BASE, KEY, ROOT, begin, checked, copy, faults, finish, fresh, nonce_text, remove, run, see, tables_of
 
 STOPPED = 77
@@ -163,8 +163,8 @@ def try_call(name, desk, call, statuses, preload, folder):
 
 
 def try_upgrades(program, preload, folder):
-    """Stops and fails the opening of each file of format 1."""
-    for name in first_files():
+    """Stops and fails the opening of files of format 1."""
+    for name in RICH:
         whole = Whole(f"the upgrade of {name}", program, restore(name, f"{folder}/first.db"), b"", folder)
         see(f"{whole.name}: the whole run", (whole.status, whole.reply, whole.after), (0, b"", upgraded(whole.before)))
         try_stops(whole, preload)
