@@ -1,73 +1,20 @@
-"""A second desk, written from docs/SPECIFICATION.md alone: it says how a line of a batch is answered.
+"""A second desk, written from docs/SPECIFICATION.md alone: it says how a line of a batch is answered, and what the file has then.
 
 It keeps facts with their dates, and finds each status afresh from them. Of the names it knows those of ASCII, and of the
 heads those that httparse reads.
 """
-import base64
 import dataclasses
 import hashlib
-import json
-import re
-import time
 
-BASE = "https://ca.example"
+from model_requests import UNSIGNED, read
+from model_texts import (OUTCOMES, PROBLEMS, REFUSALS, Refused, bytes_of, canonical, compact, is_all, is_texts, moment_text,
+                         read_contacts, read_name, read_object, shown, spelled, thumbprint)
+from trying import BASE
+
 # Lives of nonces, orders and authorizations, in seconds.
 LIVES = (3600, 604800, 2592000)
-LATEST, LAST, BODY, CERTIFICATE, HEAD = 250000000000, 2**62, 131072, 65536, 16384
-REFUSALS = {
-    1: ("malformed", 400, "the request is not well formed"),
-    2: ("malformed", 404, "there is nothing here"),
-    3: ("malformed", 405, "this method is not served here"),
-    4: ("badNonce", 400, "the nonce is not open"),
-    5: ("badPublicKey", 400, "the key is not accepted"),
-    6: ("accountDoesNotExist", 400, "no account has this key"),
-    7: ("unauthorized", 401, "the account is not valid"),
-    8: ("unsupportedContact", 400, "the contact scheme is not supported"),
-    9: ("invalidContact", 400, "the contact is not accepted"),
-    10: ("unsupportedIdentifier", 400, "the identifier type is not supported"),
-    11: ("rejectedIdentifier", 400, "the name is not accepted"),
-    12: ("orderNotReady", 403, "the order is not ready"),
-    13: ("badCSR", 400, "the CSR is not accepted"),
-    14: ("malformed", 409, "the report does not fit the records"),
-    16: ("malformed", 413, "the request is too large"),
-    17: ("malformed", 409, "the key has an account"),
-}
-# What the error of a challenge says after an outcome, and that of an order after a type.
-OUTCOMES = {
-    "incorrectResponse": (403, "the response did not match"),
-    "connection": (400, "the validator could not connect"),
-    "dns": (400, "the validator found no records"),
-}
-PROBLEMS = {"badCSR": 400, "serverInternal": 500}
-ROUTES = [(re.compile(path.replace("{n}", "([1-9][0-9]*)")), methods, call) for path, methods, call in (
-    ("/directory", ("GET",), "directory"),
-    ("/new-nonce", ("GET", "HEAD"), "new_nonce"),
-    ("/new-account", ("POST",), "new_account"),
-    ("/key-change", ("POST",), "key_change"),
-    ("/new-order", ("POST",), "new_order"),
-    ("/account/{n}", ("POST",), "account"),
-    ("/account/{n}/orders", ("POST",), "account_orders"),
-    ("/order/{n}", ("POST",), "order"),
-    ("/order/{n}/finalize", ("POST",), "finalize"),
-    ("/cert/{n}", ("POST",), "certificate"),
-    ("/authz/{n}", ("POST",), "authorization"),
-    ("/chall/{n}", ("POST",), "challenge"),
-    ("/office/key/{n}", ("GET",), "key_of"),
-    ("/office/challenges", ("GET",), "challenge_work"),
-    ("/office/orders", ("GET",), "order_work"),
-    ("/office/report/{n}", ("POST",), "report"),
-    ("/office/certify/{n}", ("POST",), "certify"),
-    ("/office/fail/{n}", ("POST",), "fail"),
-)]
-UNSIGNED = {"directory", "new_nonce", "key_of", "challenge_work", "order_work", "report", "certify", "fail"}
-
-
-class Refused(Exception):
-    """A refusal by its number, with a Location or subproblems where it has them."""
-
-    def __init__(self, number, location=None, subproblems=()):
-        super().__init__(number)
-        self.number, self.location, self.subproblems = number, location, subproblems
+# The last moment, and the last number.
+LATEST, LAST = 250000000000, 2**62
 
 
 class Fault(Exception):
@@ -127,106 +74,9 @@ class Order:
     problem: tuple | None = None
 
 
-# ---- texts
-
-
-def spelled(data):
-    """The base64url of some bytes."""
-    return base64.urlsafe_b64encode(data).rstrip(b"=").decode()
-
-
-def bytes_of(text):
-    """The bytes that a base64url text spells, or None."""
-    if not re.fullmatch(r"[A-Za-z0-9_-]*", text) or len(text) % 4 == 1:
-        return None
-    data = base64.urlsafe_b64decode(text + "=" * (-len(text) % 4))
-    return data if spelled(data) == text else None
-
-
-def moment_text(moment):
-    return time.strftime("%Y-%m-%dT%H:%M:%SZ", time.gmtime(moment)).zfill(20)
-
-
-def compact(document):
-    return json.dumps(document, separators=(",", ":"), sort_keys=True, ensure_ascii=False)
-
-
 def dated(fact):
     """The date and the content of a fact, as two columns."""
     return (fact[1], fact[0]) if fact else (None, None)
-
-
-KEYS = {"EC": ("crv", "kty", "x", "y"), "RSA": ("e", "kty", "n"), "OKP": ("crv", "kty", "x")}
-CURVES = {"EC": ("P-256", "P-384", "P-521"), "OKP": ("Ed25519",), "RSA": (None,)}
-
-
-def canonical(key):
-    """The canonical text of a key, or None where it is not accepted."""
-    kind = key.get("kty") if isinstance(key, dict) else None
-    if not isinstance(kind, str) or kind not in KEYS:
-        return None
-    members = {name: key.get(name) for name in KEYS[kind]}
-    if members.get("crv") not in CURVES[kind]:
-        return None
-    numbers = [members[name] for name in KEYS[kind] if name not in ("crv", "kty")]
-    good = all(isinstance(number, str) and re.fullmatch(r"[A-Za-z0-9_-]{1,4096}", number) for number in numbers)
-    return compact(members) if good else None
-
-
-def thumbprint(key):
-    return hashlib.sha256(key.encode()).digest()
-
-
-def read_name(text):
-    """The base and the wildcard flag of a name, or None."""
-    wildcard = text.startswith("*.")
-    base = (text[2:] if wildcard else text).lower()
-    labels = base.split(".")
-    good = all(re.fullmatch(r"(?!-)[a-z0-9-]{1,63}(?<!-)", label) and not label.startswith("xn--") for label in labels)
-    return (base, wildcard) if good and len(labels) > 1 and len(base) <= 253 and not labels[-1].isdigit() else None
-
-
-def shown(name):
-    return ("*." if name[1] else "") + name[0]
-
-
-def is_texts(value):
-    return isinstance(value, list) and all(isinstance(text, str) for text in value)
-
-
-def read_contacts(contacts):
-    """The contacts, where they pass."""
-    if len(contacts) > 10:
-        raise Refused(9)
-    for contact in contacts:
-        scheme, colon, rest = contact.partition(":")
-        if len(contact.encode()) > 320 or not colon:
-            raise Refused(9)
-        if scheme.lower() != "mailto":
-            raise Refused(8)
-        if not rest or "?" in rest or "," in rest:
-            raise Refused(9)
-    return contacts
-
-
-def read_object(text):
-    """The JSON object of a text, else refusal 1."""
-    try:
-        value = json.loads(text)
-    except ValueError:
-        value = None
-    if not isinstance(value, dict):
-        raise Refused(1)
-    return value
-
-
-def is_all(*tests):
-    """Refusal 1 where a test fails."""
-    if not all(tests):
-        raise Refused(1)
-
-
-# ---- the desk
 
 
 class Desk:
@@ -373,7 +223,7 @@ class Desk:
     def is_call(self, call):
         """Whether a line can be read as a call."""
         try:
-            self.read(call)
+            read(call)
         except Refused:
             return False
         return True
@@ -389,57 +239,8 @@ class Desk:
         name, _, detail = REFUSALS[number]
         return {"detail": detail, "identifier": {"type": kind, "value": value}, "type": f"urn:ietf:params:acme:error:{name}"}
 
-    def route(self, call):
-        """The name of a call and the number in its path."""
-        method, path, body = call["method"], call["path"], call["body"].encode()
-        if any(not "!" <= letter <= "~" for letter in method + path):
-            raise Refused(1)
-        if path and method and len(f"{method} {path} HTTP/1.1\r\nContent-Length: {len(body)}\r\n\r\n") > HEAD:
-            raise Refused(16)
-        for pattern, methods, name in ROUTES:
-            found = pattern.fullmatch(path)
-            if found and all(int(number) <= LAST for number in found.groups()):
-                if method not in methods:
-                    raise Refused(3)
-                if method == "POST" and len(body) > (CERTIFICATE if name == "certify" else BODY):
-                    raise Refused(16)
-                return name, [int(number) for number in found.groups()]
-        raise Refused(2)
-
-    def read(self, call):
-        """A call: its name, the number in its path, and what its body says."""
-        name, numbers = self.route(call)
-        if name not in UNSIGNED:
-            return name, numbers, self.read_envelope(call["body"])
-        if name == "report":
-            return name, numbers, self.read_report(call["body"])
-        if name == "fail":
-            problem = read_object(call["body"])
-            is_all(isinstance(problem.get("type"), str), isinstance(problem.get("detail"), str))
-            return name, numbers, (problem["type"], problem["detail"])
-        return name, numbers, call["method"] if name == "new_nonce" else call["body"].encode()
-
-    @staticmethod
-    def read_envelope(body):
-        envelope = read_object(body)
-        nonce = envelope.get("nonce", "AAAA")
-        is_all("jwk" in envelope, isinstance(envelope.get("payload"), str), isinstance(nonce, str))
-        is_all(re.fullmatch(r"[A-Za-z0-9_-]+", nonce), len(nonce) % 4 != 1)
-        return envelope
-
-    @staticmethod
-    def read_report(body):
-        report = read_object(body)
-        kinds = [name for name in ("body", "records", "error") if name in report]
-        is_all(len(kinds) == 1)
-        kind, value = kinds[0], report[kinds[0]]
-        if kind == "body":
-            is_all(isinstance(value, str) and bytes_of(value) is not None)
-        is_all(kind != "records" or is_texts(value), kind != "error" or value in ("connection", "dns"))
-        return kind, value
-
     def told(self, call):
-        name, numbers, said = self.read(call)
+        name, numbers, said = read(call)
         if name in UNSIGNED:
             return getattr(self, name)(*numbers, said)
         return self.signed(name, numbers, said)
