@@ -7,9 +7,7 @@ shell is there, it reads the file.
 """
 import json
 import os
-import resource
 import shutil
-import signal
 import socket
 import sqlite3
 import struct
@@ -17,8 +15,8 @@ import subprocess
 import tempfile
 
 from model import LIVES, Desk
-from trying import NOT_A_DESK, ROOT, TABLES, begin, change, example, finish, fresh, run, see, stored, tables_of, terms_of
-from upgrades import later_calls, strange_upgrades, upgrades
+from trying import NOT_A_DESK, ROOT, TABLES, begin, change, example, finish, fresh, run, see, small_files, stored, tables_of, terms_of
+from upgrades import cut_upgrades, later_calls, strange_upgrades, upgrades, without_room
 
 
 # The folders of batches below examples/, with the lives of nonces, orders and authorizations of the desks that answer them.
@@ -184,11 +182,8 @@ def full_output(program, folder):
     """An output that takes so many bytes and no more ends a batch."""
     calls, wanted = example("first")
     for room in (0, 5, wanted.index(b"\n"), wanted.index(b"\n") + 1, len(wanted) - 1):
-        def limit():
-            signal.signal(signal.SIGXFSZ, signal.SIG_IGN)
-            resource.setrlimit(resource.RLIMIT_FSIZE, (room, room))
         with open(f"{folder}/full", "w+b") as out:
-            ran = subprocess.run([program, "batch"], input=b"".join(calls), stdout=out, stderr=subprocess.PIPE, preexec_fn=limit)
+            ran = subprocess.run([program, "batch"], input=b"".join(calls), stdout=out, stderr=subprocess.PIPE, preexec_fn=lambda: small_files(room))
             see(f"an output of {room} bytes", (ran.returncode, ran.stderr), (1, b"desk: output\n"))
             out.seek(0)
             see(f"what an output of {room} bytes has", out.read(), wanted[:room])
@@ -212,8 +207,8 @@ def broken_input(program, _):
 
 def main(program):
     with tempfile.TemporaryDirectory(prefix="desk-") as folder:
-        for tries in (batches, ends, strange, used_up, cut_short, upgrades, strange_upgrades, later_calls, full_output, broken_input, together,
-                      shell):
+        for tries in (batches, ends, strange, used_up, cut_short, upgrades, strange_upgrades, cut_upgrades, without_room, later_calls,
+                      full_output, broken_input, together, shell):
             tries(program, folder)
     return finish("Files")
 

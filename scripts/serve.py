@@ -6,7 +6,6 @@ The worked replies and the refusals of docs/SPECIFICATION.md byte for byte, the 
 clients that wait for the desk's patience to end are tried beside the rest. With groups only these are tried.
 """
 import os
-import resource
 import signal
 import socket
 import struct
@@ -19,7 +18,7 @@ from bad_requests import bad_requests, limits, padded
 from served import (BASE, BODY, DIRECTORY, HEAD, NEW_NONCE, ROUTES, STOPPED, WORKED, Client, Reply, Server, compact,
                     directory_reply, masked, nonce_reply, received, refusal, reply, request, serial_of, signed)
 from stories import set_machine, stories
-from trying import KEY, NOT_A_DESK, faults, finish, fresh, nonce_text, run, see, tables_of
+from trying import KEY, NOT_A_DESK, faults, finish, fresh, nonce_text, run, see, small_files, tables_of
 
 # How long the desk waits for a client, in seconds, and how much later its end may be seen.
 LIMIT, LATER = 10, 4
@@ -336,12 +335,6 @@ def terminated(program, folder):
     client.server = Server(program, path)
     see("the nonce after SIGTERM", client.post("/new-account", {}).field("Location"), f"{BASE}/account/1")
     see("terminated: the end", client.server.stop(), STOPPED)
-
-
-def small_files(size):
-    """Lets the program write files of so many bytes at most: what goes past it fails, as on a disk that is full."""
-    signal.signal(signal.SIGXFSZ, signal.SIG_IGN)
-    resource.setrlimit(resource.RLIMIT_FSIZE, (size, size))
 
 
 def full_disk(program, folder):

@@ -1,7 +1,9 @@
 """What the scripts that try the program share: what is not as it should be, runs of the program, and what a desk's file holds."""
 import base64
 import os
+import resource
 import shutil
+import signal
 import sqlite3
 import subprocess
 import sys
@@ -61,6 +63,12 @@ def fresh(program, folder, name, *terms):
     path = f"{folder}/{name}.db"
     see(f"make {name}", run(program, "make", path, "--base", BASE, *terms), (0, b"made\n", b""))
     return path
+
+
+def small_files(size):
+    """Lets the program write files of so many bytes at most: what goes past it fails, as on a disk that is full."""
+    signal.signal(signal.SIGXFSZ, signal.SIG_IGN)
+    resource.setrlimit(resource.RLIMIT_FSIZE, (size, size))
 
 
 def terms_of(lives):

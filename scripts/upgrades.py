@@ -5,7 +5,7 @@ import json
 import sqlite3
 
 from first_format import first_files, restore, upgraded
-from trying import BASE, KEY, TABLES, change, checked, fresh, nonce_text, run, see, tables_of
+from trying import BASE, KEY, TABLES, change, checked, fresh, nonce_text, run, see, small_files, tables_of
 
 OPENINGS = ("batch --file FILE", "status FILE", "check FILE", "serve FILE --port 0 --count 0")
 INDEXES = ("nonce_issued", "ord_account", "ord_status_expires", "authz_account_name", "authz_status_expires", "ord_authz_authz",
@@ -75,6 +75,34 @@ def strange_upgrades(program, folder):
             see(f"format 1, {said}: its bytes", bytes_of(path) == before, True)
         else:
             see(f"format 1, {said}: check", checked(program, path), (3, b"order 1: stored ready, derived pending\n", b""))
+
+
+def cut_upgrades(program, folder):
+    """A file of format 1 that was cut is refused and stays as it is, or holds a desk, which is upgraded."""
+    whole, path = restore("several", f"{folder}/whole.db"), f"{folder}/cut.db"
+    ends = {(1, b"", b"desk: fault %s\n" % text) for text in (b"20 memory", b"21 device", b"23 not a desk")}
+    for length in range(0, len(bytes_of(whole)), 1024):
+        with open(path, "wb") as file:
+            file.write(bytes_of(whole)[:length])
+        before, ended = tables_of(path, folder), run(program, "batch", "--file", path)
+        if ended in ends:
+            see(f"format 1 cut after {length} bytes: its bytes", bytes_of(path) == bytes_of(whole)[:length], True)
+        else:
+            see(f"format 1 cut after {length} bytes", (ended, tables_of(path, folder)), ((0, b"", b""), upgraded(before)))
+
+
+def without_room(program, folder):
+    """Without room for all that the upgrade writes, the file is of format 1 or 2 of the same rows; with room it is upgraded."""
+    path, refused = f"{folder}/small.db", 0
+    for room in (0, 1000, 10000, 20000, 40000, 100000):
+        before = tables_of(restore("several", path), folder)
+        status, _, said = run(program, "batch", "--file", path, preexec_fn=lambda: small_files(room))
+        see(f"{room} bytes of room", (status, said) in ((0, b""), (1, b"desk: fault 21 device\n")), True)
+        see(f"{room} bytes of room: its tables", tables_of(path, folder) in (before, upgraded(before)), True)
+        see(f"{room} bytes of room, then more", checked(program, path), (0, b"no fault\n", b""))
+        see(f"{room} bytes of room, then more: its tables", tables_of(path, folder), upgraded(before))
+        refused += status
+    see("an upgrade without room is refused", refused > 0, True)
 
 
 def line(method, path, body, random=""):

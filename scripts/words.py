@@ -160,6 +160,28 @@ def revocations(program, folder):
     see("an account that ended otherwise", run(program, "revoke-account", ended.path, "1"), NO_FIT)
 
 
+def shared_revocation(program, folder):
+    """The revocation of an authorization that orders share: the one with its certificate stays valid, the others are invalid."""
+    now = int(time.time())
+    desk = desk_with_orders(program, folder, "shared", at=now)
+    see("a report", desk.answer(desk.validate(1, at=now))[0], "200")
+    see("finalize", desk.answer(desk.signed("/order/1/finalize", {"csr": "AQID"}, at=now))[0], "200")
+    see("certify", desk.office("/office/certify/1", "certificate", at=now)[0], "200")
+    desk.order("a.example", "c.example", at=now)
+    desk.order("a.example", at=now)
+    listed = tables_of(desk.path, folder)["ord_authz"]
+    see("what the orders list", sorted(listed), [(1, 1, 1), (2, 1, 2), (3, 1, 1), (3, 2, 3), (4, 1, 1)])
+    see("the orders before", orders_of(desk, folder), [b"valid", b"pending", b"pending", b"ready"])
+    see("an authorization that is shared", run(program, "revoke-authz", desk.path, "1"), (0, b"authz 1 revoked\n", b""))
+    see("the orders after", orders_of(desk, folder), [b"valid", b"pending", b"invalid", b"invalid"])
+    see("check after a shared end", run(program, "check", desk.path), (0, b"no fault\n", b""))
+
+
+def orders_of(desk, folder):
+    """The statuses of the orders."""
+    return [row[-1] for row in tables_of(desk.path, folder)["ord"]]
+
+
 def wrong_words(program, folder):
     """Words that are wrong, and files that are missing."""
     desk = desk_with_orders(program, folder, "words")
@@ -188,7 +210,7 @@ def helps(program, folder):
 
 def main(program):
     with tempfile.TemporaryDirectory(prefix="desk-words-") as folder:
-        for tries in (reports, wrong_statuses, narrowed, wrong_statuses_as_json, revocations, wrong_words, helps):
+        for tries in (reports, wrong_statuses, narrowed, wrong_statuses_as_json, revocations, shared_revocation, wrong_words, helps):
             tries(program, folder)
     return finish("Words")
 
