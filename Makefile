@@ -66,6 +66,8 @@ test: edits
 	@python3 -B scripts/kills.py bin/desk --times 20
 	@echo 'Answering the first batch without proof, as make try does.'
 	@python3 -B scripts/try.py
+	@echo 'Trying a house around the desk, where the packages for it are there.'
+	@$(MAKE) --no-print-directory house-test
 
 # Each growth of memory of a request refused in turn, minutes; five minutes of hostile requests; 200 kills while it serves; 100
 # random batches beside the model.
@@ -81,6 +83,42 @@ install:
 	install -D -m 755 bin/desk $(DESTDIR)$(PREFIX)/bin/desk
 	install -D -m 644 bin/desk.1 $(DESTDIR)$(PREFIX)/share/man/man1/desk.1
 	install -D -m 644 bin/desk.service $(DESTDIR)$(PREFIX)/lib/systemd/system/desk.service
+
+# ---- The house around a desk (docs/HOUSE.md), over Debian's packages and their Python.
+HOUSE := /usr/bin/python3 -B scripts/house.py
+HAS_DESK := test -x bin/desk || { echo 'desk: there is no bin/desk; make builds it, and make try-house needs none' >&2; exit 1; }
+
+.PHONY: house house-clients house-serve house-test install-house try-house
+
+# Everything is on the loopback, in a folder that is removed, and ends by itself; house-serve ends by control C.
+house:
+	@$(HAS_DESK)
+	@$(HOUSE) run bin/desk
+
+house-serve:
+	@$(HAS_DESK)
+	@$(HOUSE) serve bin/desk
+
+house-clients:
+	@$(HAS_DESK)
+	@$(HOUSE) clients bin/desk
+
+try-house:
+	@$(HAS_RT)
+	@$(HOUSE) try
+
+house-test:
+	@$(HAS_DESK)
+	@! $(HOUSE) packages || /usr/bin/python3 -B scripts/house_test.py bin/desk
+
+# Beside the program and its unit: the users, the rule for the desk's port, the house and its unit.
+install-house: install
+	install -d $(DESTDIR)$(PREFIX)/share/desk/house
+	install -m 644 examples/house/*.py $(DESTDIR)$(PREFIX)/share/desk/house
+	install -D -m 644 packaging/desk.nft $(DESTDIR)$(PREFIX)/share/desk/desk.nft
+	install -D -m 644 packaging/desk.sysusers $(DESTDIR)$(PREFIX)/lib/sysusers.d/desk.conf
+	@for unit in desk-port desk-house; do sed 's|@PREFIX@|$(PREFIX)|' packaging/$$unit.service > bin/$$unit.service; done
+	install -m 644 bin/desk-port.service bin/desk-house.service $(DESTDIR)$(PREFIX)/lib/systemd/system
 
 planted:
 	@$(HAS_RT)

@@ -1,0 +1,254 @@
+#!/usr/bin/python3
+"""Tries the house of examples/house around a desk, over loopback: scripts/house_test.py PROGRAM
+
+An account, a change of its key, names by http-01, a wildcard by dns-01, what the desk, the front and the signing office
+refuse, a failed validation, a renewal that uses authorizations again, and requests that are sent again while `serve` is killed
+and started. Signatures of each algorithm that the front reads are tried, and of those that it does not.
+"""
+import hashlib
+import json
+import random
+import subprocess
+import sys
+import tempfile
+import threading
+import time
+
+import josepy
+from cryptography.hazmat.primitives.asymmetric import ec, ed25519, padding, rsa
+from cryptography.hazmat.primitives import hashes
+from cryptography.hazmat.primitives.serialization import Encoding, PublicFormat
+
+from house_client import Client, Names, Web, new_key
+from housed import House
+
+# How long a test waits for an office of the house, and how long `serve` lives before it is killed, in seconds, at most.
+PATIENCE, LONGEST = 60, 0.8
+ERROR = "urn:ietf:params:acme:error:"
+faults = []
+
+
+def see(what, found, wanted):
+    """Notes what is not as it should be."""
+    if found != wanted:
+        faults.append(f"{what}: {found!r}, not {wanted!r}")
+
+
+def refused(what, reply, status, kind):
+    see(what, (reply.status, json.loads(reply.body).get("type")), (status, ERROR + kind))
+
+
+class Trial:
+    """A house, a client of it, and what answers the client's challenges."""
+
+    def __init__(self, house, web, names):
+        self.house, self.web, self.names = house, web, names
+        self.client = Client(house.base, house.root)
+        see("a new account", self.client.open_account().status, 201)
+
+    def settled(self, url):
+        """What a URL shows once nothing of it is pending or processing."""
+        end = time.monotonic() + PATIENCE
+        while True:
+            found = self.client.read(url)
+            if found["status"] not in ("pending", "processing") or time.monotonic() > end:
+                return found
+            time.sleep(0.1)
+
+    def answer(self, authorization, kind, is_right=True):
+        """Answers the challenge of a kind, and gives the authorization when it is decided."""
+        found = self.client.read(authorization)
+        challenge = next(challenge for challenge in found["challenges"] if challenge["type"] == kind)
+        text = self.client.key_authorization(challenge["token"]) if is_right else "something else"
+        if kind == "http-01":
+            self.web.bodies[challenge["token"]] = text
+        else:
+            digest = josepy.encode_b64jose(hashlib.sha256(text.encode()).digest())
+            self.names.texts.setdefault(f"_acme-challenge.{found['identifier']['value']}", []).append(digest)
+        see("an answer", self.client.post(challenge["url"], {}).status, 200)
+        return self.settled(authorization)
+
+    def ordered(self, *names, kind="http-01"):
+        """An order of names that are all validated, and its URL."""
+        reply = self.client.order(*names)
+        see(f"an order of {names}", reply.status, 201)
+        for authorization in json.loads(reply.body)["authorizations"]:
+            if self.client.read(authorization)["status"] == "pending":
+                see(f"an authorization of {names}", self.answer(authorization, kind)["status"], "valid")
+        return self.client.read(reply.fields["Location"]), reply.fields["Location"]
+
+    def certified(self, order, url, names):
+        """Finalizes an order, and verifies the chain that comes of it."""
+        see(f"finalize {names}", self.client.finalize(order, names).status, 200)
+        found = self.settled(url)
+        see(f"the order of {names}", found["status"], "valid")
+        chain = self.client.post(found["certificate"])
+        see("its type", chain.fields.get_content_type(), "application/pem-certificate-chain")
+        with tempfile.NamedTemporaryFile(dir=self.house.folder) as file:
+            file.write(chain.body)
+            file.flush()
+            words = ["openssl", "verify", "-x509_strict", "-CAfile", self.house.root, "-verify_hostname", names[0], file.name]
+            see(f"openssl verifies {names}", subprocess.run(words, capture_output=True).returncode, 0)
+
+
+def certificates(trial):
+    """Names by http-01, a wildcard by dns-01, and a renewal, which needs no validation."""
+    for names, kind in ((["a.house.test", "b.house.test"], "http-01"), (["*.house.test"], "dns-01")):
+        trial.certified(*trial.ordered(*names, kind=kind), names)
+    again = trial.client.order("b.house.test", "a.house.test")
+    order = json.loads(again.body)
+    see("a renewal", (again.status, order["status"]), (201, "ready"))
+    trial.certified(order, again.fields["Location"], ["b.house.test", "a.house.test"])
+
+
+def key_change(trial):
+    """A new key in the place of the old one, which is then no account's; and changes that are refused."""
+    client, old, other = trial.client, trial.client.key, Client(trial.house.base, trial.house.root)
+    other.open_account()
+    refused("the key of another account", client.change_key(other.key), 409, "malformed")
+    url, inner = client.directory["keyChange"], {"account": client.kid, "oldKey": old.public_key().to_json()}
+    refused("an inner JWS of another key", client.post(url, client.signed(url, inner, key=old, kid=client.kid)), 400, "malformed")
+    refused("an inner JWS for another URL", client.post(url, client.signed(f"{url}x", inner, key=new_key())), 401, "unauthorized")
+    broken = json.loads(client.signed(url, inner, key=new_key()))
+    broken["signature"] = json.loads(client.signed(url, inner, key=new_key()))["signature"]
+    refused("an inner JWS with another signature", client.post(url, json.dumps(broken)), 400, "malformed")
+    refused("another old key", client.post(url, client.signed(url, {**inner, "oldKey": other.key.public_key().to_json()}, key=new_key())),
+            400, "malformed")
+    see("a change of the key", client.change_key(new_key()).status, 200)
+    see("the account by its new key", client.post(client.kid).status, 200)
+    refused("the account by its old key", client.post(client.kid, key=old), 400, "malformed")
+
+
+def refusals(trial):
+    """What the front refuses of itself, and what it hands on."""
+    client, base = trial.client, trial.house.base
+    new_order, text = client.directory["newOrder"], json.dumps({"identifiers": []})
+    refused("a name that is none", client.order("no_name.house.test"), 400, "rejectedIdentifier")
+    refused("a nonce twice", client.post(client.kid, nonce=bytes(24)), 400, "badNonce")
+    see("the next request", client.post(client.kid).status, 200)
+    refused("another content type", client.ask("POST", new_order, text.encode(), "application/json"), 415, "malformed")
+    refused("no JWS", client.ask("POST", new_order, text.encode()), 400, "malformed")
+    for path in ("/office/orders", "/office/key/1", "//office/orders", "/nothing"):
+        refused(f"GET {path}", client.ask("GET", base + path), 404, "malformed")
+    refused("POST to an office", client.post(f"{base}/office/fail/1", {"type": "badCSR", "detail": "no"}), 404, "malformed")
+    see("GET where a POST belongs", (client.ask("GET", new_order).status, client.ask("PUT", new_order, b"x").status), (405, 405))
+    refused("a request for another URL", client.ask("POST", new_order, client.signed(client.kid, text, kid=client.kid).encode()), 401, "unauthorized")
+    refused("a key where an account belongs", client.post(new_order, text, kid=None), 400, "malformed")
+    refused("an account where a key belongs", client.post(client.directory["newAccount"], {}), 400, "malformed")
+    refused("no account", client.post(new_order, text, kid=f"{base}/account/99"), 400, "accountDoesNotExist")
+    refused("another key", client.post(new_order, text, key=new_key()), 400, "malformed")
+    refused("the order of another account", other_client(trial).post(f"{base}/order/1"), 404, "malformed")
+    see("a date", "Date" in client.ask("GET", client.directory["newNonce"]).fields, True)
+
+
+def other_client(trial):
+    client = Client(trial.house.base, trial.house.root)
+    client.open_account()
+    return client
+
+
+def failures(trial):
+    """CSRs that the office refuses, and validations that fail."""
+    for names in (["c.house.test", "d.house.test"], ["d.house.test"]):
+        order, url = trial.ordered("c.house.test")
+        trial.client.finalize(order, names)
+        found = trial.settled(url)
+        see(f"a CSR of {names}", (found["status"], found.get("error", {}).get("type")), ("invalid", f"{ERROR}badCSR"))
+    for name, kind, is_right, error in (("e", "http-01", False, "incorrectResponse"), ("f", "dns-01", False, "incorrectResponse")):
+        order = json.loads(trial.client.order(f"{name}.house.test").body)
+        found = trial.answer(order["authorizations"][0], kind, is_right)
+        see(f"{kind} with another text", (found["status"], found["challenges"][0].get("error", {}).get("type")), ("invalid", ERROR + error))
+    order = json.loads(trial.client.order("*.nobody.test").body)
+    found = unanswered(trial, order["authorizations"][0])
+    see("dns-01 without records", (found["status"], found["challenges"][0]["error"]["type"]), ("invalid", f"{ERROR}dns"))
+
+
+def unanswered(trial, authorization):
+    """What an authorization is once its challenge was answered with nothing there to find."""
+    trial.client.post(trial.client.read(authorization)["challenges"][0]["url"], {})
+    return trial.settled(authorization)
+
+
+def signers():
+    """For each algorithm its public key as JSON, and how its private key signs bytes."""
+    rsa_key, edwards = rsa.generate_private_key(65537, 2048), ed25519.Ed25519PrivateKey.generate()
+    rsa_json = josepy.JWKRSA(key=rsa_key).public_key().to_json()
+    made = {"RS256": (rsa_json, lambda data: josepy.RS256.sign(rsa_key, data)),
+            "PS256": (rsa_json, lambda data: rsa_key.sign(data, padding.PSS(padding.MGF1(hashes.SHA256()), 32), hashes.SHA256()))}
+    for algorithm, curve in ((josepy.ES256, ec.SECP256R1()), (josepy.ES384, ec.SECP384R1()), (josepy.ES512, ec.SECP521R1())):
+        key = ec.generate_private_key(curve)
+        made[algorithm.name] = josepy.JWKEC(key=key).public_key().to_json(), lambda data, key=key, sign=algorithm.sign: sign(key, data)
+    raw = edwards.public_key().public_bytes(Encoding.Raw, PublicFormat.Raw)
+    made["EdDSA"] = {"kty": "OKP", "crv": "Ed25519", "x": josepy.encode_b64jose(raw)}, edwards.sign
+    return made
+
+
+def account_by(client, algorithm, jwk, sign):
+    """The reply to a newAccount whose signature is made by hand."""
+    url, nonce = client.directory["newAccount"], client.ask("HEAD", client.directory["newNonce"]).fields["Replay-Nonce"]
+    header = json.dumps({"alg": algorithm, "jwk": jwk, "nonce": nonce, "url": url})
+    parts = {"protected": josepy.encode_b64jose(header.encode()), "payload": josepy.encode_b64jose(b"{}")}
+    signature = sign("{protected}.{payload}".format(**parts).encode())
+    return client.ask("POST", url, json.dumps({**parts, "signature": josepy.encode_b64jose(signature)}).encode())
+
+
+def signatures(trial):
+    """Each algorithm by its own keys alone, and none of another key's signatures."""
+    made, wrong = signers(), signers()
+    for algorithm, (jwk, sign) in made.items():
+        refused(f"{algorithm} by another key", account_by(trial.client, algorithm, jwk, wrong[algorithm][1]), 400, "malformed")
+        for other, (other_jwk, _) in made.items():
+            if other_jwk != jwk:
+                reply = account_by(trial.client, algorithm, other_jwk, sign)
+                refused(f"{algorithm} with a key of {other}", reply, 400, "badSignatureAlgorithm")
+        see(f"{algorithm}", account_by(trial.client, algorithm, jwk, sign).status, 200 if algorithm == "PS256" else 201)
+    jwk, sign = made["ES256"]
+    for algorithm in ("none", "HS256", "RS512"):
+        refused(algorithm, account_by(trial.client, algorithm, jwk, sign), 400, "badSignatureAlgorithm")
+    weak = rsa.generate_private_key(65537, 1024)
+    weak_json = josepy.JWKRSA(key=weak).public_key().to_json()
+    refused("a short RSA key", account_by(trial.client, "RS256", weak_json, lambda data: josepy.RS256.sign(weak, data)), 400, "badPublicKey")
+    refused("a point on no curve", account_by(trial.client, "ES256", {**jwk, "x": jwk["y"]}, sign), 400, "badPublicKey")
+
+
+def kills(trial):
+    """Orders and their certificates while `serve` is killed and started: clients ask again, and nothing is lost."""
+    over, count = threading.Event(), 0
+
+    def kill():
+        nonlocal count
+        while not over.wait(random.uniform(0.05, LONGEST)):
+            trial.house.kill_desk()
+            count += 1
+
+    killer = threading.Thread(target=kill)
+    killer.start()
+    try:
+        for number in range(4):
+            names = [f"k{number}.house.test"]
+            trial.certified(*trial.ordered(*names), names)
+    finally:
+        over.set()
+        killer.join()
+    print(f"house: killed serve {count} times, and asked {trial.client.again} times again after badNonce")
+
+
+def main():
+    web, names = Web(), Names()
+    lines = []
+    with tempfile.TemporaryDirectory(prefix="desk-house-") as folder:
+        with House(sys.argv[1], folder, lines.append, web.server_port, names.server_address[1]) as house:
+            trial = Trial(house, web, names)
+            for tried in (signatures, refusals, key_change, certificates, failures, kills):
+                start = time.monotonic()
+                tried(trial)
+                print(f"house: {tried.__name__}, {time.monotonic() - start:.1f} s")
+        see("the check of the desk", subprocess.run([sys.argv[1], "check", f"{folder}/ca.db"], capture_output=True).stdout, b"no fault\n")
+    print("\n".join(faults + [f"house: {len(faults)} not as they should be."]))
+    if faults:
+        print("\n".join(lines))
+    return 1 if faults else 0
+
+
+if __name__ == "__main__":
+    sys.exit(main())
