@@ -5,9 +5,11 @@ An account, a change of its key, names by http-01, a wildcard by dns-01, what th
 refuse, a failed validation, a renewal that uses authorizations again, and requests that are sent again while `serve` is killed
 and started. Signatures of each algorithm that the front reads are tried, and of those that it does not.
 """
+import contextlib
 import hashlib
 import json
-import random
+import socket
+import socketserver
 import subprocess
 import sys
 import tempfile
@@ -22,8 +24,8 @@ from cryptography.hazmat.primitives.serialization import Encoding, PublicFormat
 from house_client import Client, Names, Web, new_key
 from housed import House
 
-# How long a test waits for an office of the house, and how long `serve` lives before it is killed, in seconds, at most.
-PATIENCE, LONGEST = 60, 0.8
+# How long a test waits for an office of the house, in seconds.
+PATIENCE = 60
 ERROR = "urn:ietf:params:acme:error:"
 faults = []
 
@@ -79,7 +81,10 @@ class Trial:
 
     def certified(self, order, url, names):
         """Finalizes an order, and verifies the chain that comes of it."""
-        see(f"finalize {names}", self.client.finalize(order, names).status, 200)
+        again = self.client.again
+        status = self.client.finalize(order, names).status
+        # Asked again after a reply that was lost, the order is not ready any more, but processing.
+        see(f"finalize {names}", status == 200 or status == 403 and again < self.client.again, True)
         found = self.settled(url)
         see(f"the order of {names}", found["status"], "valid")
         chain = self.client.post(found["certificate"])
@@ -211,35 +216,79 @@ def signatures(trial):
     refused("a point on no curve", account_by(trial.client, "ES256", {**jwk, "x": jwk["y"]}, sign), 400, "badPublicKey")
 
 
-def kills(trial):
-    """Orders and their certificates while `serve` is killed and started: clients ask again, and nothing is lost."""
-    over, count = threading.Event(), 0
+class Losing(socketserver.ThreadingTCPServer):
+    """Hands calls on to a desk; while `is_on` each fourth reply is lost."""
+
+    daemon_threads = True
+
+    def __init__(self, port):
+        self.port, self.is_on, self.count, self.lost = port, False, 0, 0
+        super().__init__(("127.0.0.1", 0), LosingHandler)
+        threading.Thread(target=self.serve_forever, daemon=True).start()
+
+    def loses(self):
+        """Whether this reply is lost."""
+        self.count += self.is_on
+        is_lost = self.is_on and self.count % 4 == 0
+        self.lost += is_lost
+        return is_lost
+
+
+class LosingHandler(socketserver.BaseRequestHandler):
+    def handle(self):
+        with contextlib.suppress(OSError), socket.create_connection(("127.0.0.1", self.server.port)) as desk:
+            threading.Thread(target=self.hand_on, args=[desk], daemon=True).start()
+            reply = desk.makefile("rb").read()
+            if not self.server.loses():
+                self.request.sendall(reply)
+
+    def hand_on(self, desk):
+        with contextlib.suppress(OSError):
+            while data := self.request.recv(65536):
+                desk.sendall(data)
+
+
+class LosingHouse(House):
+    """A house that calls its desk by way of what may lose replies."""
+
+    def make_desk(self):
+        super().make_desk()
+        self.losing = Losing(self.desk_port)
+        self.called_port = self.losing.server_address[1]
+
+
+def lost(trial):
+    """An order and its certificate while replies are lost and `serve` is killed and started: all is asked again, nothing is lost."""
+    over, killed, names, losing = threading.Event(), 0, ["lost.house.test"], trial.house.losing
 
     def kill():
-        nonlocal count
-        while not over.wait(random.uniform(0.05, LONGEST)):
-            trial.house.kill_desk()
-            count += 1
+        nonlocal killed
+        while not over.wait(0.01):
+            if losing.count > 5 * killed:
+                trial.house.kill_desk()
+                killed += 1
 
-    killer = threading.Thread(target=kill)
+    killer, again = threading.Thread(target=kill), trial.client.again
+    losing.is_on = True
     killer.start()
     try:
-        for number in range(4):
-            names = [f"k{number}.house.test"]
+        for _ in range(2):
             trial.certified(*trial.ordered(*names), names)
     finally:
         over.set()
         killer.join()
-    print(f"house: killed serve {count} times, and asked {trial.client.again} times again after badNonce")
+        losing.is_on = False
+    see("what was lost, killed, and asked again", min(losing.lost, killed, trial.client.again - again) > 0, True)
+    print(f"house: lost {losing.lost} replies of the desk, killed it {killed} times, asked {trial.client.again - again} times again")
 
 
 def main():
     web, names = Web(), Names()
     lines = []
     with tempfile.TemporaryDirectory(prefix="desk-house-") as folder:
-        with House(sys.argv[1], folder, lines.append, web.server_port, names.server_address[1]) as house:
+        with LosingHouse(sys.argv[1], folder, lines.append, web.server_port, names.server_address[1]) as house:
             trial = Trial(house, web, names)
-            for tried in (signatures, refusals, key_change, certificates, failures, kills):
+            for tried in [globals()[word] for word in sys.argv[2:]] or (signatures, refusals, key_change, certificates, failures, lost):
                 start = time.monotonic()
                 tried(trial)
                 print(f"house: {tried.__name__}, {time.monotonic() - start:.1f} s")

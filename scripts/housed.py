@@ -112,7 +112,8 @@ class Run:
 
 
 class House:
-    """A desk of a program in a folder, and the house around it; `web` and `names` are ports for trials of challenges."""
+    """A desk of a program in a folder, and the house around it, which calls it by `called_port`; `web` and `names` are ports for
+    trials of challenges."""
 
     def __init__(self, program, folder, say, web=None, names=None, port=None):
         self.program, self.folder, self.say, self.runs = program, folder, say, []
@@ -127,7 +128,7 @@ class House:
         if made.returncode:
             raise RuntimeError("the desk was not made")
         self.say(f"desk: {made.stdout.rstrip()}")
-        self.desk_port = self.serve()
+        self.desk_port = self.called_port = self.serve()
 
     def serve(self, port=0):
         """Serves the desk at a port, 0 for any, and gives it."""
@@ -145,7 +146,7 @@ class House:
     def __enter__(self):
         try:
             self.make_desk()
-            words = ["/usr/bin/python3", "-B", f"{ROOT}/examples/house/house.py", f"{self.folder}/ca", f"--desk={self.desk_port}",
+            words = ["/usr/bin/python3", "-B", f"{ROOT}/examples/house/house.py", f"{self.folder}/ca", f"--desk={self.called_port}",
                      f"--port={self.port}", *self.trial]
             house = Run("house", words, self.say, "the front serves")
             self.runs.append(house)
@@ -168,7 +169,7 @@ class TriedHouse(House):
 
     def make_desk(self):
         """Compiles what makes a desk and serves it, and waits until it does; `rt try` gives its lines when it ends."""
-        self.desk_port = free_port()
+        self.desk_port = self.called_port = free_port()
         self._write_crate()
         self.say("The desk and its crates are compiled as they are, WITHOUT PROOF: some minutes.")
         start = time.monotonic()

@@ -25,10 +25,8 @@ class Front(http.server.BaseHTTPRequestHandler):
         """Answers by the desk's reply, or refuses; then wakes the office that has work now."""
         try:
             reply = self._answer()
-        except Refused as refused:
-            reply = self._refusal(refused)
         except OSError:
-            self.send_error(503)
+            self.send_error(503, "the desk does not answer")
             return
         self._send(reply)
         if self.worker:
@@ -37,6 +35,12 @@ class Front(http.server.BaseHTTPRequestHandler):
     do_GET = do_HEAD = do_POST = do_PUT = do_DELETE = do_PATCH = do_OPTIONS = relay
 
     def _answer(self):
+        try:
+            return self._hand_on()
+        except Refused as refused:
+            return self._refusal(refused)
+
+    def _hand_on(self):
         # A connection that is closed with bytes unread may lose the reply: the body comes first.
         body = self._body()
         if self.path.startswith("/office") or not re.fullmatch("/[!-~]*", self.path):
@@ -60,7 +64,7 @@ class Front(http.server.BaseHTTPRequestHandler):
         url = self.server.desk.base + self.path
         jwk = self._key(jws.header)
         jws.check(url, jwk)
-        payload = rollover(jws, url) if self.path == "/key-change" else jws.payload
+        payload = key_change(jws, url) if self.path == "/key-change" else jws.payload
         if payload and self.path.startswith("/chall/"):
             self.worker = self.server.validator
         elif payload and self.path.endswith("/finalize"):
@@ -100,10 +104,11 @@ class Front(http.server.BaseHTTPRequestHandler):
             self.wfile.write(reply.body)
 
     def log_message(self, form, *words):
-        self.server.log(form % words)
+        if self.server.log:
+            self.server.log(form % words)
 
 
-def rollover(jws, url):
+def key_change(jws, url):
     """The desk's payload for a key change: the inner JWS, checked by the new key that it shows (RFC 8555, 7.3.5)."""
     inner = Jws(jws.payload)
     if "nonce" in inner.header or "jwk" not in inner.header:

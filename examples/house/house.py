@@ -2,10 +2,12 @@
 """A small house around a desk: front, validator, signing office and an authority on disk. For trials, and as a pattern.
 
   house.py FOLDER --desk PORT --port PORT [--bind ADDRESS] [--base URL] [--web ADDRESS:PORT] [--names ADDRESS:PORT]
+           [--requests]
 
 FOLDER keeps the authority. The desk is served at one port of 127.0.0.1, the front at another of an address, which is 127.0.0.1
 where none is given. The base is the one that the desk was made with, https://localhost:PORT where none is given. --web and
---names are for trials: challenges are tried at that address whatever their name is, and names are asked there.
+--names are for trials: challenges are tried at that address whatever their name is, and names are asked there. --requests says
+each request and the status of its reply.
 """
 import argparse
 import signal
@@ -56,6 +58,7 @@ def words():
     parser.add_argument("--base")
     parser.add_argument("--web", type=address)
     parser.add_argument("--names", type=address)
+    parser.add_argument("--requests", action="store_true")
     return parser.parse_args()
 
 
@@ -70,7 +73,7 @@ def main():
     validator = Worker(Validator(desk, log, given.web, given.names).work)
     office = Worker(Office(desk, authority, log).work)
     certificate = authority.certify_front(urllib.parse.urlsplit(base).hostname)
-    server = Server((given.bind, given.port), certificate, desk, validator, office, log)
+    server = Server((given.bind, given.port), certificate, desk, validator, office, log if given.requests else None)
     signal.signal(signal.SIGTERM, lambda *_: sys.exit(0))
     log(f"the front serves {base}/directory")
     server.serve_forever()

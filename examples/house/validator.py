@@ -47,16 +47,22 @@ class Validator:
                 self.pool.submit(self._try, challenge)
 
     def _try(self, challenge):
-        look = self._look_http if challenge["type"] == "http-01" else self._look_dns
+        number, kind = challenge["challenge"], challenge["type"]
+        try:
+            found = self._find(self._look_http if kind == "http-01" else self._look_dns, challenge)
+            reply = self.desk.call("POST", f"/office/report/{number}", json.dumps(found).encode())
+            self.log(f"challenge {number}, {kind} of {challenge['name']}: {json.loads(reply.body)['status']}")
+        finally:
+            self.taken.discard(number)
+
+    def _find(self, look, challenge):
+        """What is found at once, or a little later where there is nothing."""
         for pause in PAUSES:
             time.sleep(pause)
             found = look(challenge)
             if "error" not in found:
                 break
-        number = challenge["challenge"]
-        reply = self.desk.call("POST", f"/office/report/{number}", json.dumps(found).encode())
-        self.taken.discard(number)
-        self.log(f"challenge {number}, {challenge['type']} of {challenge['name']}: {json.loads(reply.body)['status']}")
+        return found
 
     def _look_http(self, challenge):
         """The body at the well-known URL; redirects are followed."""
