@@ -9,6 +9,7 @@
 
 Everything is on the loopback and in a folder of its own, which is removed at the end.
 """
+import contextlib
 import functools
 import http.server
 import importlib.util
@@ -113,13 +114,14 @@ def serve(program):
     """Starts a house, says what to type, and waits."""
     with tempfile.TemporaryDirectory(prefix="desk-house-") as folder:
         port = free_port()
-        with House(program, folder, say, web=port) as house:
+        with House(program, folder, say, web=port, requests=True) as house:
             words, environment, _ = certbot(house, f"{folder}/certbot", port)
             before = " ".join(f"{name}={value}" for name, value in environment.items())
             say(f"Challenges by http-01 are tried at 127.0.0.1:{port}, whatever their name. In another terminal:")
             say(f"  {before} {shlex.join(words)}")
             say("Control C ends it, and removes all of it.")
-            signal.sigwait((signal.SIGINT, signal.SIGTERM))
+            with contextlib.suppress(KeyboardInterrupt):
+                signal.pause()
     return 0
 
 

@@ -115,11 +115,11 @@ class House:
     """A desk of a program in a folder, and the house around it, which calls it by `called_port`; `web` and `names` are ports for
     trials of challenges."""
 
-    def __init__(self, program, folder, say, web=None, names=None, port=None):
-        self.program, self.folder, self.say, self.runs = program, folder, say, []
-        self.port = port or free_port()
+    def __init__(self, program, folder, say, web=None, names=None, requests=False):
+        self.program, self.folder, self.say, self.runs, self.port = program, folder, say, [], free_port()
         self.base, self.root = f"https://localhost:{self.port}", f"{folder}/ca/root.pem"
-        self.trial = [f"--{name}=127.0.0.1:{port}" for name, port in (("web", web), ("names", names)) if port]
+        self.options = [f"--{name}=127.0.0.1:{port}" for name, port in (("web", web), ("names", names)) if port]
+        self.options += ["--requests"] if requests else []
 
     def make_desk(self):
         """Makes the desk and serves it."""
@@ -147,7 +147,7 @@ class House:
         try:
             self.make_desk()
             words = ["/usr/bin/python3", "-B", f"{ROOT}/examples/house/house.py", f"{self.folder}/ca", f"--desk={self.called_port}",
-                     f"--port={self.port}", *self.trial]
+                     f"--port={self.port}", *self.options]
             house = Run("house", words, self.say, "the front serves")
             self.runs.append(house)
             house.wait()

@@ -3,14 +3,13 @@ import http.server
 import json
 import re
 import ssl
+import sys
 
 from desk import Reply
 from signatures import Jws, Refused
 
 # The bytes of a request's body, at most; how long a client may be silent; after how long one that waits asks again, in seconds.
 BODY, SILENCE, WAIT = 65536, 20, 1
-# The paths whose requests are signed by the key that they show; all others name an account.
-BY_KEY = ("/new-account",)
 
 
 class Front(http.server.BaseHTTPRequestHandler):
@@ -73,8 +72,8 @@ class Front(http.server.BaseHTTPRequestHandler):
         return json.dumps({"jwk": jwk, "payload": payload, **nonce}).encode()
 
     def _key(self, header):
-        """The key that a request is to be signed by: the one that it shows, or that of the account it names."""
-        if ("jwk" in header) != (self.path in BY_KEY) or ("kid" in header) == ("jwk" in header):
+        """The key that a request is to be signed by: the one that a newAccount shows, else that of the account it names."""
+        if ("jwk" in header, "kid" in header) != (self.path == "/new-account", self.path != "/new-account"):
             raise Refused("malformed", "the request is to have a jwk or a kid, by its path")
         if "jwk" in header:
             return header["jwk"]
@@ -124,6 +123,8 @@ def key_change(jws, url):
 class Server(http.server.ThreadingHTTPServer):
     """A port with TLS; each connection has a thread of its own, its handshake too."""
 
+    request_queue_size = 128
+
     def __init__(self, address, certificate, desk, validator, office, log):
         self.tls = ssl.create_default_context(ssl.Purpose.CLIENT_AUTH)
         self.tls.load_cert_chain(certificate)
@@ -136,4 +137,6 @@ class Server(http.server.ThreadingHTTPServer):
             super().finish_request(connection, client_address)
 
     def handle_error(self, request, client_address):
-        """A client that is gone, or speaks no TLS, is no one's fault."""
+        """A client that is gone, or speaks no TLS, is nobody's fault; all else is shown."""
+        if not isinstance(sys.exc_info()[1], OSError):
+            super().handle_error(request, client_address)

@@ -45,13 +45,14 @@ class Office:
         self.desk, self.authority, self.log = desk, authority, log
 
     def work(self):
-        """Takes each order that is to be certified."""
+        """Certifies each order that is to be, or says why it is not."""
         for order in json.loads(self.desk.call("GET", "/office/orders").body)["orders"]:
+            number, reason = order["order"], "certified"
             try:
-                chain = self.authority.certify(order["names"], key_asked_for(decoded(order["csr"]), order["names"]))
-                self.desk.call("POST", f"/office/certify/{order['order']}", chain)
-                self.log(f"order {order['order']}: certified")
-            except BadCsr as reason:
-                problem = {"type": "badCSR", "detail": str(reason)}
-                self.desk.call("POST", f"/office/fail/{order['order']}", json.dumps(problem).encode())
-                self.log(f"order {order['order']}: {reason}")
+                key = key_asked_for(decoded(order["csr"]), order["names"])
+                reply = self.desk.call("POST", f"/office/certify/{number}", self.authority.certify(order["names"], key))
+            except BadCsr as bad:
+                reason = str(bad)
+                problem = json.dumps({"type": "badCSR", "detail": reason}).encode()
+                reply = self.desk.call("POST", f"/office/fail/{number}", problem)
+            self.log(f"order {number}: {json.loads(reply.body)['status']}, {reason}")

@@ -39,13 +39,14 @@ class Jws:
             document = json.loads(text)
             protected, payload, signature = (document[part] for part in ("protected", "payload", "signature"))
             self.signed = f"{protected}.{payload}".encode()
-            self.header = dict(json.loads(decoded(protected)))
-            self.payload, self.signature = decoded(payload).decode(), decoded(signature)
+            self.header, self.payload = json.loads(decoded(protected)), decoded(payload).decode()
+            self.signature = decoded(signature)
+            is_plain = not {"header", "signatures"} & set(document) and not {"crit", "b64"} & set(self.header)
         except (ValueError, KeyError, TypeError, RecursionError, josepy.errors.Error):
             raise Refused("malformed", "the body is no flattened JWS") from None
-        if "header" in document or "signatures" in document or "crit" in self.header or "b64" in self.header:
+        if not is_plain or not isinstance(self.header, dict):
             raise Refused("malformed", "the JWS has members that are not accepted here")
-        if self.header.get("alg") not in KEYS:
+        if str(self.header.get("alg")) not in KEYS:
             raise Refused("badSignatureAlgorithm", "the algorithm is not accepted", algorithms=list(KEYS))
 
     def check(self, url, jwk):
