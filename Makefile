@@ -110,6 +110,9 @@ try-house:
 house-test:
 	@$(HAS_DESK)
 	@! $(HOUSE) packages || /usr/bin/python3 -B scripts/house_test.py bin/desk
+	@if command -v systemd-analyze >/dev/null && command -v nft >/dev/null; then echo 'Verifying the units, as make install-house installs them.'; \
+		rm -rf bin/root && $(MAKE) --silent install-house PREFIX=$(CURDIR)/bin/root >/dev/null && \
+		systemd-analyze verify --man=no bin/root/lib/systemd/system/*.service && rm -rf bin/root; fi
 
 # Beside the program and its unit: the users, the rule for the desk's port, the house and its unit.
 install-house: install

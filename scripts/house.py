@@ -140,8 +140,9 @@ def main():
         return 1
     if word == "packages":
         return 0
-    # SIGTERM ends the script as control C does, with all that it started.
-    signal.signal(signal.SIGTERM, lambda *_: sys.exit(143))
+    # What ends the script ends all that it started.
+    for end in (signal.SIGTERM, signal.SIGHUP):
+        signal.signal(end, lambda number, _: sys.exit(128 + number))
     if word == "serve":
         return serve(*given)
     if word == "try":

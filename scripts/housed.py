@@ -81,8 +81,9 @@ class Run:
     def __init__(self, name, words, say, awaited, **options):
         self.name, self.say, self.awaited, self.found = name, say, re.compile(awaited), None
         self.there = threading.Event()
+        # Control C is for the script alone, which then ends what it started.
         self.run = subprocess.Popen(words, stdin=subprocess.DEVNULL, stdout=subprocess.PIPE, stderr=subprocess.STDOUT, text=True,
-                                    **options)
+                                    process_group=0, **options)
         self.reader = threading.Thread(target=self._read, daemon=True)
         self.reader.start()
 
