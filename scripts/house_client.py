@@ -90,7 +90,7 @@ class Client:
 
 
 class Web(http.server.ThreadingHTTPServer):
-    """Answers http-01 challenges by what `bodies` has for their tokens."""
+    """Answers http-01 challenges by what `bodies` has for their tokens; where that is empty the connection is closed."""
 
     def __init__(self):
         self.bodies = {}
@@ -101,6 +101,8 @@ class Web(http.server.ThreadingHTTPServer):
 class WebHandler(http.server.BaseHTTPRequestHandler):
     def do_GET(self):
         body = self.server.bodies.get(self.path.rsplit("/", 1)[1])
+        if body == "":
+            return
         self.send_response(404 if body is None else 200)
         self.end_headers()
         self.wfile.write((body or "").encode())

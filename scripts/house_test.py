@@ -15,6 +15,7 @@ import sys
 import tempfile
 import threading
 import time
+import traceback
 
 import josepy
 from cryptography.hazmat.primitives.asymmetric import ec, ed25519, padding, rsa
@@ -57,14 +58,14 @@ class Trial:
                 return found
             time.sleep(0.1)
 
-    def answer(self, authorization, kind, is_right=True):
-        """Answers the challenge of a kind, and gives the authorization when it is decided."""
+    def answer(self, authorization, kind, text=None):
+        """Answers the challenge of a kind, by another text where one is given, and gives the authorization when it is decided."""
         found = self.client.read(authorization)
         challenge = next(challenge for challenge in found["challenges"] if challenge["type"] == kind)
-        text = self.client.key_authorization(challenge["token"]) if is_right else "something else"
+        text = self.client.key_authorization(challenge["token"]) if text is None else text
         if kind == "http-01":
             self.web.bodies[challenge["token"]] = text
-        else:
+        elif text:
             digest = josepy.encode_b64jose(hashlib.sha256(text.encode()).digest())
             self.names.texts.setdefault(f"_acme-challenge.{found['identifier']['value']}", []).append(digest)
         see("an answer", self.client.post(challenge["url"], {}).status, 200)
@@ -129,15 +130,18 @@ def refusals(trial):
     client, base = trial.client, trial.house.base
     new_order, text = client.directory["newOrder"], json.dumps({"identifiers": []})
     refused("a name that is none", client.order("no_name.house.test"), 400, "rejectedIdentifier")
-    refused("a nonce twice", client.post(client.kid, nonce=bytes(24)), 400, "badNonce")
-    see("the next request", client.post(client.kid).status, 200)
+    used = josepy.decode_b64jose(client.nonce)
+    see("a nonce", client.post(client.kid, nonce=used).status, 200)
+    refused("a nonce twice", client.post(client.kid, nonce=used), 400, "badNonce")
+    see("the nonce of that refusal", client.post(client.kid, nonce=josepy.decode_b64jose(client.nonce)).status, 200)
     refused("another content type", client.ask("POST", new_order, text.encode(), "application/json"), 415, "malformed")
     refused("no JWS", client.ask("POST", new_order, text.encode()), 400, "malformed")
     for path in ("/office/orders", "/office/key/1", "//office/orders", "/nothing"):
         refused(f"GET {path}", client.ask("GET", base + path), 404, "malformed")
     refused("POST to an office", client.post(f"{base}/office/fail/1", {"type": "badCSR", "detail": "no"}), 404, "malformed")
     see("GET where a POST belongs", (client.ask("GET", new_order).status, client.ask("PUT", new_order, b"x").status), (405, 405))
-    refused("a request for another URL", client.ask("POST", new_order, client.signed(client.kid, text, kid=client.kid).encode()), 401, "unauthorized")
+    other = client.signed(client.kid, text, kid=client.kid).encode()
+    refused("a request for another URL", client.ask("POST", new_order, other), 401, "unauthorized")
     refused("a key where an account belongs", client.post(new_order, text, kid=None), 400, "malformed")
     refused("an account where a key belongs", client.post(client.directory["newAccount"], {}), 400, "malformed")
     refused("no account", client.post(new_order, text, kid=f"{base}/account/99"), 400, "accountDoesNotExist")
@@ -159,19 +163,12 @@ def failures(trial):
         trial.client.finalize(order, names)
         found = trial.settled(url)
         see(f"a CSR of {names}", (found["status"], found.get("error", {}).get("type")), ("invalid", f"{ERROR}badCSR"))
-    for name, kind, is_right, error in (("e", "http-01", False, "incorrectResponse"), ("f", "dns-01", False, "incorrectResponse")):
-        order = json.loads(trial.client.order(f"{name}.house.test").body)
-        found = trial.answer(order["authorizations"][0], kind, is_right)
-        see(f"{kind} with another text", (found["status"], found["challenges"][0].get("error", {}).get("type")), ("invalid", ERROR + error))
-    order = json.loads(trial.client.order("*.nobody.test").body)
-    found = unanswered(trial, order["authorizations"][0])
-    see("dns-01 without records", (found["status"], found["challenges"][0]["error"]["type"]), ("invalid", f"{ERROR}dns"))
-
-
-def unanswered(trial, authorization):
-    """What an authorization is once its challenge was answered with nothing there to find."""
-    trial.client.post(trial.client.read(authorization)["challenges"][0]["url"], {})
-    return trial.settled(authorization)
+    for kind, text, error in (("http-01", "else", "incorrectResponse"), ("http-01", "", "connection"),
+                              ("dns-01", "else", "incorrectResponse"), ("dns-01", "", "dns")):
+        order = json.loads(trial.client.order(f"{error}.{kind}.test").body)
+        found = trial.answer(order["authorizations"][0], kind, text)
+        shown = found["status"], found["challenges"][0].get("error", {}).get("type")
+        see(f"{kind}, {text or 'nothing'}", shown, ("invalid", ERROR + error))
 
 
 def signers():
@@ -211,8 +208,8 @@ def signatures(trial):
     for algorithm in ("none", "HS256", "RS512"):
         refused(algorithm, account_by(trial.client, algorithm, jwk, sign), 400, "badSignatureAlgorithm")
     weak = rsa.generate_private_key(65537, 1024)
-    weak_json = josepy.JWKRSA(key=weak).public_key().to_json()
-    refused("a short RSA key", account_by(trial.client, "RS256", weak_json, lambda data: josepy.RS256.sign(weak, data)), 400, "badPublicKey")
+    reply = account_by(trial.client, "RS256", josepy.JWKRSA(key=weak).public_key().to_json(), lambda data: josepy.RS256.sign(weak, data))
+    refused("a short RSA key", reply, 400, "badPublicKey")
     refused("a point on no curve", account_by(trial.client, "ES256", {**jwk, "x": jwk["y"]}, sign), 400, "badPublicKey")
 
 
@@ -282,20 +279,24 @@ def lost(trial):
     print(f"house: lost {losing.lost} replies of the desk, killed it {killed} times, asked {trial.client.again - again} times again")
 
 
+TRIALS = signatures, refusals, key_change, certificates, failures, lost
+
+
 def main():
-    web, names = Web(), Names()
-    lines = []
+    web, names, lines = Web(), Names(), []
     with tempfile.TemporaryDirectory(prefix="desk-house-") as folder:
-        with LosingHouse(sys.argv[1], folder, lines.append, web.server_port, names.server_address[1]) as house:
-            trial = Trial(house, web, names)
-            for tried in [globals()[word] for word in sys.argv[2:]] or (signatures, refusals, key_change, certificates, failures, lost):
-                start = time.monotonic()
-                tried(trial)
-                print(f"house: {tried.__name__}, {time.monotonic() - start:.1f} s")
-        see("the check of the desk", subprocess.run([sys.argv[1], "check", f"{folder}/ca.db"], capture_output=True).stdout, b"no fault\n")
-    print("\n".join(faults + [f"house: {len(faults)} not as they should be."]))
-    if faults:
-        print("\n".join(lines))
+        try:
+            with LosingHouse(sys.argv[1], folder, lines.append, web.server_port, names.server_address[1]) as house:
+                trial = Trial(house, web, names)
+                for tried in TRIALS:
+                    start = time.monotonic()
+                    tried(trial)
+                    print(f"house: {tried.__name__}, {time.monotonic() - start:.1f} s", flush=True)
+        except Exception:
+            faults.append(traceback.format_exc())
+        checked = subprocess.run([sys.argv[1], "check", f"{folder}/ca.db"], capture_output=True)
+        see("the check of the desk", checked.stdout, b"no fault\n")
+    print("\n".join((lines if faults else []) + faults + [f"house: {len(faults)} not as they should be."]))
     return 1 if faults else 0
 
 
