@@ -83,6 +83,14 @@ class Files(http.server.SimpleHTTPRequestHandler):
         pass
 
 
+def is_installed(client):
+    """Whether the machine has a client; where it has not, that is said."""
+    if not shutil.which(client.__name__):
+        say(f"{client.__name__}: not installed")
+        return False
+    return True
+
+
 def certificate_by(client, house, port):
     """Has a client get a certificate, and says in a line what came of it."""
     start = time.monotonic()
@@ -148,7 +156,7 @@ def main():
     if word == "try":
         return run(TriedHouse, say_unproved)
     if word == "clients":
-        there = [client for client in (certbot, lego, uacme) if shutil.which(client.__name__)]
+        there = [client for client in (certbot, lego, uacme) if is_installed(client)]
         return run(House, say, *given, clients=there)
     return run(House, say, *given)
 

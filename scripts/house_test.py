@@ -136,6 +136,7 @@ def refusals(trial):
     see("the nonce of that refusal", client.post(client.kid, nonce=josepy.decode_b64jose(client.nonce)).status, 200)
     refused("another content type", client.ask("POST", new_order, text.encode(), "application/json"), 415, "malformed")
     refused("no JWS", client.ask("POST", new_order, text.encode()), 400, "malformed")
+    refused("a body that is too large", client.ask("POST", new_order, bytes(200000)), 413, "malformed")
     for path in ("/office/orders", "/office/key/1", "//office/orders", "/nothing"):
         refused(f"GET {path}", client.ask("GET", base + path), 404, "malformed")
     refused("POST to an office", client.post(f"{base}/office/fail/1", {"type": "badCSR", "detail": "no"}), 404, "malformed")

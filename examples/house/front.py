@@ -8,8 +8,10 @@ import sys
 from desk import Reply
 from signatures import Jws, Refused
 
-# The bytes of a request's body, at most; how long a client may be silent; after how long one that waits asks again, in seconds.
-BODY, SILENCE, WAIT = 65536, 20, 1
+# The bytes of a body, at most, and those that are read of one that is larger.
+BODY, MOST = 65536, 2**20
+# How long a client may be silent, and after how long one that waits asks again, in seconds.
+SILENCE, WAIT = 20, 1
 
 
 class Front(http.server.BaseHTTPRequestHandler):
@@ -54,9 +56,10 @@ class Front(http.server.BaseHTTPRequestHandler):
         length = self.headers.get("Content-Length", "0")
         if not re.fullmatch("[0-9]{1,9}", length) or "Transfer-Encoding" in self.headers:
             raise Refused("malformed", "the length of the body is not given", 411)
+        body = self.rfile.read(min(int(length), MOST))
         if int(length) > BODY:
             raise Refused("malformed", "the request is too large", 413)
-        return self.rfile.read(int(length))
+        return body
 
     def _envelope(self, jws):
         """What the desk reads of a signed request, once its signature was checked."""

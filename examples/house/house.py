@@ -1,5 +1,6 @@
 #!/usr/bin/python3
-"""A small house around a desk: front, validator, signing office and an authority on disk. For trials, and as a pattern.
+"""A small house around a desk: front, validator, signing office and an authority on disk. Nothing of it is proved: it is for
+trials, and a pattern (docs/HOUSE.md).
 
   house.py FOLDER --desk PORT --port PORT [--bind ADDRESS] [--base URL] [--web ADDRESS:PORT] [--names ADDRESS:PORT]
            [--requests]
