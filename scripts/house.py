@@ -65,16 +65,17 @@ def lego(house, folder, port):
 
 
 def uacme(house, folder, port):
-    """uacme trusts the machine's authorities alone: a name space of its own has the house's in their place."""
+    """uacme, with a change of the account's key. It trusts the machine's authorities alone: a name space of its own has the
+    house's in their place."""
     web, hook = f"{folder}/.well-known/acme-challenge", f"{folder}/hook"
     os.makedirs(web)
     with open(os.open(hook, os.O_WRONLY | os.O_CREAT, 0o700), "w", encoding="utf-8") as file:
         file.write(HOOK.format(web=web))
     server = http.server.ThreadingHTTPServer(("127.0.0.1", port), functools.partial(Files, directory=folder))
     threading.Thread(target=server.serve_forever, daemon=True).start()
-    steps = ('mount --bind "$0" /etc/ssl/certs/ca-certificates.crt && uacme --yes --confdir "$1" --acme-url "$2" new'
-             ' && exec uacme --confdir "$1" --acme-url "$2" --hook "$3" issue "$4"')
-    words = ["unshare", "--map-root-user", "--mount", "sh", "-c", steps, house.root, folder, f"{house.base}/directory", hook, NAME]
+    begin = 'uacme --yes --confdir "$1" --acme-url "$2"'
+    steps = ('mount --bind "$0" /etc/ssl/certs/ca-certificates.crt', f"{begin} new", f"{begin} newkey", f'{begin} --hook "$3" issue "$4"')
+    words = ["unshare", "--map-root-user", "--mount", "sh", "-c", " && ".join(steps), house.root, folder, f"{house.base}/directory", hook, NAME]
     return words, {}, f"{folder}/{NAME}/cert.pem"
 
 

@@ -5,6 +5,7 @@ An account, a change of its key, names by http-01, a wildcard by dns-01, what th
 refuse, a failed validation, a renewal that uses authorizations again, and requests that are sent again while `serve` is killed
 and started. Signatures of each algorithm that the front reads are tried, and of those that it does not.
 """
+import collections
 import contextlib
 import hashlib
 import json
@@ -149,6 +150,9 @@ def refusals(trial):
     refused("another key", client.post(new_order, text, key=new_key()), 400, "malformed")
     refused("the order of another account", other_client(trial).post(f"{base}/order/1"), 404, "malformed")
     see("a date", "Date" in client.ask("GET", client.directory["newNonce"]).fields, True)
+    paths = trial.house.losing.paths
+    asked = [paths[path] for path in ("/office/challenges", "/office/orders", "/office/fail/1")]
+    see("what the offices asked for, which nobody woke since their start", asked, [1, 1, 0])
 
 
 def other_client(trial):
@@ -215,12 +219,12 @@ def signatures(trial):
 
 
 class Losing(socketserver.ThreadingTCPServer):
-    """Hands calls on to a desk; while `is_on` each fourth reply is lost."""
+    """Hands calls on to a desk, and counts them by path; while `is_on` each fourth reply is lost."""
 
     daemon_threads = True
 
     def __init__(self, port):
-        self.port, self.is_on, self.count, self.lost = port, False, 0, 0
+        self.port, self.is_on, self.count, self.lost, self.paths = port, False, 0, 0, collections.Counter()
         super().__init__(("127.0.0.1", 0), LosingHandler)
         threading.Thread(target=self.serve_forever, daemon=True).start()
 
@@ -235,6 +239,9 @@ class Losing(socketserver.ThreadingTCPServer):
 class LosingHandler(socketserver.BaseRequestHandler):
     def handle(self):
         with contextlib.suppress(OSError), socket.create_connection(("127.0.0.1", self.server.port)) as desk:
+            asked = self.request.recv(65536)
+            self.server.paths[asked.split(b" ", 2)[1].decode()] += 1
+            desk.sendall(asked)
             threading.Thread(target=self.hand_on, args=[desk], daemon=True).start()
             reply = desk.makefile("rb").read()
             if not self.server.loses():
