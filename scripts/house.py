@@ -129,7 +129,7 @@ def serve(program):
             say(f"Challenges by http-01 are tried at 127.0.0.1:{port}, whatever their name. In another terminal:")
             say(f"  {before} {shlex.join(words)}")
             say("Control C ends it, and removes all of it.")
-            with contextlib.suppress(KeyboardInterrupt):
+            with contextlib.suppress(SystemExit):
                 signal.pause()
     return 0
 
@@ -150,7 +150,7 @@ def main():
     if word == "packages":
         return 0
     # What ends the script ends all that it started.
-    for end in (signal.SIGTERM, signal.SIGHUP):
+    for end in (signal.SIGINT, signal.SIGTERM, signal.SIGHUP):
         signal.signal(end, lambda number, _: sys.exit(128 + number))
     if word == "serve":
         return serve(*given)

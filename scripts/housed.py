@@ -4,6 +4,7 @@ import re
 import shutil
 import socket
 import subprocess
+import sys
 import threading
 import time
 
@@ -147,7 +148,7 @@ class House:
     def __enter__(self):
         try:
             self.make_desk()
-            words = ["/usr/bin/python3", "-B", f"{ROOT}/examples/house/house.py", f"{self.folder}/ca", f"--desk={self.called_port}",
+            words = [sys.executable, "-B", f"{ROOT}/examples/house/house.py", f"{self.folder}/ca", f"--desk={self.called_port}",
                      f"--port={self.port}", *self.options]
             house = Run("house", words, self.say, "the front serves")
             self.runs.append(house)
