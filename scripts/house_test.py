@@ -218,6 +218,20 @@ def signatures(trial):
     refused("a point on no curve", account_by(trial.client, "ES256", {**jwk, "x": jwk["y"]}, sign), 400, "badPublicKey")
 
 
+def restarts(trial):
+    """The house is killed when it has work: what is left it does at its next start, with the same authority."""
+    reply = trial.client.order("left.house.test")
+    order, url = json.loads(reply.body), reply.fields["Location"]
+    challenge = trial.client.read(order["authorizations"][0])["challenges"][0]
+    trial.web.bodies[challenge["token"]] = trial.client.key_authorization(challenge["token"])
+    trial.client.post(challenge["url"], {})
+    trial.house.kill()
+    see("an answer before a kill", trial.settled(order["authorizations"][0])["status"], "valid")
+    trial.client.finalize(order, ["left.house.test"])
+    trial.house.kill()
+    see("a finalize before a kill", trial.settled(url)["status"], "valid")
+
+
 class Losing(socketserver.ThreadingTCPServer):
     """Hands calls on to a desk, and counts them by path; while `is_on` each fourth reply is lost."""
 
@@ -287,7 +301,7 @@ def lost(trial):
     print(f"house: lost {losing.lost} replies of the desk, killed it {killed} times, asked {trial.client.again - again} times again")
 
 
-TRIALS = signatures, refusals, key_change, certificates, failures, lost
+TRIALS = signatures, refusals, key_change, certificates, failures, restarts, lost
 
 
 def main():

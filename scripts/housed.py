@@ -145,14 +145,24 @@ class House:
         self.desk.run.wait()
         self.serve(self.desk_port)
 
+    def start(self):
+        """Starts the house around the desk."""
+        words = [sys.executable, "-B", f"{ROOT}/examples/house/house.py", f"{self.folder}/ca", f"--desk={self.called_port}",
+                 f"--port={self.port}", *self.options]
+        self.house = Run("house", words, self.say, "the front serves")
+        self.runs.append(self.house)
+        self.house.wait()
+
+    def kill(self):
+        """Kills the house, and starts it again over the same authority and desk."""
+        self.house.run.kill()
+        self.house.run.wait()
+        self.start()
+
     def __enter__(self):
         try:
             self.make_desk()
-            words = [sys.executable, "-B", f"{ROOT}/examples/house/house.py", f"{self.folder}/ca", f"--desk={self.called_port}",
-                     f"--port={self.port}", *self.options]
-            house = Run("house", words, self.say, "the front serves")
-            self.runs.append(house)
-            house.wait()
+            self.start()
         except BaseException:
             self.__exit__()
             raise
