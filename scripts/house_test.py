@@ -136,7 +136,9 @@ def refusals(trial):
     refused("a nonce twice", client.post(client.kid, nonce=used), 400, "badNonce")
     see("the nonce of that refusal", client.post(client.kid, nonce=josepy.decode_b64jose(client.nonce)).status, 200)
     refused("another content type", client.ask("POST", new_order, text.encode(), "application/json"), 415, "malformed")
-    refused("no JWS", client.ask("POST", new_order, text.encode()), 400, "malformed")
+    reply = client.ask("POST", new_order, text.encode())
+    refused("no JWS", reply, 400, "malformed")
+    see("its link", reply.fields["Link"], f'<{base}/directory>;rel="index"')
     refused("a body that is too large", client.ask("POST", new_order, bytes(200000)), 413, "malformed")
     for path in ("/office/orders", "/office/key/1", "//office/orders", "/nothing"):
         refused(f"GET {path}", client.ask("GET", base + path), 404, "malformed")

@@ -87,12 +87,11 @@ class Front(http.server.BaseHTTPRequestHandler):
         return json.loads(found.body)
 
     def _refusal(self, refused):
-        """A refusal of the front's own, with a nonce for the next request."""
+        """A refusal of the front's own, with the fields of a fresh nonce for the next request."""
         fresh = self.server.desk.call("HEAD", "/new-nonce")
-        nonce = [field for field in fresh.fields if field[0] == "Replay-Nonce"]
         body = json.dumps(refused.document).encode()
-        kind = [("Content-Type", "application/problem+json"), ("Content-Length", str(len(body))), ("Connection", "close")]
-        return Reply(refused.status, kind + nonce, body)
+        kind = [("Content-Type", "application/problem+json"), ("Content-Length", str(len(body)))]
+        return Reply(refused.status, fresh.fields + kind, body)
 
     def _send(self, reply):
         """The desk's reply, with `Date` (by send_response) and, for what is not done yet, `Retry-After`."""
