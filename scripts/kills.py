@@ -8,20 +8,17 @@ to the desk that is opened next, is refused. A name that was validated before is
 
 The opening of a file of format 1 is killed, too; the file holds the same desk in format 1 or 2 then.
 """
-import argparse
 import base64
 import json
-import os
 import random
 import subprocess
-import sys
 import tempfile
 import threading
 import time
 
 from first_format import restore, upgraded
 from served import NEW_NONCE, Client, Reply, Server, serial_of
-from trying import BASE, KEY, checked, faults, finish, fresh, see, tables_of
+from trying import BASE, KEY, begin_random, checked, faults, finish, fresh, see, tables_of
 
 # How long the program serves, and how long it opens a file of format 1, before it is killed, in seconds, at most.
 LONGEST, LONGEST_OPENING = 0.08, 0.1
@@ -175,9 +172,4 @@ def main(program, times, seed):
 
 
 if __name__ == "__main__":
-    words = argparse.ArgumentParser(description=__doc__, formatter_class=argparse.RawDescriptionHelpFormatter)
-    words.add_argument("program")
-    words.add_argument("--times", type=int, default=200)
-    words.add_argument("--seed", type=int, default=20261124)
-    given = words.parse_args()
-    sys.exit(main(os.path.abspath(given.program), given.times, given.seed))
+    begin_random(main, __doc__, "--times", 200, 20261124)

@@ -503,23 +503,27 @@ class Desk:
         return 200, None, None, compact(self.challenge_document(number))
 
     def certify(self, number, data):
-        if not 1 <= number <= len(self.orders):
-            raise Refused(2)
+        self.see_order(number)
         is_all(data)
-        found = self.orders[number - 1]
-        if not (found.certificate and found.certificate[0] == data):
-            if self.order_status(number) != "processing":
-                raise Refused(14)
-            found.certificate, self.clock = (data, self.m), self.m
-        return 200, None, None, compact(self.order_document(number))
+        return self.sign("certificate", number, data)
 
     def fail(self, number, problem):
+        self.see_order(number)
+        is_all(problem[0] in PROBLEMS, 1 <= len(problem[1].encode()) <= 256)
+        return self.sign("problem", number, problem)
+
+    def see_order(self, number):
+        """Refusal 2 where there is no such order."""
         if not 1 <= number <= len(self.orders):
             raise Refused(2)
-        is_all(problem[0] in PROBLEMS, 1 <= len(problem[1].encode()) <= 256)
+
+    def sign(self, name, number, content):
+        """Records what the signing office hands in of an order, where it doesn't stand already."""
         found = self.orders[number - 1]
-        if not (found.problem and found.problem[0] == problem):
+        fact = getattr(found, name)
+        if not (fact and fact[0] == content):
             if self.order_status(number) != "processing":
                 raise Refused(14)
-            found.problem, self.clock = (problem, self.m), self.m
+            setattr(found, name, (content, self.m))
+            self.clock = self.m
         return 200, None, None, compact(self.order_document(number))

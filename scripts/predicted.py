@@ -6,15 +6,13 @@ that authorizations are used again, challenges, reports by the right key and by 
 rise and fall. Each reply is the one that scripts/model.py gives, and the file has its tables then. The same seed makes the same
 batches.
 """
-import argparse
 import json
 import os
 import random
-import sys
 import tempfile
 
 import model
-from trying import BASE, checked, faults, finish, fresh, run, see, stored, tables_of, terms_of
+from trying import BASE, begin_random, checked, faults, finish, fresh, run, see, stored, tables_of, terms_of
 
 KEYS = [
     *({"crv": "P-256", "kty": "EC", "x": text, "y": "Ag"} for text in ("AQ", "Aw", "BQ")),
@@ -177,9 +175,4 @@ def main(program, batches, seed):
 
 
 if __name__ == "__main__":
-    words = argparse.ArgumentParser(description=__doc__, formatter_class=argparse.RawDescriptionHelpFormatter)
-    words.add_argument("program")
-    words.add_argument("--batches", type=int, default=100)
-    words.add_argument("--seed", type=int, default=20261127)
-    given = words.parse_args()
-    sys.exit(main(os.path.abspath(given.program), given.batches, given.seed))
+    begin_random(main, __doc__, "--batches", 100, 20261127)

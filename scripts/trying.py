@@ -1,4 +1,5 @@
 """What the scripts that try the program share: what is not as it should be, runs of the program, and what a desk's file holds."""
+import argparse
 import base64
 import os
 import resource
@@ -44,6 +45,16 @@ def begin(main, doc):
     if len(sys.argv) != 2:
         sys.exit(doc)
     sys.exit(main(os.path.abspath(sys.argv[1])))
+
+
+def begin_random(main, doc, option, default, seed):
+    """Ends the script by what `main` makes of the program, how many times it is to try, and the seed of its choices."""
+    words = argparse.ArgumentParser(description=doc, formatter_class=argparse.RawDescriptionHelpFormatter)
+    words.add_argument("program")
+    words.add_argument(option, dest="times", type=int, default=default)
+    words.add_argument("--seed", type=int, default=seed)
+    given = words.parse_args()
+    sys.exit(main(os.path.abspath(given.program), given.times, given.seed))
 
 
 def run(program, *words, given=b"", **options):
