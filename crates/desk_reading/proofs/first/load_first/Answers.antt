@@ -1,6 +1,5 @@
-use Rattle.std.proofs.Common.{◌≡◌, IfOk, ap, map, subst, sym, ◌∙◌}
+use Rattle.std.proofs.Common.{◌≡◌, IfOk, ap, map, subst, ◌∙◌}
 use Rattle.std.specs.List.{filter_map}
-use Rattle.std.proofs.lemmas.Result.{IfOk-from_err}
 use Rattle.desk_schema.specs.Failing.{IsFailure}
 use Rattle.desk_reading.specs.First.{blank_key, raised_meta}
 use Rattle.desk_reading.proofs.FirstLoading.{first_columns}
