@@ -250,7 +250,7 @@ def try_alone(copy, crate, edits):
     for edit in edits:
         shutil.copy2(edit.file, folder)
     status, said = run(copy, "must-fail", crate)
-    lines = [line for line in said.splitlines() if "must-fail " in line]
+    lines = [line for line in said.splitlines() if line.startswith("rt: must-fail ")]
     bad = [line for line in lines if ": refused" not in line or "names what the edit took away" in line]
     if len(lines) != len(edits) or status and not bad:
         bad.append(said[-2000:])
