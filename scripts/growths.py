@@ -23,11 +23,12 @@ import struct
 import subprocess
 import sys
 import tempfile
+from functools import partial
 
 from first_format import RICH, restore
 from served import DIRECTORY, NEW_NONCE, Client, Reply, Server, refusal, signed
 from stops import SCENARIOS, Desk, Whole, first_calls
-from trying import BASE, KEY, ROOT, finish, fresh, see, tables_of
+from trying import BASE, KEY, ROOT, finish, fresh, see, side_by_side, tables_of
 
 ALL = 2**62
 # The ends of the program that a refused growth may bring, by their line on standard error.
@@ -225,19 +226,21 @@ def refuse_batch(whole, preload, step):
 
 def batches(program, preload, folder, step):
     """The calls and the openings that scripts/stops.py stops, without memory."""
-    for number, (name, prepared, terms, _) in enumerate(SCENARIOS):
-        room = f"{folder}/{number}"
-        os.mkdir(room)
+    def scenario(name, prepared, terms, room):
         desk = Desk(program, room, terms)
-        refuse_batch(Whole(name, program, desk.path, prepared(desk), folder), preload, step)
-    os.mkdir(f"{folder}/first")
-    desk = Desk(program, f"{folder}/first")
-    for name, call, _ in first_calls(desk):
-        refuse_batch(Whole(name, program, desk.path, call, folder), preload, step)
-        desk.answer(call)
-    for name in RICH:
-        first = restore(name, f"{folder}/{name}.db")
-        refuse_batch(Whole(f"the upgrade of {name}", program, first, b"", folder), preload, step)
+        refuse_batch(Whole(name, program, desk.path, prepared(desk), room), preload, step)
+
+    def first_requests(room):
+        desk = Desk(program, room)
+        for name, call, _ in first_calls(desk):
+            refuse_batch(Whole(name, program, desk.path, call, room), preload, step)
+            desk.answer(call)
+
+    def upgrade(name, room):
+        refuse_batch(Whole(f"the upgrade of {name}", program, restore(name, f"{room}/first.db"), b"", room), preload, step)
+
+    tries = [first_requests, *(partial(scenario, *row[:3]) for row in SCENARIOS), *(partial(upgrade, name) for name in RICH)]
+    side_by_side(tries, folder)
 
 
 def main():

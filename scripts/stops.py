@@ -14,9 +14,10 @@ import os
 import shutil
 import subprocess
 import tempfile
+from functools import partial
 
 from first_format import RICH, is_first, restore, upgraded
-from trying import BASE, KEY, ROOT, begin, checked, copy, faults, finish, fresh, nonce_text, remove, run, see, tables_of
+from trying import BASE, KEY, ROOT, begin, checked, copy, faults, finish, fresh, nonce_text, remove, run, see, side_by_side, tables_of
 
 STOPPED = 77
 # How a command ends where a call to the disk failed.
@@ -162,13 +163,12 @@ def try_call(name, desk, call, statuses, preload, folder):
     try_failures(whole, preload)
 
 
-def try_upgrades(program, preload, folder):
-    """Stops and fails the opening of files of format 1."""
-    for name in RICH:
-        whole = Whole(f"the upgrade of {name}", program, restore(name, f"{folder}/first.db"), b"", folder)
-        see(f"{whole.name}: the whole run", (whole.status, whole.reply, whole.after), (0, b"", upgraded(whole.before)))
-        try_stops(whole, preload)
-        try_failures(whole, preload)
+def try_upgrade(program, preload, name, folder):
+    """Stops and fails the opening of a file of format 1."""
+    whole = Whole(f"the upgrade of {name}", program, restore(name, f"{folder}/first.db"), b"", folder)
+    see(f"{whole.name}: the whole run", (whole.status, whole.reply, whole.after), (0, b"", upgraded(whole.before)))
+    try_stops(whole, preload)
+    try_failures(whole, preload)
 
 
 def try_make(program, preload, folder):
@@ -192,8 +192,9 @@ def try_make(program, preload, folder):
     print(f"make: stopped at {count} writes")
 
 
-def new_nonce(desk, preload, folder):
+def new_nonce(program, preload, folder):
     """newNonce stopped before its commit gives the same nonce again, which serves once."""
+    desk = Desk(program, folder)
     call = desk.line("GET", "/new-nonce", random="00" * 16)
     path = f"{folder}/stopped.db"
     copy(desk.path, path)
@@ -223,8 +224,9 @@ def first_calls(desk):
     ]
 
 
-def first_requests(desk, preload, folder):
+def first_requests(program, preload, folder):
     """The first requests on a new desk, each stopped at each write."""
+    desk = Desk(program, folder)
     for name, call, statuses in first_calls(desk):
         try_call(name, desk, call, statuses, preload, folder)
         desk.answer(call)
@@ -294,6 +296,12 @@ SCENARIOS = [
 ]
 
 
+def try_scenario(program, preload, scenario, folder):
+    name, prepared, terms, statuses = scenario
+    desk = Desk(program, folder, terms)
+    try_call(name, desk, prepared(desk), statuses, preload, folder)
+
+
 def main(program):
     if not shutil.which("gcc"):
         print("There is no gcc, so stops at each write were not tried.")
@@ -301,17 +309,9 @@ def main(program):
     with tempfile.TemporaryDirectory(prefix="desk-stops-") as folder:
         preload = f"{folder}/stop_at_write.so"
         subprocess.run(["gcc", "-O2", "-shared", "-fPIC", "-o", preload, f"{ROOT}/scripts/stop_at_write.c", "-ldl"], check=True)
-        try_make(program, preload, folder)
-        for number, (name, prepared, terms, statuses) in enumerate(SCENARIOS):
-            room = f"{folder}/{number}"
-            os.mkdir(room)
-            desk = Desk(program, room, terms)
-            try_call(name, desk, prepared(desk), statuses, preload, folder)
-        os.mkdir(f"{folder}/first")
-        first_requests(Desk(program, f"{folder}/first"), preload, folder)
-        os.mkdir(f"{folder}/nonce")
-        new_nonce(Desk(program, f"{folder}/nonce"), preload, folder)
-        try_upgrades(program, preload, folder)
+        tries = [partial(tried, program, preload) for tried in (first_requests, try_make, new_nonce)]
+        tries += [partial(try_scenario, program, preload, scenario) for scenario in SCENARIOS]
+        side_by_side([*tries, *(partial(try_upgrade, program, preload, name) for name in RICH)], folder)
     return finish("Stops")
 
 

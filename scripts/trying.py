@@ -9,6 +9,7 @@ import sqlite3
 import subprocess
 import sys
 import tempfile
+from concurrent.futures import ThreadPoolExecutor
 
 ROOT = os.path.dirname(os.path.dirname(os.path.abspath(__file__)))
 BASE = "https://ca.example"
@@ -61,6 +62,16 @@ def run(program, *words, given=b"", **options):
     """The exit status, the output and the errors of the program."""
     ran = subprocess.run([program, *words], **{"input": given, "stdout": subprocess.PIPE, "stderr": subprocess.PIPE, **options})
     return ran.returncode, ran.stdout, ran.stderr
+
+
+def side_by_side(tries, folder):
+    """Makes tries in folders of their own, as many at a time as there are processors."""
+    def made(number):
+        room = f"{folder}/{number}"
+        os.mkdir(room)
+        tries[number](room)
+    with ThreadPoolExecutor(os.cpu_count()) as pool:
+        list(pool.map(made, range(len(tries))))
 
 
 def example(name):
