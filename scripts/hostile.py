@@ -20,6 +20,7 @@ import sys
 import tempfile
 import time
 
+from model_texts import canonical
 from serve import reset
 from served import BASE, BODY, HEAD, NEW_NONCE, PHRASES, ROUTES, Client, Reply, Server, envelope, received, request, serial_of
 from trying import KEY, faults, finish, fresh, run, see, tables_of
@@ -313,7 +314,7 @@ class Told:
         see("the rows by the counters", [len(tables[name]) for name in ("account", "ord", "authz", "chall")], list(counters[1:]))
         keys = {row[0]: row[1].decode() for row in tables["account"]}
         for account, key in self.keys.items():
-            see(f"the key of account {account}", keys[account], json.dumps(key_of(key), separators=(",", ":"), sort_keys=True))
+            see(f"the key of account {account}", keys[account], canonical(key_of(key)))
         names = {row[0]: (b"*." if row[3] else b"") + row[2] for row in tables["authz"]}
         listed = collections.defaultdict(list)
         for order, _, authz in sorted(tables["ord_authz"]):

@@ -9,7 +9,6 @@ to the desk that is opened next, is refused. A name that was validated before is
 The opening of a file of format 1 is killed, too; the file holds the same desk in format 1 or 2 then.
 """
 import base64
-import json
 import random
 import subprocess
 import tempfile
@@ -17,6 +16,7 @@ import threading
 import time
 
 from first_format import restore, upgraded
+from model_texts import canonical
 from served import NEW_NONCE, Client, Reply, Server, serial_of
 from trying import BASE, KEY, begin_random, checked, faults, finish, fresh, see, tables_of
 
@@ -90,16 +90,12 @@ class Stream(Client):
             self.note(reply)
 
 
-def canonical(key):
-    return json.dumps(key, separators=(",", ":"), sort_keys=True).encode()
-
-
 def look_at_key(name, stream, tables):
     """The account has the acknowledged key, or the one that the killed request asked for; that is known from now on."""
     known = [stream.key, stream.wanted] if stream.is_sent and stream.wanted else [stream.key]
     (found,) = {row[1] for row in tables["account"]}
-    see(f"{name}: the account's key", found in map(canonical, known), True)
-    stream.key = next((key for key in known if canonical(key) == found), stream.key)
+    see(f"{name}: the account's key", found.decode() in map(canonical, known), True)
+    stream.key = next((key for key in known if canonical(key) == found.decode()), stream.key)
     shared = [row[0] for row in tables["authz"] if (row[2], row[3]) == (VALIDATED.encode(), 0)]
     see(f"{name}: the authorizations of the validated name", shared, [1])
 

@@ -1,10 +1,10 @@
 """Files of format 1 are opened, which makes them format 2: a part of scripts/files.py."""
-import base64
 import hashlib
 import json
 import sqlite3
 
 from first_format import first_files, restore, upgraded
+from model_texts import canonical, spelled, thumbprint
 from trying import BASE, KEY, TABLES, change, checked, fresh, nonce_text, run, see, small_files, tables_of
 
 OPENINGS = ("batch --file FILE", "status FILE", "check FILE", "serve FILE --port 0 --count 0")
@@ -111,10 +111,7 @@ def line(method, path, body, random=""):
 
 def report(challenge, key, is_dns=False):
     """The report on a challenge, whose token is zero, with what proves it by a key."""
-    def spelled(data):
-        return base64.urlsafe_b64encode(data).rstrip(b"=").decode()
-    thumbprint = hashlib.sha256(json.dumps(key, separators=(",", ":"), sort_keys=True).encode()).digest()
-    text = f"{spelled(bytes(16))}.{spelled(thumbprint)}".encode()
+    text = f"{spelled(bytes(16))}.{spelled(thumbprint(canonical(key)))}".encode()
     body = {"records": [spelled(hashlib.sha256(text).digest())]} if is_dns else {"body": spelled(text)}
     return line("POST", f"/office/report/{challenge}", body)
 
