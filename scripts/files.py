@@ -7,7 +7,6 @@ shell is there, it reads the file.
 """
 import json
 import os
-import shutil
 import socket
 import sqlite3
 import struct
@@ -15,7 +14,7 @@ import subprocess
 import tempfile
 
 from model import LIVES, Desk
-from trying import NOT_A_DESK, ROOT, TABLES, begin, change, example, finish, fresh, run, see, small_files, stored, tables_of, terms_of
+from trying import NOT_A_DESK, ROOT, TABLES, begin, change, example, finish, fresh, need, run, see, small_files, stored, tables_of, terms_of
 from upgrades import cut_upgrades, later_calls, strange_upgrades, upgrades, without_room
 
 
@@ -161,9 +160,7 @@ def together(program, folder):
 
 def shell(program, folder):
     """What SQLite's own shell makes of a file."""
-    if not shutil.which("sqlite3"):
-        print("SQLite's shell is not here, so it was not asked.")
-        return
+    need("sqlite3")
     path = fresh(program, folder, "shell")
     see("order.jsonl", run(program, "batch", "--file", path, given=b"".join(example("order")[0]))[0], 0)
 

@@ -10,14 +10,13 @@ serves over its file.
 Then each growth of a `batch` of one call over a file is refused, those of its opening and closing too, and of one without calls
 over files of format 1, which their opening makes format 2. It ends as with ample memory, or by fault 20 or 22 and with status
 1; the tables are those before the call or those after it, and `check` finds no fault. With a step only each N-th growth is
-refused, and of a batch each 17 N-th. Without gcc nothing is tried, and it says so.
+refused, and of a batch each 17 N-th.
 """
 import argparse
 import base64
 import collections
 import mmap
 import os
-import shutil
 import signal
 import struct
 import subprocess
@@ -28,7 +27,7 @@ from functools import partial
 from first_format import RICH, restore
 from served import DIRECTORY, NEW_NONCE, Client, Reply, Server, refusal, signed
 from stops import SCENARIOS, Desk, Whole, first_calls
-from trying import BASE, KEY, ROOT, finish, fresh, see, side_by_side, tables_of
+from trying import BASE, KEY, finish, fresh, library, see, side_by_side, tables_of
 
 ALL = 2**62
 # The ends of the program that a refused growth may bring, by their line on standard error.
@@ -248,12 +247,8 @@ def main():
     parser.add_argument("program")
     parser.add_argument("--step", type=int, default=1)
     words = parser.parse_args()
-    if not shutil.which("gcc"):
-        print("There is no gcc, so growths were not refused.")
-        return 0
     with tempfile.TemporaryDirectory(prefix="desk-growths-") as folder:
-        preload = f"{folder}/refuse_growth.so"
-        subprocess.run(["gcc", "-O2", "-shared", "-fPIC", "-o", preload, f"{ROOT}/scripts/refuse_growth.c", "-ldl"], check=True)
+        preload = library("refuse_growth", folder)
         tries = Tries(os.path.abspath(words.program), preload, folder)
         for kind in KINDS:
             for alone in (True, False):

@@ -5,19 +5,18 @@ Each scenario is a call that is made again and again on copies of one file, whil
 through, its first write, its second, and so on, until a run ends by itself. Then the same with a disk that fails once: the first read,
 write or sync fails, the second, and so on, and the program goes on. After each stop or failure the program opens the file
 again, and its tables are those before the call or those after it: the latter, where the reply was printed. So it is with the
-opening of files of format 1, which makes them format 2. Without gcc nothing is tried, and it says so.
+opening of files of format 1, which makes them format 2.
 """
 import base64
 import collections
 import json
 import os
-import shutil
 import subprocess
 import tempfile
 from functools import partial
 
 from first_format import RICH, is_first, restore, upgraded
-from trying import BASE, KEY, ROOT, begin, checked, copy, faults, finish, fresh, nonce_text, remove, run, see, side_by_side, tables_of
+from trying import BASE, KEY, begin, checked, copy, faults, finish, fresh, library, nonce_text, remove, run, see, side_by_side, tables_of
 
 STOPPED = 77
 # How a command ends where a call to the disk failed.
@@ -303,12 +302,8 @@ def try_scenario(program, preload, scenario, folder):
 
 
 def main(program):
-    if not shutil.which("gcc"):
-        print("There is no gcc, so stops at each write were not tried.")
-        return 0
     with tempfile.TemporaryDirectory(prefix="desk-stops-") as folder:
-        preload = f"{folder}/stop_at_write.so"
-        subprocess.run(["gcc", "-O2", "-shared", "-fPIC", "-o", preload, f"{ROOT}/scripts/stop_at_write.c", "-ldl"], check=True)
+        preload = library("stop_at_write", folder)
         tries = [partial(tried, program, preload) for tried in (first_requests, try_make, new_nonce)]
         tries += [partial(try_scenario, program, preload, scenario) for scenario in SCENARIOS]
         side_by_side([*tries, *(partial(try_upgrade, program, preload, name) for name in RICH)], folder)

@@ -6,14 +6,12 @@ import json
 import os
 import re
 import resource
-import shutil
 import struct
-import subprocess
 import time
 
 from served import (BASE, LAST, NEW_NONCE, NONCE, ROUTES, STOPPED, Server, masked, nonce_reply, refusal, reply, request, route_of,
                     serial_of)
-from trying import ROOT, fresh, nonce_text, see, tables_of
+from trying import ROOT, fresh, library, nonce_text, see, tables_of
 
 
 def spelled(data):
@@ -128,9 +126,8 @@ class Machine:
     """The clock and the random bytes of a program, which the script sets (scripts/machine.c)."""
 
     def __init__(self, folder):
-        self.file, preload = f"{folder}/machine", f"{folder}/machine.so"
-        subprocess.run(["gcc", "-O2", "-shared", "-fPIC", "-o", preload, f"{ROOT}/scripts/machine.c"], check=True)
-        self.env = {**os.environ, "LD_PRELOAD": preload, "MACHINE": self.file}
+        self.file = f"{folder}/moment"
+        self.env = {**os.environ, "LD_PRELOAD": library("machine", folder), "MACHINE": self.file}
         self.set(0)
 
     def set(self, moment, fails=False):
@@ -156,9 +153,6 @@ class SetStory(Story):
 
 def set_machine(program, folder):
     """Batches at moments of their own; a clock past the last moment; a machine that fails."""
-    if not shutil.which("gcc"):
-        print("There is no gcc, so the machine's clock was not set.")
-        return
     machine = Machine(folder)
     for name in ("clock", "moments", "order", "renewal"):
         calls, lines = batch_of(name)

@@ -24,6 +24,8 @@ TABLES = {
     "chall": "num authz kind token answered reported outcome status",
     "chall_key": "chall thumb",
 }
+# The package of Debian that has a program.
+PACKAGES = {"gcc": "gcc", "sqlite3": "sqlite3"}
 # How the program ends without a desk.
 NOT_A_DESK = (1, b"", b"desk: fault 23 not a desk\n")
 faults = []
@@ -39,6 +41,20 @@ def finish(name):
     """Prints the faults, and gives the exit status."""
     print("\n".join(faults + [f"{name}: {len(faults)} not as they should be."]))
     return 1 if faults else 0
+
+
+def need(program):
+    """Ends the script where a program is missing, and says which package has it."""
+    if not shutil.which(program):
+        sys.exit(f"{program} is missing: scripts/setup.sh installs it, by Debian's package {PACKAGES[program]}.")
+
+
+def library(name, folder):
+    """The library that is loaded before the program, compiled from scripts/NAME.c into a folder."""
+    need("gcc")
+    built = f"{folder}/{name}.so"
+    subprocess.run(["gcc", "-O2", "-shared", "-fPIC", "-o", built, f"{ROOT}/scripts/{name}.c", "-ldl"], check=True)
+    return built
 
 
 def begin(main, doc):
