@@ -22,7 +22,8 @@ returns-in-Err-clause-desk g c clean T has =
     (first_texts (state g.S.Store c.args.conn.now).now T has.desk)) c.opening_fault.ensures.fault
 
 pub returns-in-Ok-clause-shown : goal.returns-in-Ok-clause-shown
-returns-in-Ok-clause-shown g c clean = first_shown g.S.Store c.args.conn.now c.in-Ok.stored c.book_of.result c.book_of.ensures.book (c.in-Ok.ensures.shown clean)
+returns-in-Ok-clause-shown g c clean =
+    first_shown g.S.Store c.args.conn.now c.in-Ok.stored c.book_of.result c.book_of.ensures.book (c.in-Ok.ensures.shown clean)
 
 pub returns-in-Ok-clause-no_newer : goal.returns-in-Ok-clause-no_newer
 returns-in-Ok-clause-no_newer g c newer = book_is_known _ c.book_of.result c.book_of.ensures.fault newer
