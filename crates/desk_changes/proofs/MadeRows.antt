@@ -151,7 +151,8 @@ waits_on : (o : Option AuthorizationRow) (rest : List AuthzStatus) → holds (λ
 waits_on None rest h = cc
 waits_on (Some row) rest h = by row.status h
   where
-    by : (s : AuthzStatus) → is_pending s ≡ true → ((is_over s || list_any is_over rest) ≡ list_any is_over rest) × ((is_valid s && list_all is_valid rest) ≡ false)
+    by : (s : AuthzStatus) → is_pending s ≡ true → ((is_over s || list_any is_over rest) ≡ list_any is_over rest)
+        × ((is_valid s && list_all is_valid rest) ≡ false)
     by authz.Pending k = (refl, refl)
     by authz.Valid k = cc
     by authz.Invalid k = cc

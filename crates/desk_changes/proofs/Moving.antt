@@ -131,7 +131,8 @@ moving_counters m T v =
     }
 
 -- the authorizations after it are those that stood, moved
-pub moving_after : (m : ℕ) (T : Tables) (v : Move) → authorizations_after T (entry_of v) m ≡ map (moved_authorization (entry_of v) m T.accounts) T.authorizations
+pub moving_after : (m : ℕ) (T : Tables) (v : Move) → authorizations_after T (entry_of v) m
+    ≡ map (moved_authorization (entry_of v) m T.accounts) T.authorizations
 moving_after m T v =
     ap (λ l. map (moved_authorization (entry_of v) m T.accounts) T.authorizations ++ map (λ a. restated_authorization m (fresh_authorization a)) l)
     (makes_nothing m T v).authorizations

@@ -38,7 +38,8 @@ standing_numbered m n rows =
 
 -- and after the entry
 pub after_numbered : (e : Entry) (m n : ℕ) (accounts : List AccountRow) (rows : List AuthorizationRow) →
-    authorization_numbered n (rows_after e m accounts rows) ≡ option_map (λ r. moved_authorization e m accounts (swept_authorization m r)) (authorization_numbered n rows)
+    authorization_numbered n (rows_after e m accounts rows)
+    ≡ option_map (λ r. moved_authorization e m accounts (swept_authorization m r)) (authorization_numbered n rows)
 after_numbered e m n accounts rows =
     find-moved (λ a. a.number == n) (moved_authorization e m accounts) (standing_rows m rows) (λ a. ap (λ k. k == n) (moved_number e m accounts a))
     ∙ ap (option_map (moved_authorization e m accounts)) (standing_numbered m n rows)
@@ -168,24 +169,29 @@ puts-step F touched differs move x xs before after whole put kept =
 pub status-none : (e : Entry) (m n : ℕ) (accounts : List AccountRow) (rows : List AuthorizationRow) → authorization_numbered n rows ≡ None
     → None ≡ option_map (λ r. r.status) (authorization_numbered n (rows_after e m accounts rows))
 status-none e m n accounts rows none =
-    sym (ap (option_map (λ r. r.status)) (after_numbered e m n accounts rows ∙ ap (option_map (λ r. moved_authorization e m accounts (swept_authorization m r))) none))
+    sym (ap (option_map (λ r. r.status)) (after_numbered e m n accounts rows
+    ∙ ap (option_map (λ r. moved_authorization e m accounts (swept_authorization m r))) none))
 
 -- that of one that is found: its own at the moment, where the entry does not touch it
 pub status-untouched : (e : Entry) (m n : ℕ) (accounts : List AccountRow) (rows : List AuthorizationRow) (row : AuthorizationRow)
     → authorization_numbered n rows ≡ Some row → touches_authorization e row ≡ false →
     Some (swept_authorization m row).status ≡ option_map (λ r. r.status) (authorization_numbered n (rows_after e m accounts rows))
 status-untouched e m n accounts rows row is none =
-    ap (λ b. Some (cond b (stated_authorization e m accounts (swept_authorization m row)) (swept_authorization m row)).status) (sym (touches_swept e m row ∙ none))
-    ∙ sym (ap (option_map (λ r. r.status)) (after_numbered e m n accounts rows ∙ ap (option_map (λ r. moved_authorization e m accounts (swept_authorization m r))) is))
+    ap (λ b. Some (cond b (stated_authorization e m accounts (swept_authorization m row)) (swept_authorization m row)).status)
+    (sym (touches_swept e m row ∙ none))
+    ∙ sym (ap (option_map (λ r. r.status)) (after_numbered e m n accounts rows
+    ∙ ap (option_map (λ r. moved_authorization e m accounts (swept_authorization m r))) is))
 
 -- and that of the row that it leaves, where it is
-pub status-touched : (e : Entry) (m n : ℕ) (accounts : List AccountRow) (rows : List AuthorizationRow) (row : AuthorizationRow) (found : Option AuthorizationRow)
+pub status-touched : (e : Entry) (m n : ℕ) (accounts : List AccountRow) (rows : List AuthorizationRow) (row : AuthorizationRow)
+    (found : Option AuthorizationRow)
     → authorization_numbered n rows ≡ Some row →
     touches_authorization e row ≡ true → found ≡ authorization_numbered n (authorizations_moved e m accounts rows) →
     option_map (λ r. r.status) found ≡ option_map (λ r. r.status) (authorization_numbered n (rows_after e m accounts rows))
 status-touched e m n accounts rows row found is moves looked =
     ap (option_map (λ r. r.status)) (looked
-    ∙ find-touched-at (λ a. a.number == n) (touches_authorization e) (stated_authorization e m accounts) (λ a. refl) (standing_rows m rows) (swept_authorization m row)
+    ∙ find-touched-at (λ a. a.number == n) (touches_authorization e) (stated_authorization e m accounts) (λ a. refl) (standing_rows m rows)
+    (swept_authorization m row)
     (standing_numbered m n rows ∙ ap (option_map (swept_authorization m)) is) (touches_swept e m row ∙ moves)
     ∙ ap (λ b. Some (cond b (stated_authorization e m accounts (swept_authorization m row)) (swept_authorization m row))) (sym (touches_swept e m row ∙ moves))
     ∙ sym (after_numbered e m n accounts rows ∙ ap (option_map (λ r. moved_authorization e m accounts (swept_authorization m r))) is))

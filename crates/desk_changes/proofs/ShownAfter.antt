@@ -68,7 +68,8 @@ pub names_moved : (m : ℕ) (B : Tables) (v : Move) (row : OrderRow) →
     map (λ a. a.name) (listed_rows (effect m (swept m B) (entry_of v)) row) ≡ map (λ a. a.name) (listed_rows B row)
 names_moved m B v row =
     ap (λ rows. map (λ a. a.name) (rows_of rows (numbers_of row.listed))) (moving_after m (swept m B) v)
-    ∙ names_kept (moved_authorization (entry_of v) m B.accounts) (moved_number (entry_of v) m B.accounts) name_moved (standing_rows m B.authorizations) (numbers_of row.listed)
+    ∙ names_kept (moved_authorization (entry_of v) m B.accounts) (moved_number (entry_of v) m B.accounts) name_moved (standing_rows m B.authorizations)
+    (numbers_of row.listed)
     ∙ names_at m B row
   where
     name_moved : (a : AuthorizationRow) → (moved_authorization (entry_of v) m B.accounts a).name ≡ a.name
@@ -101,13 +102,15 @@ pub owner_moved : (m : ℕ) (B : Tables) (v : Move) (n : ℕ) → ((a : Authoriz
     owner_on (effect m (swept m B) (entry_of v)) n ≡ find (has_row n) (authorizations_moved (entry_of v) m B.accounts B.authorizations)
 owner_moved m B v n those =
     ap (find (has_row n)) (moving_after m (swept m B) v)
-    ∙ sym (find-touched (has_row n) (touches_authorization (entry_of v)) (stated_authorization (entry_of v) m B.accounts) those (standing_rows m B.authorizations))
+    ∙ sym (find-touched (has_row n) (touches_authorization (entry_of v)) (stated_authorization (entry_of v) m B.accounts) those
+    (standing_rows m B.authorizations))
 
 -- the order of a number, which the move names
 pub order_moved : (m : ℕ) (B : Tables) (v : Move) (n : ℕ) → ((k : ℕ) → (k == n) ≡ true → names_order (entry_of v) k ≡ true) →
     order_on (effect m (swept m B) (entry_of v)) n ≡ find (λ o. o.number == n) (orders_moved (entry_of v) m B.accounts B.authorizations B.orders)
 order_moved m B v n those =
     ap (find (λ o. o.number == n)) (moving_orders m (swept m B) v)
-    ∙ sym (find-touched (λ o. o.number == n) (touches_order (entry_of v) (standing_rows m B.authorizations)) (stated_order (entry_of v) m B.accounts B.authorizations)
+    ∙ sym (find-touched (λ o. o.number == n) (touches_order (entry_of v) (standing_rows m B.authorizations))
+    (stated_order (entry_of v) m B.accounts B.authorizations)
     (λ o is. ap (λ b. b || lists_one (touches_authorization (entry_of v)) (standing_rows m B.authorizations) (numbers_of o.listed))
     (those o.number is)) (swept m B).orders)

@@ -30,6 +30,7 @@ pub record IsUntouched (m : ℕ) (B : Tables) (es : List Entry) : Type 0 where
 abbrev pub book_moves : ℕ → Tables → Entry → List Change
 book_moves m B e =
     map PutAccount (moved_rows (touches_account e) account_differs (noted_account e m) B.accounts)
-    ++ (map PutAuthorization (moved_rows (touches_authorization e) authorization_differs (stated_authorization e m B.accounts) (standing_rows m B.authorizations))
+    ++ (map PutAuthorization (moved_rows (touches_authorization e) authorization_differs (stated_authorization e m B.accounts)
+    (standing_rows m B.authorizations))
     ++ map PutOrder (moved_rows (touches_order e (standing_rows m B.authorizations)) order_differs (stated_order e m B.accounts B.authorizations)
     (map (swept_order m B.authorizations) B.orders)))

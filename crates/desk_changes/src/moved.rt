@@ -420,7 +420,8 @@ fn status_after(
     number: u64,
 ) -> Option<AuthzStatus>
     requires { after.now ≡ authorizations_moved (entry_of moved.now) moment book.now.accounts book.now.authorizations }
-    ensures { result ≡ option_map (λ r. r.status) (authorization_numbered number (rows_after (entry_of moved.now) moment book.now.accounts book.now.authorizations)) }
+    ensures { result ≡ option_map (λ r. r.status)
+        (authorization_numbered number (rows_after (entry_of moved.now) moment book.now.accounts book.now.authorizations)) }
 {
     let row = book.authorization(number)?;
     if !touches_authorization(moved, row) {
@@ -439,7 +440,8 @@ fn statuses_after(
     listed: &[Listed],
 ) -> Result<Vec<AuthzStatus>, AllocError>
     requires { after.now ≡ authorizations_moved (entry_of moved.now) moment book.now.accounts book.now.authorizations }
-    ensures { IfOk result (λ v. v.items ≡ stored_statuses (rows_after (entry_of moved.now) moment book.now.accounts book.now.authorizations) (numbers_of listed.now)) }
+    ensures { IfOk result (λ v. v.items
+        ≡ stored_statuses (rows_after (entry_of moved.now) moment book.now.accounts book.now.authorizations) (numbers_of listed.now)) }
 {
     let mut statuses = Vec::new(alloc);
     for listed in listed {
@@ -509,8 +511,10 @@ fn put_orders(
     requires { after.now ≡ authorizations_moved (entry_of moved.now) moment book.now.accounts book.now.authorizations }
     ensures changes { OnOk result (changes.new.items ≡ changes.old.items
         ++ map PutOrder (moved_rows (touches_order (entry_of moved.now) (standing_rows moment book.now.authorizations)) order_differs
-        (stated_order (entry_of moved.now) moment book.now.accounts book.now.authorizations) (map (swept_order moment book.now.authorizations) book.now.orders))) }
-    ensures rows { OnOk result (rows.new.items ≡ rows.old.items ++ orders_moved (entry_of moved.now) moment book.now.accounts book.now.authorizations book.now.orders) }
+        (stated_order (entry_of moved.now) moment book.now.accounts book.now.authorizations)
+        (map (swept_order moment book.now.authorizations) book.now.orders))) }
+    ensures rows { OnOk result (rows.new.items ≡ rows.old.items
+        ++ orders_moved (entry_of moved.now) moment book.now.accounts book.now.authorizations book.now.orders) }
 {
     put_moved(
         changes,

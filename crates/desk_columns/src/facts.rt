@@ -1,7 +1,8 @@
 //! The facts that several columns record: all of them hold something, or all are NULL.
 ghost use Rattle.std.specs.Prelude.{pos, option_map, IfOk};
 ghost use Rattle.desk_columns.specs.Columns.{account_end_columns, authorization_end_columns, dated_bytes_columns, dated_problem_columns, report_columns};
-ghost use Rattle.desk_columns.specs.Limits.{AreDatedBytes, IfRecorded, IsAccountEnd, IsAuthorizationEnd, IsDatedProblem, IsMoment, IsReport, IsSixteen, IsThirtyTwo};
+ghost use Rattle.desk_columns.specs.Limits.{AreDatedBytes, IfRecorded, IsAccountEnd, IsAuthorizationEnd, IsDatedProblem};
+ghost use Rattle.desk_columns.specs.Limits.{IsMoment, IsReport, IsSixteen, IsThirtyTwo};
 ghost use Rattle.desk_columns.specs.Reading.{IsRead};
 
 use crate::numbers::read_moment;

@@ -12,7 +12,8 @@ use Rattle.desk_model.specs.declared.moves.Move.{Move}
 use Rattle.desk_model.specs.declared.reply.Reply.{Reply}
 use Rattle.desk_model.specs.declared.rows.Change.{Change}
 use Rattle.desk_model.specs.declared.verdict.Verdict.{Verdict}
-use Rattle.desk_model.specs.declared.verdict.Verdict.TheVariants.{Refused as refused, KeyTaken as key_taken, Answers as answers, Opens as opens, Orders as orders, Moves as moves}
+use Rattle.desk_model.specs.declared.verdict.Verdict.TheVariants.{Refused as refused, KeyTaken as key_taken, Answers as answers}
+use Rattle.desk_model.specs.declared.verdict.Verdict.TheVariants.{Opens as opens, Orders as orders, Moves as moves}
 use Rattle.desk_changes.specs.Recorded.{IsAt, IsRecorded, IsUntouched}
 use Rattle.desk_decisions.specs.HasTexts.{HasTexts}
 use Rattle.desk_decisions.proofs.ActingRows.{same_entries}

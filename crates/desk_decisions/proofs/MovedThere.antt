@@ -41,14 +41,16 @@ account_stays e m n rows touched h =
     still_found (λ a. a.number == n) (touches_account e) (noted_account e m) (λ a. refl) (λ a is. touched a ∙ eq_turn n a.number ∙ is) rows h
 
 -- the authorization of a number
-authorization_stays : (e : Entry) (m n : ℕ) (accounts : List AccountRow) (rows : List AuthorizationRow) → ((a : AuthorizationRow) → touches_authorization e a ≡ (n == a.number)) →
+authorization_stays : (e : Entry) (m n : ℕ) (accounts : List AccountRow) (rows : List AuthorizationRow)
+    → ((a : AuthorizationRow) → touches_authorization e a ≡ (n == a.number)) →
     IsSome (find (λ a. a.number == n) (standing_rows m rows)) → IsSome (find (λ a. a.number == n) (authorizations_moved e m accounts rows))
 authorization_stays e m n accounts rows touched h =
     still_found (λ a. a.number == n) (touches_authorization e) (stated_authorization e m accounts) (λ a. refl)
     (λ a is. touched a ∙ eq_turn n a.number ∙ is) (standing_rows m rows) h
 
 -- that of a challenge
-owner_stays : (e : Entry) (m n : ℕ) (accounts : List AccountRow) (rows : List AuthorizationRow) → ((a : AuthorizationRow) → touches_authorization e a ≡ has_row n a) →
+owner_stays : (e : Entry) (m n : ℕ) (accounts : List AccountRow) (rows : List AuthorizationRow)
+    → ((a : AuthorizationRow) → touches_authorization e a ≡ has_row n a) →
     IsSome (find (has_row n) (standing_rows m rows)) → IsSome (find (has_row n) (authorizations_moved e m accounts rows))
 owner_stays e m n accounts rows touched h =
     still_found (has_row n) (touches_authorization e) (stated_authorization e m accounts)

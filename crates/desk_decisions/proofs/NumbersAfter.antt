@@ -23,7 +23,8 @@ use Rattle.desk_model.specs.declared.entry.Wanted.TheVariants.{New, Reused}
 use Rattle.desk_model.specs.declared.objects.Authorization.{Authorization}
 use Rattle.desk_model.specs.declared.objects.Kind.{Kind}
 use Rattle.desk_model.specs.declared.verdict.Verdict.{Verdict}
-use Rattle.desk_model.specs.declared.verdict.Verdict.TheVariants.{Refused as refused, KeyTaken as key_taken, Answers as answers, Opens as opens, Orders as ordering, Moves as moves}
+use Rattle.desk_model.specs.declared.verdict.Verdict.TheVariants.{Refused as refused, KeyTaken as key_taken, Answers as answers}
+use Rattle.desk_model.specs.declared.verdict.Verdict.TheVariants.{Opens as opens, Orders as ordering, Moves as moves}
 use Rattle.desk_laws.specs.LegalLaws.{CountersFit}
 use Rattle.desk_laws.proofs.Numbers.{count-append}
 use Rattle.desk_rules.specs.Needs.{HasTokens, IsSpaced, NumbersLeft, NumbersSpent}

@@ -2,7 +2,8 @@
 use Rattle.std.specs.Prelude.{refl}
 use Rattle.desk_examples.proofs.Computing.{computing}
 use Rattle.desk_examples.specs.Reusing.{ReusesValid, ReusesBesideNew, MakesAnother, ReusesPending, ReusesRevoked, ReusesOther, ReusesForWildcard}
-use Rattle.desk_examples.specs.Reusing.{ReusesForeign, ReusesUnderNewKey, ReusesUnderOldKey, ReusesUnknown, ReusesTwice, ReusesToTheEnd, ReusesTooShort, ServesValid, ServesNoPending}
+use Rattle.desk_examples.specs.Reusing.{ReusesForeign, ReusesUnderNewKey, ReusesUnderOldKey, ReusesUnknown, ReusesTwice}
+use Rattle.desk_examples.specs.Reusing.{ReusesToTheEnd, ReusesTooShort, ServesValid, ServesNoPending}
 use Rattle.desk_examples.specs.Reusing.{ServesNoWildcard, ServesNoLonger, ServesLeast, ServesNext, Picks, MakesOne, MakesTwoChallenges}
 use Rattle.desk_examples.specs.Reusing.{ListsBoth, BesideNewIsPending, ReusedIsReady, CertifiedStays, SharingFalls, BothFall, OtherFalls}
 

@@ -10,7 +10,8 @@ use Rattle.desk_model.specs.Terms.{Terms}
 use Rattle.desk_model.specs.declared.entry.Wanted.{Wanted}
 use Rattle.desk_model.specs.declared.status.OrderStatus.{OrderStatus}
 use Rattle.desk_model.specs.declared.status.OrderStatus.TheVariants as order
-use Rattle.desk_examples.specs.Entries.{History, answered, authorization_ended, certified, finalized, good, key_changed, opened, ordered, reported, reused, revoked}
+use Rattle.desk_examples.specs.Entries.{History, answered, authorization_ended, certified, finalized, good}
+use Rattle.desk_examples.specs.Entries.{key_changed, opened, ordered, reported, reused, revoked}
 use Rattle.desk_examples.specs.Calls.{first_key, on, order_desk, second_key, simple, terms_of, wants, zeros}
 use Rattle.desk_examples.specs.Following.{May, MayNot}
 

@@ -3,7 +3,8 @@ use Rattle.std.proofs.Common.{◌≤◌, ℕ, ◌+◌, List, [], ◌∷◌, leng
 use Rattle.std.specs.Prelude.{◌==◌, IfSome}
 use Rattle.std.proofs.lemmas.Option.{IfSome_then}
 use Rattle.desk_model.specs.Account.{account_key, accounts, opened_by, ends as account_ends}
-use Rattle.desk_model.specs.Authorization.{answer, answer_by, answering, authorizations, count_challenges, ends, has_challenge, in_time, is_good, made_by, made_for, reporting}
+use Rattle.desk_model.specs.Authorization.{answer, answer_by, answering, authorizations, count_challenges, ends}
+use Rattle.desk_model.specs.Authorization.{has_challenge, in_time, is_good, made_by, made_for, reporting}
 use Rattle.desk_model.specs.Entry.{History}
 use Rattle.desk_model.specs.History.{clock, first, terms}
 use Rattle.desk_model.specs.Kept.{EachOf}

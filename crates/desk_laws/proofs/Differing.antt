@@ -158,7 +158,8 @@ challenge_unmoved (answered n) m key row h = by (n == row.number) h
     by true k =
         let p = or_parts (is_gained row.answered (answered_challenge m key row).answered) _ k in
         let q = or_parts (is_gained row.reported row.reported) _ p.1 in
-        let fact : (answered_challenge m key row).answered ≡ row.answered = earlier_stays row.answered (Some (record { date = m; thumb = thumbprint key })) p.0 in
+        let fact : (answered_challenge m key row).answered ≡ row.answered =
+        earlier_stays row.answered (Some (record { date = m; thumb = thumbprint key })) p.0 in
         let status : (answered_challenge m key row).status ≡ row.status =
         same_coded chall_code chall_by_code chall_coded row.status (answered_challenge m key row).status q.1 in
         λ i. record row { answered = fact i; status = status i }

@@ -21,7 +21,8 @@ challenge_number (reported n o) m key c = one_kept (λ (c : ChallengeRow). c.num
 challenge_number _ m key c = refl
 
 -- the challenges of an authorization keep their numbers
-pub has_row-moved : (n : ℕ) (e : Entry) (m : ℕ) (accounts : List AccountRow) (a : AuthorizationRow) → has_row n (moved_authorization e m accounts a) ≡ has_row n a
+pub has_row-moved : (n : ℕ) (e : Entry) (m : ℕ) (accounts : List AccountRow) (a : AuthorizationRow) → has_row n (moved_authorization e m accounts a)
+    ≡ has_row n a
 has_row-moved n e m accounts a =
     one_kept (has_row n) (touches_authorization e a) _ a
     (list_any-map (λ c. n == c.number) (noted_challenge e m (key_numbered a.account accounts)) a.challenges

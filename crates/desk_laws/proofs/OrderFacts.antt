@@ -163,7 +163,8 @@ status_by F t o ss =
 status_by_listed : (F : History) (t : ℕ) (o : Order) → order_status o F t ≡ status_by F t o (statuses_of F t (authorizations_at o.authorizations F))
 status_by_listed F t o =
     λ i. order_status_by (is_some (certificate o.number F))
-    (is_some (failure o.number F) || (nat_lt o.expires t || sym (list_any-map is_over (λ a. authorization_status a F t) (authorizations_at o.authorizations F)) i))
+    (is_some (failure o.number F) || (nat_lt o.expires t || sym (list_any-map is_over (λ a. authorization_status a F t) (authorizations_at o.authorizations F))
+    i))
     (is_some (csr o.number F)) (sym (list_all-map is_valid (λ a. authorization_status a F t) (authorizations_at o.authorizations F)) i)
 
 -- the status that a history gives is the one that the row ought to have

@@ -89,12 +89,14 @@ issued_closed k m T r h =
 -- a part that covers an entry covers it when a nonce was spent
 pub spent_covers : (k : Kept) (m : ℕ) (T : Tables) (n : ℕ) (e : Entry) → Covers k T e → Covers k (effect m T (spent n)) e
 spent_covers k m T n e h =
-    subst (λ U. Covers k U e) (sym (spent_effect m T n)) (record { accounts = h.accounts; authorizations = h.authorizations; orders = h.orders; holders = h.holders })
+    subst (λ U. Covers k U e) (sym (spent_effect m T n))
+    (record { accounts = h.accounts; authorizations = h.authorizations; orders = h.orders; holders = h.holders })
 
 -- and when one was issued
 pub issued_covers : (k : Kept) (m : ℕ) (T : Tables) (r : List ℕ) (e : Entry) → Covers k T e → Covers k (effect m T (issued r)) e
 issued_covers k m T r e h =
-    subst (λ U. Covers k U e) (sym (issued_effect m T r)) (record { accounts = h.accounts; authorizations = h.authorizations; orders = h.orders; holders = h.holders })
+    subst (λ U. Covers k U e) (sym (issued_effect m T r))
+    (record { accounts = h.accounts; authorizations = h.authorizations; orders = h.orders; holders = h.holders })
 
 -- each part covers the spending of a nonce
 pub covers_spent : (k : Kept) (T : Tables) (n : ℕ) → Covers k T (spent n)

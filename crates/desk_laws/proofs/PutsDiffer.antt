@@ -119,7 +119,8 @@ challenge_number (reported n o) m key c = by (n == c.number)
 challenge_number _ m key c = refl
 
 -- an entry leaves the numbers of challenges
-challenge_numbers : (e : Entry) (m : ℕ) (key : List ℕ) (cs : List ChallengeRow) → map (λ c. c.number) cs ≡ map (λ c. c.number) (map (noted_challenge e m key) cs)
+challenge_numbers : (e : Entry) (m : ℕ) (key : List ℕ) (cs : List ChallengeRow) → map (λ c. c.number) cs
+    ≡ map (λ c. c.number) (map (noted_challenge e m key) cs)
 challenge_numbers e m key [] = refl
 challenge_numbers e m key (c ∷ cs) = λ i. challenge_number e m key c i ∷ challenge_numbers e m key cs i
 

@@ -275,7 +275,8 @@ authorization_stated F each t u a =
 
 -- the row of an authorization after an entry, in general
 pub authorization_noted : (F : History) (e : Entry) (m t : ℕ) (a : Authorization) → EachFollows (record { date = m; entry = e } ∷ F) → clock F ≤ m →
-    authorization_row (record { date = m; entry = e } ∷ F) m a ≡ restated_authorization m (noted_authorization e m (map (account_row F) (accounts F)) (authorization_row F t a))
+    authorization_row (record { date = m; entry = e } ∷ F) m a
+    ≡ restated_authorization m (noted_authorization e m (map (account_row F) (accounts F)) (authorization_row F t a))
 authorization_noted F e m t a each le =
     let G : History = record { date = m; entry = e } ∷ F in
     let ended : authorization_end a G ≡ earlier (authorization_end a F) (in_time a.expires (row_ends (authorization_row F t a) e m)) =

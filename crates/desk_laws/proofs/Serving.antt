@@ -21,7 +21,8 @@ serving_found T account name row in_order found =
     (ascends_found (λ (a : AuthorizationRow). a.number) 1 T.authorizations in_order) found
 
 -- so it may be wanted
-serving_wanted : (T : Tables) (account : ℕ) (name : Name) (random : List ℕ) → Ascends (λ a. a.number) 1 T.authorizations → (o : Option AuthorizationRow) → serving_on T account name ≡ o →
+serving_wanted : (T : Tables) (account : ℕ) (name : Name) (random : List ℕ) → Ascends (λ a. a.number) 1 T.authorizations → (o : Option AuthorizationRow)
+    → serving_on T account name ≡ o →
     may_want_on T account (wanted_by o name random) ≡ true
 serving_wanted T account name random in_order None is = refl
 serving_wanted T account name random in_order (Some row) is =

@@ -108,7 +108,8 @@ entry_stays T e m stated may = record { accounts = accounts_stay; orders = order
         challenge_on (effect m T e) n ≡ Some row
     challenges_stay n row found ended =
         let s = stands T n row found in
-        ap (challenge_in_rows n) (find-append (has_row n) (map (moved_authorization e m T.accounts) T.authorizations) _ (moved_authorization e m T.accounts s.owner)
+        ap (challenge_in_rows n) (find-append (has_row n) (map (moved_authorization e m T.accounts) T.authorizations) _
+        (moved_authorization e m T.accounts s.owner)
         (found_moved (has_row n) (moved_authorization e m T.accounts) (has_row-moved n e m T.accounts) T.authorizations s.owner s.owned))
         ∙ challenge_moved T e m n s.owner row may s.owned s.found ended
 

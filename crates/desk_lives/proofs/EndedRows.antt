@@ -177,7 +177,8 @@ authorization_stays T (account_ended k s) m n row stated may found ended = by (k
     noted : noted_authorization (account_ended k s) m T.accounts row ≡ row
     noted =
         let end = end_stays k s m row own ended in
-        let same = kept_challenges (noted_challenge (account_ended k s) m (key_numbered row.account T.accounts)) row.challenges (each_all _ row.challenges (λ c. refl)) in
+        let same = kept_challenges (noted_challenge (account_ended k s) m (key_numbered row.account T.accounts)) row.challenges
+        (each_all _ row.challenges (λ c. refl)) in
         λ i. record row { ended = end i; challenges = same i }
 
     by : (b : Bool) → cond b (restated_authorization m (noted_authorization (account_ended k s) m T.accounts row)) row ≡ row

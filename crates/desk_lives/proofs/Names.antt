@@ -224,4 +224,5 @@ wanted_fits T account ids r in_order fits none enough =
     let more : 1 ≤ length (kept ns) = kept_some ns (omega arith) in
     and_from _ _ (length-fits 1 most_names ws (omega arith) (omega arith))
     (and_from _ _ (ap all_different (names-wanted T account (kept ns) r) ∙ different-kept ns)
-    (and_from _ _ (tokens_fit T account (kept ns) r (each-kept IsFormedName ns (each_named ids)) enough) (all_may_be_wanted T account (kept ns) r in_order.authorizations.0)))
+    (and_from _ _ (tokens_fit T account (kept ns) r (each-kept IsFormedName ns (each_named ids)) enough)
+    (all_may_be_wanted T account (kept ns) r in_order.authorizations.0)))

@@ -38,10 +38,12 @@ use Rattle.desk_model.specs.declared.payload.ChallengeChange.TheVariants as chal
 use Rattle.desk_model.specs.Run.{pieces_of, IsFormedKey, IsFormedOfficeAsk, IsFormedSigned}
 use Rattle.desk_model.specs.Texts.{IsTextProblem}
 use Rattle.desk_model.specs.Verdict.{check, given, unless_fault, choose}
-use Rattle.desk_model.specs.declared.verdict.Verdict.TheVariants.{KeyTaken as key_taken, Answers as answers, Opens as opens, Orders as orders, Moves as moves, Refused as refused}
+use Rattle.desk_model.specs.declared.verdict.Verdict.TheVariants.{KeyTaken as key_taken, Answers as answers, Opens as opens}
+use Rattle.desk_model.specs.declared.verdict.Verdict.TheVariants.{Orders as orders, Moves as moves, Refused as refused}
 use Rattle.desk_model.specs.declared.verdict.Verdict.{Verdict}
 use Rattle.desk_model.specs.declared.verdict.Shows.{Shows}
-use Rattle.desk_model.specs.Rules.{open_account, unknown_key_verdict, account_verdict, key_change_verdict, rekey_verdict, order_of, new_order_verdict, subproblems}
+use Rattle.desk_model.specs.Rules.{open_account, unknown_key_verdict, account_verdict, key_change_verdict}
+use Rattle.desk_model.specs.Rules.{rekey_verdict, order_of, new_order_verdict, subproblems}
 use Rattle.desk_model.specs.Rules.{if_fits, csr_in, finalize_verdict, authorization_verdict, stands_open, challenge_verdict, own}
 use Rattle.desk_model.specs.Rules.{target_verdict, holder_verdict, key_verdict, signed_verdict, if_spelled, open_nonce_in}
 use Rattle.desk_model.specs.Rules.{open_nonce, outcome_verdict, report_verdict, certify_verdict, fail_verdict}
@@ -228,8 +230,10 @@ target_sound r T n a p to.NewOrder in_order text found valid = given_sound r T _
 target_sound r T n a p (to.Account k) in_order text found valid =
     check_sound r T _ refusal.NotFound _ (λ _. given_sound r T _ refusal.Malformed _
     (λ x asked. account_sound r T n a x (subst (λ o. IfSome o ChangesToTexts) asked (account_change_texts p text)) found valid))
-target_sound r T n a p (to.Orders k) in_order text found valid = check_sound r T _ refusal.NotFound _ (λ _. check_sound r T _ refusal.Malformed _ (λ _. none_sound _))
-target_sound r T n a p (to.Order k) in_order text found valid = given_sound r T _ refusal.NotFound _ (λ o _. check_sound r T _ refusal.Malformed _ (λ _. none_sound _))
+target_sound r T n a p (to.Orders k) in_order text found valid =
+    check_sound r T _ refusal.NotFound _ (λ _. check_sound r T _ refusal.Malformed _ (λ _. none_sound _))
+target_sound r T n a p (to.Order k) in_order text found valid =
+    given_sound r T _ refusal.NotFound _ (λ o _. check_sound r T _ refusal.Malformed _ (λ _. none_sound _))
 target_sound r T n a p (to.Finalize k) in_order text found valid =
     given_sound r T _ refusal.NotFound _ (λ o is. given_sound r T _ refusal.Malformed _ (λ text _. finalize_sound r T k o text (own_found _ n _ o is)))
 target_sound r T n a p (to.Cert k) in_order text found valid =

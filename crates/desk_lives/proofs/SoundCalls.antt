@@ -11,7 +11,8 @@ use Rattle.desk_model.specs.Tables.{tables_at}
 use Rattle.desk_model.specs.Legal.{numbers_fit, EachFollows, BeginsMade, Legal}
 use Rattle.desk_model.specs.Limits.{last_moment}
 use Rattle.desk_model.specs.declared.verdict.Verdict.{Verdict}
-use Rattle.desk_model.specs.declared.verdict.Verdict.TheVariants.{Refused as refused, KeyTaken as key_taken, Answers as answers, Opens as opens, Orders as orders, Moves as moves}
+use Rattle.desk_model.specs.declared.verdict.Verdict.TheVariants.{Refused as refused, KeyTaken as key_taken, Answers as answers}
+use Rattle.desk_model.specs.declared.verdict.Verdict.TheVariants.{Opens as opens, Orders as orders, Moves as moves}
 use Rattle.desk_model.specs.Rules.{office_verdict, open_nonce}
 use Rattle.desk_model.specs.Decide.{Decision, entries_of, nonce_entries, signed_decision, office_decision, passed_decision}
 use Rattle.desk_model.specs.Decide.{tables_after, decide, decide_at, after}

@@ -1,5 +1,6 @@
 -- The keys of accounts, their canonical texts (RFC 7638, 3) and what is made of them.
-use Rattle.std.specs.Prelude.{◌≡◌, ℕ, Bool, ◌⊎◌, ◌&&◌, ◌||◌, ◌==◌, List, ◌++◌, length, codes, Option, Some, None, IsTrue, bytes_eq, option_and_then, if◌then◌else◌}
+use Rattle.std.specs.Prelude.{◌≡◌, ℕ, Bool, ◌⊎◌, ◌&&◌, ◌||◌, ◌==◌, List, ◌++◌}
+use Rattle.std.specs.Prelude.{length, codes, Option, Some, None, IsTrue, bytes_eq, option_and_then, if◌then◌else◌}
 use Rattle.std.specs.Int.{is_in_range}
 use Rattle.std.specs.Char.{is_ascii_alphanumeric}
 use Rattle.std.specs.List.{list_all}

@@ -12,7 +12,8 @@ use Rattle.desk_model.specs.declared.call.Ask.TheVariants as ask
 use Rattle.desk_model.specs.declared.call.OfficeAsk.TheVariants as office
 use Rattle.desk_model.specs.declared.call.Call.{Call}
 use Rattle.desk_model.specs.declared.objects.Nonce.{Nonce}
-use Rattle.desk_model.specs.Asked.{carries, has_key, has_new_key, names_account, names_order, names_authorization, names_owner, asks_orders, asks_authorizations, asks_name}
+use Rattle.desk_model.specs.Asked.{carries, has_key, has_new_key, names_account, names_order}
+use Rattle.desk_model.specs.Asked.{names_authorization, names_owner, asks_orders, asks_authorizations, asks_name}
 
 -- the nonce that the request carries, and each past its life
 abbrev pub is_touched_nonce : Tables → ℕ → Ask → Nonce → Bool

@@ -2,7 +2,8 @@
 use Rattle.std.specs.Prelude.{[], Bool, false, true, Option, Some, None}
 use Rattle.desk_model.specs.declared.refusal.Refusal.{Refusal}
 pub use Rattle.desk_model.specs.declared.verdict.Verdict.{Verdict}
-pub use Rattle.desk_model.specs.declared.verdict.Verdict.TheVariants.{Refused as refused, KeyTaken as key_taken, Answers as answers, Opens as opens, Orders as orders, Moves as moves}
+pub use Rattle.desk_model.specs.declared.verdict.Verdict.TheVariants.{Refused as refused, KeyTaken as key_taken, Answers as answers}
+pub use Rattle.desk_model.specs.declared.verdict.Verdict.TheVariants.{Opens as opens, Orders as orders, Moves as moves}
 pub use Rattle.desk_model.specs.declared.verdict.Shows.{Shows}
 
 -- the test, or this refusal

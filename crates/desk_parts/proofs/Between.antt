@@ -26,7 +26,8 @@ use Rattle.desk_model.specs.declared.rows.AuthorizationRow.{AuthorizationRow}
 use Rattle.desk_model.specs.declared.rows.OrderRow.{OrderRow}
 use Rattle.desk_model.specs.declared.status.OrderStatus.TheVariants as order
 use Rattle.desk_model.specs.declared.verdict.Verdict.{Verdict}
-use Rattle.desk_model.specs.declared.verdict.Verdict.TheVariants.{Refused as refused, KeyTaken as key_taken, Answers as answers, Opens as opens, Orders as orders, Moves as moves}
+use Rattle.desk_model.specs.declared.verdict.Verdict.TheVariants.{Refused as refused, KeyTaken as key_taken, Answers as answers}
+use Rattle.desk_model.specs.declared.verdict.Verdict.TheVariants.{Opens as opens, Orders as orders, Moves as moves}
 use Rattle.desk_laws.specs.Ordered.{IsOrdered}
 use Rattle.desk_laws.proofs.Basics.{each, each_after, each_all, each_both, each-append, each-map, each_of_map, each_parts}
 use Rattle.desk_laws.proofs.Chain.{authorizations_part}
@@ -72,7 +73,8 @@ own_authorization_wider k T a r h =
     and_from _ _ p.0 (any_part (λ x. is_named_account a x && (r.account == x.number)) (λ x. is_named_account a x && (r.account == x.number))
     (λ x. k.accounts x.number) T.accounts (λ x e. e) p.1)
 
-asked_wider : (k : Kept) (T : Tables) (a : Ask) (r : AuthorizationRow) → is_asked_authorization (restricted k T) a r ≡ true → is_asked_authorization T a r ≡ true
+asked_wider : (k : Kept) (T : Tables) (a : Ask) (r : AuthorizationRow) → is_asked_authorization (restricted k T) a r ≡ true → is_asked_authorization T a r
+    ≡ true
 asked_wider k T a r h =
     let p = and_parts (asks_name a r.name) _ h in
     and_from _ _ p.0 (any_part (λ x. is_named_account a x && (r.account == x.number)) (λ x. is_named_account a x && (r.account == x.number))
@@ -320,7 +322,8 @@ orders_end k T m (moves move) n h = entry_ends k T m (entry_of move) n h
 
 -- ---- from the touched rows to the part
 
-carries_between : (k : Kept) (T Q : Tables) (m : ℕ) (v : Verdict) → IsOrdered T → HoldersOf (open_kept k T) (swept m T) v → CarriesOutAs m T Q v → CarriesOutAs m (restricted k T) Q v
+carries_between : (k : Kept) (T Q : Tables) (m : ℕ) (v : Verdict) → IsOrdered T → HoldersOf (open_kept k T) (swept m T) v → CarriesOutAs m T Q v
+    → CarriesOutAs m (restricted k T) Q v
     → CarriesOutAs m T (restricted k T) v
 carries_between k T Q m v h holders low high =
     record {
@@ -333,7 +336,8 @@ carries_between k T Q m v h holders low high =
 issues_between : (k : Kept) (T Q : Tables) (m : ℕ) → IssuesAs m T Q → IssuesAs m (restricted k T) Q → IssuesAs m T (restricted k T)
 issues_between k T Q m low high = record { records = λ r. sym (high.records r) ∙ low.records r }
 
-settles_between : (k : Kept) (T Q : Tables) (m : ℕ) (a : OfficeAsk) → IsOrdered T → HoldersFor k T m (ask.Office a) → SettlesAs m a T Q → SettlesAs m a (restricted k T) Q
+settles_between : (k : Kept) (T Q : Tables) (m : ℕ) (a : OfficeAsk) → IsOrdered T → HoldersFor k T m (ask.Office a) → SettlesAs m a T Q
+    → SettlesAs m a (restricted k T) Q
     → SettlesAs m a T (restricted k T)
 settles_between k T Q m a h holders low high =
     let judged : office_verdict (swept m (restricted k T)) a ≡ office_verdict (swept m T) a = sym high.judged ∙ low.judged in
@@ -343,7 +347,8 @@ settles_between k T Q m a h holders low high =
       records = sym (subst (λ v. recorded_changes m Q (entries_of v) ≡ recorded_changes m (restricted k T) (entries_of v)) judged high.records) ∙ low.records;
     }
 
-passes_between : (k : Kept) (T Q : Tables) (m : ℕ) (s : Signed) → IsOrdered T → HoldersFor k T m (ask.Signed s) → PassesAs m s T Q → PassesAs m s (restricted k T) Q
+passes_between : (k : Kept) (T Q : Tables) (m : ℕ) (s : Signed) → IsOrdered T → HoldersFor k T m (ask.Signed s) → PassesAs m s T Q
+    → PassesAs m s (restricted k T) Q
     → PassesAs m s T (restricted k T)
 passes_between k T Q m s h holders low high =
     let judged : (r : List ℕ) → signed_verdict (swept m (restricted k T)) r s ≡ signed_verdict (swept m T) r s = λ r. sym (high.judged r) ∙ low.judged r in
@@ -371,7 +376,8 @@ answers_between k T Q m (ask.Office a) h holders low high = settles_between k T 
 none_listed : (T : Tables) → KeepsListed no_rows T
 none_listed T = each_all _ T.orders (λ o kept. cc)
 
-rows_answer : (k : Kept) (T : Tables) (m : ℕ) (a : Ask) → IsOrdered T → HoldersFor k T m a → Keeps k (touched_rows T m a) → touched_at T m a ≡ touched_rows T m a →
+rows_answer : (k : Kept) (T : Tables) (m : ℕ) (a : Ask) → IsOrdered T → HoldersFor k T m a → Keeps k (touched_rows T m a) → touched_at T m a
+    ≡ touched_rows T m a →
     touched_at (restricted k T) m a ≡ touched_rows (restricted k T) m a → AnswersAs m a T (restricted k T)
 rows_answer k T m a h holders holds here there =
     let listed : KeepsListed (kept_by T m a) T = touched_listed T m a h in
@@ -390,14 +396,20 @@ part_answers k T m (ask.Office office.Directory) h holds =
     (answers_at no_rows (restricted k T) m (ask.Office office.Directory) (restricted_ordered k T h) (none_listed (restricted k T)) none))
 part_answers k T m (ask.NewNonce head) h holds = rows_answer k T m (ask.NewNonce head) h tt holds refl refl
 part_answers k T m (ask.Signed s) h holds = rows_answer k T m (ask.Signed s) h (signed_holders k T m s h holds) holds refl refl
-part_answers k T m (ask.Office (office.Report n finding)) h holds = rows_answer k T m (ask.Office (office.Report n finding)) h (office_holders k T m (office.Report n finding) tt h holds) holds refl refl
-part_answers k T m (ask.Office (office.Certify n bytes)) h holds = rows_answer k T m (ask.Office (office.Certify n bytes)) h (office_holders k T m (office.Certify n bytes) tt h holds) holds refl refl
-part_answers k T m (ask.Office (office.FailOrder n problem)) h holds = rows_answer k T m (ask.Office (office.FailOrder n problem)) h (office_holders k T m (office.FailOrder n problem) tt h holds) holds refl refl
-part_answers k T m (ask.Office (office.RevokeAuthz n)) h holds = rows_answer k T m (ask.Office (office.RevokeAuthz n)) h (office_holders k T m (office.RevokeAuthz n) tt h holds) holds refl refl
-part_answers k T m (ask.Office (office.RevokeAccount n)) h holds = rows_answer k T m (ask.Office (office.RevokeAccount n)) h (office_holders k T m (office.RevokeAccount n) tt h holds) holds refl refl
+part_answers k T m (ask.Office (office.Report n finding)) h holds =
+    rows_answer k T m (ask.Office (office.Report n finding)) h (office_holders k T m (office.Report n finding) tt h holds) holds refl refl
+part_answers k T m (ask.Office (office.Certify n bytes)) h holds =
+    rows_answer k T m (ask.Office (office.Certify n bytes)) h (office_holders k T m (office.Certify n bytes) tt h holds) holds refl refl
+part_answers k T m (ask.Office (office.FailOrder n problem)) h holds =
+    rows_answer k T m (ask.Office (office.FailOrder n problem)) h (office_holders k T m (office.FailOrder n problem) tt h holds) holds refl refl
+part_answers k T m (ask.Office (office.RevokeAuthz n)) h holds =
+    rows_answer k T m (ask.Office (office.RevokeAuthz n)) h (office_holders k T m (office.RevokeAuthz n) tt h holds) holds refl refl
+part_answers k T m (ask.Office (office.RevokeAccount n)) h holds =
+    rows_answer k T m (ask.Office (office.RevokeAccount n)) h (office_holders k T m (office.RevokeAccount n) tt h holds) holds refl refl
 part_answers k T m (ask.Office office.ChallengeWork) h holds = work_as k T m office.ChallengeWork holds
 part_answers k T m (ask.Office office.OrderWork) h holds = work_as k T m office.OrderWork holds
-part_answers k T m (ask.Office (office.KeyOf n)) h holds = rows_answer k T m (ask.Office (office.KeyOf n)) h (office_holders k T m (office.KeyOf n) tt h holds) holds refl refl
+part_answers k T m (ask.Office (office.KeyOf n)) h holds =
+    rows_answer k T m (ask.Office (office.KeyOf n)) h (office_holders k T m (office.KeyOf n) tt h holds) holds refl refl
 
 -- a part for a call answers it as the whole
 pub parts_answer : (T P : Tables) (call : Call) → IsOrdered T → IsPartFor call T P → AnswersAs (max call.at T.meta.counters.clock) call.ask T P

@@ -36,7 +36,8 @@ use Rattle.desk_parts.specs.Loaded.{challenge_numbers, first_authorizations, fou
 use Rattle.desk_parts.specs.Loaded.{new_keys, of_key, target_new_keys}
 use Rattle.desk_parts.specs.Loaded.{found_orders, keys, listed_authorizations, listing_orders, loaded, loaded_at, loaded_rows}
 use Rattle.desk_parts.specs.Loaded.{named_accounts, named_authorizations, named_orders, of_text, order_numbers}
-use Rattle.desk_parts.specs.Loaded.{asked_authorizations, authorizations_asked_of, authorizations_for, own_authorizations, own_orders, past_authorizations, past_orders, serials, target_accounts}
+use Rattle.desk_parts.specs.Loaded.{asked_authorizations, authorizations_asked_of, authorizations_for, own_authorizations, own_orders}
+use Rattle.desk_parts.specs.Loaded.{past_authorizations, past_orders, serials, target_accounts}
 use Rattle.desk_parts.specs.Loaded.{target_authorization_numbers, target_challenge_numbers, target_order_numbers}
 use Rattle.desk_parts.specs.LookUps.{accounts_numbered, accounts_with_key, authorizations_numbered, authorizations_of, challenges}
 use Rattle.desk_parts.specs.LookUps.{nonces_numbered, orders_listing, orders_numbered, orders_of, orders_past}
@@ -50,7 +51,8 @@ use Rattle.desk_model.specs.Touched.{is_own_authorization, is_own_order, is_past
 use Rattle.desk_model.specs.Touched.{is_touched_authorization, is_touched_nonce, is_touched_order, lists, touched, touched_at}
 use Rattle.desk_model.specs.Touched.{touched_rows}
 use Rattle.desk_parts.proofs.Cut.{numbered}
-use Rattle.desk_parts.proofs.Found.{IsFound, any_filter, found_both, found_by, found_filter, found_filtered, found_if, found_none, found_once, found_same, found_table}
+use Rattle.desk_parts.proofs.Found.{IsFound, any_filter, found_both, found_by, found_filter, found_filtered}
+use Rattle.desk_parts.proofs.Found.{found_if, found_none, found_once, found_same, found_table}
 
 -- ---- tests on lists
 
@@ -305,7 +307,8 @@ authorizations_by_names T n h names =
     found_same of_authorization _ _ T.authorizations _
     (each_all _ T.authorizations (λ r. list_any-same _ _ names (λ name. same_bases r.name name (r.account == n))
     ∙ any_behind (r.account == n) (same_name r.name) names))
-    (found_by of_authorization (λ name r. same_name r.name name && ((r.account == n) && bytes_eq r.name.base name.base)) (authorizations_for T n) T.authorizations
+    (found_by of_authorization (λ name r. same_name r.name name && ((r.account == n) && bytes_eq r.name.base name.base))
+    (authorizations_for T n) T.authorizations
     (λ name. found_filtered of_authorization (λ r. same_name r.name name) _ T.authorizations _
     (found_filter of_authorization (λ r. (r.account == n) && bytes_eq r.name.base name.base) 1 T.authorizations h.authorizations.0)) names)
 

@@ -20,7 +20,8 @@ use Rattle.desk_model.specs.declared.rows.OrderRow.{OrderRow}
 use Rattle.desk_model.specs.declared.status.AuthzStatus.TheVariants as authz
 use Rattle.desk_model.specs.declared.status.OrderStatus.TheVariants as order
 use Rattle.desk_model.specs.declared.verdict.Verdict.{Verdict}
-use Rattle.desk_model.specs.declared.verdict.Verdict.TheVariants.{Refused as refused, KeyTaken as key_taken, Answers as answers, Opens as opens, Orders as orders, Moves as moves}
+use Rattle.desk_model.specs.declared.verdict.Verdict.TheVariants.{Refused as refused, KeyTaken as key_taken, Answers as answers}
+use Rattle.desk_model.specs.declared.verdict.Verdict.TheVariants.{Opens as opens, Orders as orders, Moves as moves}
 use Rattle.desk_laws.proofs.Basics.{each, each-map}
 use Rattle.desk_laws.proofs.Local.{swept_number, swept_order_number}
 use Rattle.desk_laws.proofs.SweptParts.{swept_account, swept_covers}

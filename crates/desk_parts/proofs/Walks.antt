@@ -88,7 +88,11 @@ ordered_named T m a n ws = record { account = λ x h. cc; authorization = λ r h
 
 contacts_named : (T : Tables) (m : ℕ) (a : Ask) (n : ℕ) (contacts : List (List ℕ)) → names_account a n ≡ true → IsNamedBy T m a (contacts_changed n contacts)
 contacts_named T m a n contacts named =
-    record { account = λ x h. or_right _ _ (or_right _ _ (subst (λ j. names_account a j ≡ true) (eqb-true n x.number h) named)); authorization = λ r h. cc; order = λ j h. cc }
+    record {
+      account = λ x h. or_right _ _ (or_right _ _ (subst (λ j. names_account a j ≡ true) (eqb-true n x.number h) named));
+      authorization = λ r h. cc;
+      order = λ j h. cc;
+    }
 
 -- an account that is there, with its authorizations
 ended_named : (T : Tables) (m : ℕ) (a : Ask) (n : ℕ) (ending : Ending) → names_account a n ≡ true →

@@ -10,7 +10,8 @@ use Rattle.sqlite.specs.State.{State, Shown}
 use Rattle.desk_laws.proofs.RowLists.{ascends_filter}
 use Rattle.desk_parts.specs.Above.{first_of}
 use Rattle.desk_tables.specs.Layouts.{HasRows, IsRising, Layout}
-use Rattle.desk_reading.proofs.Answered.{IsReading, IsReadingIn, IsReadingUpTo, all_rows, answers_up_to, beside, by, first_row, passes, picked, shown_in_order, strictly}
+use Rattle.desk_reading.proofs.Answered.{IsReading, IsReadingIn, IsReadingUpTo, all_rows, answers_up_to, beside}
+use Rattle.desk_reading.proofs.Answered.{by, first_row, passes, picked, shown_in_order, strictly}
 use Rattle.desk_reading.proofs.Lists.{as_it_is, filter-all, first-map, map-same}
 use Rattle.desk_reading.proofs.Told.{IsSpelled}
 

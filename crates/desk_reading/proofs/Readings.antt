@@ -5,7 +5,8 @@ use Rattle.sqlite_tied.specs.Compute.{everything}
 use Rattle.desk_reading.specs.Texts.{select_accounts, select_authorizations, select_challenges, select_format, select_keys, select_listed}
 use Rattle.desk_reading.specs.Texts.{select_meta, select_nonces, select_orders}
 use Rattle.desk_reading.proofs.Answered.{IsReading, by}
-use Rattle.desk_reading.proofs.Told.{account_project, authorization_project, challenge_project, key_project, listed_project, meta_project, nonce_project, order_project}
+use Rattle.desk_reading.proofs.Told.{account_project, authorization_project, challenge_project, key_project}
+use Rattle.desk_reading.proofs.Told.{listed_project, meta_project, nonce_project, order_project}
 
 -- `meta`, by its key
 pub meta_reading : IsReading select_meta 0 [] meta_project (by 0 ∷ [])

@@ -7,7 +7,8 @@ use Rattle.sqlite.specs.Store.{Ghosts}
 use Rattle.desk_columns.specs.declared.columns.StoredRows.{StoredRows}
 use Rattle.desk_reading.specs.Shown.{AreShown, IsShown}
 use Rattle.desk_reading.specs.Spelled.{account_in, authorization_in, challenge_in, key_in, listed_in, meta_in, nonce_in, order_in}
-use Rattle.desk_reading.specs.Texts.{select_accounts, select_authorizations, select_challenges, select_keys, select_listed, select_meta, select_nonces, select_orders}
+use Rattle.desk_reading.specs.Texts.{select_accounts, select_authorizations, select_challenges, select_keys}
+use Rattle.desk_reading.specs.Texts.{select_listed, select_meta, select_nonces, select_orders}
 
 module _ {S C : Type 0} (g : Ghosts S) (text : List ℕ) (spelled : Row → C) where
   -- those of a query are shown over the database that it found

@@ -7,7 +7,8 @@ use Rattle.desk_reading.specs.Texts.{select_accounts, select_authorizations, sel
 use Rattle.desk_reading.specs.Texts.{select_meta, select_nonces, select_orders}
 use Rattle.desk_reading.proofs.Answered.{by}
 use Rattle.desk_reading.proofs.Failing.{IsSure}
-use Rattle.desk_reading.proofs.Told.{account_project, authorization_project, challenge_project, key_project, listed_project, meta_project, nonce_project, order_project}
+use Rattle.desk_reading.proofs.Told.{account_project, authorization_project, challenge_project, key_project}
+use Rattle.desk_reading.proofs.Told.{listed_project, meta_project, nonce_project, order_project}
 
 -- `meta`
 pub meta_sure : IsSure select_meta 0 meta_project (by 0 ∷ [])

@@ -8,7 +8,8 @@ use Rattle.sqlite.specs.Held.{Held, state}
 use Rattle.sqlite.specs.State.{State, FailsToQuery}
 use Rattle.sqlite.specs.Store.{Ghosts}
 use Rattle.sqlite.specs.declared.error.Error.{Error}
-use Rattle.desk_columns.specs.Columns.{account_columns, authorization_columns, challenge_columns, key_columns, listed_columns, meta_columns, nonce_columns, order_columns}
+use Rattle.desk_columns.specs.Columns.{account_columns, authorization_columns, challenge_columns, key_columns}
+use Rattle.desk_columns.specs.Columns.{listed_columns, meta_columns, nonce_columns, order_columns}
 use Rattle.desk_columns.specs.Flat.{bare_row, challenge_rows, key_rows, listed_rows, without_challenges, without_listed}
 use Rattle.desk_columns.specs.TextColumns.{HasTextAccount, HasTextAuthorization, HasTextChallenge, HasTextMeta, HasTextOrder}
 use Rattle.desk_laws.proofs.Basics.{each_all}
@@ -17,7 +18,8 @@ use Rattle.desk_model.specs.Tables.{Tables}
 use Rattle.desk_schema.specs.Failing.{IsFailure}
 use Rattle.desk_tables.specs.Holds.{Holds}
 use Rattle.desk_tables.specs.Images.{listed_cells, listed_params}
-use Rattle.desk_tables.specs.Layouts.{HasRows, Layout, account_layout, authorization_layout, challenge_layout, key_layout, meta_layout, nonce_layout, order_layout}
+use Rattle.desk_tables.specs.Layouts.{HasRows, Layout, account_layout, authorization_layout, challenge_layout}
+use Rattle.desk_tables.specs.Layouts.{key_layout, meta_layout, nonce_layout, order_layout}
 use Rattle.desk_tables.proofs.Holding.{accounts_held, authorizations_held, challenges_held, meta_held, nonces_held, orders_held}
 use Rattle.desk_reading.specs.Failures.{FailsToRead, HasTexts, IsReadable, MayRead}
 use Rattle.desk_reading.specs.Fitting.{FitsAccount, FitsAuthorization, FitsChallenge, FitsKey, FitsListed, FitsMeta, FitsNonce, FitsOrder}
@@ -31,7 +33,8 @@ use Rattle.desk_reading.proofs.KeyedReadings.{shown_keyed}
 use Rattle.desk_reading.proofs.Lists.{filter-all}
 use Rattle.desk_reading.proofs.Readings.{accounts_reading, authorizations_reading, challenges_reading, format_reading, keys_reading}
 use Rattle.desk_reading.proofs.Readings.{listed_reading, meta_reading, nonces_reading, orders_reading}
-use Rattle.desk_reading.proofs.SureTexts.{accounts_sure, authorizations_sure, challenges_sure, format_sure, keys_sure, listed_sure, meta_sure, nonces_sure, orders_sure}
+use Rattle.desk_reading.proofs.SureTexts.{accounts_sure, authorizations_sure, challenges_sure, format_sure, keys_sure}
+use Rattle.desk_reading.proofs.SureTexts.{listed_sure, meta_sure, nonces_sure, orders_sure}
 use Rattle.desk_reading.proofs.Told.{IsSpelled, account_project, account_spelled, authorization_project, authorization_spelled}
 use Rattle.desk_reading.proofs.Told.{challenge_project, challenge_spelled, key_project, key_spelled, listed_project, meta_project, meta_spelled}
 use Rattle.desk_reading.proofs.Told.{nonce_project, nonce_spelled, order_project, order_spelled}

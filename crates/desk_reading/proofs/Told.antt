@@ -17,8 +17,10 @@ use Rattle.desk_columns.specs.declared.columns.OrderAuthzColumns.{OrderAuthzColu
 use Rattle.desk_columns.specs.declared.columns.OrderColumns.{OrderColumns}
 use Rattle.desk_tables.specs.Images.{account_params, authorization_params, blob_or_null, challenge_params, formatted_columns, int_or_null, key_params}
 use Rattle.desk_tables.specs.Images.{listed_params, meta_params, nonce_params, order_params, text_or_null}
-use Rattle.desk_tables.specs.Layouts.{Layout, account_layout, authorization_layout, challenge_layout, formatted_layout, key_layout, meta_layout, nonce_layout, order_layout}
-use Rattle.desk_reading.specs.Spelled.{account_in, authorization_in, bytes_or_none, challenge_in, key_in, listed_in, meta_in, nonce_in, number_or_none, order_in}
+use Rattle.desk_tables.specs.Layouts.{Layout, account_layout, authorization_layout, challenge_layout, formatted_layout}
+use Rattle.desk_tables.specs.Layouts.{key_layout, meta_layout, nonce_layout, order_layout}
+use Rattle.desk_reading.specs.Spelled.{account_in, authorization_in, bytes_or_none, challenge_in, key_in}
+use Rattle.desk_reading.specs.Spelled.{listed_in, meta_in, nonce_in, number_or_none, order_in}
 
 -- ---- values
 

@@ -9,7 +9,8 @@ use Rattle.sqlite_sql.specs.Term.{Term}
 use Rattle.sqlite.specs.Effect.{Database}
 use Rattle.sqlite.specs.Schema.{Schema}
 use Rattle.sqlite.specs.State.{State, Shown}
-use Rattle.desk_columns.specs.Columns.{account_columns, authorization_columns, challenge_columns, key_columns, listed_columns, meta_columns, nonce_columns, order_columns}
+use Rattle.desk_columns.specs.Columns.{account_columns, authorization_columns, challenge_columns, key_columns}
+use Rattle.desk_columns.specs.Columns.{listed_columns, meta_columns, nonce_columns, order_columns}
 use Rattle.desk_columns.specs.Flat.{bare_row, challenge_rows, key_rows, listed_rows}
 use Rattle.desk_columns.specs.declared.columns.AccountColumns.{AccountColumns}
 use Rattle.desk_columns.specs.declared.columns.AuthzColumns.{AuthzColumns}
@@ -26,10 +27,12 @@ use Rattle.desk_model.specs.declared.rows.OrderRow.{OrderRow}
 use Rattle.desk_tables.specs.Hidden.{hidden, row_of}
 use Rattle.desk_tables.specs.Holds.{Holds, HoldsListed}
 use Rattle.desk_tables.specs.Images.{listed_cells, listed_params}
-use Rattle.desk_tables.specs.Layouts.{HasRows, Layout, account_layout, authorization_layout, challenge_layout, key_layout, meta_layout, nonce_layout, order_layout}
+use Rattle.desk_tables.specs.Layouts.{HasRows, Layout, account_layout, authorization_layout, challenge_layout}
+use Rattle.desk_tables.specs.Layouts.{key_layout, meta_layout, nonce_layout, order_layout}
 use Rattle.desk_tables.proofs.Holding.{accounts_held, authorizations_held, challenges_held, meta_held, nonces_held, orders_held}
 use Rattle.desk_reading.specs.Spelled.{account_in, authorization_in, challenge_in, key_in, listed_in, meta_in, nonce_in, order_in}
-use Rattle.desk_reading.specs.Texts.{select_accounts, select_authorizations, select_challenges, select_keys, select_listed, select_meta, select_nonces, select_orders}
+use Rattle.desk_reading.specs.Texts.{select_accounts, select_authorizations, select_challenges, select_keys}
+use Rattle.desk_reading.specs.Texts.{select_listed, select_meta, select_nonces, select_orders}
 use Rattle.desk_reading.proofs.Answered.{IsReading, IsReadingIn, all_rows, answers, by, shown_somehow, picked}
 use Rattle.desk_reading.proofs.KeyRows.{keys_up}
 use Rattle.desk_reading.proofs.KeyedReadings.{columns_of, reads_keyed}

@@ -14,7 +14,8 @@ use Rattle.desk_reading.specs.Failures.{IsReadable}
 use Rattle.desk_reading.specs.Fitting.{FitsAccount, FitsAuthorization, FitsChallenge, FitsKey, FitsListed, FitsMeta, FitsNonce, FitsOrder}
 use Rattle.desk_reading.specs.Shown.{IsShown}
 use Rattle.desk_reading.specs.Spelled.{account_in, authorization_in, challenge_in, key_in, listed_in, meta_in, nonce_in, order_in}
-use Rattle.desk_reading.specs.Texts.{select_accounts, select_authorizations, select_challenges, select_keys, select_listed, select_meta, select_nonces, select_orders}
+use Rattle.desk_reading.specs.Texts.{select_accounts, select_authorizations, select_challenges, select_keys}
+use Rattle.desk_reading.specs.Texts.{select_listed, select_meta, select_nonces, select_orders}
 
 -- their columns: up to those of orders, those of the tables that both formats have, and all
 abbrev pub UpToOrders : Type 0

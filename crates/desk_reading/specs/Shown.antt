@@ -5,12 +5,14 @@ use Rattle.sqlite.specs.Held.{Held, state}
 use Rattle.sqlite.specs.Order.{Row}
 use Rattle.sqlite.specs.State.{Shown}
 use Rattle.sqlite.specs.Store.{Ghosts}
-use Rattle.desk_columns.specs.Columns.{account_columns, authorization_columns, challenge_columns, key_columns, listed_columns, meta_columns, nonce_columns, order_columns}
+use Rattle.desk_columns.specs.Columns.{account_columns, authorization_columns, challenge_columns, key_columns}
+use Rattle.desk_columns.specs.Columns.{listed_columns, meta_columns, nonce_columns, order_columns}
 use Rattle.desk_columns.specs.Flat.{bare_row, challenge_rows, key_rows, listed_rows}
 use Rattle.desk_columns.specs.declared.columns.StoredRows.{StoredRows}
 use Rattle.desk_model.specs.Tables.{Tables}
 use Rattle.desk_reading.specs.Spelled.{account_in, authorization_in, challenge_in, key_in, listed_in, meta_in, nonce_in, order_in}
-use Rattle.desk_reading.specs.Texts.{select_accounts, select_authorizations, select_challenges, select_keys, select_listed, select_meta, select_nonces, select_orders}
+use Rattle.desk_reading.specs.Texts.{select_accounts, select_authorizations, select_challenges, select_keys}
+use Rattle.desk_reading.specs.Texts.{select_listed, select_meta, select_nonces, select_orders}
 
 module _ {S : Type 0} (g : Ghosts S) where
   -- over the database of the connection the query showed rows, and these are their columns

@@ -27,7 +27,8 @@ pub order_full : (T : Tables) (C : Counters) (random : List ℕ) (account : ℕ)
     IsNeedFault C random (order_for T account ns random) e
 order_full T C random account ns count tokens e many as_many is h =
     subst (λ d. IsNeedFault C random (order_for T account ns random) d) (sym is)
-    (subst (λ t. (last_number ≤ C.orders) ⊎ ((last_number < C.authorizations + count_new (wanted T account ns (drop 16 random))) ⊎ (last_number < C.challenges + t)))
+    (subst (λ t. (last_number ≤ C.orders)
+    ⊎ ((last_number < C.authorizations + count_new (wanted T account ns (drop 16 random))) ⊎ (last_number < C.challenges + t)))
     (as_many ∙ sym (count_tokens-wanted T account ns (drop 16 random)))
     (subst (λ n. (last_number ≤ C.orders) ⊎ ((last_number < C.authorizations + n) ⊎ (last_number < C.challenges + tokens)))
     (many ∙ sym (count_new-wanted T account ns (drop 16 random))) h))
@@ -61,7 +62,8 @@ pub order_fits : (T : Tables) (account : ℕ) (random rest : List ℕ) (ns : Lis
     → 16 * (1 + tokens) ≤ length random → rest ≡ drop 16 random →
     16 * count_tokens (wanted T account ns rest) ≤ length rest
 order_fits T account random rest ns tokens as_many h is =
-    subst (λ r. 16 * count_tokens (wanted T account ns r) ≤ length r) (sym is) (omega (arith, count_tokens-wanted T account ns (drop 16 random), length-drop 16 random))
+    subst (λ r. 16 * count_tokens (wanted T account ns r) ≤ length r) (sym is)
+    (omega (arith, count_tokens-wanted T account ns (drop 16 random), length-drop 16 random))
 
 -- an order that was made
 pub order_made : (T : Tables) (C N : Counters) (random rest : List ℕ) (account : ℕ) (ns : List Name) (asked : List Wanted) (count tokens : ℕ) →

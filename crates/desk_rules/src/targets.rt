@@ -3,7 +3,8 @@ ghost use Rattle.std.specs.Prelude.{◌≡◌, ◌==◌, MatchResult, option_map
 ghost use Rattle.serde_json.specs.View.{view};
 ghost use Rattle.desk_model.specs.Payload.{account_change, authorization_change, challenge_change, finalize, key_change, new_account, object_in};
 ghost use Rattle.desk_model.specs.Questions.{authorization_on, order_on, owner_on};
-ghost use Rattle.desk_model.specs.Rules.{account_verdict, authorization_verdict, certificate_verdict, challenge_verdict, finalize_verdict, key_change_verdict, nothing, own};
+ghost use Rattle.desk_model.specs.Rules.{account_verdict, authorization_verdict, certificate_verdict, challenge_verdict};
+ghost use Rattle.desk_model.specs.Rules.{finalize_verdict, key_change_verdict, nothing, own};
 ghost use Rattle.desk_model.specs.Verdict.{check, given};
 ghost use Rattle.desk_model.specs.declared.verdict.Verdict.TheVariants.{Answers as answers};
 ghost use Rattle.desk_model.specs.declared.verdict.Shows.TheVariants as show;

@@ -24,7 +24,8 @@ use Rattle.desk_saving.proofs.Numbered.{AreWithin, within_same}
 use Rattle.desk_tables.specs.Effects.{Puts, Removes}
 use Rattle.desk_tables.specs.Holds.{HoldsListed}
 use Rattle.desk_tables.specs.Images.{challenge_image, key_image}
-use Rattle.desk_tables.specs.Layouts.{HasRows, IsRising, account_layout, authorization_layout, challenge_layout, formatted_layout, key_layout, listed_layout, nonce_layout, order_layout}
+use Rattle.desk_tables.specs.Layouts.{HasRows, IsRising, account_layout, authorization_layout, challenge_layout}
+use Rattle.desk_tables.specs.Layouts.{formatted_layout, key_layout, listed_layout, nonce_layout, order_layout}
 use Rattle.desk_tables.proofs.Holding.{accounts_held, authorizations_held, meta_held, nonces_held, orders_held}
 use Rattle.desk_tables.proofs.MetaUpsert.{puts_known}
 use Rattle.desk_tables.proofs.NoIndexes.{no_index_account, no_index_authorization, no_index_challenge, no_index_key, no_index_listed}
@@ -131,7 +132,8 @@ numbers_within T x kept a found =
     within_same _ _ (keys_owned a.number a.challenges ∙ (stood_kept T x a kept found).numbers ∙ sym (keys_owned x.number x.challenges))
 
 -- the keys of answers that come take the places of those that are there
-keys_put : (T : Tables) (x : AuthorizationRow) → KeepsChildren T (PutAuthorization x) → IsRising challenge_layout.key (challenge_rows (put authorization_layout.key x T.authorizations))
+keys_put : (T : Tables) (x : AuthorizationRow) → KeepsChildren T (PutAuthorization x)
+    → IsRising challenge_layout.key (challenge_rows (put authorization_layout.key x T.authorizations))
     → puts key_layout.key (key_rows (owned_by x.number x.challenges)) (key_rows (challenge_rows T.authorizations))
     ≡ key_rows (challenge_rows (put authorization_layout.key x T.authorizations))
 keys_put T x kept up =

@@ -2,7 +2,8 @@
 use Rattle.std.proofs.Common.{[], ◌∷◌, codes, refl}
 use Rattle.sqlite.specs.Listing.{understood}
 use Rattle.sqlite_tied.specs.Compute.{everything}
-use Rattle.desk_schema.specs.Schema.{schema_at, index_as, meta_table, nonce_table, account_table, ord_table, authz_table, ord_authz_table, chall_table, chall_key_table}
+use Rattle.desk_schema.specs.Schema.{schema_at, index_as, meta_table, nonce_table, account_table}
+use Rattle.desk_schema.specs.Schema.{ord_table, authz_table, ord_authz_table, chall_table, chall_key_table}
 use Rattle.desk_schema.specs.Definitions.{create_meta, create_nonce, create_account, create_ord, create_authz, create_ord_authz}
 use Rattle.desk_schema.specs.Definitions.{create_chall, create_nonce_issued, create_ord_account, create_ord_status_expires}
 use Rattle.desk_schema.specs.Definitions.{create_authz_account_name, create_authz_status_expires, create_ord_authz_authz}

@@ -15,7 +15,8 @@ use Rattle.desk_columns.specs.Flat.{challenge_rows}
 use Rattle.desk_tables.specs.Effects.{Puts}
 use Rattle.desk_tables.specs.Holds.{Holds}
 use Rattle.desk_tables.specs.Layouts.{HasRows, account_layout, authorization_layout, challenge_layout, listed_layout, meta_layout, nonce_layout, order_layout}
-use Rattle.desk_tables.proofs.NoIndexes.{no_index_account, no_index_authorization, no_index_challenge, no_index_key, no_index_listed, no_index_nonce, no_index_order}
+use Rattle.desk_tables.proofs.NoIndexes.{no_index_account, no_index_authorization, no_index_challenge, no_index_key}
+use Rattle.desk_tables.proofs.NoIndexes.{no_index_listed, no_index_nonce, no_index_order}
 
 -- ---- table by table
 

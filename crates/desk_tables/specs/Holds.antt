@@ -12,7 +12,8 @@ use Rattle.desk_columns.specs.Columns.{first_format}
 use Rattle.desk_columns.specs.Flat.{challenge_rows, key_rows, listed_rows}
 use Rattle.desk_tables.specs.Effects.{is_same_place}
 use Rattle.desk_tables.specs.Hidden.{hidden, number, row_of}
-use Rattle.desk_tables.specs.Images.{account_image, authorization_image, challenge_image, formatted_image, key_image, listed_cells, meta_image, nonce_image, order_image}
+use Rattle.desk_tables.specs.Images.{account_image, authorization_image, challenge_image, formatted_image, key_image}
+use Rattle.desk_tables.specs.Images.{listed_cells, meta_image, nonce_image, order_image}
 use Rattle.desk_tables.specs.Layouts.{IsRising, account_layout, authorization_layout, challenge_layout, nonce_layout, order_layout}
 
 -- no place of an order stands twice

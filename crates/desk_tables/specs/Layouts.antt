@@ -15,7 +15,8 @@ use Rattle.desk_model.specs.declared.rows.Meta.{Meta}
 use Rattle.desk_model.specs.declared.rows.OrderRow.{OrderRow}
 use Rattle.desk_schema.specs.Schema.{account_table, authz_table, chall_key_table, chall_table, desk_schema, meta_table, nonce_table, ord_authz_table, ord_table}
 use Rattle.desk_tables.specs.Hidden.{hidden, number}
-use Rattle.desk_tables.specs.Images.{account_image, authorization_image, challenge_image, formatted_image, key_image, listed_cells, meta_image, nonce_image, order_image}
+use Rattle.desk_tables.specs.Images.{account_image, authorization_image, challenge_image, formatted_image, key_image}
+use Rattle.desk_tables.specs.Images.{listed_cells, meta_image, nonce_image, order_image}
 
 -- the table of these rows, the number that is the key, and a row as the engine keeps it
 pub record Layout (X : Type 0) : Type 0 where

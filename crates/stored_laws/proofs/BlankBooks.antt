@@ -120,7 +120,8 @@ keys_blank [] = refl
 keys_blank (c ∷ cs) = by c.row.answered (keys_blank cs)
   where
     by : (o : Option Answer) → key_rows (map blank_row cs) ≡ map blank_key (key_rows cs)
-        → cons_option (option_map (λ (a : Answer). record { challenge = c.row.number; thumb = a.thumb }) (option_map blank_answer o)) (key_rows (map blank_row cs))
+        → cons_option (option_map (λ (a : Answer). record { challenge = c.row.number; thumb = a.thumb }) (option_map blank_answer o))
+        (key_rows (map blank_row cs))
         ≡ map blank_key (cons_option (option_map (λ (a : Answer). record { challenge = c.row.number; thumb = a.thumb }) o) (key_rows cs))
     by None before = before
     by (Some a) before = ap (λ l. (record { challenge = c.row.number; thumb = zeros }) ∷ l) before

@@ -79,7 +79,8 @@ keep_counters F t =
       authorizations = ordered.authorizations.1;
       challenges = each-map _ (authorization_row F t) (authorizations F)
           (each _ _ (authorizations F)
-          (λ a. below_map (λ c. c.number) (λ (c : ChallengeRow). c.number) (challenge_row F a.account) (λ c. refl) (count_challenges (authorizations F) + 1) a.challenges)
+          (λ a. below_map (λ c. c.number) (λ (c : ChallengeRow). c.number) (challenge_row F a.account) (λ c. refl) (count_challenges (authorizations F) + 1)
+          a.challenges)
           (counted_below 1 (count_challenges (authorizations F) + 1) (authorizations F) (omega arith) (challenges_count F)));
       orders = ordered.orders.1;
     }

@@ -81,7 +81,16 @@ book_of T is_book limits stored order =
     let k = rows_of key_columns rows.keys stored.chall_keys order.chall_keys in
     record {
       flat_rows = record { metas = m.0; nonces = n.0; accounts = a.0; orders = o.0; authorizations = z.0; listed = l.0; challenges = c.0; keys = k.0 };
-      spelled = λ i. record { metas = m.2 i; nonces = n.2 i; accounts = a.2 i; orders = o.2 i; authzs = z.2 i; order_authzs = l.2 i; challs = c.2 i; chall_keys = k.2 i };
+      spelled = λ i. record {
+        metas = m.2 i;
+        nonces = n.2 i;
+        accounts = a.2 i;
+        orders = o.2 i;
+        authzs = z.2 i;
+        order_authzs = l.2 i;
+        challs = c.2 i;
+        chall_keys = k.2 i;
+      };
       in_limits = record {
         metas = each_reordered IsStoredMeta _ _ m.1 limits.metas;
         nonces = each_reordered IsStoredNonce _ _ n.1 limits.nonces;

@@ -70,7 +70,8 @@ entry_in_limits T m e spent_numbers after =
     each_change IsPutInLimits T m e spent_numbers
     (each_after IsStoredNonce (filter (not_spent e) T.nonces) _ after.nonces)
     (differing_among IsStoredAccount (touches_account e) account_differs (noted_account e m) T.accounts _ after.accounts)
-    (differing_among IsAuthorizationInLimits (touches_authorization e) authorization_differs (λ r. restated_authorization m (noted_authorization e m T.accounts r))
+    (differing_among IsAuthorizationInLimits (touches_authorization e) authorization_differs
+    (λ r. restated_authorization m (noted_authorization e m T.accounts r))
     T.authorizations _ after.authorizations)
     (differing_among IsOrderInLimits (touches_order e T.authorizations) order_differs
     (λ r. restated_order m (authorizations_after T e m) (noted_order e m r)) T.orders _ after.orders)

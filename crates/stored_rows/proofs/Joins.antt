@@ -49,7 +49,8 @@ merged_back (c ∷ cs) = by c.row.answered (merged_back cs)
     by None before = ap (option_map (λ rows. answered_so c None ∷ rows)) before
     by (Some a) before =
         ap (λ b. next (bare_row (answered_so c (Some a)))
-        (cond {A = Option (Option Answer × List AnswerKey)} b (Some (Some a, key_rows cs)) None) (merged (map bare_row cs))) (eq-eqb c.row.number c.row.number refl)
+        (cond {A = Option (Option Answer × List AnswerKey)} b (Some (Some a, key_rows cs)) None) (merged (map bare_row cs)))
+        (eq-eqb c.row.number c.row.number refl)
         ∙ ap (option_map (λ rows. answered_so c (Some a) ∷ rows)) before
 
 -- ---- what was merged has these rows
@@ -90,7 +91,8 @@ merged_has (b ∷ bs) ks rows h = by b.row.answered ks (λ ls some is. merged_ha
     by (Some date) (k ∷ ks) before h = own (k.challenge == b.row.number) refl h
       where
         own : (t : Bool) → (k.challenge == b.row.number) ≡ t
-            → next (bare_so b (Some date)) (cond {A = Option (Option Answer × List AnswerKey)} t (Some (Some (record { date = date; thumb = k.thumb }), ks)) None)
+            → next (bare_so b (Some date)) (cond {A = Option (Option Answer × List AnswerKey)} t (Some (Some (record { date = date; thumb = k.thumb }), ks))
+            None)
             (merged bs) ≡ Some rows
             → Has (bare_so b (Some date) ∷ bs) (k ∷ ks) rows
         own true e h =
@@ -148,7 +150,8 @@ rows_merge challenges bs keys ks others moved sorted moved_keys sorted_keys have
     let bare : IsPermutation (map bare_row others) bs =
     IsPermutation-trans (map bare_row others) challenges bs (IsPermutation-sym challenges (map bare_row others) have.challenges_are) moved in
     let up : Ascends (λ (b : Owned BareChallenge). b.row.number) 0 bs =
-    sorted_up (λ (b : Owned BareChallenge). b.row.number) (map bare_row others) bs (distinct-map (λ (b : Owned BareChallenge). b.row.number) bare_row others have.distinct)
+    sorted_up (λ (b : Owned BareChallenge). b.row.number) (map bare_row others) bs
+    (distinct-map (λ (b : Owned BareChallenge). b.row.number) bare_row others have.distinct)
     bare sorted in
     let it = lifted bare_row others bs bare in
     let cs = it.0 in
@@ -156,7 +159,8 @@ rows_merge challenges bs keys ks others moved sorted moved_keys sorted_keys have
     unmapped_up bare_row (λ (b : Owned BareChallenge). b.row.number) 0 cs (subst (Ascends (λ (b : Owned BareChallenge). b.row.number) 0) (sym it.2) up) in
     let own : IsPermutation ks (key_rows cs) =
     IsPermutation-trans ks keys (key_rows cs) (IsPermutation-sym keys ks moved_keys)
-    (IsPermutation-trans keys (key_rows others) (key_rows cs) have.keys_are (picked-permutation (λ (c : Owned ChallengeRow). answer_key c.row) others cs it.1)) in
+    (IsPermutation-trans keys (key_rows others) (key_rows cs) have.keys_are (picked-permutation (λ (c : Owned ChallengeRow). answer_key c.row) others cs it.1))
+    in
     let keys_same : ks ≡ key_rows cs = same_by_number (λ (k : AnswerKey). k.challenge) 0 ks (key_rows cs) sorted_keys (keys_up 0 cs cs_up) own in (
       cs,
       it.1,

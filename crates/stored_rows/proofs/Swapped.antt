@@ -1,8 +1,11 @@
 -- What is made of each element moves with it.
-use Rattle.std.proofs.Common.{◌≡◌, ℕ, ◌+◌, ◌-◌, ◌<◌, take, drop, true, false, Bool, Option, Some, None, append_assoc, length-append, List, [], ◌∷◌, ◌++◌, refl, sym, ap, ◌∙◌, map, length, set, slice_index_or, arith, IsPermutation}
-use Rattle.std.proofs.lemmas.List.Sorted.{IsPermutation-trans, IsPermutation-keeps, IsPermutation-refl, IsPermutation-swap, IsPermutation-append_left, IsPermutation-append_right, IsPermutation-append_comm}
+use Rattle.std.proofs.Common.{◌≡◌, ℕ, ◌+◌, ◌-◌, ◌<◌, take, drop, true, false, Bool, Option, Some, None, append_assoc, length-append}
+use Rattle.std.proofs.Common.{List, [], ◌∷◌, ◌++◌, refl, sym, ap, ◌∙◌, map, length, set, slice_index_or, arith, IsPermutation}
+use Rattle.std.proofs.lemmas.List.Sorted.{IsPermutation-trans, IsPermutation-keeps, IsPermutation-refl, IsPermutation-swap}
+use Rattle.std.proofs.lemmas.List.Sorted.{IsPermutation-append_left, IsPermutation-append_right, IsPermutation-append_comm}
 use Rattle.std.proofs.lemmas.List.Edits.{swap_is}
-use Rattle.std.proofs.lemmas.List.{get_or-drop, get_or-map, map-set, length-map, set-get_or, take-append-drop, drop_more, length-take-le, length-drop, set_at, set_comm}
+use Rattle.std.proofs.lemmas.List.{get_or-drop, get_or-map, map-set, length-map, set-get_or, take-append-drop}
+use Rattle.std.proofs.lemmas.List.{drop_more, length-take-le, length-drop, set_at, set_comm}
 use Rattle.std.proofs.lemmas.List.Concat.{flat_map-append}
 use Rattle.std.specs.List.{cons_option, filter_map, flat_map, swap}
 use Rattle.std.proofs.lemmas.Bool.{ltb-true, ltb-false}
@@ -12,7 +15,15 @@ use lib.Dec.{ltb}
 map-swap : {X Y : Type 0} (f : X → Y) (xs : List X) (i j : ℕ) (d : X) → i < length xs → j < length xs → map f (swap xs i j) ≡ swap (map f xs) i j
 map-swap f xs i j d a b =
     let long : length (map f xs) ≡ length xs = length-map xs f in
-    rw (sym (swap_is xs i j d a b), map-set f (set xs i (slice_index_or xs j d)) j (slice_index_or xs i d), map-set f xs i (slice_index_or xs j d), sym (swap_is (map f xs) i j (f d) (rw long a) (rw long b)), get_or-map f xs j d (f d) b, get_or-map f xs i d (f d) a) refl
+    rw (
+      sym (swap_is xs i j d a b),
+      map-set f (set xs i (slice_index_or xs j d)) j (slice_index_or xs i d),
+      map-set f xs i (slice_index_or xs j d),
+      sym
+          (swap_is (map f xs) i j (f d) (rw long a) (rw long b)),
+      get_or-map f xs j d (f d) b,
+      get_or-map f xs i d (f d) a,
+    ) refl
 
 -- three parts with the first and the last in each other's place
 three-parts : {B : Type 0} (p q r t : List B) → IsPermutation (p ++ (q ++ (r ++ t))) (r ++ (q ++ (p ++ t)))
@@ -47,9 +58,12 @@ flat-swap-less f l i j d a b =
     ap (λ v. set v j x) once ∙ set_at (front ++ y ∷ m) y back x j long-y in
     let swapped : swap l i j ≡ (front ++ y ∷ m) ++ x ∷ back = sym (swap_is l i j d (omega (arith, a, b)) b) ∙ twice in
     let l-flat : flat_map f l ≡ flat_map f front ++ (f x ++ (flat_map f m ++ (f y ++ flat_map f back))) =
-    ap (flat_map f) (whole ∙ ap (λ v. front ++ x ∷ v) r-is) ∙ flat_map-append f front (x ∷ m ++ y ∷ back) ∙ ap (λ v. flat_map f front ++ (f x ++ v)) (flat_map-append f m (y ∷ back)) in
+    ap (flat_map f) (whole ∙ ap (λ v. front ++ x ∷ v) r-is) ∙ flat_map-append f front (x ∷ m ++ y ∷ back)
+    ∙ ap (λ v. flat_map f front ++ (f x ++ v)) (flat_map-append f m (y ∷ back)) in
     let s-flat : flat_map f (swap l i j) ≡ flat_map f front ++ (f y ++ (flat_map f m ++ (f x ++ flat_map f back))) =
-    ap (flat_map f) swapped ∙ flat_map-append f (front ++ y ∷ m) (x ∷ back) ∙ ap (λ v. v ++ (f x ++ flat_map f back)) (flat_map-append f front (y ∷ m)) ∙ append_assoc (flat_map f front) (f y ++ flat_map f m) (f x ++ flat_map f back) ∙ ap (λ v. flat_map f front ++ v) (append_assoc (f y) (flat_map f m) (f x ++ flat_map f back)) in
+    ap (flat_map f) swapped ∙ flat_map-append f (front ++ y ∷ m) (x ∷ back) ∙ ap (λ v. v ++ (f x ++ flat_map f back)) (flat_map-append f front (y ∷ m))
+    ∙ append_assoc (flat_map f front) (f y ++ flat_map f m) (f x ++ flat_map f back)
+    ∙ ap (λ v. flat_map f front ++ v) (append_assoc (f y) (flat_map f m) (f x ++ flat_map f back)) in
     rw (l-flat, s-flat) (IsPermutation-append_right (flat_map f front) _ _ (three-parts (f x) (flat_map f m) (f y) (flat_map f back)))
 
 flat-swap : {X B : Type 0} (f : X → List B) (l : List X) (i j : ℕ) → i < length l → j < length l → IsPermutation (flat_map f l) (flat_map f (swap l i j))
@@ -74,7 +88,9 @@ flat-swap {X} f (d ∷ ls) i j a b = go (ltb i j) refl
             rw still (IsPermutation-refl _)
 
 pub flat-permutation : {X B : Type 0} (f : X → List B) (zs ws : List X) → IsPermutation zs ws → IsPermutation (flat_map f zs) (flat_map f ws)
-flat-permutation {X} f zs ws p = IsPermutation-keeps zs (λ l. IsPermutation (flat_map f zs) (flat_map f l)) (IsPermutation-refl _) (λ l i j a b h. IsPermutation-trans _ _ _ h (flat-swap f l i j a b)) ws p
+flat-permutation {X} f zs ws p =
+    IsPermutation-keeps zs (λ l. IsPermutation (flat_map f zs) (flat_map f l)) (IsPermutation-refl _)
+    (λ l i j a b h. IsPermutation-trans _ _ _ h (flat-swap f l i j a b)) ws p
 
 -- what is made of some
 picked_flat : {X Y : Type 0} (h : X → Option Y) (xs : List X) → flat_map (λ x. cons_option (h x) []) xs ≡ filter_map h xs

@@ -26,6 +26,7 @@ returns-in_err-next c =
 
 pub returns : goal.returns
 returns c =
-    status-touched (entry_of c.args.moved.now) c.args.moment c.args.number c.args.book.now.accounts c.args.book.now.authorizations c.in_ok-row.row.now (Some c.in_ok-next.next.now)
+    status-touched (entry_of c.args.moved.now) c.args.moment c.args.number c.args.book.now.accounts c.args.book.now.authorizations c.in_ok-row.row.now
+    (Some c.in_ok-next.next.now)
     (sym (ap option_copied (sym c.in_ok-row.was) ∙ c.authorization.ensures)) (sym c.touches_authorization.ensures ∙ c.if-not-touches_authorization.false)
     (ap option_copied (sym c.in_ok-next.was) ∙ c.row_numbered.ensures ∙ ap (authorization_numbered c.args.number) c.requires)

@@ -6,5 +6,6 @@ use Rattle.desk_changes.proofs.moved.statuses_after.Given as goal
 
 abbrev pub invariant-loop-listed : goal.invariant-loop-listed
 invariant-loop-listed l =
-    l.statuses.items ++ stored_statuses (rows_after (entry_of l.moved) l.moment l.book.accounts l.book.authorizations) (numbers_of (drop l.listed-index l.listed))
+    l.statuses.items ++ stored_statuses (rows_after (entry_of l.moved) l.moment l.book.accounts l.book.authorizations)
+    (numbers_of (drop l.listed-index l.listed))
     ≡ stored_statuses (rows_after (entry_of l.moved) l.moment l.book.accounts l.book.authorizations) (numbers_of l.listed)

@@ -1,5 +1,6 @@
 use Rattle.desk_examples.proofs.Reusing.{reuses_valid, reuses_beside_new, makes_another, reuses_pending, reuses_revoked, reuses_other}
-use Rattle.desk_examples.proofs.Reusing.{reuses_for_wildcard, reuses_foreign, reuses_under_new_key, reuses_under_old_key, reuses_unknown, reuses_twice, reuses_to_the_end, reuses_too_short}
+use Rattle.desk_examples.proofs.Reusing.{reuses_for_wildcard, reuses_foreign, reuses_under_new_key, reuses_under_old_key}
+use Rattle.desk_examples.proofs.Reusing.{reuses_unknown, reuses_twice, reuses_to_the_end, reuses_too_short}
 use Rattle.desk_examples.proofs.Reusing.{serves_valid, serves_no_pending, serves_no_wildcard, serves_no_longer, serves_least, serves_next}
 use Rattle.desk_examples.proofs.Reusing.{picks, makes_one, makes_two_challenges, lists_both, beside_new_is_pending, reused_is_ready, certified_stays}
 use Rattle.desk_examples.proofs.Reusing.{sharing_falls, both_fall, other_falls}

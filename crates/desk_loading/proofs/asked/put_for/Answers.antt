@@ -13,5 +13,6 @@ returns g c =
     finds_put (λ (a : AuthorizationRow). a.number) (λ rows. filter asked rows.items) (λ T. authorizations_for T c.args.account c.args.name.now) _ _
     c.authorizations_named.result _ c.authorizations_named.ensures.reads
     (λ honest T held. IfOk-weaker c.authorizations_named.result _ _
-    (λ rows same. ap (filter asked) (same ∙ ap (authorizations_named T c.args.account) c.base.ensures.base)) (c.authorizations_named.ensures.found honest T held))
+    (λ rows same. ap (filter asked) (same ∙ ap (authorizations_named T c.args.account) c.base.ensures.base))
+    (c.authorizations_named.ensures.found honest T held))
     c.put_same.ensures.put c.put_same.ensures.fails

@@ -21,4 +21,5 @@ returns-clause-put c =
 
 pub returns-in_err-put_one-clause-put : goal.returns-in_err-put_one-clause-put
 returns-in_err-put_one-clause-put c =
-    IfOk-weaker c.args.found _ _ (λ rows so_far. IfOk-from_err c.from_residual-in_err-put_one.result _ c.from_residual-in_err-put_one.ensures.0) c.loop-row.invariant
+    IfOk-weaker c.args.found _ _ (λ rows so_far. IfOk-from_err c.from_residual-in_err-put_one.result _ c.from_residual-in_err-put_one.ensures.0)
+    c.loop-row.invariant

@@ -10,7 +10,8 @@ use Rattle.desk_model.specs.declared.rows.AccountRow.{AccountRow}
 use Rattle.desk_model.specs.declared.rows.AuthorizationRow.{AuthorizationRow}
 use Rattle.desk_model.specs.declared.rows.OrderRow.{OrderRow}
 use Rattle.desk_parts.specs.Loaded.{account_numbers, authorizations_once, first_authorizations, found_authorizations, found_nonces, found_orders}
-use Rattle.desk_parts.specs.Loaded.{keys, listed_authorizations, listing_orders, named_accounts, named_orders, new_keys, orders_once, own_orders, past_orders, asked_authorizations}
+use Rattle.desk_parts.specs.Loaded.{keys, listed_authorizations, listing_orders, named_accounts, named_orders}
+use Rattle.desk_parts.specs.Loaded.{new_keys, orders_once, own_orders, past_orders, asked_authorizations}
 use Rattle.desk_parts.specs.Loaded.{authorizations_asked_of}
 use Rattle.desk_parts.specs.LookUps.{accounts_numbered, accounts_with_key}
 
@@ -79,12 +80,14 @@ returns-in_err-put_each g c =
 
 pub returns-in_err-put_first_authorizations : goal.returns-in_err-put_first_authorizations
 returns-in_err-put_first_authorizations g c =
-    fails_behind _ (finds_both _ (finds_both _ (finds_both _ c.in_ok-put_nonces.ensures c.in_ok-put_keyed.ensures) c.in_ok-put_new_keyed.ensures) c.in_ok-put_each.ensures)
+    fails_behind _ (finds_both _ (finds_both _ (finds_both _ c.in_ok-put_nonces.ensures c.in_ok-put_keyed.ensures) c.in_ok-put_new_keyed.ensures)
+    c.in_ok-put_each.ensures)
     c.in_err-put_first_authorizations.ensures c.from_residual-in_err-put_first_authorizations.ensures.1
 
 pub returns-in_err-put_first_orders : goal.returns-in_err-put_first_orders
 returns-in_err-put_first_orders g c =
     fails_behind _
-    (finds_both _ (finds_both _ (finds_both _ (finds_both _ c.in_ok-put_nonces.ensures c.in_ok-put_keyed.ensures) c.in_ok-put_new_keyed.ensures) c.in_ok-put_each.ensures)
+    (finds_both _ (finds_both _ (finds_both _ (finds_both _ c.in_ok-put_nonces.ensures c.in_ok-put_keyed.ensures) c.in_ok-put_new_keyed.ensures)
+    c.in_ok-put_each.ensures)
     c.in_ok-put_first_authorizations.ensures)
     c.in_err-put_first_orders.ensures c.from_residual-in_err-put_first_orders.ensures.1

@@ -18,4 +18,5 @@ returns-clause-found g c clean T has book =
     (state g.S.Store c.find_rows.new.conn) T it.0 _ has book c.in_ok-rows.rows.items it.2 it.3
     c.args.challenge c.number_param-params.ensures it.1 in
     IfOk-weaker c.owners.result _ _ (λ _ are. are ∙ ap (map (λ c. c.owner)) found
-    ∙ map-map (λ c. c.owner) bare_row (filter (λ r. r.row.number == c.args.challenge) (challenge_rows T.authorizations)) ∙ owners_are T c.args.challenge) c.owners.ensures
+    ∙ map-map (λ c. c.owner) bare_row (filter (λ r. r.row.number == c.args.challenge) (challenge_rows T.authorizations))
+    ∙ owners_are T c.args.challenge) c.owners.ensures

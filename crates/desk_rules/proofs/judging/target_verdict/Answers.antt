@@ -1,7 +1,8 @@
 use Rattle.std.proofs.Common.{drop}
 use Rattle.desk_model.specs.declared.call.Target.TheVariants as to
 use Rattle.desk_rules.proofs.Sparing.{account_target-spares, authorization_target-spares, certificate_target-spares}
-use Rattle.desk_rules.proofs.Sparing.{challenge_target-spares, finalize_target-spares, key_change_target-spares, new_account_target-spares, order_target-spares, orders_target-spares}
+use Rattle.desk_rules.proofs.Sparing.{challenge_target-spares, finalize_target-spares, key_change_target-spares}
+use Rattle.desk_rules.proofs.Sparing.{new_account_target-spares, order_target-spares, orders_target-spares}
 use Rattle.desk_rules.proofs.Sparing.{target-made, target-spared}
 use Rattle.desk_rules.proofs.judging.target_verdict.Goals as goal
 

@@ -10,5 +10,6 @@ use Rattle.desk_tables.specs.Layouts.{challenge_layout}
 pub returns-clause-ok : goal.returns-clause-ok
 returns-clause-ok g c =
     let row : Owned ChallengeRow = record { owner = c.args.authorization; row = c.args.row.now } in
-    puts_written challenge_layout (λ r. challenge_columns (bare_row r)) row (state g.S.Store c.args.tx.now.conn.now) (state g.S.Store c.put_columns.new.tx.conn.now)
+    puts_written challenge_layout (λ r. challenge_columns (bare_row r)) row (state g.S.Store c.args.tx.now.conn.now)
+    (state g.S.Store c.put_columns.new.tx.conn.now)
     c.challenge_columns.result c.put_columns.result c.challenge_columns.ensures.columns c.put_columns.ensures.ok

@@ -5,7 +5,8 @@ use Rattle.sqlite.proofs.StateLemmas.{survives_then}
 use Rattle.desk_reading.proofs.Results.{unchanged_after}
 use Rattle.desk_schema.proofs.StaysLemmas.{asks_then}
 use Rattle.desk_store.proofs.Books.{always_ok, whole_still}
-use Rattle.desk_store.proofs.EitherFormat.{asks_behind, back_asked, back_behind, first_fails_later, first_still, keys_behind, left_asked, of_answer, of_failure, refused_so, settled_behind, upgraded_behind}
+use Rattle.desk_store.proofs.EitherFormat.{asks_behind, back_asked, back_behind, first_fails_later, first_still, keys_behind}
+use Rattle.desk_store.proofs.EitherFormat.{left_asked, of_answer, of_failure, refused_so, settled_behind, upgraded_behind}
 use Rattle.desk_store.proofs.OpeningFaults.{fails_later}
 use Rattle.desk_store.proofs.Upgrading.{first_unchanged}
 use Rattle.desk_store.proofs.opening.open_desk.Goals as goal

@@ -32,7 +32,8 @@ returns-clause-found g c clean T has book whole own bare_is =
     it.5 ∙ ap (map (λ r. r.row)) found ∙ bare_under row.number all
     ∙ ap (λ n. map bare (rows_under n all)) number ∙ ap (map bare) own in
     let keys : EachOf (HasItsKey T) whole.challenges = subst (EachOf (HasItsKey T)) own (keys_under T has.rising.challenges whole.number) in
-    let read = c.in_ok-challenges.ensures.found clean T (holds_still before one T same has) book same.0.is_open whole.challenges keys (c.deref.ensures.value ∙ heads) in
+    let read = c.in_ok-challenges.ensures.found clean T (holds_still before one T same has) book same.0.is_open whole.challenges keys (c.deref.ensures.value
+    ∙ heads) in
     let challenges = c.new.ensures ∙ read in
     λ i. record (bare_is i) { challenges = challenges i }
 

@@ -11,4 +11,5 @@ use Rattle.desk_tables.proofs.UpsertStatement.{advances_by}
 pub returns-clause-ok : goal.returns-clause-ok
 returns-clause-ok g c =
     where_run _ _ _ _ c.perform.result c.perform.ensures.runs
-    (advances_by challenge_layout (λ r. challenge_columns (bare_row r)) challenge_params upsert_challenge challenge_upsert _ _ c.args.self.now _ c.challenge_values-values.ensures)
+    (advances_by challenge_layout (λ r. challenge_columns (bare_row r)) challenge_params upsert_challenge challenge_upsert _ _ c.args.self.now _
+    c.challenge_values-values.ensures)
