@@ -191,9 +191,11 @@ class Server:
 
     def ended(self):
         """Waits for the end: the exit status, and what else was written to standard output and to standard error."""
-        select.select([self.run.stdout], [], [], PATIENCE)
-        status = self.run.wait(timeout=PATIENCE)
-        return status, self.run.stdout.read(), self.said()
+        with self.run.stdout as out:
+            select.select([out], [], [], PATIENCE)
+            status = self.run.wait(timeout=PATIENCE)
+            atexit.unregister(self.run.kill)
+            return status, out.read(), self.said()
 
     def stop(self):
         """Ends the program by SIGTERM, where it still runs."""

@@ -1,7 +1,7 @@
 /* Ends the process before, or half way through, the n-th write to a file and its log, for scripts/stops.py; or has their n-th
    call fail, a read, a write or a sync, and lets the process go on. Preloaded into the program: STOP_FILE is the file's path,
    STOP_AT the n of the call (0: none), STOP_HALF is 1 to write half of it first, STOP_FAILED is the path of a file that is made
-   where the call failed (without it the process ends). */
+   where the call failed (without it the process ends). With STOP_SERVING calls are counted from the first connection on. */
 #define _GNU_SOURCE
 #include <dlfcn.h>
 #include <errno.h>
@@ -10,6 +10,7 @@
 #include <stdio.h>
 #include <stdlib.h>
 #include <string.h>
+#include <sys/socket.h>
 #include <sys/types.h>
 #include <sys/uio.h>
 #include <unistd.h>
@@ -31,12 +32,23 @@ static int is_watched(int fd) {
     return strncmp(path, file, strlen(file)) == 0;
 }
 
+static int is_serving;
+
+int accept4(int socket, struct sockaddr *address, socklen_t *length, int flags) {
+    REAL(accept4);
+    is_serving = 1;
+    return real(socket, address, length, flags);
+}
+
+/* Whether calls are counted. */
+static int is_counting(void) { return is_serving || !getenv("STOP_SERVING"); }
+
 /* Whether this write is the one to stop at. */
 static int is_last(int fd) {
     static long seen, at = -1;
     if (at < 0)
         at = getenv("STOP_AT") ? atol(getenv("STOP_AT")) : 0;
-    return at && is_watched(fd) && ++seen == at;
+    return at && is_counting() && is_watched(fd) && ++seen == at;
 }
 
 /* Whether the call fails, instead of ending the process; if so, the file that says it is made. */

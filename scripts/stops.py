@@ -16,18 +16,22 @@ import tempfile
 from functools import partial
 
 from first_format import RICH, is_first, restore, upgraded
-from trying import BASE, KEY, begin, checked, copy, faults, finish, fresh, library, nonce_text, remove, run, see, side_by_side, tables_of
+from served import Server, refusal, request
+from stories import Machine
+from trying import BASE, KEY, begin, checked, copy, faults, finish, fresh, library, nonce_text, remove, run, see, side_by_side, tables_of, workspace
 
 STOPPED = 77
 # How a command ends where a call to the disk failed.
 FAILED = [(1, b"desk: fault %s\n" % text) for text in (b"21 device", b"22 reopen", b"23 not a desk")]
+# How `serve` ends after one connection, where a call to the disk failed.
+SERVED = [(0, b"", b""), *((status, b"", said) for status, said in FAILED[:2])]
 
 
 class Desk:
     """A desk in a file, and calls on it by one account; each call carries the nonce of the reply before it."""
 
     def __init__(self, program, folder, terms=()):
-        self.program, self.path, self.nonce = program, f"{folder}/desk.db", None
+        self.program, self.folder, self.path, self.nonce = program, folder, f"{folder}/desk.db", None
         fresh(program, folder, "desk", *terms)
 
     def line(self, method, path, body="", at=0, random=""):
@@ -81,19 +85,29 @@ def stopped(preload, path, at, half, words, given):
     return subprocess.run(words, input=given, stdout=subprocess.PIPE, stderr=subprocess.PIPE, env=env)
 
 
+def failing(path, at):
+    """The environment in which a call to the disk fails."""
+    return {"STOP_FILE": path, "STOP_AT": str(at), "STOP_FAILED": f"{path}.failed"}
+
+
+def has_failed(path):
+    """Whether a call to the disk failed since this was asked."""
+    mark = f"{path}.failed"
+    found = os.path.exists(mark)
+    if found:
+        os.remove(mark)
+    return found
+
+
 def failed(preload, path, at, words, given):
     """A run of the program in which a call to the disk fails, and whether it did."""
-    mark = f"{path}.failed"
-    env = {**os.environ, "LD_PRELOAD": preload, "STOP_FILE": path, "STOP_AT": str(at), "STOP_FAILED": mark}
+    env = {**os.environ, "LD_PRELOAD": preload, **failing(path, at)}
     ran = subprocess.run(words, input=given, stdout=subprocess.PIPE, stderr=subprocess.PIPE, env=env)
-    if not os.path.exists(mark):
-        return ran, False
-    os.remove(mark)
-    return ran, True
+    return ran, has_failed(path)
 
 
 class Whole:
-    """A batch over a copy of a file, run to its end: the reply, and the tables before it and after it."""
+    """A batch over a copy of a file, run to its end: how it ended, the reply, and the tables before it and after it."""
 
     def __init__(self, name, program, source, call, folder):
         self.name, self.program, self.source, self.call, self.folder = name, program, source, call, folder
@@ -101,7 +115,8 @@ class Whole:
         self.words = [program, "batch", "--file", self.path]
         self.again()
         self.before = tables_of(self.path, folder)
-        self.status, self.reply, _ = run(*self.words, given=call)
+        self.ran = run(*self.words, given=call)
+        self.status, self.reply, _ = self.ran
         self.after = tables_of(self.path, folder)
 
     def again(self):
@@ -140,8 +155,8 @@ def try_failures(whole, preload):
     ends = collections.Counter()
     for at in range(1, 10000):
         whole.again()
-        ran, has_failed = failed(preload, whole.path, at, whole.words, whole.call)
-        if not has_failed:
+        ran, is_failed = failed(preload, whole.path, at, whole.words, whole.call)
+        if not is_failed:
             see(f"{whole.name}: a run that does not fail", (ran.returncode, ran.stdout), (0, whole.reply))
             break
         said = f"{whole.name}, call {at} failed"
@@ -152,14 +167,71 @@ def try_failures(whole, preload):
     print(f"{whole.name}: {sum(ends.values())} calls to the disk failed: {', '.join(f'{end} {count}' for end, count in sorted(ends.items()))}")
 
 
-def try_call(name, desk, call, statuses, preload, folder):
+class Served:
+    """A call that `serve` answers over the file of a whole run, at the moment and with the random bytes of that run."""
+
+    def __init__(self, whole, preloads):
+        call = json.loads(whole.call)
+        self.whole, self.path, self.preloads = whole, call["path"], preloads
+        self.request = request(call["method"], call["path"], call["body"].encode())
+        self.machine = Machine(whole.folder, preloads["machine"])
+        self.machine.set(call["at"])
+
+    def serve(self, count=1, **env):
+        return Server(self.whole.program, self.whole.path, "--count", str(count), env={**self.machine.env, **env})
+
+    def replies(self):
+        """The replies to the call, and to the call sent again."""
+        self.whole.again()
+        server = self.serve(2)
+        found = [server.ask(self.request) for _ in range(2)]
+        see(f"{self.whole.name}, served: its end", server.ended(), SERVED[0])
+        return found
+
+    def fail(self, at):
+        """The reply and the end where a call to the disk fails, and whether it did."""
+        self.whole.again()
+        preload = f"{self.preloads['stop_at_write']}:{self.preloads['machine']}"
+        server = self.serve(LD_PRELOAD=preload, STOP_SERVING="1", **failing(self.whole.path, at))
+        came = server.ask(self.request).removesuffix(b"(reset)")
+        return came, server.ended(), has_failed(self.whole.path)
+
+    def again(self):
+        """The reply to the call, sent again to the next program."""
+        server = self.serve()
+        found = server.ask(self.request)
+        see(f"{self.whole.name}, served again: its end", server.ended(), SERVED[0])
+        return found
+
+
+def try_serving(whole, preloads):
+    """Has each call to the disk fail in turn while `serve` answers a call and ends."""
+    served, ends = Served(whole, preloads), collections.Counter()
+    replies = served.replies()
+    for at in range(1, 10000):
+        came, ended, is_failed = served.fail(at)
+        if not is_failed:
+            see(f"{whole.name}, served: a run that does not fail", (came, ended), (replies[0], SERVED[0]))
+            break
+        said = f"{whole.name}, served, call {at} failed"
+        ends[ended[2].decode().strip() or "answered"] += 1
+        see(f"{said}: its end", ended in SERVED, True)
+        see(f"{said}: the reply", came in (replies[0], refusal(15, served.path), b""), True)
+        is_after = whole.left() == whole.after
+        whole.look(said, came == replies[0])
+        see(f"{said}: sent again", served.again(), replies[is_after])
+    print(f"{whole.name}, served: {sum(ends.values())} calls to the disk failed: {', '.join(f'{end} {times}' for end, times in sorted(ends.items()))}")
+
+
+def try_call(name, desk, call, statuses, preloads, folder):
     """Stops and fails a call on a desk, whose orders have these statuses before it and after it."""
     whole = Whole(name, desk.program, desk.path, call, folder)
     see(f"{name}: the whole run", (whole.status, whole.reply[:2] in (b"20", b"40")), (0, True))
     found = tuple(" ".join(row[-1].decode() for row in tables["ord"]) for tables in (whole.before, whole.after))
     see(f"{name}: the orders", found, statuses)
-    try_stops(whole, preload)
-    try_failures(whole, preload)
+    try_stops(whole, preloads["stop_at_write"])
+    try_failures(whole, preloads["stop_at_write"])
+    try_serving(whole, preloads)
 
 
 def try_upgrade(program, preload, name, folder):
@@ -223,11 +295,11 @@ def first_calls(desk):
     ]
 
 
-def first_requests(program, preload, folder):
+def first_requests(program, preloads, folder):
     """The first requests on a new desk, each stopped at each write."""
     desk = Desk(program, folder)
     for name, call, statuses in first_calls(desk):
-        try_call(name, desk, call, statuses, preload, folder)
+        try_call(name, desk, call, statuses, preloads, folder)
         desk.answer(call)
 
 
@@ -295,18 +367,19 @@ SCENARIOS = [
 ]
 
 
-def try_scenario(program, preload, scenario, folder):
+def try_scenario(program, preloads, scenario, folder):
     name, prepared, terms, statuses = scenario
     desk = Desk(program, folder, terms)
-    try_call(name, desk, prepared(desk), statuses, preload, folder)
+    try_call(name, desk, prepared(desk), statuses, preloads, folder)
 
 
 def main(program):
-    with tempfile.TemporaryDirectory(prefix="desk-stops-") as folder:
-        preload = library("stop_at_write", folder)
-        tries = [partial(tried, program, preload) for tried in (first_requests, try_make, new_nonce)]
-        tries += [partial(try_scenario, program, preload, scenario) for scenario in SCENARIOS]
-        side_by_side([*tries, *(partial(try_upgrade, program, preload, name) for name in RICH)], folder)
+    with workspace("stops") as folder, tempfile.TemporaryDirectory() as built:
+        preloads = {name: library(name, built) for name in ("stop_at_write", "machine")}
+        given = program, preloads["stop_at_write"]
+        tries = [partial(first_requests, program, preloads), partial(try_make, *given), partial(new_nonce, *given)]
+        tries += [partial(try_scenario, program, preloads, scenario) for scenario in SCENARIOS]
+        side_by_side([*tries, *(partial(try_upgrade, *given, name) for name in RICH)], folder)
     return finish("Stops")
 
 

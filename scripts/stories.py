@@ -123,11 +123,11 @@ class Story:
 
 
 class Machine:
-    """The clock and the random bytes of a program, which the script sets (scripts/machine.c)."""
+    """The clock and the random bytes of a program, which the script sets (by scripts/machine.c, compiled into `preload`)."""
 
-    def __init__(self, folder):
+    def __init__(self, folder, preload):
         self.file = f"{folder}/moment"
-        self.env = {**os.environ, "LD_PRELOAD": library("machine", folder), "MACHINE": self.file}
+        self.env = {**os.environ, "LD_PRELOAD": preload, "MACHINE": self.file}
         self.set(0)
 
     def set(self, moment, fails=False):
@@ -153,7 +153,7 @@ class SetStory(Story):
 
 def set_machine(program, folder):
     """Batches at moments of their own; a clock past the last moment; a machine that fails."""
-    machine = Machine(folder)
+    machine = Machine(folder, library("machine", folder))
     for name in ("clock", "moments", "order", "renewal"):
         calls, lines = batch_of(name)
         story = SetStory(Server(program, fresh(program, folder, name), env=machine.env), folder, machine)

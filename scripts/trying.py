@@ -49,6 +49,12 @@ def need(program):
         sys.exit(f"{program} is missing: scripts/setup.sh installs it, by Debian's package {PACKAGES[program]}.")
 
 
+def workspace(name):
+    """A folder for desks, in the machine's memory where that has room: the scripts end the program, and never the machine."""
+    has_room = os.access("/dev/shm", os.W_OK) and shutil.disk_usage("/dev/shm").free > 2**28
+    return tempfile.TemporaryDirectory(prefix=f"desk-{name}-", dir="/dev/shm" if has_room else None)
+
+
 def library(name, folder):
     """The library that is loaded before the program, compiled from scripts/NAME.c into a folder."""
     need("gcc")
