@@ -5,12 +5,15 @@ Each kind of request is made to `serve` again and again, while its first growth 
 request ends without one; once that growth alone, once that growth and all after it. The reply is the one with ample memory,
 refusal 15 without a nonce, or nothing; the tables are those before the request or those after it: the latter, where the reply
 is the one with ample memory. The next request is served, or the program ended by a fault that closes the desk, and a new one
-serves over its file.
+serves over its file. The same request, sent again with memory, has the reply that it would have had.
 
-Then each growth of a `batch` of one call over a file is refused, those of its opening and closing too, and of one without calls
-over files of format 1, which their opening makes format 2. It ends as with ample memory, or by fault 20 or 22 and with status
-1; the tables are those before the call or those after it, and `check` finds no fault. With a step only each N-th growth is
-refused, and of a batch each 17 N-th.
+Then each growth of a `batch` of one call over a file is refused from the first read of its input on, the closing of the file too;
+and each growth of one without calls from the program's start on, over a desk with rows of each kind and over files of format 1,
+which their opening makes format 2. It ends as with ample memory, or by fault 20 or 22 and with status 1; the tables are those
+before the call or those after it, and `check` finds no fault. Where fault 20 left those before it, the same batch, run again with
+memory, ends as with ample memory. A moment above the limit takes no more memory over a desk with many rows than over one with few.
+
+With a step only each N-th growth is refused, and of the batches without calls each N * N-th.
 """
 import argparse
 import base64
@@ -19,21 +22,23 @@ import mmap
 import os
 import signal
 import struct
-import subprocess
 import sys
 import tempfile
 from functools import partial
 
 from first_format import RICH, restore
 from served import DIRECTORY, NEW_NONCE, Client, Reply, Server, refusal, signed
-from stops import SCENARIOS, Desk, Whole, first_calls
-from trying import BASE, KEY, finish, fresh, library, see, side_by_side, tables_of
+from stops import SCENARIOS, Desk, Whole, first_calls, shared_end
+from trying import BASE, KEY, finish, fresh, library, run, see, side_by_side, tables_of, terms_of, workspace
 
 ALL = 2**62
 # The ends of the program that a refused growth may bring, by their line on standard error.
 CLOSED = (b"desk: fault 22 reopen\n", b"desk: fault 21 device\n")
 # And those of a batch.
-REFUSED = (b"desk: fault 20 memory\n", b"desk: fault 22 reopen\n")
+MEMORY = b"desk: fault 20 memory\n"
+REFUSED = (MEMORY, b"desk: fault 22 reopen\n")
+# A moment that is above the limit.
+LATE = 250000000001
 
 
 class Growths:
@@ -144,14 +149,29 @@ class Tries:
         after = tables_of(self.server.path, self.folder)
         is_after = kind.is_after(before, after)
         see(f"{said}: the tables before or after", before == after or is_after, True)
-        if is_after and kind.name == "finalize":
-            self.order = None
-        if is_after and kind.name == "keyChange":
-            self.client.key = self.key
+        if refused:
+            self.again(kind, said, data, is_after)
+        self.taken(kind)
         if refused:
             return self.outcome(kind, said, came, is_after, ended)
         see(f"{said}: no growth", Reply(came).status, kind.status)
         return None
+
+    def again(self, kind, said, data, is_after):
+        """Sends a request again with memory: it has the reply that it would have had; its nonce is spent where it was recorded."""
+        before = tables_of(self.server.path, self.folder)
+        found = Reply(self.server.ask(data))
+        after = tables_of(self.server.path, self.folder)
+        has_entries = not is_after or kind.name == "newNonce"
+        came = (found.status, bool(found.field("Replay-Nonce")), kind.is_after(before, after))
+        see(f"{said}: made again", came, (kind.status if has_entries else 400, True, has_entries))
+
+    def taken(self, kind):
+        """Takes down what an accepted request did."""
+        if kind.name == "finalize":
+            self.order = None
+        if kind.name == "keyChange":
+            self.client.key = self.key
 
     def outcome(self, kind, said, came, is_after, ended):
         """What came: the reply, refusal 15 or nothing, and whether the request was recorded or closed the desk."""
@@ -186,60 +206,120 @@ class Tries:
         while found := self.once(kind, first, first if alone else ALL):
             came[found] += 1
             first += step
-        told = ", ".join(f"{what} {count}" for what, count in came.most_common())
-        print(f"{kind.name}, {self.count} growths, {'each alone' if alone else 'each and all after it'}: {told}", flush=True)
+        tell(f"{kind.name}, {self.count} growths", alone, came)
         see(f"{kind.name}: growths refused", came.total() > 0, True)
 
 
-def ended(ran, whole, has_entries):
-    """How a batch of one call ended."""
-    if (ran.returncode, ran.stdout, ran.stderr) == (0, whole, b""):
-        return "the reply"
-    if ran.returncode == 1 and ran.stdout in (b"", whole) and ran.stderr in REFUSED:
-        return ran.stderr.decode()[6:-1] + (", recorded" if has_entries else "")
-    return None
+def tell(said, alone, came):
+    """Prints what came of refused growths."""
+    told = ", ".join(f"{what} {count}" for what, count in came.most_common())
+    print(f"{said}, {'each alone' if alone else 'each and all after it'}: {told}", flush=True)
 
 
-def refuse_batch(whole, preload, step):
-    """Refuses each growth of a batch in turn, alone or with those after it."""
-    growths = Growths(f"{whole.folder}/growths")
-    env = {**os.environ, "LD_PRELOAD": preload, "GROWTHS": f"{whole.folder}/growths", "GROWTHS_OF_ALL": "1"}
-    for is_alone in (True, False):
-        came = collections.Counter()
-        for first in range(1, ALL, 17 * step):
-            whole.again()
-            growths.refuse(first, first if is_alone else ALL)
-            ran = subprocess.run(whole.words, input=whole.call, stdout=subprocess.PIPE, stderr=subprocess.PIPE, env=env)
-            count, refused = growths.counted()
-            if not refused:
-                see(f"{whole.name}: no growth refused", (ran.returncode, ran.stdout), (0, whole.reply))
-                break
-            said = f"{whole.name} without growth {first}{'' if is_alone else ' and those after it'}"
-            found = ended(ran, whole.reply, whole.left() == whole.after)
-            see(f"{said}: its end {ran!r}", found is None, False)
-            whole.look(said, bool(ran.stdout))
-            came[found] += 1
-        told = ", ".join(f"{what} {times}" for what, times in came.most_common())
-        print(f"{whole.name}, a batch with {count} growths, {'each alone' if is_alone else 'each and all after it'}: {told}", flush=True)
+def served(program, preload, step, kind, alone, folder):
+    """Refuses the growths of a kind of request to `serve`."""
+    tries = Tries(program, preload, folder)
+    tries.every(kind, alone, step)
+    see(f"{kind.name}: the end", tries.server.stop()[0], -signal.SIGTERM)
 
 
-def batches(program, preload, folder, step):
-    """The calls and the openings that scripts/stops.py stops, without memory."""
-    def scenario(name, prepared, terms, room):
-        desk = Desk(program, room, terms)
-        refuse_batch(Whole(name, program, desk.path, prepared(desk), room), preload, step)
+class Batch:
+    """A batch over a file, whose growths are refused from a place on: the program's `start`, or its first read of its `input`."""
 
-    def first_requests(room):
-        desk = Desk(program, room)
-        for name, call, _ in first_calls(desk):
-            refuse_batch(Whole(name, program, desk.path, call, room), preload, step)
-            desk.answer(call)
+    def __init__(self, whole, preload, place):
+        self.whole, self.growths = whole, Growths(f"{whole.folder}/growths")
+        self.env = {**os.environ, "LD_PRELOAD": preload, "GROWTHS": f"{whole.folder}/growths", "GROWTHS_FROM": place}
 
-    def upgrade(name, room):
-        refuse_batch(Whole(f"the upgrade of {name}", program, restore(name, f"{room}/first.db"), b"", room), preload, step)
+    def run(self, first, last):
+        """The end, the output and the errors without some growths; how many there were, and how many were refused."""
+        self.whole.again()
+        self.growths.refuse(first, last)
+        return run(*self.whole.words, given=self.whole.call, env=self.env), *self.growths.counted()
 
-    tries = [first_requests, *(partial(scenario, *row[:3]) for row in SCENARIOS), *(partial(upgrade, name) for name in RICH)]
-    side_by_side(tries, folder)
+    def refuse(self, step):
+        """Refuses each growth in turn, alone or with those after it."""
+        for alone in (True, False):
+            came = collections.Counter()
+            for first in range(1, ALL, step):
+                ran, count, refused = self.run(first, first if alone else ALL)
+                if not refused:
+                    see(f"{self.whole.name}: no growth refused", ran, self.whole.ran)
+                    break
+                came[self.outcome(f"{self.whole.name} without growth {first}{'' if alone else ' and those after it'}", ran)] += 1
+            tell(f"{self.whole.name}, a batch with {count} growths", alone, came)
+
+    def outcome(self, said, ran):
+        """How the batch ended; the tables are those before it or after it, and it is run again where fault 20 left those before."""
+        left = self.whole.left()
+        if ran[2] == MEMORY and left == self.whole.before:
+            see(f"{said}: made again", run(*self.whole.words, given=self.whole.call), self.whole.ran)
+            see(f"{said}: the tables, made again", self.whole.left(), self.whole.after)
+        else:
+            self.whole.look(said, bool(ran[1]))
+        if ran == self.whole.ran:
+            return "as with memory"
+        status, out, errors = ran
+        see(f"{said}: its end {ran!r}", status == 1 and out in (b"", self.whole.reply) and errors in REFUSED, True)
+        return errors.decode()[6:-1] + (", recorded" if left == self.whole.after != self.whole.before else "")
+
+
+def last_report(at):
+    """What prepares a report at a moment, on a challenge of an authorization that lives to 100."""
+    def prepared(desk):
+        desk.open_account()
+        desk.order("a.example")
+        return desk.validate(1, at=10).replace(b'"at": 10', b'"at": %d' % at)
+    return prepared
+
+
+SHORT = terms_of((3600, 100, 100))
+GROWN = [
+    *(scenario[:3] for scenario in SCENARIOS),
+    ("a report at the end of an authorization's life", last_report(100), SHORT),
+    ("a report past the end of an authorization's life", last_report(101), SHORT),
+    ("a moment above the limit", lambda desk: desk.line("GET", "/new-nonce", at=LATE, random="00" * 16), ()),
+]
+
+
+def scenario(program, preload, step, row, folder):
+    """A call on a desk that is prepared for it."""
+    name, prepared, terms = row
+    desk = Desk(program, folder, terms)
+    Batch(Whole(name, program, desk.path, prepared(desk), folder), preload, "input").refuse(step)
+
+
+def first_requests(program, preload, step, folder):
+    """The first calls on a new desk."""
+    desk = Desk(program, folder)
+    for name, call, _ in first_calls(desk):
+        Batch(Whole(name, program, desk.path, call, folder), preload, "input").refuse(step)
+        desk.answer(call)
+
+
+def opening(program, preload, step, folder):
+    """The opening of a desk with rows of each kind."""
+    desk = Desk(program, folder)
+    desk.answer(shared_end(desk))
+    Batch(Whole("the opening of a desk", program, desk.path, b"", folder), preload, "start").refuse(step * step)
+
+
+def upgrade(program, preload, step, name, folder):
+    """The opening of a file of format 1."""
+    path = restore(name, f"{folder}/first.db")
+    Batch(Whole(f"the upgrade of {name}", program, path, b"", folder), preload, "start").refuse(step * step)
+
+
+def late_moments(program, preload, folder):
+    """How many growths a moment above the limit takes does not hang on the rows that the call would read."""
+    found = []
+    for name, prepared in (("few", Desk.open_account), ("many", shared_end)):
+        os.mkdir(f"{folder}/{name}")
+        desk = Desk(program, f"{folder}/{name}")
+        prepared(desk)
+        late = desk.line("GET", "/office/challenges", at=LATE)
+        counts = [Batch(Whole(name, program, desk.path, call, desk.folder), preload, "input").run(0, 0)[1] for call in (b"", late)]
+        found.append(counts[1] - counts[0])
+    see("the growths of a moment above the limit over few rows and many", found[0] > 0 and found[0] == found[1], True)
 
 
 def main():
@@ -247,14 +327,12 @@ def main():
     parser.add_argument("program")
     parser.add_argument("--step", type=int, default=1)
     words = parser.parse_args()
-    with tempfile.TemporaryDirectory(prefix="desk-growths-") as folder:
-        preload = library("refuse_growth", folder)
-        tries = Tries(os.path.abspath(words.program), preload, folder)
-        for kind in KINDS:
-            for alone in (True, False):
-                tries.every(kind, alone, words.step)
-        see("the end", tries.server.stop()[0], -signal.SIGTERM)
-        batches(os.path.abspath(words.program), preload, folder, words.step)
+    with workspace("growths") as folder, tempfile.TemporaryDirectory() as built:
+        given = os.path.abspath(words.program), library("refuse_growth", built), words.step
+        tries = [partial(late_moments, *given[:2]), partial(opening, *given), *(partial(upgrade, *given, name) for name in RICH)]
+        tries += [partial(served, *given, kind, alone) for kind in KINDS for alone in (True, False)]
+        tries += [partial(first_requests, *given), *(partial(scenario, *given, row) for row in GROWN)]
+        side_by_side(tries, folder)
     return finish("Growths")
 
 

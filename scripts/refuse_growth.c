@@ -1,6 +1,7 @@
 /* Refuses growths of memory while a connection is served, for scripts/growths.py. Preloaded into the program: GROWTHS is the path of
    a file of four numbers that the script shares: the first growth to refuse since a connection was accepted (0: none), the last one,
-   how many there were, and how many were refused. With GROWTHS_OF_ALL in the environment they are counted from the program's start. */
+   how many there were, and how many were refused. GROWTHS_FROM says that they are counted from elsewhere: `start` from the program's
+   start, `input` from its first read of standard input. */
 #define _GNU_SOURCE
 #include <dlfcn.h>
 #include <errno.h>
@@ -8,6 +9,7 @@
 #include <stddef.h>
 #include <stdint.h>
 #include <stdlib.h>
+#include <string.h>
 #include <sys/mman.h>
 #include <sys/socket.h>
 #include <unistd.h>
@@ -42,9 +44,23 @@ static void begin(void) {
         shared->seen = shared->refused = 0;
 }
 
+static int is_counted_from(const char *place) {
+    const char *from = getenv("GROWTHS_FROM");
+    return from && strcmp(from, place) == 0;
+}
+
 __attribute__((constructor)) static void begin_at_start(void) {
-    if (getenv("GROWTHS_OF_ALL"))
+    if (is_counted_from("start"))
         begin();
+}
+
+ssize_t read(int fd, void *bytes, size_t count) {
+    static ssize_t (*real)(int, void *, size_t);
+    if (!real)
+        real = (ssize_t(*)(int, void *, size_t))dlsym(RTLD_NEXT, "read");
+    if (fd == 0 && !shared && is_counted_from("input"))
+        begin();
+    return real(fd, bytes, count);
 }
 
 static int is_refused(void) {
