@@ -2,8 +2,9 @@
 """Tries `serve` from outside, over loopback: scripts/serve.py PROGRAM [GROUP..]
 
 The worked replies and the refusals of docs/SPECIFICATION.md byte for byte, the batches of examples/ as HTTP requests
-(stories.py), requests that are none (bad_requests.py), clients that are slow, silent, or gone, and what ends the program. The
-clients that wait for the desk's patience to end are tried beside the rest. With groups only these are tried.
+(stories.py), requests that are none (bad_requests.py), connections that fail (broken_connections.py), clients that are slow,
+silent, or gone, and what ends the program. The clients that wait for the desk's patience to end are tried beside the rest. With
+groups only these are tried.
 """
 import os
 import signal
@@ -15,6 +16,7 @@ import threading
 import time
 
 from bad_requests import bad_requests, limits, padded
+from broken_connections import failing_reads, failing_writes
 from served import (BASE, BODY, DIRECTORY, HEAD, NEW_NONCE, ROUTES, STOPPED, WORKED, Client, Reply, Server, compact,
                     directory_reply, masked, nonce_reply, received, refusal, reply, request, serial_of, signed)
 from stories import set_machine, stories
@@ -361,8 +363,8 @@ def full_disk(program, folder):
 
 
 PATIENT = (silent, dripping, staying, flooding)
-PROMPT = (worked, methods, key_changes, renewed, stories, set_machine, bad_requests, limits, slow, pipelined, gone, waiting, counts, words, together,
-          outputs, terminated, full_disk)
+PROMPT = (worked, methods, key_changes, renewed, stories, set_machine, bad_requests, limits, slow, pipelined, gone, failing_reads,
+          failing_writes, waiting, counts, words, together, outputs, terminated, full_disk)
 
 
 def tried(group, program, folder):
