@@ -11,10 +11,11 @@ import socket
 import sqlite3
 import struct
 import subprocess
-import tempfile
 
 from model import LIVES, Desk
-from trying import NOT_A_DESK, ROOT, TABLES, begin, change, example, finish, fresh, need, run, see, small_files, stored, tables_of, terms_of
+from model_texts import canonical
+from trying import (BASE, KEY, NOT_A_DESK, ROOT, TABLES, begin, bytes_of, change, copy, example, finish, fresh, need, run, see, small_files,
+                    stored, tables_of, terms_of, workspace)
 from upgrades import cut_upgrades, later_calls, strange_upgrades, upgrades, without_room
 
 
@@ -102,9 +103,44 @@ def strange(program, folder):
         path = fresh(program, folder, f"strange-{at}")
         see(f"{name}: the calls before", run(program, "batch", "--file", path, given=calls)[0], 0)
         change(path, *changes)
-        rows = rows_of(path)
+        before = bytes_of(path)
         see(name, run(program, "batch", "--file", path), (0 if fault is None else 1, b"", texts[fault]))
-        see(f"{name}: nothing written", rows_of(path), rows)
+        see(f"{name}: nothing written", bytes_of(path) == before, True)
+
+
+def alterations():
+    """What takes a column of a table away, and what only takes its name."""
+    for table, columns in TABLES.items():
+        for column in columns.split():
+            yield f"{table} with another name for {column}", f"ALTER TABLE {table} RENAME COLUMN {column} TO other"
+            yield f"{table} without {column}", f"ALTER TABLE {table} DROP COLUMN {column}"
+
+
+def missing_columns(program, folder):
+    """A file that lacks a column is refused, and its bytes stay; SQLite doesn't drop keys and what an index has."""
+    path, whole, dropped = f"{folder}/column.db", fresh(program, folder, "columns"), 0
+    see("the calls before a column is missing", run(program, "batch", "--file", whole, given=b"".join(example("order")[0][:7]))[0], 0)
+    for said, statement in alterations():
+        copy(whole, path)
+        try:
+            change(path, statement)
+        except sqlite3.OperationalError:
+            continue
+        dropped += "DROP" in statement
+        before = bytes_of(path)
+        see(said, run(program, "batch", "--file", path), NOT_A_DESK)
+        see(f"{said}: its bytes", bytes_of(path) == before, True)
+    see("columns that were dropped", dropped > 20, True)
+
+
+def first_rows(program, folder):
+    """The rows of each table after a first nonce and a first account: those that the specification lists, and no others."""
+    path = fresh(program, folder, "first-rows")
+    see("the first account", run(program, "batch", "--file", path, given=b"".join(example("first")[0][:2]))[::2], (0, b""))
+    meta = (1, 2, BASE.encode(), *LIVES, 0, 2, 1, 0, 0, 0)
+    account = (1, canonical(KEY).encode(), b'["mailto:a@b.example"]', 0, None, None, b"valid")
+    rows = {"meta": [meta], "nonce": [(2, bytes(16), 0)], "account": [account]}
+    see("the rows of the first account", tables_of(path, folder), {name: rows.get(name, []) for name in TABLES})
 
 
 def used_up(program, folder):
@@ -203,9 +239,9 @@ def broken_input(program, _):
 
 
 def main(program):
-    with tempfile.TemporaryDirectory(prefix="desk-") as folder:
-        for tries in (batches, ends, strange, used_up, cut_short, upgrades, strange_upgrades, cut_upgrades, without_room, later_calls,
-                      full_output, broken_input, together, shell):
+    with workspace("files") as folder:
+        for tries in (batches, first_rows, ends, strange, missing_columns, used_up, cut_short, upgrades, strange_upgrades, cut_upgrades,
+                      without_room, later_calls, full_output, broken_input, together, shell):
             tries(program, folder)
     return finish("Files")
 

@@ -138,6 +138,11 @@ def copy(path, to):
             shutil.copy(path + end, to + end)
 
 
+def bytes_of(path):
+    with open(path, "rb") as file:
+        return file.read()
+
+
 def remove(path):
     """Removes a file and its log, where they are there."""
     for end in ("", "-wal"):

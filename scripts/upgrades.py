@@ -5,7 +5,7 @@ import sqlite3
 
 from first_format import first_files, restore, upgraded
 from model_texts import canonical, spelled, thumbprint
-from trying import BASE, KEY, TABLES, change, checked, fresh, nonce_text, run, see, small_files, tables_of
+from trying import BASE, KEY, TABLES, bytes_of, change, checked, fresh, nonce_text, run, see, small_files, tables_of
 
 OPENINGS = ("batch --file FILE", "status FILE", "check FILE", "serve FILE --port 0 --count 0")
 INDEXES = ("nonce_issued", "ord_account", "ord_status_expires", "authz_account_name", "authz_status_expires", "ord_authz_authz",
@@ -57,11 +57,6 @@ def objects(path):
         return names, columns, found.execute("PRAGMA integrity_check").fetchall(), found.execute("PRAGMA foreign_key_check").fetchall()
     finally:
         found.close()
-
-
-def bytes_of(path):
-    with open(path, "rb") as file:
-        return file.read()
 
 
 def strange_upgrades(program, folder):

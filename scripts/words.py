@@ -2,19 +2,23 @@
 """Tries the operator's words on files: scripts/words.py PROGRAM
 
 `status`, `check`, `revoke-authz` and `revoke-account` print what docs/SPECIFICATION.md says, section 14, and end with the
-status that it gives; the reports change nothing. Help names the options of each word, their limits, and the exit statuses.
+status that it gives; the reports change nothing, also where they are stopped after a line. Help names the options of each word,
+their limits, and the exit statuses.
 """
+import fcntl
 import os
-import tempfile
+import subprocess
 import time
 
 from stops import Desk
-from trying import NOT_A_DESK, begin, change, finish, run, see, tables_of
+from trying import NOT_A_DESK, begin, bytes_of, change, finish, nonce_text, run, see, small_files, tables_of, workspace
 
 NO_FIT = (1, b"", b"desk: the report does not fit the records\n")
 NOTHING_HERE = (1, b"", b"desk: there is nothing here\n")
 FULL = (1, None, b"desk: output\n")
 LAST = 2**62
+# The bytes of a page, the smallest room of a pipe.
+PAGE = 4096
 OTHER_KEY = {"crv": "P-256", "kty": "EC", "x": "Aw", "y": "BA"}
 LIFE = "1 to 315360000"
 HELP = {
@@ -134,6 +138,72 @@ def wrong_statuses_as_json(program, folder):
         see("documents on a full output", run(*check, stdout=full), FULL)
 
 
+def without_room(words, folder, room):
+    """The end of a report to a file that takes so many bytes and no more, and what it has then; the desk's log has room beside."""
+    with open(f"{folder}/report", "w+b") as out:
+        out.seek(PAGE)
+        ended = run(*words, stdout=out, preexec_fn=lambda: small_files(PAGE + room))
+        out.seek(PAGE)
+        return ended, out.read()
+
+
+def without_reader(words, count):
+    """The end of a report whose reader is gone after so many lines, while more of it is left than a pipe takes."""
+    reader, writer = os.pipe()
+    fcntl.fcntl(writer, fcntl.F_SETPIPE_SZ, PAGE)
+    with subprocess.Popen(words, stdout=writer, stderr=subprocess.PIPE) as ran:
+        os.close(writer)
+        with open(reader, "rb", buffering=0) as lines:
+            for _ in range(count):
+                lines.readline()
+        return ran.wait(), None, ran.stderr.read()
+
+
+def files_of(desk):
+    """The bytes of a desk's file, and how many its log has, whose head is another at each opening."""
+    return bytes_of(desk.path), os.path.getsize(desk.path + "-wal")
+
+
+def stopped_reports(program, folder):
+    """A report that is stopped after each line in turn changes nothing, and is read again whole."""
+    desk = desk_with_orders(program, folder, "stopped")
+    change(desk.path, "UPDATE account SET status = 'revoked'", "UPDATE ord SET status = 'ready'",
+           "UPDATE authz SET status = 'expired' WHERE num = 2", "UPDATE chall SET status = 'valid'")
+    see("a report that is stopped: its opening", run(program, "status", desk.path)[0], 0)
+    before = files_of(desk)
+    for word, *more in (("status",), ("status", "--json"), ("check",), ("check", "--json")):
+        words = (program, word, desk.path, *more)
+        whole = run(*words)
+        lines = whole[1].splitlines(keepends=True)
+        see(f"{word} {more}: lines", len(lines) > 1, True)
+        for count in range(len(lines)):
+            wanted = b"".join(lines[:count])
+            see(f"{word} {more}, stopped after line {count}", without_room(words, folder, len(wanted)), (FULL, wanted))
+            see(f"{word} {more}, stopped after line {count}: the file", files_of(desk) == before, True)
+            see(f"{word} {more}, stopped after line {count}: read again", run(*words), whole)
+
+
+def readers_gone(program, folder):
+    """A report whose reader is gone after each line in turn changes nothing, and is read again whole."""
+    desk = desk_with_orders(program, folder, "gone")
+    first, wanted = tables_of(desk.path, folder)["nonce"][0][0], {"identifiers": [{"type": "dns", "value": "a.example"}]}
+    calls = [desk.signed("/new-order", wanted, random="00" * 48, nonce=nonce_text(first + at)) for at in range(200)]
+    see("many orders", run(program, "batch", "--file", desk.path, given=b"".join(calls))[::2], (0, b""))
+    change(desk.path, "UPDATE ord SET status = 'ready'")
+    see("a reader that is gone: its opening", run(program, "status", desk.path)[0], 0)
+    before = files_of(desk)
+    for word in ("status", "check"):
+        words = (program, word, desk.path)
+        whole = run(*words)
+        lines = whole[1].splitlines(keepends=True)
+        counts = [count for count in range(len(lines)) if len(b"".join(lines[count:])) > PAGE]
+        see(f"{word} of many orders: lines", len(counts) > 50, True)
+        for count in counts:
+            see(f"{word}, its reader gone after line {count}", without_reader(words, count), FULL)
+            see(f"{word}, its reader gone after line {count}: the file", files_of(desk) == before, True)
+        see(f"{word}, read again", run(*words), whole)
+
+
 def revocations(program, folder):
     """What is revoked stays so; what can't be is refused."""
     desk = desk_with_orders(program, folder, "revoked", at=int(time.time()))
@@ -209,8 +279,9 @@ def helps(program, folder):
 
 
 def main(program):
-    with tempfile.TemporaryDirectory(prefix="desk-words-") as folder:
-        for tries in (reports, wrong_statuses, narrowed, wrong_statuses_as_json, revocations, shared_revocation, wrong_words, helps):
+    with workspace("words") as folder:
+        for tries in (reports, wrong_statuses, narrowed, wrong_statuses_as_json, stopped_reports, readers_gone, revocations, shared_revocation,
+                      wrong_words, helps):
             tries(program, folder)
     return finish("Words")
 
