@@ -54,13 +54,13 @@ test: edits
 	@python3 -B scripts/files.py bin/desk
 	@echo 'Comparing random batches with a model of the specification, 40 of them (make predicted: 100).'
 	@python3 -B scripts/predicted.py bin/desk --batches 40
-	@echo "Trying the operator's words: reports and revocations."
+	@echo "Trying the operator's words: reports, whole and stopped after each line, and revocations."
 	@python3 -B scripts/words.py bin/desk
-	@echo 'Stopping the program at each write to a file, the upgrade of a file too, and failing each call to the disk once.'
+	@echo 'Stopping the program at each write to a file, the upgrade of a file too, and failing each call to the disk once, where it serves, too.'
 	@python3 -B scripts/stops.py bin/desk
-	@echo 'Serving over loopback: replies byte for byte, requests that are none, clients that are gone, what ends the program.'
+	@echo 'Serving over loopback: replies byte for byte, requests that are none, connections that fail, what ends the program.'
 	@python3 -B scripts/serve.py bin/desk
-	@echo 'Refusing memory to the program, each ninth growth where it serves (make growths: each one).'
+	@echo 'Refusing memory to the program, each ninth growth of a call (make growths: each one).'
 	@python3 -B scripts/growths.py bin/desk --step 9
 	@echo 'Killing the program at random moments while it serves, 20 times (make kills: 200).'
 	@python3 -B scripts/kills.py bin/desk --times 20
@@ -69,7 +69,7 @@ test: edits
 	@echo 'Trying a house around the desk, where the packages for it are there.'
 	@$(MAKE) --no-print-directory house-test
 
-# Each growth of memory of a request refused in turn, minutes; five minutes of hostile requests; 200 kills while it serves; 100
+# Each growth of memory of a call refused in turn, a quarter of an hour or more; five minutes of hostile requests; 200 kills while it serves; 100
 # random batches beside the model.
 growths hostile kills predicted:
 	@test -x bin/desk || { echo 'desk: there is no bin/desk; make builds it' >&2; exit 1; }

@@ -29,7 +29,7 @@ from functools import partial
 from first_format import RICH, restore
 from served import DIRECTORY, NEW_NONCE, Client, Reply, Server, refusal, signed
 from stops import SCENARIOS, Desk, Whole, first_calls, shared_end
-from trying import BASE, KEY, finish, fresh, library, run, see, side_by_side, tables_of, terms_of, workspace
+from trying import BASE, KEY, checked, finish, fresh, library, run, see, side_by_side, tables_of, terms_of, workspace
 
 ALL = 2**62
 # The ends of the program that a refused growth may bring, by their line on standard error.
@@ -202,18 +202,23 @@ class Tries:
 
     def every(self, kind, alone, step):
         """Refuses each growth in turn, alone or with those after it."""
-        came, first = collections.Counter(), 1
+        came, first = [], 1
         while found := self.once(kind, first, first if alone else ALL):
-            came[found] += 1
+            came.append(found)
             first += step
         tell(f"{kind.name}, {self.count} growths", alone, came)
-        see(f"{kind.name}: growths refused", came.total() > 0, True)
+
+
+# What comes of a refused growth that did no harm.
+HARMLESS = ("the reply", "as with memory")
 
 
 def tell(said, alone, came):
-    """Prints what came of refused growths."""
-    told = ", ".join(f"{what} {count}" for what, count in came.most_common())
-    print(f"{said}, {'each alone' if alone else 'each and all after it'}: {told}", flush=True)
+    """Prints what came of growths that were refused in turn: what was recorded in spite of a fault was refused one behind the commit."""
+    said = f"{said}, {'each alone' if alone else 'each and all after it'}"
+    print(f"{said}: {', '.join(f'{what} {count}' for what, count in collections.Counter(came).most_common())}", flush=True)
+    recorded = [what.endswith("recorded") for what in came if what not in HARMLESS]
+    see(f"{said}: first what is not recorded", (recorded[:1], recorded == sorted(recorded)), ([False], True))
 
 
 def served(program, preload, step, kind, alone, folder):
@@ -236,16 +241,23 @@ class Batch:
         self.growths.refuse(first, last)
         return run(*self.whole.words, given=self.whole.call, env=self.env), *self.growths.counted()
 
+    def check(self):
+        """No status is wrong in the tables that the whole run left, nor in those before it."""
+        for said in ("after it", "before it"):
+            see(f"{self.whole.name}: checked {said}", checked(self.whole.program, self.whole.path), (0, b"no fault\n", b""))
+            self.whole.again()
+
     def refuse(self, step):
         """Refuses each growth in turn, alone or with those after it."""
+        self.check()
         for alone in (True, False):
-            came = collections.Counter()
+            came = []
             for first in range(1, ALL, step):
                 ran, count, refused = self.run(first, first if alone else ALL)
                 if not refused:
                     see(f"{self.whole.name}: no growth refused", ran, self.whole.ran)
                     break
-                came[self.outcome(f"{self.whole.name} without growth {first}{'' if alone else ' and those after it'}", ran)] += 1
+                came.append(self.outcome(f"{self.whole.name} without growth {first}{'' if alone else ' and those after it'}", ran))
             tell(f"{self.whole.name}, a batch with {count} growths", alone, came)
 
     def outcome(self, said, ran):
@@ -319,7 +331,7 @@ def late_moments(program, preload, folder):
         late = desk.line("GET", "/office/challenges", at=LATE)
         counts = [Batch(Whole(name, program, desk.path, call, desk.folder), preload, "input").run(0, 0)[1] for call in (b"", late)]
         found.append(counts[1] - counts[0])
-    see("the growths of a moment above the limit over few rows and many", found[0] > 0 and found[0] == found[1], True)
+    see("the growths of a moment above the limit over few rows and many", (found[0] > 0, found[1]), (True, found[0]))
 
 
 def main():
