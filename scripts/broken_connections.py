@@ -4,7 +4,7 @@ import struct
 from itertools import count
 
 from served import BASE, STOPPED, Client, Reply, Server, masked, refusal, serial_of
-from trying import fresh, library, nonce_text, see, tables_of
+from trying import fresh, library, nonce_text, order_of, see, tables_of
 
 # How many bytes a read or a write of the program moves at most, in turn; 0: all.
 MOST = (0, 20)
@@ -35,7 +35,7 @@ class Broken:
     def order(self):
         """The bytes of an order of a name, which makes an order whenever it is recorded."""
         self.client.fetch()
-        return self.client.signed("/new-order", {"identifiers": [{"type": "dns", "value": "a.example"}]})
+        return self.client.signed("/new-order", order_of("a.example"))
 
     def once(self, **planned):
         """An order over a connection that fails: its bytes, what came back, and by how many orders the desk has more."""

@@ -23,7 +23,7 @@ import time
 from model_texts import canonical
 from serve import reset
 from served import BASE, BODY, HEAD, NEW_NONCE, PHRASES, ROUTES, Client, Reply, Server, envelope, received, request, serial_of
-from trying import KEY, faults, finish, fresh, run, see, tables_of
+from trying import KEY, faults, finish, fresh, order_of, run, see, tables_of
 
 # The desk is asked for so many orders at most: the offices' lists grow with them.
 ORDERS = 400
@@ -113,7 +113,7 @@ class Requests:
             return self.signed("/new-order", {"identifiers": []})
         self.orders += 1
         names = [self.name() for _ in range(self.chance.choice((1, 1, 1, 2, 5)))]
-        return self.signed("/new-order", {"identifiers": [{"type": "dns", "value": name} for name in names]})
+        return self.signed("/new-order", order_of(*names))
 
     def of_office(self, path):
         """The body that an office sends to a path."""

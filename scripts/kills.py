@@ -18,7 +18,7 @@ import time
 from first_format import restore, upgraded
 from model_texts import canonical
 from served import NEW_NONCE, Client, Reply, Server, serial_of
-from trying import BASE, KEY, begin_random, checked, faults, finish, fresh, see, tables_of
+from trying import BASE, KEY, begin_random, checked, faults, finish, fresh, order_of, see, tables_of
 
 # How long the program serves, and how long it opens a file of format 1, before it is killed, in seconds, at most.
 LONGEST, LONGEST_OPENING = 0.08, 0.1
@@ -59,7 +59,7 @@ class Stream(Client):
             self.wanted = {**KEY, "x": base64.urlsafe_b64encode(self.keys.to_bytes(6, "big")).decode()}
             return self.signed("/key-change", {"account": f"{BASE}/account/1", "newKey": self.wanted, "oldKey": self.key})
         names = self.chance.sample((VALIDATED, "b.example", "*.a.example", "c.example"), self.chance.randint(1, 3))
-        return self.signed("/new-order", {"identifiers": [{"type": "dns", "value": name} for name in names]})
+        return self.signed("/new-order", order_of(*names))
 
     def note(self, reply):
         """Takes down what a reply acknowledged."""

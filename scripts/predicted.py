@@ -12,7 +12,7 @@ import random
 import tempfile
 
 import model
-from trying import BASE, begin_random, checked, faults, finish, fresh, run, see, stored, tables_of, terms_of
+from trying import BASE, begin_random, checked, faults, finish, fresh, order_of, run, see, stored, tables_of, terms_of
 
 KEYS = [
     *({"crv": "P-256", "kty": "EC", "x": text, "y": "Ag"} for text in ("AQ", "Aw", "BQ")),
@@ -87,7 +87,7 @@ class Calls:
 
     def new_order(self):
         names = self.chance.choices((*NAMES, *NAMES, "a..b"), k=self.chance.randint(1, 3))
-        return self.signed("/new-order", {"identifiers": [{"type": "dns", "value": name} for name in names]})
+        return self.signed("/new-order", order_of(*names))
 
     def order(self):
         number = self.number(self.desk.orders)

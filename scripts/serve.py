@@ -20,7 +20,7 @@ from broken_connections import failing_reads, failing_writes
 from served import (BASE, BODY, DIRECTORY, HEAD, NEW_NONCE, ROUTES, STOPPED, WORKED, Client, Reply, Server, compact,
                     directory_reply, masked, nonce_reply, received, refusal, reply, request, serial_of, signed)
 from stories import set_machine, stories
-from trying import KEY, NOT_A_DESK, faults, finish, fresh, nonce_text, run, see, small_files, tables_of
+from trying import KEY, NOT_A_DESK, faults, finish, fresh, nonce_text, order_of, run, see, small_files, tables_of
 
 # How long the desk waits for a client, in seconds, and how much later its end may be seen.
 LIMIT, LATER = 10, 4
@@ -91,7 +91,7 @@ def renewed(program, folder):
     client.open_account()
     client.certify(client.ready_order(), b"certificate")
     challenges = tables_of(server.path, folder)["chall"]
-    found = client.post("/new-order", {"identifiers": [{"type": "dns", "value": "A.example"}]}, 201)
+    found = client.post("/new-order", order_of("A.example"), 201)
     document = found.document()
     see("a renewal", (found.field("Location"), document["status"], document["authorizations"]), (f"{BASE}/order/2", "ready", [f"{BASE}/authz/1"]))
     client.certify(2, b"another certificate")

@@ -13,7 +13,7 @@ import subprocess
 import tempfile
 import time
 
-from trying import BASE, KEY, ROOT, nonce_text, see
+from trying import BASE, KEY, ROOT, nonce_text, order_of, see
 
 # How long a script waits for a reply, in seconds: longer than the desk waits for a client.
 PATIENCE = 20
@@ -254,8 +254,7 @@ class Client:
 
     def order(self, *names):
         """Orders names, and gives the number of the order."""
-        wanted = {"identifiers": [{"type": "dns", "value": name} for name in names]}
-        found = self.post("/new-order", wanted, 201)
+        found = self.post("/new-order", order_of(*names), 201)
         return int((found.field("Location") or "0").rsplit("/", 1)[1])
 
     def ready_order(self, name="a.example"):

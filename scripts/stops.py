@@ -18,7 +18,8 @@ from functools import partial
 from first_format import RICH, is_first, restore, upgraded
 from served import Server, refusal, request
 from stories import Machine
-from trying import BASE, KEY, begin, checked, copy, faults, finish, fresh, library, nonce_text, remove, run, see, side_by_side, tables_of, workspace
+from trying import (BASE, KEY, begin, checked, copy, faults, finish, fresh, library, nonce_text, order_of, remove, run, see, side_by_side, tables_of,
+                    workspace)
 
 STOPPED = 77
 # How a command ends where a call to the disk failed.
@@ -62,8 +63,7 @@ class Desk:
         see("an account", self.answer(self.signed("/new-account", {}))[0], "201")
 
     def order(self, *names, at=0):
-        wanted = {"identifiers": [{"type": "dns", "value": name} for name in names]}
-        see("an order", self.answer(self.signed("/new-order", wanted, at=at, random="00" * (16 + 32 * len(names))))[0], "201")
+        see("an order", self.answer(self.signed("/new-order", order_of(*names), at=at, random="00" * (16 + 32 * len(names))))[0], "201")
 
     def validate(self, challenge, at=0):
         """Answers an http-01 challenge and hands in the finding that proves it."""
@@ -283,7 +283,7 @@ def first_calls(desk):
     other = {**KEY, "x": "Aw"}
     spelled = {"y": "Ag", "alg": "ES256", "x": "AQ", "use": "sig", "kty": "EC", "crv": "P-256"}
     contact = {"contact": ["mailto:a@b.example"], "termsOfServiceAgreed": True}
-    names = {"identifiers": [{"type": "dns", "value": name} for name in ("Example.ORG", "example.org", "*.example.org")]}
+    names = order_of("Example.ORG", "example.org", "*.example.org")
     nonces = [nonce_text(serial) for serial in range(1, 6)]
     return [
         ("a first nonce", desk.line("GET", "/new-nonce", random="00" * 16), ("", "")),
@@ -342,8 +342,7 @@ def key_change(desk):
 def renewal(desk):
     """An order of a name that was validated, and of another."""
     desk.answer(certificate(desk))
-    wanted = {"identifiers": [{"type": "dns", "value": name} for name in ("a.example", "b.example")]}
-    return desk.signed("/new-order", wanted, random="00" * 48)
+    return desk.signed("/new-order", order_of("a.example", "b.example"), random="00" * 48)
 
 
 def shared_end(desk):

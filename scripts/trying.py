@@ -88,12 +88,11 @@ def run(program, *words, given=b"", **options):
 
 def side_by_side(tries, folder):
     """Makes tries in folders of their own, as many at a time as there are processors."""
-    def made(number):
-        room = f"{folder}/{number}"
-        os.mkdir(room)
-        tries[number](room)
+    def make(tried):
+        with tempfile.TemporaryDirectory(dir=folder) as room:
+            tried(room)
     with ThreadPoolExecutor(os.cpu_count()) as pool:
-        list(pool.map(made, range(len(tries))))
+        list(pool.map(make, tries))
 
 
 def example(name):
@@ -128,6 +127,11 @@ def checked(program, path):
 def nonce_text(serial):
     """The text of the nonce of a serial, with zero random bytes."""
     return base64.urlsafe_b64encode(serial.to_bytes(8, "big") + bytes(16)).decode()
+
+
+def order_of(*names):
+    """The payload of an order of names."""
+    return {"identifiers": [{"type": "dns", "value": name} for name in names]}
 
 
 def copy(path, to):

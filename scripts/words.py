@@ -11,7 +11,7 @@ import subprocess
 import time
 
 from stops import Desk
-from trying import NOT_A_DESK, begin, bytes_of, change, finish, nonce_text, run, see, small_files, tables_of, workspace
+from trying import NOT_A_DESK, begin, bytes_of, change, finish, nonce_text, order_of, run, see, small_files, tables_of, workspace
 
 NO_FIT = (1, b"", b"desk: the report does not fit the records\n")
 NOTHING_HERE = (1, b"", b"desk: there is nothing here\n")
@@ -94,8 +94,7 @@ def narrowed(program, folder):
     """Orders are listed by account, by status and by both, as text and as JSON."""
     desk = desk_with_orders(program, folder, "narrowed")
     see("a second account", desk.answer(desk.signed("/new-account", {}, key=OTHER_KEY))[0], "201")
-    wanted = {"identifiers": [{"type": "dns", "value": "c.example"}]}
-    see("its order", desk.answer(desk.signed("/new-order", wanted, key=OTHER_KEY, random="00" * 48))[0], "201")
+    see("its order", desk.answer(desk.signed("/new-order", order_of("c.example"), key=OTHER_KEY, random="00" * 48))[0], "201")
     change(desk.path, "UPDATE ord SET status = 'ready' WHERE num = 2")
     end = "1970-01-08T00:00:00Z"
     orders = {1: (1, 1, "pending", end), 2: (2, 1, "ready", end), 3: (3, 2, "pending", end)}
@@ -186,8 +185,8 @@ def stopped_reports(program, folder):
 def readers_gone(program, folder):
     """A report whose reader is gone after each line in turn changes nothing, and is read again whole."""
     desk = desk_with_orders(program, folder, "gone")
-    first, wanted = tables_of(desk.path, folder)["nonce"][0][0], {"identifiers": [{"type": "dns", "value": "a.example"}]}
-    calls = [desk.signed("/new-order", wanted, random="00" * 48, nonce=nonce_text(first + at)) for at in range(200)]
+    first = tables_of(desk.path, folder)["nonce"][0][0]
+    calls = [desk.signed("/new-order", order_of("a.example"), random="00" * 48, nonce=nonce_text(first + at)) for at in range(200)]
     see("many orders", run(program, "batch", "--file", desk.path, given=b"".join(calls))[::2], (0, b""))
     change(desk.path, "UPDATE ord SET status = 'ready'")
     see("a reader that is gone: its opening", run(program, "status", desk.path)[0], 0)
