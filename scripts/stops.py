@@ -197,8 +197,11 @@ class Served:
         return came, server.ended(), has_failed(self.whole.path)
 
     def again(self):
-        """The reply to the call, sent again to the next program."""
-        server = self.serve()
+        """The reply to the call, sent again to the next program; or why that serves nothing."""
+        try:
+            server = self.serve()
+        except RuntimeError as error:
+            return str(error)
         found = server.ask(self.request)
         see(f"{self.whole.name}, served again: its end", server.ended(), SERVED[0])
         return found
