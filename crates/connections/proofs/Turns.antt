@@ -7,15 +7,15 @@ use Rattle.connections.specs.InTurn.{ServesAll, ServesMany, ServesNext, ServesOn
 use Rattle.connections.specs.declared.fault.ServeFault.{ServeFault}
 use Rattle.connections.specs.declared.fault.ServeFault.TheVariants as servefault
 
-module _ {S C : Type 0} (v : Sight S C) (may_meet : StorageFault → Type 0) where
+module _ {S C : Type 0} (v : Sight S C) (causes : S → S → StorageFault → Type 0) where
   -- one more connection is served
-  pub serves_more : (n : ℕ) (old mid new : DeskState S) → ServesMany v may_meet n old mid → ServesOne v may_meet None mid new
-      → ServesMany v may_meet (n + 1) old new
+  pub serves_more : (n : ℕ) (old mid new : DeskState S) → ServesMany v causes n old mid → ServesOne v causes None mid new
+      → ServesMany v causes (n + 1) old new
   serves_more n old mid new many one = rw add-one (mid, many, one)
 
   -- the serving ends at a connection
-  pub serves_last : (why : ServeFault) (n most : ℕ) (old mid new : DeskState S) → n < most → ServesMany v may_meet n old mid
-      → ServesNext v may_meet mid new (Err why) → ServesAll v may_meet most old new (Err why)
+  pub serves_last : (why : ServeFault) (n most : ℕ) (old mid new : DeskState S) → n < most → ServesMany v causes n old mid
+      → ServesNext v causes mid new (Err why) → ServesAll v causes most old new (Err why)
   serves_last (servefault.Desk why) n most old mid new le many one = (n, le, mid, many, one)
   serves_last servefault.Bind n most old mid new le many same = (n, le, rw same many)
   serves_last servefault.Accept n most old mid new le many same = (n, le, rw same many)

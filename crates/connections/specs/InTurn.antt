@@ -29,7 +29,7 @@ abbrev pub fault_after : Result Served IoFault → Bool → Option DeskFault
 fault_after (Ok served) is_closed = fault_of served.cause
 fault_after (Err why) is_closed = if_closes deskfault.Reopen is_closed
 
-module _ {S C : Type 0} (v : Sight S C) (may_meet : StorageFault → Type 0) where
+module _ {S C : Type 0} (v : Sight S C) (causes : S → S → StorageFault → Type 0) where
   -- how a connection was served, or that it failed; the call had some moment and 1616 random bytes, which are enough for any.
   -- A socket does not tell its bytes, so what they spell is not known
   pub record ServesClient (old new : DeskState S) (served : Result Served IoFault) : Type 0 where
@@ -37,7 +37,7 @@ module _ {S C : Type 0} (v : Sight S C) (may_meet : StorageFault → Type 0) whe
     pub random : List ℕ
     pub enough : length random ≡ 1616
     pub does :
-        MatchResult served (Serves v may_meet at random new.policy.base None None None old new) (Breaks v may_meet at random None None None old new)
+        MatchResult served (Serves v causes at random new.policy.base None None None old new) (Breaks v causes at random None None None old new)
 
   -- one connection, and the fault by which the desk is closed after it, if it is
   abbrev pub ServesOne : Option DeskFault → DeskState S → DeskState S → Type 0

@@ -2,14 +2,16 @@
 ghost use Rattle.std.specs.Prelude.{◌≡◌, false, IfErr, unwrap_or};
 ghost use Rattle.connections.specs.declared.fault.ServeFault.TheVariants as fault;
 ghost use Rattle.connections.specs.InTurn.{Ends, ServesAll, ServesNext, fault_after};
-ghost use Rattle.connections.specs.SeenInTurn.{IsSeenOn};
+ghost use Rattle.desk_calls.specs.SeenDesks.{IsSeenOn};
 
 use crate::client::{Patient, end};
 use crate::fault::ServeFault;
 use desk_calls::{Desk, DeskFault};
-use desk_http::{Cause, IoFault, Served, serve_one};
+use desk_http::{Cause, IoFault, Routes, Served, serve_one_by};
 use desk_model::MOST_NAMES;
 use desk_storage::Storage;
+use rand::TryRng;
+use rand::rngs::SysRng;
 use std::alloc::Global;
 use std::io::Write;
 use std::net::{Ipv4Addr, Net, SocketAddr, TcpListener, TcpStream};
@@ -54,16 +56,17 @@ pub fn serve_all<M: Clock + RandomSource, K: Storage + Drop, E: Write>(
     errors: &mut E,
 ) -> Result<(), ServeFault>
     ensures policy { desk.new.policy ≡ desk.old.policy }
-    ensures served { ServesAll K.Storage.sight K.Storage.may_meet (unwrap_or count 18446744073709551615) desk.old desk.new result }
+    ensures served { ServesAll K.Storage.sight K.Storage.causes (unwrap_or count 18446744073709551615) desk.old desk.new result }
     ensures seen { IsSeenOn K.Storage.sight desk.old desk.new }
     ensures ends { desk.old.is_closed ≡ false → Ends result desk.new }
 {
     let most = count.unwrap_or(u64::MAX);
+    let mut routes = Routes::new();
     for served in 0..most {
         let Ok((stream, _)) = listener.accept() else {
             return Err(ServeFault::Accept);
         };
-        match serve_client(alloc, machine, &stream, desk, errors) {
+        match serve_client(alloc, machine, &mut routes, &stream, desk, errors) {
             Ok(()) => {}
             Err(fault) => return Err(fault),
         }
@@ -75,12 +78,13 @@ pub fn serve_all<M: Clock + RandomSource, K: Storage + Drop, E: Write>(
 fn serve_client<M: Clock + RandomSource, K: Storage + Drop, E: Write>(
     alloc: Global,
     machine: &M,
+    routes: &mut Routes,
     stream: &TcpStream,
     desk: &mut Desk<K>,
     errors: &mut E,
 ) -> Result<(), ServeFault>
     ensures policy { desk.new.policy ≡ desk.old.policy }
-    ensures served { ServesNext K.Storage.sight K.Storage.may_meet desk.old desk.new result }
+    ensures served { ServesNext K.Storage.sight K.Storage.causes desk.old desk.new result }
     ensures ends { desk.old.is_closed ≡ false → Ends result desk.new }
 {
     let at = moment(machine)?;
@@ -88,7 +92,7 @@ fn serve_client<M: Clock + RandomSource, K: Storage + Drop, E: Write>(
     draw(machine, &mut random)?;
     let mut reader = Patient::new(stream, machine);
     let mut writer = Patient::new(stream, machine);
-    let served = serve_one(alloc, &mut reader, &mut writer, desk, at, &random);
+    let served = serve_one_by(alloc, routes, &mut reader, &mut writer, desk, at, &random);
     match served {
         Ok(_) => end(stream, machine),
         Err(_) => {
@@ -140,7 +144,7 @@ pub fn moment<C: Clock>(clock: &C) -> Result<u64, ServeFault>
 fn draw<S: RandomSource>(source: &S, bytes: &mut [u8]) -> Result<(), ServeFault>
     ensures failed { IfErr result (λ e. e ≡ fault.Random) }
 {
-    match source.fill_bytes(bytes) {
+    match SysRng::new(source).try_fill_bytes(bytes) {
         Ok(()) => Ok(()),
         Err(_) => Err(ServeFault::Random),
     }

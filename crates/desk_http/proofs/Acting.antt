@@ -1,10 +1,11 @@
 -- What serving one request does to a desk: nothing, or what its answer to one call does.
-use Rattle.std.proofs.Common.{◌≡◌, ◌⊎◌, ℕ, List, Option, Some, None, Result, Ok, Err, Bool, inl, inr}
+use Rattle.std.proofs.Common.{ℕ, List, Option, Some, None, Result, Ok, Err, Bool, inl, inr}
 use Rattle.std.specs.Prelude.{MatchResult}
 use Rattle.desk_model.specs.declared.call.Call.{Call}
 use Rattle.desk_model.specs.declared.reply.Reply.{Reply}
 use Rattle.desk_storage.specs.Sight.{Sight}
 use Rattle.desk_storage.specs.declared.fault.StorageFault.{StorageFault}
+use Rattle.desk_calls.specs.Meets.{ActsOnce, Meets}
 use Rattle.desk_calls.specs.State.{DeskState}
 use Rattle.desk_calls.specs.declared.fault.DeskFault.{DeskFault}
 use Rattle.requests.specs.declared.request.Request.{Request}
@@ -17,49 +18,45 @@ use Rattle.desk_http.specs.declared.sending.IoFault.{IoFault}
 use Rattle.desk_http.specs.declared.sending.IoFault.TheVariants as iofault
 use Rattle.desk_http.specs.declared.serving.Served.{Served}
 
-module _ {S C : Type 0} (v : Sight S C) (may_meet : StorageFault → Type 0) where
-  -- the desk's answer to a call
-  pub record AnswersOne (old new : DeskState S) : Type 0 where
-    pub call : Call
-    pub result : Result Reply DeskFault
-    pub answer : IsAnswer v may_meet call old new result
-
-  -- nothing, or that
-  abbrev pub ActsOnce : DeskState S → DeskState S → Type 0
-  ActsOnce old new = (new ≡ old) ⊎ AnswersOne old new
+module _ {S C : Type 0} (v : Sight S C) (causes : S → S → StorageFault → Type 0) where
+  -- as a desk answers a call
+  meets : (call : Call) (old new : DeskState S) (result : Result Reply DeskFault) → IsAnswer v causes call old new result → Meets v call old new result
+  meets call old new result a =
+      record { when_open = λ opened. record { answers = a.exit opened; flag = a.flag opened }; when_closed = a.closed; policy = a.policy }
 
   module _ (at : ℕ) (random : List ℕ) where
     -- a request was answered
-    responds_acts : (q : Request) (result : Result Reply DeskFault) (old new : DeskState S) → Responds v may_meet at random old q result new
-        → ActsOnce old new
-    responds_acts (request.Asks what) result old new r = inr (record { call = call_of at random what; result = result; answer = r })
+    responds_acts : (q : Request) (result : Result Reply DeskFault) (old new : DeskState S) → Responds v causes at random old q result new
+        → ActsOnce v old new
+    responds_acts (request.Asks what) result old new r =
+        inr (record { call = call_of at random what; result = result; meets = meets (call_of at random what) old new result r })
     responds_acts (request.Refused reply) result old new r = inl (r.1)
 
-    answer_acts : (result : Result Reply DeskFault) (old new : DeskState S) → HasAnswer v may_meet at random None old new result
-        → ActsOnce old new
+    answer_acts : (result : Result Reply DeskFault) (old new : DeskState S) → HasAnswer v causes at random None old new result
+        → ActsOnce v old new
     answer_acts result old new a = responds_acts a.request result old new a.responds
 
     -- it did not have its reply
-    fails_acts : (why : Cause) (old new : DeskState S) → Fails v may_meet at random None old new why → ActsOnce old new
+    fails_acts : (why : Cause) (old new : DeskState S) → Fails v causes at random None old new why → ActsOnce v old new
     fails_acts (cause.Desk why) old new f = answer_acts (Err why) old new f
     fails_acts cause.Reading old new f = inl f
     fails_acts cause.Text old new f = answer_acts (Ok f.0) old new f.1
 
     -- the connection failed
-    left_acts : (old new : DeskState S) → IsLeft v may_meet at random None old new → ActsOnce old new
+    left_acts : (old new : DeskState S) → IsLeft v causes at random None old new → ActsOnce v old new
     left_acts old new (inl same) = inl same
     left_acts old new (inr a) = answer_acts a.0 old new a.1
 
     -- it was served
     served_acts : (base : List ℕ) (old new : DeskState S) (manner : Manner) (why : Option Cause) (written : Bool)
-        → ServesBy v may_meet at random base None None None old new manner why written → ActsOnce old new
+        → ServesBy v causes at random base None None None old new manner why written → ActsOnce v old new
     served_acts base old new manner None written s = answer_acts (Ok s.0) old new s.1
     served_acts base old new manner (Some why) written s = fails_acts why old new s.0
 
     -- whatever became of it
     pub once_acts : (base : List ℕ) (old new : DeskState S) (served : Result Served IoFault)
-        → MatchResult served (λ s. Serves v may_meet at random base None None None old new s) (λ e. Breaks v may_meet at random None None None old new e)
-        → ActsOnce old new
+        → MatchResult served (λ s. Serves v causes at random base None None None old new s) (λ e. Breaks v causes at random None None None old new e)
+        → ActsOnce v old new
     once_acts base old new (Ok served) s = served_acts base old new s.0 served.cause served.written s.2
     once_acts base old new (Err iofault.Read) s = inl (s.0)
     once_acts base old new (Err iofault.Write) s = left_acts old new s

@@ -27,29 +27,29 @@ manner_heard None h is = tt
 manner_heard (Some input) h is = is.manner
 
 -- why a request that was read has no reply is why it has no text
-pub no_text : {S C : Type 0} (v : Sight S C) (may_meet : StorageFault → Type 0) (at : ℕ) (random : List ℕ) (read : Result Request AllocError)
-    (q : Request) (old new : DeskState S) (why : Cause) → read ≡ Ok q → LacksReply v may_meet at random q why old new
-    → LacksText v may_meet at random read why old new
-no_text v may_meet at random read q old new (cause.Desk fault) e l = record { request = q; is_read = e; responds = l }
-no_text v may_meet at random read q old new cause.Reading e l = l
-no_text v may_meet at random read q old new cause.Text e l = absurd l
+pub no_text : {S C : Type 0} (v : Sight S C) (causes : S → S → StorageFault → Type 0) (at : ℕ) (random : List ℕ) (read : Result Request AllocError)
+    (q : Request) (old new : DeskState S) (why : Cause) → read ≡ Ok q → LacksReply v causes at random q why old new
+    → LacksText v causes at random read why old new
+no_text v causes at random read q old new (cause.Desk fault) e l = record { request = q; is_read = e; responds = l }
+no_text v causes at random read q old new cause.Reading e l = l
+no_text v causes at random read q old new cause.Text e l = absurd l
 
-module _ {S C : Type 0} (v : Sight S C) (may_meet : StorageFault → Type 0) (at : ℕ) (random : List ℕ) (known : Option (List ℕ)) (h : Heard) where
+module _ {S C : Type 0} (v : Sight S C) (causes : S → S → StorageFault → Type 0) (at : ℕ) (random : List ℕ) (known : Option (List ℕ)) (h : Heard) where
   -- the answer to what was read is the answer to the input
   pub answered : (old new : DeskState S) (result : Result Reply DeskFault) → IfSome known (λ input. Hears input h)
-      → ReadAnswer v may_meet at random h.request old new result → HasAnswer v may_meet at random known old new result
+      → ReadAnswer v causes at random h.request old new result → HasAnswer v causes at random known old new result
   answered old new result is a = record { request = a.request; spelled = spelled known h a.request is a.is_read; responds = a.responds }
 
   -- why what was read did not have its reply is why the input did not
   pub fails : (old new : DeskState S) (why : Cause) → IfSome known (λ input. Hears input h)
-      → LacksText v may_meet at random h.request why old new → Fails v may_meet at random known old new why
+      → LacksText v causes at random h.request why old new → Fails v causes at random known old new why
   fails old new (cause.Desk fault) is l = answered old new _ is l
   fails old new cause.Reading is l = l
   fails old new cause.Text is l = (l.0, answered old new _ is l.1)
 
   -- and then the desk is as it was, or as the answer to the input left it
   pub leaves : (old new : DeskState S) (why : Cause) → IfSome known (λ input. Hears input h)
-      → LacksText v may_meet at random h.request why old new → IsLeft v may_meet at random known old new
+      → LacksText v causes at random h.request why old new → IsLeft v causes at random known old new
   leaves old new (cause.Desk fault) is l = inr (Err fault, answered old new (Err fault) is l)
   leaves old new cause.Reading is l = inl l
   leaves old new cause.Text is l = inr (Ok l.0, answered old new (Ok l.0) is l.1)

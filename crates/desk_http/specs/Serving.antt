@@ -10,7 +10,7 @@ use Rattle.desk_model.specs.declared.reply.Reply.{Reply}
 use Rattle.desk_storage.specs.Sight.{Sight}
 use Rattle.desk_storage.specs.declared.fault.StorageFault.{StorageFault}
 use Rattle.desk_calls.specs.Answers.{Answers, is_closed_after}
-use Rattle.desk_calls.specs.Faults.{IsMet}
+use Rattle.desk_calls.specs.Causes.{IsCaused}
 use Rattle.desk_calls.specs.State.{DeskState}
 use Rattle.desk_calls.specs.declared.fault.DeskFault.{DeskFault}
 use Rattle.desk_calls.specs.declared.fault.DeskFault.TheVariants as deskfault
@@ -50,13 +50,13 @@ Tells base index head_only before after false = Keeps before after
 
 -- ---- the desk
 
-module _ {S C : Type 0} (v : Sight S C) (may_meet : StorageFault → Type 0) where
+module _ {S C : Type 0} (v : Sight S C) (causes : S → S → StorageFault → Type 0) where
   -- what a desk promises of a call (`desk_calls::Desk::answer`)
   pub record IsAnswer (call : Call) (old new : DeskState S) (result : Result Reply DeskFault) : Type 0 where
     pub closed : IsTrue old.is_closed → (result ≡ Err deskfault.Reopen) × (new ≡ old)
     pub late : old.is_closed ≡ false → (result ≡ Err deskfault.Moment) ↔ (last_moment < call.at)
     pub unmade : last_moment < call.at → new ≡ old
-    pub met : old.is_closed ≡ false → IfErr result (IsMet may_meet)
+    pub caused : old.is_closed ≡ false → IfErr result (IsCaused v causes old.store new.store)
     pub exit : old.is_closed ≡ false → Answers v call old.store new.store result
     pub flag : old.is_closed ≡ false → new.is_closed ≡ is_closed_after result
     pub policy : new.policy ≡ old.policy

@@ -2,6 +2,8 @@
 #![tactic(auto)]
 
 #[cfg(test)]
+mod asking;
+#[cfg(test)]
 mod failing_streams;
 #[cfg(test)]
 mod loopback;
@@ -18,10 +20,13 @@ mod worked_key_changes;
 mod worked_replies;
 #[cfg(test)]
 mod worked_reports;
+#[cfg(test)]
+mod worked_run;
 
 pub use http_replies::reply_text;
 pub use http_requests::{Heard, Manner, ReadFailed, read_call};
 pub use refusals::problem_document;
+pub use requests::Routes;
 pub use saying::Cause;
 pub use sending::IoFault;
-pub use serving::{Served, serve_one};
+pub use serving::{Served, serve_one, serve_one_by};

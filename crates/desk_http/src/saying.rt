@@ -39,8 +39,8 @@ pub(crate) fn say<K: Storage + Drop>(
 ) -> Result<Vec<u8>, Cause>
     ensures policy { desk.new.policy ≡ desk.old.policy }
     ensures said { MatchResult result
-        (λ text. Says K.Storage.sight K.Storage.may_meet at random.now desk.new.policy.base request head_only text.items desk.old desk.new)
-        (λ cause. LacksText K.Storage.sight K.Storage.may_meet at random.now request cause desk.old desk.new) }
+        (λ text. Says K.Storage.sight K.Storage.causes at random.now desk.new.policy.base request head_only text.items desk.old desk.new)
+        (λ cause. LacksText K.Storage.sight K.Storage.causes at random.now request cause desk.old desk.new) }
 {
     let Ok(request) = request else {
         return Err(Cause::Reading);
@@ -67,8 +67,8 @@ fn reply_to<K: Storage + Drop>(
 ) -> Result<Reply, Cause>
     ensures policy { desk.new.policy ≡ desk.old.policy }
     ensures reply { MatchResult result
-        (λ reply. Responds K.Storage.sight K.Storage.may_meet at random.now desk.old request (Ok reply) desk.new)
-        (λ cause. LacksReply K.Storage.sight K.Storage.may_meet at random.now request cause desk.old desk.new) }
+        (λ reply. Responds K.Storage.sight K.Storage.causes at random.now desk.old request (Ok reply) desk.new)
+        (λ cause. LacksReply K.Storage.sight K.Storage.causes at random.now request cause desk.old desk.new) }
 {
     match request {
         Request::Asks(ask) => {
@@ -92,7 +92,7 @@ fn answer<K: Storage + Drop>(
     desk: &mut Desk<K>,
     call: &Call,
 ) -> Result<Reply, DeskFault>
-    ensures { IsAnswer K.Storage.sight K.Storage.may_meet call.now desk.old desk.new result }
+    ensures { IsAnswer K.Storage.sight K.Storage.causes call.now desk.old desk.new result }
 {
     desk.answer(alloc, call)
 }

@@ -8,7 +8,8 @@ use crate::saying::{Cause, say};
 use crate::sending::{IoFault, send, tell};
 use desk_calls::Desk;
 use desk_storage::Storage;
-use http_requests::{Manner, read_call};
+use http_requests::{Manner, read_call_by};
+use requests::Routes;
 use std::alloc::Global;
 use std::io::{Read, Write};
 
@@ -39,14 +40,41 @@ pub fn serve_one<R: Read, W: Write, K: Storage + Drop>(
 ) -> Result<Served, IoFault>
     ensures policy { desk.new.policy ≡ desk.old.policy }
     ensures served { IfOk result (λ s.
-        Serves K.Storage.sight K.Storage.may_meet at random.now desk.new.policy.base
+        Serves K.Storage.sight K.Storage.causes at random.now desk.new.policy.base
         (R.remaining reader.old) (W.contents writer.old) (W.contents writer.new) desk.old desk.new s) }
     ensures failed { IfErr result (λ e.
-        Breaks K.Storage.sight K.Storage.may_meet at random.now
+        Breaks K.Storage.sight K.Storage.causes at random.now
         (R.remaining reader.old) (W.contents writer.old) (W.contents writer.new) desk.old desk.new e) }
     ensures taken { TakesAtMost (R.remaining reader.old) (R.remaining reader.new) (longest_head + longest_body) }
 {
-    let Ok(heard) = read_call(alloc, reader) else {
+    let mut routes = Routes::new();
+    serve_one_by(alloc, &mut routes, reader, writer, desk, at, random)
+}
+
+/// Serves one request as `serve_one` does, by routes that are lent for one request after the other.
+///
+/// # Errors
+///
+/// Where the reader or the writer fails.
+pub fn serve_one_by<R: Read, W: Write, K: Storage + Drop>(
+    alloc: Global,
+    routes: &mut Routes,
+    reader: &mut R,
+    writer: &mut W,
+    desk: &mut Desk<K>,
+    at: u64,
+    random: &[u8],
+) -> Result<Served, IoFault>
+    ensures policy { desk.new.policy ≡ desk.old.policy }
+    ensures served { IfOk result (λ s.
+        Serves K.Storage.sight K.Storage.causes at random.now desk.new.policy.base
+        (R.remaining reader.old) (W.contents writer.old) (W.contents writer.new) desk.old desk.new s) }
+    ensures failed { IfErr result (λ e.
+        Breaks K.Storage.sight K.Storage.causes at random.now
+        (R.remaining reader.old) (W.contents writer.old) (W.contents writer.new) desk.old desk.new e) }
+    ensures taken { TakesAtMost (R.remaining reader.old) (R.remaining reader.new) (longest_head + longest_body) }
+{
+    let Ok(heard) = read_call_by(alloc, routes, reader) else {
         return Err(IoFault::Read);
     };
     let manner = heard.manner;

@@ -1,45 +1,15 @@
 //! A desk with many orders, made by requests: the rows that a call touches.
+use crate::asking::{call, request};
 use crate::worked_replies::new_desk;
 use desk_book::{Book, Row, Table};
 use desk_calls::{Desk, Memory};
-use desk_model::{Ask, AuthorizationRow, Call, Jwk, Sequence, Signed, Target, Text};
+use desk_model::{Ask, AuthorizationRow, Call, Target, Text};
 use desk_storage::Storage;
 use std::alloc::Global;
 use std::process::Abort;
 use std::test::Fail;
 
-const KEY: &str = r#"{"crv":"P-256","kty":"EC","x":"AQ","y":"Ag"}"#;
-
 const ORDERS: u64 = 1000;
-
-// A call at 0, with the random bytes of an order for one name.
-fn call(alloc: Global, ask: Ask) -> Result<Call, Fail> {
-    let mut random = Vec::new(alloc);
-    random.extend_from_slice(&[0u8; 48])?;
-    Ok(Call {
-        at: 0,
-        random: Sequence::new(random),
-        ask,
-    })
-}
-
-// A request of the account.
-fn request(
-    rt: &impl Abort,
-    alloc: Global,
-    target: Target,
-    nonce: Option<Text>,
-    payload: String,
-) -> Result<Call, Fail> {
-    let key = Jwk::from_canonical(String::from_str(alloc, KEY)?);
-    let signed = Signed {
-        target,
-        key: Ok(key.expect(rt, "a key")),
-        nonce,
-        payload: Text::new(payload),
-    };
-    call(alloc, Ask::Signed(signed))
-}
 
 // The nonce of the reply to a call, none where there is no reply.
 fn next_nonce(alloc: Global, desk: &mut Desk<Memory>, call: Call) -> Option<Text> {
@@ -122,7 +92,7 @@ fn counts_of(rt: &impl Abort, alloc: Global, store: &mut Memory) -> Result<[[usi
 fn counts_of_thousand(rt: &impl Abort, alloc: Global) -> Result<[[usize; 4]; 2], Fail> {
     let mut desk = new_desk(rt, alloc)?;
     let made = make_orders(rt, alloc, &mut desk);
-    let mut store = desk.close();
+    let mut store = desk.into_store();
     let counts = match made {
         Ok(()) => counts_of(rt, alloc, &mut store),
         Err(fail) => Err(fail),

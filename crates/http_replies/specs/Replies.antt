@@ -1,5 +1,6 @@
 -- The text of a reply, as one function of the base, the reply and whether only its head is sent.
-use Rattle.std.specs.Prelude.{ℕ, List, [], ◌∷◌, ◌++◌, length, Bool, true, false, if◌then◌else◌, ◌==◌, ◌&&◌, not, Option, Some, None, codes, decimal, is_some}
+use Rattle.std.specs.Prelude.{ℕ, List, [], ◌∷◌, ◌++◌, length, Bool, true, false, if◌then◌else◌, ◌&&◌, nat_le, nat_lt, not, Option, Some, None, codes, decimal, is_some, unwrap_or}
+use Rattle.http.specs.StatusCode.{reason_phrase}
 use Rattle.serde_json.specs.Written.{compact_text}
 use Rattle.desk_model.specs.Refusals.{problem_document}
 use Rattle.desk_model.specs.declared.reply.Reply.{Reply}
@@ -12,20 +13,9 @@ use Rattle.desk_model.specs.declared.reply.Allow.TheVariants as allow
 abbrev pub crlf : List ℕ
 crlf = 13 ∷ 10 ∷ []
 
--- the phrase of a status (RFC 9110, 15)
-abbrev pub phrase : ℕ → List ℕ
-phrase n =
-    if n == 200 then codes "OK" else (
-    if n == 201 then codes "Created" else (
-    if n == 204 then codes "No Content" else (
-    if n == 400 then codes "Bad Request" else (
-    if n == 401 then codes "Unauthorized" else (
-    if n == 403 then codes "Forbidden" else (
-    if n == 404 then codes "Not Found" else (
-    if n == 405 then codes "Method Not Allowed" else (
-    if n == 409 then codes "Conflict" else (
-    if n == 413 then codes "Payload Too Large" else (
-    if n == 500 then codes "Internal Server Error" else []))))))))))
+-- the phrase of a status (RFC 9110, 15), as the crate `http` has it
+unfoldable pub phrase : ℕ → List ℕ
+phrase n = if nat_le 100 n && nat_lt n 1000 then unwrap_or (reason_phrase n) [] else []
 
 -- the first line (RFC 9112, 4)
 abbrev pub status_line : ℕ → List ℕ

@@ -1,27 +1,18 @@
 //! Pieces of a message, one behind the other.
-ghost use Rattle.std.specs.Prelude.{◌≡◌, ◌++◌, OnOk, decimal};
+ghost use Rattle.std.specs.Prelude.{◌≡◌, ◌++◌, OnOk, codes, decimal};
 ghost use Rattle.http_replies.specs.Replies.{allow_field, cache_line, content_fields, crlf, field, field_if, index_line, link, phrase, status_line, up_link};
 
 use desk_model::{Allow, Text};
+use http::{Method, StatusCode};
 use std::alloc::{AllocError, Global};
 
 // The phrase of a status (RFC 9110, 15).
 fn phrase_of(status: u16) -> &'static str
     ensures { result.now ≡ phrase status }
 {
-    match status {
-        200 => "OK",
-        201 => "Created",
-        204 => "No Content",
-        400 => "Bad Request",
-        401 => "Unauthorized",
-        403 => "Forbidden",
-        404 => "Not Found",
-        405 => "Method Not Allowed",
-        409 => "Conflict",
-        413 => "Payload Too Large",
-        500 => "Internal Server Error",
-        _ => "",
+    match StatusCode::from_u16(status) {
+        Ok(status) => status.canonical_reason().unwrap_or(""),
+        Err(_) => "",
     }
 }
 
@@ -47,6 +38,18 @@ pub(crate) fn put_field(out: &mut Vec<u8>, name: &str, value: &str) -> Result<()
     put(out, name)?;
     put(out, ": ")?;
     put(out, value)?;
+    put(out, "\r\n")
+}
+
+// A field with a list of two values (RFC 9110, 5.6.1).
+fn put_two(out: &mut Vec<u8>, name: &str, first: &str, second: &str) -> Result<(), AllocError>
+    ensures { OnOk result (out.new.items ≡ out.old.items ++ field name.now (first.now ++ codes ", " ++ second.now)) }
+{
+    put(out, name)?;
+    put(out, ": ")?;
+    put(out, first)?;
+    put(out, ", ")?;
+    put(out, second)?;
     put(out, "\r\n")
 }
 
@@ -93,9 +96,9 @@ pub(crate) fn put_allow(out: &mut Vec<u8>, allow: Allow) -> Result<(), AllocErro
 {
     match allow {
         Allow::No => Ok(()),
-        Allow::Get => put_field(out, "Allow", "GET"),
-        Allow::GetHead => put_field(out, "Allow", "GET, HEAD"),
-        Allow::Post => put_field(out, "Allow", "POST"),
+        Allow::Get => put_field(out, "Allow", Method::GET.as_str()),
+        Allow::GetHead => put_two(out, "Allow", Method::GET.as_str(), Method::HEAD.as_str()),
+        Allow::Post => put_field(out, "Allow", Method::POST.as_str()),
     }
 }
 

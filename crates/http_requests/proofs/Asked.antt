@@ -9,6 +9,7 @@ use Rattle.requests.specs.declared.routes.Resource.{Resource}
 use Rattle.http_requests.specs.Framing.{framing_for}
 use Rattle.http_requests.specs.Heard.{IsAnswerTo, IsBody}
 use Rattle.http_requests.specs.Spelled.{IsRequestWith, cut_short, unread, asked}
+use Rattle.http_requests.specs.declared.call.Heard.{Heard}
 use Rattle.http_requests.specs.declared.framing.Framing.TheVariants as frame
 
 -- what a served request asks by its body
@@ -40,3 +41,15 @@ request_behind items (Some left) method path fields begun r n (Ok body) (Ok q) s
 pub whatever_is_left : (known : Option (List ℕ)) (begun : List ℕ) (P : List ℕ → Type 0) → ((rest : List ℕ) → P rest) → IfSome known (λ left. P (begun ++ left))
 whatever_is_left None begun P h = tt
 whatever_is_left (Some left) begun P h = h (begun ++ left)
+
+-- what was read is the request of this method, path and fields, with these bytes behind its head
+abbrev pub IsReadWith : {E : Type 0} → Result Heard E → Option (List ℕ) → (method path : List ℕ) → List (List ℕ × List ℕ) → List ℕ → Type 0
+IsReadWith read known method path fields begun =
+    IfOk read (λ heard. IfOk heard.request (λ q. IfSome known (λ left. IsRequestWith method path fields (begun ++ left) q)))
+
+-- the same of the same method, path, fields and bytes
+pub read_same : {E : Type 0} (read : Result Heard E) (known : Option (List ℕ)) (m n p t : List ℕ) (f g : List (List ℕ × List ℕ)) (b e : List ℕ)
+    → m ≡ n → p ≡ t → f ≡ g → b ≡ e → IsReadWith read known m p f b → IsReadWith read known n t g e
+read_same read known m n p t f g b e same_method same_path same_fields same_bytes h =
+    subst (λ x. IsReadWith read known x t g e) same_method (subst (λ x. IsReadWith read known m x g e) same_path
+    (subst (λ x. IsReadWith read known m p x e) same_fields (subst (IsReadWith read known m p f) same_bytes h)))

@@ -1,11 +1,12 @@
 //! A request, from the bytes of its reader to what it asks.
-ghost use Rattle.std.specs.Prelude.{◌≡◌, ◌≤◌, ◌+◌, ◌++◌, All, IfOk, IfSome, IsUtf8, length, map, take, drop, true, false};
+ghost use Rattle.std.specs.Prelude.{◌≡◌, ◌≤◌, ◌+◌, ◌++◌, ℕ, List, IfOk, IfSome, IsErr, IsUtf8, length, take, drop, true, false};
 ghost use Rattle.httparse.specs.Grammar.{IsToken};
-ghost use Rattle.httparse.specs.Spans.{IsHeaderWithin, IsRequestWithin, header_bytes, span_bytes};
+ghost use Rattle.httparse.specs.Spans.{IsRequestWithin, span_bytes};
 ghost use Rattle.requests.specs.Request.{refused_request};
+ghost use Rattle.requests.specs.Routes.{has_index};
 ghost use Rattle.http_requests.specs.Spelled.{IsRequestWith, manner_by};
 ghost use Rattle.http_requests.specs.Head.{TakesAtMost};
-ghost use Rattle.http_requests.specs.Heard.{Hears, IsRequestAt};
+ghost use Rattle.http_requests.specs.Heard.{Hears, IsPlan, IsRequestAt};
 ghost use Rattle.desk_model.specs.Limits.{longest_body, longest_head};
 
 use crate::body::{answer_to, read_body};
@@ -13,8 +14,9 @@ use crate::filling::ReadFailed;
 use crate::head::{HeadRead, MOST_FIELDS, read_head};
 use crate::plan::{Plan, plan_for};
 use desk_model::{Allow, LONGEST_HEAD, Refusal};
+use http::Method;
 use httparse::spans::{EMPTY_HEADER_SPAN, HeaderSpan, RequestSpans};
-use requests::{Request, has_index, refusal_reply};
+use requests::{Request, Routes, has_index, refusal_reply};
 use std::alloc::{AllocError, Global};
 use std::io::Read;
 
@@ -47,6 +49,23 @@ pub fn read_call<R: Read>(alloc: Global, reader: &mut R) -> Result<Heard, ReadFa
     ensures heard { IfOk result (λ heard. IfSome (R.remaining reader.old) (λ input. Hears input heard)) }
     ensures taken { TakesAtMost (R.remaining reader.old) (R.remaining reader.new) (longest_head + longest_body) }
 {
+    let mut routes = Routes::new();
+    read_call_by(alloc, &mut routes, reader)
+}
+
+/// Reads a request as `read_call` does, by routes that are lent for one request after the other.
+///
+/// # Errors
+///
+/// Where the reader fails.
+pub fn read_call_by<R: Read>(
+    alloc: Global,
+    routes: &mut Routes,
+    reader: &mut R,
+) -> Result<Heard, ReadFailed>
+    ensures heard { IfOk result (λ heard. IfSome (R.remaining reader.old) (λ input. Hears input heard)) }
+    ensures taken { TakesAtMost (R.remaining reader.old) (R.remaining reader.new) (longest_head + longest_body) }
+{
     let mut buffer = [0u8; LONGEST_HEAD];
     let mut headers = [EMPTY_HEADER_SPAN; MOST_FIELDS];
     let (head, filled) = read_head(reader, &mut buffer, &mut headers)?;
@@ -54,13 +73,14 @@ pub fn read_call<R: Read>(alloc: Global, reader: &mut R) -> Result<Heard, ReadFa
     match head {
         HeadRead::Malformed => Ok(unread(alloc, Refusal::Malformed)),
         HeadRead::TooLarge => Ok(unread(alloc, Refusal::TooLarge)),
-        HeadRead::Complete(spans) => read_headed(alloc, reader, bytes, &headers, spans),
+        HeadRead::Complete(spans) => read_headed(alloc, routes, reader, bytes, &headers, spans),
     }
 }
 
 // The request whose head lies at these spans of the bytes that were read.
 fn read_headed<R: Read>(
     alloc: Global,
+    routes: &mut Routes,
     reader: &mut R,
     bytes: &[u8],
     headers: &[HeaderSpan],
@@ -74,17 +94,50 @@ fn read_headed<R: Read>(
         (λ q. IfSome (R.remaining reader.old) (λ left. IsRequestAt bytes.now headers.now spans left q))) }
     ensures taken { TakesAtMost (R.remaining reader.old) (R.remaining reader.new) longest_body }
 {
-    let method = text_of(spans.method.of(bytes));
     let path = text_of(spans.path.of(bytes));
-    let request = read_with(
-        alloc,
-        reader,
-        method,
-        path,
-        bytes,
-        first(headers, spans.headers),
-        behind(bytes, spans.len),
-    )?;
+    let fields = first(headers, spans.headers);
+    let begun = behind(bytes, spans.len);
+    match Method::from_bytes(alloc, spans.method.of(bytes)) {
+        Ok(method) => {
+            let plan = plan_for(alloc, routes, &method, path, bytes, fields);
+            read_as(alloc, reader, plan, &method, path, begun)
+        }
+        // The name of a method that the desk serves takes no memory.
+        Err(_) => Ok(unread_method(path)),
+    }
+}
+
+// What is known of a request for whose method there is no memory.
+fn unread_method(path: &str) -> Heard
+    ensures manner { result.manner ≡ record { head_only = false; index = has_index path.now } }
+    ensures request { IsErr result.request }
+{
+    Heard {
+        manner: Manner {
+            head_only: false,
+            index: has_index(path),
+        },
+        request: Err(AllocError),
+    }
+}
+
+// The request of this method and path by what its head says, and how its reply is written.
+fn read_as<R: Read>(
+    alloc: Global,
+    reader: &mut R,
+    plan: Result<Plan, AllocError>,
+    method: &Method,
+    path: &str,
+    begun: &[u8],
+) -> Result<Heard, ReadFailed>
+    ensures manner { IfOk result (λ heard. heard.manner ≡ manner_by method.now path.now) }
+    ensures request { (fields : List (List ℕ × List ℕ)) → IfOk plan (IsPlan method.now path.now fields)
+        → IfOk result (λ heard. IfOk heard.request
+        (λ q. IfSome (R.remaining reader.old) (λ left. IsRequestWith method.now path.now fields (begun.now ++ left) q))) }
+    ensures taken { (fields : List (List ℕ × List ℕ)) → IfOk plan (IsPlan method.now path.now fields)
+        → TakesAtMost (R.remaining reader.old) (R.remaining reader.new) longest_body }
+{
+    let request = read_with(alloc, reader, plan, method, path, begun)?;
     Ok(Heard {
         manner: manner_by(method, path),
         request,
@@ -103,11 +156,11 @@ fn text_of(bytes: &[u8]) -> &str
 }
 
 // How the reply to a request of this method and path is written.
-fn manner_by(method: &str, path: &str) -> Manner
+fn manner_by(method: &Method, path: &str) -> Manner
     ensures { result ≡ manner_by method.now path.now }
 {
     Manner {
-        head_only: method == "HEAD",
+        head_only: *method == Method::HEAD,
         index: has_index(path),
     }
 }
@@ -143,24 +196,23 @@ fn behind(bytes: &[u8], len: usize) -> &[u8]
     &bytes[len..]
 }
 
-// The request of this method and path, with fields that lie in the buffer, and with what was begun behind its head; an inner
-// error where memory was refused.
+// The request of this method and path by what its head says, with what was begun behind it; an inner error where memory was
+// refused.
 fn read_with<R: Read>(
     alloc: Global,
     reader: &mut R,
-    method: &str,
+    plan: Result<Plan, AllocError>,
+    method: &Method,
     path: &str,
-    buffer: &[u8],
-    headers: &[HeaderSpan],
     begun: &[u8],
 ) -> Result<Result<Request, AllocError>, ReadFailed>
-    requires { All (IsHeaderWithin (length buffer.now)) headers.now }
-    ensures request { IfOk result (λ r. IfOk r
-        (λ q. IfSome (R.remaining reader.old)
-        (λ left. IsRequestWith method.now path.now (map (header_bytes buffer.now) headers.now) (begun.now ++ left) q))) }
-    ensures taken { TakesAtMost (R.remaining reader.old) (R.remaining reader.new) longest_body }
+    ensures request { (fields : List (List ℕ × List ℕ)) → IfOk plan (IsPlan method.now path.now fields)
+        → IfOk result (λ r. IfOk r
+        (λ q. IfSome (R.remaining reader.old) (λ left. IsRequestWith method.now path.now fields (begun.now ++ left) q))) }
+    ensures taken { (fields : List (List ℕ × List ℕ)) → IfOk plan (IsPlan method.now path.now fields)
+        → TakesAtMost (R.remaining reader.old) (R.remaining reader.new) longest_body }
 {
-    match plan_for(alloc, method, path, buffer, headers) {
+    match plan {
         Ok(Plan::Answered(reply)) => Ok(Ok(Request::Refused(reply))),
         Ok(Plan::Takes(resource, count)) => {
             let body = read_body(alloc, reader, begun, count)?;

@@ -5,8 +5,9 @@ ghost use Rattle.http_requests.specs.Heard.{IsPlan};
 
 use crate::framing::{Framing, framing_for};
 use desk_model::{Allow, Refusal, Reply};
+use http::Method;
 use httparse::spans::HeaderSpan;
-use requests::{Place, Resource, has_index, place_of, refusal_reply};
+use requests::{Place, Resource, Routes, has_index, place_of, refusal_reply};
 use std::alloc::{AllocError, Global};
 
 /// What is done with a request whose head is read.
@@ -25,7 +26,8 @@ pub enum Plan {
 /// Where there is no memory for it.
 pub(crate) fn plan_for(
     alloc: Global,
-    method: &str,
+    routes: &mut Routes,
+    method: &Method,
     path: &str,
     buffer: &[u8],
     headers: &[HeaderSpan],
@@ -34,7 +36,7 @@ pub(crate) fn plan_for(
     ensures { IfOk result (λ p. IsPlan method.now path.now (map (header_bytes buffer.now) headers.now) p) }
 {
     let index = has_index(path);
-    match place_of(alloc, method, path)? {
+    match place_of(alloc, routes, method, path)? {
         Place::Unserved(reply) => Ok(Plan::Answered(reply)),
         Place::Served(resource) => match framing_for(resource, buffer, headers) {
             Framing::Malformed => Ok(Plan::Answered(refusal_reply(

@@ -3,3 +3,4 @@ pub mod Dates
 pub mod March
 pub mod Months
 pub mod Texts
+pub mod Written

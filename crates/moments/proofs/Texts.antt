@@ -25,7 +25,7 @@ four_digits_tell : (a b : ℕ) → a < 10000 → b < 10000 → 48 + a / 1000 % 1
 four_digits_tell a b low lower i j k l = omega arith
 
 -- a date has a year of four digits, and a month and a day of two
-date_digits : (y m d : ℕ) → IsCivilDate (pos y) m d → (y < 10000) × (m < 100) × (d < 100)
+pub date_digits : (y m d : ℕ) → IsCivilDate (pos y) m d → (y < 10000) × (m < 100) × (d < 100)
 date_digits y m d c = (omega (arith, signed_arith, c.0.1), omega (arith, c.1.1), omega (arith, c.2.1, (days_in_month_bounds (pos y) m).0))
 
 -- the same fields make the same moment

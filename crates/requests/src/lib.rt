@@ -10,4 +10,5 @@ mod routes;
 
 pub use lines::{Line, LineFault, read_line, reply_line};
 pub use request::{Place, Request, ask_in, place_of, refusal_reply, unserved};
+pub use router::Routes;
 pub use routes::{OfficeResource, Resource, has_index, is_visible, methods_of};

@@ -6,8 +6,10 @@ ghost use Rattle.requests.specs.Routes.{IsResourceAt};
 
 use crate::envelopes::signed_ask_in;
 use crate::offices::finding;
+use crate::router::Routes;
 use crate::routes::{OfficeResource, Resource, has_index, methods_of, resource_at, serves};
 use desk_model::{Allow, Ask, OfficeAsk, Refusal, Reply, Sequence, Target};
+use http::Method;
 use json_values::{order_problem, value_of};
 use std::alloc::{AllocError, Global};
 
@@ -34,10 +36,15 @@ pub enum Place {
 /// # Errors
 ///
 /// Where there is no memory for the routes.
-pub fn place_of(alloc: Global, method: &str, path: &str) -> Result<Place, AllocError>
+pub fn place_of(
+    alloc: Global,
+    routes: &mut Routes,
+    method: &Method,
+    path: &str,
+) -> Result<Place, AllocError>
     ensures { IfOk result (λ p. IsPlace method.now path.now p) }
 {
-    let found = resource_at(alloc, path)?;
+    let found = resource_at(alloc, routes, path)?;
     match found {
         Some(resource) if serves(methods_of(resource), method) => Ok(Place::Served(resource)),
         _ => Ok(Place::Unserved(unserved_at(alloc, found, path))),
@@ -49,10 +56,10 @@ pub fn place_of(alloc: Global, method: &str, path: &str) -> Result<Place, AllocE
 /// # Errors
 ///
 /// Where there is no memory for the routes.
-pub fn unserved(alloc: Global, path: &str) -> Result<Reply, AllocError>
+pub fn unserved(alloc: Global, routes: &mut Routes, path: &str) -> Result<Reply, AllocError>
     ensures { IfOk result (λ reply. IsUnserved path.now reply) }
 {
-    let found = resource_at(alloc, path)?;
+    let found = resource_at(alloc, routes, path)?;
     Ok(unserved_at(alloc, found, path))
 }
 
@@ -82,7 +89,7 @@ fn unserved_at(alloc: Global, found: Option<Resource>, path: &str) -> Reply
 pub fn ask_in(
     alloc: Global,
     resource: Resource,
-    method: &str,
+    method: &Method,
     body: &[u8],
 ) -> Result<Option<Ask>, AllocError>
     ensures { IfOk result (λ o. IsAskIn resource method.now body.now o) }
@@ -90,7 +97,7 @@ pub fn ask_in(
     match resource {
         Resource::Directory => Ok(Some(Ask::Office(OfficeAsk::Directory))),
         Resource::NewNonce => Ok(Some(Ask::NewNonce {
-            head: method == "HEAD",
+            head: *method == Method::HEAD,
         })),
         Resource::Signed(target) => signed_ask(alloc, target, body),
         Resource::Office(resource) => office_ask(alloc, resource, body),

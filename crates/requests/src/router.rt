@@ -1,11 +1,12 @@
 //! The routes of the desk in a router.
-ghost use Rattle.std.specs.Prelude.{◌≡◌, [], IfOk, OnOk, option_map};
+ghost use Rattle.std.specs.Prelude.{◌≡◌, [], false, IfOk, OnOk, option_map};
 ghost use Rattle.matchit.specs.Seek.{first};
 ghost use Rattle.requests.specs.Router.{add_route, desk_routes, value_of};
 
 use crate::routes::{Route, text_of};
 use matchit::Router;
 use std::alloc::{AllocError, Global};
+use std::marker::Model;
 
 // The routes of the desk.
 const ROUTES: [Route; 18] = [
@@ -29,17 +30,60 @@ const ROUTES: [Route; 18] = [
     Route::FailOrder,
 ];
 
+/// The routes of the desk, which are put into a router where the first path is looked up. Contracts see whether that was done.
+#[derive(Drop)]
+pub struct Routes {
+    router: Option<Router<Route>>,
+}
+
+impl Model for Routes {
+    ghost use Rattle.std.specs.Prelude.{◌≡◌, Bool, IfSome, is_some};
+    ghost use Rattle.requests.specs.Router.{desk_routes};
+
+    ghost Value = { Bool };
+
+    ghost view = { λ a. is_some a.router };
+
+    ghost invariant = { λ a. IfSome a.router (λ rows. rows ≡ desk_routes) };
+}
+
+impl Routes {
+    /// The routes, for which no memory is taken yet.
+    pub fn new() -> Routes
+        ensures { result ≡ false }
+    {
+        Routes { router: None }
+    }
+}
+
 /// The route that the router finds for a path.
 ///
 /// # Errors
 ///
-/// Where there is no memory for the router.
-pub(crate) fn route_at(alloc: Global, path: &str) -> Result<Option<Route>, AllocError>
+/// Where there is no memory for the router, which is then made for the next path.
+pub(crate) fn route_at(
+    alloc: Global,
+    routes: &mut Routes,
+    path: &str,
+) -> Result<Option<Route>, AllocError>
     ensures { IfOk result (λ o. o ≡ option_map value_of (first desk_routes path.now)) }
+{
+    if let Some(router) = &routes.router {
+        return Ok(find(router, path));
+    }
+    let router = desk_router(alloc)?;
+    let found = find(&router, path);
+    routes.router = Some(router);
+    Ok(found)
+}
+
+// The router of the desk.
+fn desk_router(alloc: Global) -> Result<Router<Route>, AllocError>
+    ensures { IfOk result (λ router. router ≡ desk_routes) }
 {
     let mut router = Router::new(alloc);
     add_all(&mut router)?;
-    Ok(find(&router, path))
+    Ok(router)
 }
 
 // The route that a router finds for a path.

@@ -4,8 +4,9 @@ ghost use Rattle.std.specs.Int.{IsInRange};
 ghost use Rattle.requests.specs.Routes.{HasNumber, IsNumberText, IsPathText, IsResourceAt, has_index, is_numbered};
 ghost use Rattle.requests.specs.Routes.{is_visible, is_visible_byte, methods_of, resource_of, serves, text_of};
 
-use crate::router::route_at;
+use crate::router::{Routes, route_at};
 use desk_model::{Allow, LAST_NUMBER, Target};
+use http::Method;
 use std::alloc::{AllocError, Global};
 
 /// A resource of the desk.
@@ -66,11 +67,15 @@ pub(crate) enum Route {
 /// # Errors
 ///
 /// Where there is no memory for the routes.
-pub(crate) fn resource_at(alloc: Global, path: &str) -> Result<Option<Resource>, AllocError>
+pub(crate) fn resource_at(
+    alloc: Global,
+    routes: &mut Routes,
+    path: &str,
+) -> Result<Option<Resource>, AllocError>
     ensures there { IfOk result (λ o. MatchOption o ((r : Resource) → ¬ (IsResourceAt path.now r)) (λ r. IsResourceAt path.now r)) }
     ensures one { IfOk result (λ o. (r : Resource) → IsResourceAt path.now r → o ≡ Some r) }
 {
-    let Some(route) = route_at(alloc, path)? else {
+    let Some(route) = route_at(alloc, routes, path)? else {
         return Ok(None);
     };
     match number_at(path, route) {
@@ -201,14 +206,14 @@ pub fn methods_of(resource: Resource) -> Allow
 }
 
 /// Whether these methods hold this one.
-pub(crate) fn serves(methods: Allow, method: &str) -> bool
+pub(crate) fn serves(methods: Allow, method: &Method) -> bool
     ensures { result ≡ serves methods method.now }
 {
     match methods {
         Allow::No => false,
-        Allow::Get => method == "GET",
-        Allow::GetHead => method == "GET" || method == "HEAD",
-        Allow::Post => method == "POST",
+        Allow::Get => *method == Method::GET,
+        Allow::GetHead => *method == Method::GET || *method == Method::HEAD,
+        Allow::Post => *method == Method::POST,
     }
 }
 

@@ -1,12 +1,16 @@
-use Rattle.std.proofs.Common.{◌∙◌}
+use Rattle.std.proofs.Common.{sym, subst, ◌∙◌}
 use Rattle.std.proofs.lemmas.Result.{IfOk-weaker}
-use Rattle.moments.proofs.Dates.{fields_of_civil}
-use Rattle.moments.proofs.Texts.{text_of_fields}
+use Rattle.desk_model.specs.Moment.{IsMomentText}
+use Rattle.moments.proofs.Texts.{moment_text-IsMomentText}
+use Rattle.moments.proofs.Written.{datetime_written}
 use Rattle.moments.proofs.moment_text.Goals as goal
+
+pub returns-clause-civil : goal.returns-clause-civil
+returns-clause-civil c =
+    let civil = datetime_written c.datetime_of-datetime.result c.args.moment c.datetime_of-datetime.ensures in
+    IfOk-weaker c.format.result _ _ (λ text whole. subst (IsMomentText c.args.moment) (sym whole) civil) c.format.ensures.ok
 
 pub returns-clause-value : goal.returns-clause-value
 returns-clause-value c =
-    let f = c.fields_of-fields.result in
-    let same = text_of_fields c.args.moment f.year f.month f.day f.hour f.minute f.second
-    (fields_of_civil c.args.moment f.year f.month f.day f.hour f.minute f.second c.fields_of-fields.ensures) in
-    IfOk-weaker c.fields_text.result _ _ (λ text whole. whole ∙ same) c.fields_text.ensures
+    let civil = datetime_written c.datetime_of-datetime.result c.args.moment c.datetime_of-datetime.ensures in
+    IfOk-weaker c.format.result _ _ (λ text whole. whole ∙ moment_text-IsMomentText c.args.moment _ civil) c.format.ensures.ok

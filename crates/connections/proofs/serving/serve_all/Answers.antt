@@ -8,25 +8,25 @@ loop-served-preserved g c =
     record {
       policy = c.in-Ok-serve_client.ensures.policy ∙ c.loop-served.invariant.policy;
       served =
-          serves_more g.K.Storage.sight g.K.Storage.may_meet c.loop-served.served c.args.desk.now c.loop-served.desk c.serve_client.new.desk
+          serves_more g.K.Storage.sight g.K.Storage.causes c.loop-served.served c.args.desk.now c.loop-served.desk c.serve_client.new.desk
           c.loop-served.invariant.served c.in-Ok-serve_client.ensures.served;
       opened = λ opened. c.in-Ok-serve_client.ensures.ends (c.loop-served.invariant.opened opened);
     }
 
 pub returns-in-Err-clause-served : goal.returns-in-Err-clause-served
 returns-in-Err-clause-served g c =
-    serves_last g.K.Storage.sight g.K.Storage.may_meet c.in-Err.fault c.loop-served.served _ c.args.desk.now c.loop-served.desk c.serve_client.new.desk
+    serves_last g.K.Storage.sight g.K.Storage.causes c.in-Err.fault c.loop-served.served _ c.args.desk.now c.loop-served.desk c.serve_client.new.desk
     (rw c.unwrap_or-most.ensures at c.loop-served-test.true) c.loop-served.invariant.served (rw c.in-Err.is at c.serve_client.ensures.served)
 
 pub returns-in-Err-clause-seen : goal.returns-in-Err-clause-seen
 returns-in-Err-clause-seen g c =
-    seen_last g.K.Storage.sight g.K.Storage.may_meet c.in-Err.fault c.loop-served.served c.args.desk.now c.loop-served.desk c.serve_client.new.desk
+    seen_last g.K.Storage.sight g.K.Storage.causes c.in-Err.fault c.loop-served.served c.args.desk.now c.loop-served.desk c.serve_client.new.desk
     c.loop-served.invariant.served (rw c.in-Err.is at c.serve_client.ensures.served)
 
 pub returns-in_default-clause-seen : goal.returns-in_default-clause-seen
-returns-in_default-clause-seen g c = seen_many g.K.Storage.sight g.K.Storage.may_meet c.loop-served.served c.args.desk.now
+returns-in_default-clause-seen g c = seen_many g.K.Storage.sight g.K.Storage.causes c.loop-served.served c.args.desk.now
     c.loop-served.desk c.loop-served.invariant.served
 
 pub returns-clause-seen : goal.returns-clause-seen
-returns-clause-seen g c = seen_many g.K.Storage.sight g.K.Storage.may_meet c.loop-served.served c.args.desk.now c.loop-served.desk
+returns-clause-seen g c = seen_many g.K.Storage.sight g.K.Storage.causes c.loop-served.served c.args.desk.now c.loop-served.desk
     c.loop-served.invariant.served

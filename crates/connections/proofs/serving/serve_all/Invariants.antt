@@ -5,6 +5,6 @@ use Rattle.connections.proofs.serving.serve_all.Given as goal
 abbrev pub invariant-loop-served : goal.invariant-loop-served
 invariant-loop-served g l = record {
   policy : l.desk.policy ≡ l.fn.desk.policy;
-  served : ServesMany g.K.Storage.sight g.K.Storage.may_meet l.served l.fn.desk l.desk;
+  served : ServesMany g.K.Storage.sight g.K.Storage.causes l.served l.fn.desk l.desk;
   opened : l.fn.desk.is_closed ≡ false → l.desk.is_closed ≡ false;
 }

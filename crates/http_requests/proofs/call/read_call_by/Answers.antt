@@ -2,7 +2,7 @@ use Rattle.std.proofs.Common.{◌≤◌, ◌+◌, arith, length, take}
 use Rattle.std.proofs.lemmas.List.{length-take}
 use Rattle.http_requests.proofs.Hearing.{malformed_heard, too_large_heard, complete_read}
 use Rattle.http_requests.proofs.Bytes.{takes_then, takes_within}
-use Rattle.http_requests.proofs.call.read_call.Goals as goal
+use Rattle.http_requests.proofs.call.read_call_by.Goals as goal
 use Rattle.desk_model.specs.Limits.{longest_body, longest_head}
 
 pub returns-in-Malformed-clause-heard : goal.returns-in-Malformed-clause-heard
