@@ -11,33 +11,23 @@ use Rattle.desk_model.specs.Run.{IsFormedCall}
 use Rattle.desk_model.specs.declared.call.Call.{Call}
 use Rattle.desk_model.specs.declared.reply.Reply.{Reply}
 use Rattle.desk_model.specs.declared.rows.Change.{Change}
-use Rattle.desk_parts.specs.IsPart.{IsPartFor}
+use Rattle.desk_parts.specs.IsEnough.{IsEnoughFor}
+use Rattle.stored_rows.specs.IsBook.{IsStoredBook}
+use Rattle.stored_laws.proofs.FlatTexts.{picture_is_stored_book}
 use Rattle.desk_decisions.specs.Decided.{IsDecision, IsFaultOf}
 use Rattle.desk_rules.specs.declared.fault.CoreFault.{CoreFault}
 use Rattle.desk_rules.specs.declared.fault.CoreFault.TheVariants as core
 use Rattle.desk_storage.specs.Sight.{Sight, Keeps, Stands}
-use Rattle.desk_storage.specs.Storing.{Leads, Loads, Saves}
+use Rattle.desk_storage.specs.Storing.{Fit, Loads, Saves}
 use Rattle.desk_storage.specs.declared.fault.StorageFault.{StorageFault}
 use Rattle.desk_storage.specs.declared.fault.StorageFault.TheVariants as storagefault
-use Rattle.desk_calls.specs.Faults.{IsMet, closes, core_fault, storage_fault}
+use Rattle.desk_calls.specs.Causes.{IsCaused}
+use Rattle.desk_calls.specs.Faults.{closes, core_fault, storage_fault}
 use Rattle.desk_calls.specs.Answers.{Answers, ExitsBy, IsAnswered, IsBroken}
 use Rattle.desk_calls.specs.declared.fault.DeskFault.{DeskFault}
 use Rattle.desk_calls.specs.declared.fault.DeskFault.TheVariants as deskfault
 
 -- ---- faults
-
--- a fault of a decision is none of a store's
-core_met : (may_meet : StorageFault → Type 0) (e : CoreFault) → IsMet may_meet (core_fault e)
-core_met may_meet core.Memory = tt
-core_met may_meet core.Moment = tt
-core_met may_meet core.ShortRandom = tt
-core_met may_meet core.Full = tt
-
--- a fault of the store is one that it may meet
-storage_met : (may_meet : StorageFault → Type 0) (cause : StorageFault) → may_meet cause → IsMet may_meet (storage_fault cause)
-storage_met may_meet storagefault.Memory met = tt
-storage_met may_meet storagefault.Device met = met
-storage_met may_meet storagefault.Reopen met = met
 
 -- it is no late moment
 storage_in_time : (cause : StorageFault) → deskfault.Moment ≡ storage_fault cause → ⊥
@@ -50,18 +40,6 @@ storage_in_time storagefault.Reopen is = cc is
 -- a result that is this fault
 abbrev pub Faults : Result Reply DeskFault → DeskFault → Type 0
 Faults result why = IsErrAnd result (λ w. w ≡ why)
-
--- and so of results: a fault of a decision is none of a store's
-pub core_result_met : (may_meet : StorageFault → Type 0) (e : CoreFault) (result : Result Reply DeskFault) → Faults result (core_fault e) →
-    IfErr result (IsMet may_meet)
-core_result_met may_meet e (Ok reply) is = absurd is
-core_result_met may_meet e (Err why) is = subst (IsMet may_meet) (sym is) (core_met may_meet e)
-
--- a fault of the store is one that it may meet
-pub storage_result_met : (may_meet : StorageFault → Type 0) (cause : StorageFault) (result : Result Reply DeskFault) → may_meet cause →
-    Faults result (storage_fault cause) → IfErr result (IsMet may_meet)
-storage_result_met may_meet cause (Ok reply) met is = absurd is
-storage_result_met may_meet cause (Err why) met is = subst (IsMet may_meet) (sym is) (storage_met may_meet cause met)
 
 -- it is no late moment
 pub storage_result_in_time : (cause : StorageFault) (result : Result Reply DeskFault) → Faults result (storage_fault cause) →
@@ -76,6 +54,14 @@ failed R why = Err why
 pub nothing : (changes : List Change) → nat_eq (length changes) 0 ≡ true → changes ≡ []
 nothing [] is = refl
 nothing (c ∷ changes) is = let e : length (c ∷ changes) ≡ 0 = eqb-true (length (c ∷ changes)) 0 is in absurd (omega arith)
+
+-- the changes of a decision fit the picture that it was made on
+fits : (F : History) (call : Call) (changes : List Change) (reply : Reply) → IsDecision F call changes reply → Fit (picture F) changes
+fits F call changes reply d =
+    record {
+      kept = d.kept;
+      book = subst IsStoredBook (sym d.makes) (picture_is_stored_book (after F call) d.stays_legal);
+    }
 
 module _ {S C : Type 0} (v : Sight S C) where
   -- ---- stores that stand
@@ -93,8 +79,12 @@ module _ {S C : Type 0} (v : Sight S C) where
   keeps_on : (old new : S) (T : Tables) → v.is_honest new → Stands v old new → Keeps v old T → Keeps v new T
   keeps_on old new T h stands keeps = record { tables = stands.tables h T keeps.tables; left = λ c l. keeps.left c (stands.left h c l) }
 
+  -- what was not touched stands
+  pub stands_here : (here : S) → Stands v here here
+  stands_here here = record { honest = λ h. h; left = λ h c l. l; tables = λ h T held. held }
+
   -- after a load
-  loaded : (call : Call) (old new : S) (book : Tables) → Loads v call old new (Ok book) → Stands v old new
+  pub loaded : (call : Call) (old new : S) (book : Tables) → Loads v call old new (Ok book) → Stands v old new
   loaded call old new book l = record { honest = l.reads.honest; left = l.reads.left; tables = l.reads.tables }
 
   -- changes that were not saved, out of memory
@@ -124,50 +114,46 @@ module _ {S C : Type 0} (v : Sight S C) where
         keeps = subst (Keeps v new) (sym (ap (λ cs. applied cs (picture F)) none) ∙ d.makes) keeps;
       }
 
-  -- the changes of a decision lead on
-  leads : (F : History) (call : Call) (changes : List Change) (reply : Reply) → Legal F → IsDecision F call changes reply → Leads F (after F call) changes
-  leads F call changes reply legal d = record { before = legal; after = d.stays_legal; kept = d.kept; fresh = d.fresh; makes = d.makes }
-
   -- the changes are saved
   answers_saved : {R : Type 0} (F : History) (call : Call) (old new : S) (changes : List Change) (reply : Reply) (done : R) → v.is_honest new →
-      Legal F → IsDecision F call changes reply → Keeps v old (picture F) → Saves v changes old new (Ok done) → IsAnswered v F call reply new
-  answers_saved F call old new changes reply done h legal d keeps s =
+      IsDecision F call changes reply → Keeps v old (picture F) → Saves v changes old new (Ok done) → IsAnswered v F call reply new
+  answers_saved F call old new changes reply done h d keeps s =
       record {
         faultless = d.faultless;
         decided = d.replies;
         stays_legal = d.stays_legal;
-        keeps = s.saved h F (after F call) (leads F call changes reply legal d) keeps.tables;
+        keeps = subst (Keeps v new) d.makes (s.saved h (picture F) (fits F call changes reply d) keeps.tables);
       }
 
   -- a stop leaves all of them or none
   either : {R : Type 0} (F : History) (call : Call) (old new : S) (changes : List Change) (reply : Reply) (result : Result R StorageFault) →
-      v.is_honest new → Legal F → IsDecision F call changes reply → Keeps v old (picture F) → Saves v changes old new result → IsBroken v F call new
-  either F call old new changes reply result h legal d keeps s =
+      v.is_honest new → IsDecision F call changes reply → Keeps v old (picture F) → Saves v changes old new result → IsBroken v F call new
+  either F call old new changes reply result h d keeps s =
       λ c left. elim (s.left h c left) [
         | inl was ↦ inl (keeps.left c was)
-        | inr has ↦ inr (d.faultless, has F (after F call) (leads F call changes reply legal d) keeps.tables)
+        | inr has ↦ inr (d.faultless, subst (v.has c) d.makes (has (picture F) (fits F call changes reply d) keeps.tables))
       ]
 
   -- they are not saved
   save_fails : (R : Type 0) (F : History) (call : Call) (old new : S) (changes : List Change) (reply : Reply) (cause : StorageFault) →
-      v.is_honest new → Legal F → IsDecision F call changes reply → Keeps v old (picture F) → Saves v changes old new (failed R cause) →
+      v.is_honest new → IsDecision F call changes reply → Keeps v old (picture F) → Saves v changes old new (failed R cause) →
       ExitsBy v F call (storage_fault cause) new
-  save_fails R F call old new changes reply storagefault.Memory h legal d keeps s =
+  save_fails R F call old new changes reply storagefault.Memory h d keeps s =
       record { cause = tt; keeps = keeps_on old new (picture F) h (unwritten R old new changes storagefault.Memory s refl) keeps }
-  save_fails R F call old new changes reply storagefault.Device h legal d keeps s =
-      either F call old new changes reply (failed R storagefault.Device) h legal d keeps s
-  save_fails R F call old new changes reply storagefault.Reopen h legal d keeps s =
-      either F call old new changes reply (failed R storagefault.Reopen) h legal d keeps s
+  save_fails R F call old new changes reply storagefault.Device h d keeps s =
+      either F call old new changes reply (failed R storagefault.Device) h d keeps s
+  save_fails R F call old new changes reply storagefault.Reopen h d keeps s =
+      either F call old new changes reply (failed R storagefault.Reopen) h d keeps s
 
   -- ---- the exits of the whole call
 
   -- what a decision by the book says
   abbrev pub Decides : Call → Tables → List Change → Reply → Type 0
-  Decides call book changes reply = (F : History) → Legal F → IsPartFor call (picture F) book → IsDecision F call changes reply
+  Decides call book changes reply = (F : History) → Legal F → IsEnoughFor call (picture F) book → IsDecision F call changes reply
 
   -- what a refusal by the book says
   abbrev pub Refuses : Call → Tables → CoreFault → Type 0
-  Refuses call book e = (F : History) → Legal F → IsPartFor call (picture F) book → IsFaultOf F call e
+  Refuses call book e = (F : History) → Legal F → IsEnoughFor call (picture F) book → IsFaultOf F call e
 
   -- the decision is a fault
   pub refused : (call : Call) (old new : S) (book : Tables) (e : CoreFault) (result : Result Reply DeskFault) → IsFormedCall call →
@@ -205,7 +191,7 @@ module _ {S C : Type 0} (v : Sight S C) where
         honest = λ h. l.reads.honest (s.honest h);
         unchanged = tt;
         exit =
-            λ h F legal keeps. answers_saved F call mid new changes reply done h legal (decides F legal (l.part (s.honest h) F legal keeps.tables))
+            λ h F legal keeps. answers_saved F call mid new changes reply done h (decides F legal (l.part (s.honest h) F legal keeps.tables))
             (keeps_on old mid (picture F) (s.honest h) (loaded call old mid book l) keeps) s;
       }
 
@@ -223,6 +209,34 @@ module _ {S C : Type 0} (v : Sight S C) where
             (λ going. stands_then old mid new (loaded call old mid book l) (unwritten R mid new changes cause s going));
         exit =
             λ h F legal keeps. subst (λ w. ExitsBy v F call w new) (sym is)
-            (save_fails R F call mid new changes reply cause h legal (decides F legal (l.part (s.honest h) F legal keeps.tables))
+            (save_fails R F call mid new changes reply cause h (decides F legal (l.part (s.honest h) F legal keeps.tables))
             (keeps_on old mid (picture F) (s.honest h) (loaded call old mid book l) keeps) s);
       }
+
+  -- ---- what faults come from
+
+  module _ (causes : S → S → StorageFault → Type 0) where
+    -- a fault of a decision comes of no store
+    core_caused : (old new : S) (e : CoreFault) → IsCaused v causes old new (core_fault e)
+    core_caused old new core.Memory = tt
+    core_caused old new core.Moment = tt
+    core_caused old new core.ShortRandom = tt
+    core_caused old new core.Full = tt
+
+    -- a fault of the store comes of it
+    storage_caused : (old mid new : S) (cause : StorageFault) → Stands v old mid → causes mid new cause → IsCaused v causes old new (storage_fault cause)
+    storage_caused old mid new storagefault.Memory stood is = tt
+    storage_caused old mid new storagefault.Device stood is = record { from = mid; stood = stood; cause = is }
+    storage_caused old mid new storagefault.Reopen stood is = record { from = mid; stood = stood; cause = is }
+
+    -- and so of results
+    pub core_result_caused : (old new : S) (e : CoreFault) (result : Result Reply DeskFault) → Faults result (core_fault e) →
+        IfErr result (IsCaused v causes old new)
+    core_result_caused old new e (Ok reply) is = absurd is
+    core_result_caused old new e (Err why) is = subst (IsCaused v causes old new) (sym is) (core_caused old new e)
+
+    pub storage_result_caused : (old mid new : S) (cause : StorageFault) (result : Result Reply DeskFault) → Stands v old mid →
+        causes mid new cause → Faults result (storage_fault cause) → IfErr result (IsCaused v causes old new)
+    storage_result_caused old mid new cause (Ok reply) stood caused is = absurd is
+    storage_result_caused old mid new cause (Err why) stood caused is =
+        subst (IsCaused v causes old new) (sym is) (storage_caused old mid new cause stood caused)

@@ -4,3 +4,4 @@ pub mod Living
 pub mod Policies
 pub mod Running
 pub mod Seeing
+pub mod SeeingDesks

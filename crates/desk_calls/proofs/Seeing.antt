@@ -22,7 +22,7 @@ told-append (seen_failure c ∷ later) earlier = told-append later earlier
 
 module _ {S C : Type 0} (v : Sight S C) where
   -- one thing more is seen where a desk runs
-  seen_next : (first : Place S C) (earlier : List (Seen S C)) (old : S) (x : Seen S C) → place_after first earlier ≡ runs old →
+  pub seen_next : (first : Place S C) (earlier : List (Seen S C)) (old : S) (x : Seen S C) → place_after first earlier ≡ runs old →
       MaySee v x (runs old) → IsSeen v first earlier → IsSeen v first (x ∷ earlier)
   seen_next first earlier old x at may seen = (subst (MaySee v x) (sym at) may, seen)
 

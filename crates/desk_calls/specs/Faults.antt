@@ -37,12 +37,6 @@ closes deskfault.Device = true
 closes deskfault.Reopen = true
 closes _ = false
 
--- a fault that closes the desk is one that its store may meet
-abbrev pub IsMet : (StorageFault → Type 0) → DeskFault → Type 0
-IsMet may_meet deskfault.Device = may_meet storagefault.Device
-IsMet may_meet deskfault.Reopen = may_meet storagefault.Reopen
-IsMet may_meet _ = Unit {0}
-
 -- what the model knows of a fault by which a call is declined; out of memory is none of the model's
 abbrev pub IsFault : DeskFault → Option ℕ → Type 0
 IsFault deskfault.Memory found = Unit {0}

@@ -1,7 +1,10 @@
 pub mod Answers
+pub mod Causes
 pub mod Faults
+pub mod Meets
 pub mod Office
 pub mod Runs
 pub mod Seen
+pub mod SeenDesks
 pub mod SeenRuns
 pub mod State

@@ -3,7 +3,7 @@ ghost use Rattle.std.specs.Prelude.{◌≡◌, ◌<◌, ◌↔◌, IsTrue, true,
 ghost use Rattle.desk_storage.specs.Sight.{FailsToRead, ForTables, Stands};
 ghost use Rattle.desk_calls.specs.declared.fault.DeskFault.TheVariants as fault;
 ghost use Rattle.desk_calls.specs.Answers.{Answers, is_closed_after};
-ghost use Rattle.desk_calls.specs.Faults.{IsMet};
+ghost use Rattle.desk_calls.specs.Causes.{IsCaused};
 ghost use Rattle.desk_calls.specs.Runs.{Runs, RunsAs};
 ghost use Rattle.desk_model.specs.Limits.{last_moment};
 
@@ -42,7 +42,7 @@ impl<K: Storage + Drop> Model for Desk<K> {
 // The reply to a call, over an open store.
 fn attempt<K: Storage + Drop>(alloc: Global, store: &mut K, call: &Call) -> Result<Reply, DeskFault>
     ensures late { result ≡ Err fault.Moment → last_moment < call.now.at }
-    ensures met { IfErr result (IsMet K.Storage.may_meet) }
+    ensures caused { IfErr result (IsCaused K.Storage.sight K.Storage.causes store.old store.new) }
     ensures exit { Answers K.Storage.sight call.now store.old store.new result }
 {
     keep_form(call);
@@ -70,7 +70,7 @@ impl<K: Storage + Drop> Desk<K> {
             (λ un. FailsToRead K.Storage.sight store un.store un.fault) }
         ensures policy { IfOk result (λ desk. ForTables K.Storage.sight store desk.store (λ T. desk.policy ≡ T.meta.policy)) }
         ensures opened { IfOk result (λ desk. desk.is_closed ≡ false) }
-        ensures met { IfErr result (λ un. K.Storage.may_meet un.fault) }
+        ensures caused { IfErr result (λ un. K.Storage.causes store un.store un.fault) }
     {
         let mut store = store;
         match store.policy(alloc) {
@@ -98,7 +98,7 @@ impl<K: Storage + Drop> Desk<K> {
     }
 
     /// The store of the desk.
-    pub fn close(self) -> K
+    pub fn into_store(self) -> K
         ensures { result ≡ self.store }
     {
         let Desk {
@@ -118,7 +118,8 @@ impl<K: Storage + Drop> Desk<K> {
         ensures closed { IsTrue self.old.is_closed → (result ≡ Err fault.Reopen) × (self.new ≡ self.old) }
         ensures late { self.old.is_closed ≡ false → (result ≡ Err fault.Moment) ↔ (last_moment < call.now.at) }
         ensures unmade { last_moment < call.now.at → self.new ≡ self.old }
-        ensures met { self.old.is_closed ≡ false → IfErr result (IsMet K.Storage.may_meet) }
+        ensures caused { self.old.is_closed ≡ false
+            → IfErr result (IsCaused K.Storage.sight K.Storage.causes self.old.store self.new.store) }
         ensures exit { self.old.is_closed ≡ false → Answers K.Storage.sight call.now self.old.store self.new.store result }
         ensures flag { self.old.is_closed ≡ false → self.new.is_closed ≡ is_closed_after result }
         ensures policy { self.new.policy ≡ self.old.policy }

@@ -5,7 +5,7 @@ ghost use Rattle.desk_model.specs.Legal.{Legal};
 ghost use Rattle.desk_model.specs.Tables.{picture};
 
 use desk_book::Book;
-use desk_loading::load_part;
+use desk_loading::load_enough;
 use desk_model::{Call, Change, Clock, Policy};
 use desk_storage::{Storage, StorageFault};
 use std::alloc::Global;
@@ -61,7 +61,7 @@ impl Storage for Memory {
 
     ghost sight = { in_memory };
 
-    ghost may_meet = { λ why. why ≡ memory_fault };
+    ghost causes = { λ old new why. why ≡ memory_fault };
 
     fn policy(&mut self, alloc: Global) -> Result<Policy, StorageFault> {
         Ok(self.book.meta().policy.clone()?)
@@ -69,7 +69,7 @@ impl Storage for Memory {
 
     // A book in memory is never out of reach: each fault of looking things up is that of memory.
     fn load_part(&mut self, alloc: Global, call: &Call) -> Result<Book, StorageFault> {
-        match load_part(alloc, &mut self.book, call) {
+        match load_enough(alloc, &mut self.book, call) {
             Ok(book) => Ok(book),
             Err(_) => Err(StorageFault::Memory),
         }

@@ -41,10 +41,9 @@ use Rattle.desk_decisions.proofs.SameVerdicts.{signed_same}
 use Rattle.desk_decisions.proofs.Spaced.{no_bytes, no_numbers, office_spaced, pieces_bounded, signed_spaced}
 use Rattle.desk_decisions.proofs.Parts.{asks_whole}
 use Rattle.desk_decisions.proofs.Texts.{have_texts}
-use Rattle.desk_parts.proofs.Between.{parts_answer}
-use Rattle.desk_parts.proofs.Enough.{parts_ordered}
+use Rattle.desk_parts.proofs.Work.{enough_ordered}
 use Rattle.desk_parts.specs.AnswersAs.{AnswersAs}
-use Rattle.desk_parts.specs.IsPart.{IsPartFor}
+use Rattle.desk_parts.specs.IsEnough.{IsEnoughFor}
 
 -- ---- a nonce is issued and nothing else
 
@@ -205,15 +204,15 @@ asks_decide F call changes reply legal formed at h = by call.ask refl h
 
 -- the same, as the code has its parts
 pub code_decides : (F : History) (call : Call) (B : Tables) (m : ℕ) (random : List ℕ) (changes : List Change) (reply : Reply) → Legal F
-    → IsPartFor call (picture F) B → IsFormedCall call →
+    → IsEnoughFor call (picture F) B → IsFormedCall call →
     call.at ≤ last_moment → m ≡ max call.at B.meta.counters.clock → random ≡ call.random →
     (IsOrdered B → MeetsAsk m B random call.ask changes reply) → IsDecision F call changes reply
 code_decides F call B m random changes reply legal part formed at acts bytes meets =
     let T : Tables = picture F in
-    let ordered : IsOrdered B = parts_ordered T B call (tables_ordered F (clock F)) part in
+    let ordered : IsOrdered B = enough_ordered T B call (tables_ordered F (clock F)) part in
     asks_decide F call changes reply legal formed at
     (asks_whole (max call.at T.meta.counters.clock) part.kept T call.random call.ask changes reply (subst IsOrdered part.cut ordered)
-    (subst (AnswersAs (max call.at T.meta.counters.clock) call.ask T) part.cut (parts_answer T B call (tables_ordered F (clock F)) part))
+    (subst (AnswersAs (max call.at T.meta.counters.clock) call.ask T) part.cut part.answers)
     (subst (λ X. MeetsAsk (max call.at X.meta.counters.clock) X call.random call.ask changes reply) part.cut
     (subst (λ n. MeetsAsk n B call.random call.ask changes reply) acts
     (subst (λ r. MeetsAsk m B r call.ask changes reply) bytes (meets ordered)))))

@@ -38,10 +38,9 @@ use Rattle.desk_decisions.proofs.DecidingAsks.{judged, judged_left, passed_is}
 use Rattle.desk_decisions.proofs.NumbersAfter.{numbers_left, numbers_spent}
 use Rattle.desk_decisions.proofs.Parts.{faults_whole}
 use Rattle.desk_decisions.proofs.QuietRows.{nonce_rows, nonces_more}
-use Rattle.desk_parts.proofs.Between.{parts_answer}
-use Rattle.desk_parts.proofs.Enough.{parts_ordered}
+use Rattle.desk_parts.proofs.Work.{enough_ordered}
 use Rattle.desk_parts.specs.AnswersAs.{AnswersAs}
-use Rattle.desk_parts.specs.IsPart.{IsPartFor}
+use Rattle.desk_parts.specs.IsEnough.{IsEnoughFor}
 use Rattle.desk_decisions.proofs.Spaced.{signed_spaced}
 
 -- too many nonces
@@ -178,14 +177,14 @@ asks_fail F call e legal at h = by call.ask refl h
     by _ is h = memory_faults F call e h
 
 -- the same, as the code has its parts
-pub code_fails : (F : History) (call : Call) (B : Tables) (m : ℕ) (random : List ℕ) (e : CoreFault) → Legal F → IsPartFor call (picture F) B →
+pub code_fails : (F : History) (call : Call) (B : Tables) (m : ℕ) (random : List ℕ) (e : CoreFault) → Legal F → IsEnoughFor call (picture F) B →
     call.at ≤ last_moment → m ≡ max call.at B.meta.counters.clock → random ≡ call.random →
     (IsOrdered B → IsAskFault m B random call.ask e) → IsFaultOf F call e
 code_fails F call B m random e legal part at acts bytes fails =
     let T : Tables = picture F in
     asks_fail F call e legal at
     (faults_whole (max call.at T.meta.counters.clock) part.kept T call.random call.ask e
-    (subst (AnswersAs (max call.at T.meta.counters.clock) call.ask T) part.cut (parts_answer T B call (tables_ordered F (clock F)) part))
+    (subst (AnswersAs (max call.at T.meta.counters.clock) call.ask T) part.cut part.answers)
     (subst (λ X. IsAskFault (max call.at X.meta.counters.clock) X call.random call.ask e) part.cut
     (subst (λ n. IsAskFault n B call.random call.ask e) acts
-    (subst (λ r. IsAskFault m B r call.ask e) bytes (fails (parts_ordered T B call (tables_ordered F (clock F)) part))))))
+    (subst (λ r. IsAskFault m B r call.ask e) bytes (fails (enough_ordered T B call (tables_ordered F (clock F)) part))))))

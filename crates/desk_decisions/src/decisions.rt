@@ -16,7 +16,7 @@ ghost use Rattle.desk_model.specs.Tables.{picture};
 ghost use Rattle.desk_model.specs.Tokens.{nonce_text};
 ghost use Rattle.desk_decisions.specs.HasTexts.{HasTexts};
 ghost use Rattle.desk_decisions.specs.Decided.{IsDecision, IsFaultOf};
-ghost use Rattle.desk_parts.specs.IsPart.{IsPartFor};
+ghost use Rattle.desk_parts.specs.IsEnough.{IsEnoughFor};
 ghost use Rattle.desk_rules.specs.Needs.{BytesLeft, IsNeedFault, NumbersLeft};
 ghost use Rattle.desk_decisions.specs.Outcomes.{IsAskFault, IsLater, IsPassedFault, IsShort, IsSignedFault, MeetsAsk, MeetsSigned, Passes, Settles};
 ghost use Rattle.desk_changes.specs.Recorded.{IsAt, IsRecorded, IsUntouched};
@@ -339,7 +339,7 @@ fn decide_at(
 }
 
 /// Decides on a call: the changes that it makes, none where nothing is recorded, and the reply. The book may hold a part
-/// of a desk's rows, if the rows that the call touches are among them.
+/// of a desk's rows that is enough for the call: it answers as all of them do.
 ///
 /// # Errors
 ///
@@ -347,9 +347,9 @@ fn decide_at(
 /// where a growth was refused. The book stays as it was.
 pub fn decide(alloc: Global, book: &Book, call: &Call) -> Result<Outcome, CoreFault>
     ensures late { (result ≡ Err CoreFault.Moment) ↔ (last_moment < call.now.at) }
-    ensures decided { IfOk result (λ o. (F : History) → Legal F → IsPartFor call.now (picture F) book.now
+    ensures decided { IfOk result (λ o. (F : History) → Legal F → IsEnoughFor call.now (picture F) book.now
         → IsDecision F call.now o.changes.items o.reply) }
-    ensures faulty { IfErr result (λ e. (F : History) → Legal F → IsPartFor call.now (picture F) book.now
+    ensures faulty { IfErr result (λ e. (F : History) → Legal F → IsEnoughFor call.now (picture F) book.now
         → IsFaultOf F call.now e) }
 {
     if call.at > LAST_MOMENT {

@@ -1,5 +1,5 @@
 -- What closing leaves of a desk.
-use Rattle.std.proofs.Common.{◌≡◌, [], refl, subst}
+use Rattle.std.proofs.Common.{◌≡◌, [], refl, subst, IsTrue}
 use Rattle.std.proofs.Math.Logic.{∥∥₁_map}
 use Rattle.sqlite_disk.specs.declared.Disk as disk
 use Rattle.sqlite_disk.specs.declared.Files.{Files}
@@ -7,9 +7,10 @@ use Rattle.sqlite_store.specs.declared.store.FileStore.{FileStore}
 use Rattle.sqlite_store.specs.Laws.{stays_at}
 use Rattle.sqlite.specs.Closing.{HoldsAlone, IsCopied}
 use Rattle.sqlite.specs.Effect.{Database}
-use Rattle.sqlite.specs.FileStore.{recovers}
+use Rattle.sqlite.proofs.Theorems.{opens_again}
+use Rattle.sqlite.specs.FileStore.{recovers, state, view}
 use Rattle.sqlite.specs.Files.{file_state}
-use Rattle.sqlite.specs.Held.{Held}
+use Rattle.sqlite.specs.Held.{AreDatabases, Held}
 use Rattle.sqlite.specs.Recovery.{Image}
 use Rattle.sqlite.specs.Tree.{Trees}
 use Rattle.sqlite.specs.WalFiles.{outcomes}
@@ -47,3 +48,11 @@ module _ {D : Type 0} {g : disk.Ghosts D} (store : Store (FileStore D g)) (files
   ends_as_stop stays image may =
       ∥∥₁_map (copied.left image may).both (λ held.
       (record { image = image; trees = (file_state store.conn).committed.trees; holds = held }, refl, stays_at store.conn.store stays copied.was_open))
+
+-- what a stop leaves of files that were given up as they are
+pub leaves_as_stop : {D : Type 0} {g : disk.Ghosts D} (store : Store (FileStore D g)) (last : FileStore D g) → IsTrue (view last).is_numbered
+    → AreDatabases (recovers last) → ((trees : Trees) → recovers last trees → recovers store.conn.store trees) → (image : Image)
+    → (state last).may_leave image → LeavesFound store image
+leaves_as_stop store last numbered databases before image may =
+    ∥∥₁_map (opens_again last numbered databases image may) (λ found.
+    (record { image = image; trees = found.0; holds = found.2 }, refl, before found.0 found.1))

@@ -1,5 +1,7 @@
 -- What closing the two files of a desk leaves.
 use Rattle.std.specs.Prelude.{[]}
+use Rattle.sqlite.specs.FileStore as engine
+use Rattle.sqlite.specs.View.{IsClean}
 use Rattle.sqlite_disk.specs.declared.Disk as disk
 use Rattle.sqlite_disk.specs.declared.Files.{Files}
 use Rattle.sqlite_store.specs.declared.store.FileStore.{FileStore}
@@ -30,3 +32,7 @@ module _ {D : Type 0} {g : disk.Ghosts D} where
   -- the store left its files so: what they hold now, and after a stop, is what a stop could leave of the store
   abbrev pub EndsAsStop : Store (FileStore D g) → Files D → Type 0
   EndsAsStop store files = AreClean g files.log files.db → (image : Image) → outcomes g files.log files.db image → LeavesFound store image
+
+  -- the store's files were given up as they are: whatever bytes a stop then leaves, they hold a database that it could leave of the store
+  abbrev pub LeavesAsStop : Store (FileStore D g) → FileStore D g → Type 0
+  LeavesAsStop store last = IsClean (engine.view last) → (image : Image) → (engine.state last).may_leave image → LeavesFound store image

@@ -3,7 +3,7 @@ ghost use Rattle.std.specs.Prelude.{◌≡◌, IfErr, IfOk};
 ghost use Rattle.sqlite.specs.FileStore.{recovers, view};
 ghost use Rattle.sqlite.specs.Tree.{Trees};
 ghost use Rattle.sqlite.specs.View.{IsClean};
-ghost use Rattle.desk_files.specs.Closing.{EndsAsStop, KeepsInFile};
+ghost use Rattle.desk_files.specs.Closing.{EndsAsStop, KeepsInFile, LeavesAsStop};
 ghost use Rattle.desk_store.specs.Making.{IsOfStorage};
 
 use crate::fault::close_fault;
@@ -31,4 +31,12 @@ pub fn close_from<D: Disk + Drop>(
         Ok(files) => Ok(files),
         Err((error, last)) => Err((close_fault(error), last)),
     }
+}
+
+/// Gives both files up as they are, with the log beside the database file, as a stop between two calls would leave them: nothing
+/// is copied, and the next opening reads both.
+pub fn leave_from<D: Disk + Drop>(store: Store<FileStore<D>>) -> FileStore<D>
+    ensures { LeavesAsStop store result }
+{
+    store.close().into_store()
 }

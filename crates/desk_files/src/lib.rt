@@ -11,7 +11,8 @@
 //! - in a database file without bytes, `make_from` makes the new desk and nothing else (`made`); where it fails, a stop
 //!   leaves an empty database or the new desk (`unmade`);
 //! - `close_from` leaves the desk in the database file, with the log beside it and without (`closed`), and nothing that a
-//!   stop could not have left of the store (`ended`).
+//!   stop could not have left of the store (`ended`); `leave_from` gives the files up as a stop would leave them, and nothing
+//!   else.
 #![tactic(auto)]
 
 mod closing;
@@ -19,5 +20,5 @@ mod fault;
 mod opening;
 mod tables;
 
-pub use closing::close_from;
+pub use closing::{close_from, leave_from};
 pub use opening::{NotOpened, make_from, open_from};

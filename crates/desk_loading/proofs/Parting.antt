@@ -1,4 +1,4 @@
--- The rows that a call touches are a part for it.
+-- The rows that a call touches, and those that are enough for it, are a part for it.
 use Rattle.std.proofs.Common.{◌≡◌, sym, subst}
 use Rattle.std.specs.Prelude.{Result, Ok, Err, IfOk}
 use Rattle.desk_model.specs.History.{clock}
@@ -7,8 +7,9 @@ use Rattle.desk_model.specs.Touched.{touched}
 use Rattle.desk_model.specs.declared.call.Call.{Call}
 use Rattle.desk_laws.specs.Ordered.{IsOrdered}
 use Rattle.desk_laws.proofs.Recorded.{tables_ordered}
-use Rattle.desk_parts.specs.IsPart.{IsPartFor}
+use Rattle.desk_parts.specs.IsEnough.{IsEnoughFor, enough}
 use Rattle.desk_parts.proofs.Cut.{touched_part}
+use Rattle.desk_parts.proofs.Work.{few_enough, part_enough}
 use Rattle.desk_storage.specs.Sight.{ForTables, Reads, Sight}
 use Rattle.desk_storage.specs.Storing.{IsPartOf, Loads}
 use Rattle.desk_storage.specs.declared.fault.StorageFault.{StorageFault}
@@ -18,7 +19,8 @@ module _ {S C : Type 0} (v : Sight S C) where
   part_of : (call : Call) (old : S) (book : Tables) → ((T : Tables) → v.holds old T → IsOrdered T → book ≡ touched T call) → IsPartOf v call old book
   part_of call old book found F legal held =
       let ordered = tables_ordered F (clock F) in
-      subst (IsPartFor call (picture F)) (sym (found (picture F) held ordered)) (touched_part (picture F) call ordered)
+      subst (IsEnoughFor call (picture F)) (sym (found (picture F) held ordered))
+      (part_enough (picture F) (touched (picture F) call) call ordered (touched_part (picture F) call ordered))
 
   -- what loads the touched rows loads a part
   pub loads : (call : Call) (old new : S) (result : Result Tables StorageFault) → Reads v old new result →
@@ -26,3 +28,15 @@ module _ {S C : Type 0} (v : Sight S C) where
       Loads v call old new result
   loads call old new (Ok book) reads found = record { reads = reads; part = λ honest. part_of call old book (found honest) }
   loads call old new (Err why) reads found = record { reads = reads; part = λ honest. tt }
+
+  -- so does what loads the rows that are enough
+  pub loads_enough : (call : Call) (old new : S) (result : Result Tables StorageFault) → Reads v old new result →
+      ForTables v old new (λ T. IsOrdered T → IfOk result (λ book. book ≡ enough T call)) →
+      Loads v call old new result
+  loads_enough call old new (Ok book) reads found = record {
+    reads = reads;
+    part = λ honest F legal held.
+        let ordered = tables_ordered F (clock F) in
+        subst (IsEnoughFor call (picture F)) (sym (found honest (picture F) held ordered)) (few_enough (picture F) call ordered);
+  }
+  loads_enough call old new (Err why) reads found = record { reads = reads; part = λ honest. tt }

@@ -2,11 +2,15 @@
 ghost use Rattle.std.specs.Prelude.{◌≡◌, ◌==◌, ◌&&◌, ◌++◌, [], ◌∷◌, ℕ, Bool, true, List, nat_lt, bytes_eq, map, filter, IfOk, OnOk};
 ghost use Rattle.std.specs.List.{flat_map};
 ghost use Rattle.desk_model.specs.Derived.{authz_code, order_code};
+ghost use Rattle.desk_model.specs.Order.{is_processing};
+ghost use Rattle.desk_loading.specs.Finding.{working};
+ghost use Rattle.desk_parts.specs.IsEnough.{has_work as has_some};
 
 use crate::look_ups::LookUps;
 use desk_book::{Book, Row, Table, is_past};
 use desk_model::{
-    AccountRow, AuthorizationRow, AuthzStatus, Jwk, Meta, Nonce, OrderRow, OrderStatus,
+    AccountRow, AuthorizationRow, AuthzStatus, ChallengeStatus, Jwk, Meta, Nonce, OrderRow,
+    OrderStatus,
 };
 use desk_storage::StorageFault;
 use std::alloc::{AllocError, Global};
@@ -133,6 +137,18 @@ impl RowTest<AuthorizationRow> for (AuthzStatus, u64) {
     }
 }
 
+// What waits for a certificate.
+#[derive(Drop)]
+struct Processing;
+
+impl RowTest<OrderRow> for Processing {
+    ghost passed = { λ any row. is_processing row.status };
+
+    fn passes(&self, row: &OrderRow) -> bool {
+        row.status == OrderStatus::Processing
+    }
+}
+
 // ---- numbers
 
 /// A row with parts that have numbers.
@@ -184,6 +200,39 @@ fn holders<R: Holder + Drop>(
     let mut numbers = Vec::new(alloc);
     for row in table.iter() {
         row.push_held(&mut numbers, part)?;
+    }
+    Ok(numbers)
+}
+
+// Whether a challenge of the authorization waits for the validator.
+fn has_work(row: &AuthorizationRow) -> bool
+    ensures { result ≡ has_some row.now }
+{
+    for challenge in row.challenges.as_slice() {
+        if challenge.status == ChallengeStatus::Processing {
+            return true;
+        }
+    }
+    false
+}
+
+// Adds the number of the authorization, if a challenge of it waits for the validator.
+fn push_working(numbers: &mut Vec<u64>, row: &AuthorizationRow) -> Result<(), AllocError>
+    ensures { OnOk result (numbers.new.items ≡ numbers.old.items ++ working row.now) }
+{
+    if has_work(row) {
+        numbers.push(row.number)?;
+    }
+    Ok(())
+}
+
+// The numbers of the authorizations of which a challenge waits for the validator.
+fn all_working(alloc: Global, table: &Table<AuthorizationRow>) -> Result<Vec<u64>, StorageFault>
+    ensures { IfOk result (λ numbers. numbers.items ≡ flat_map working table.now) }
+{
+    let mut numbers = Vec::new(alloc);
+    for row in table.iter() {
+        push_working(&mut numbers, row)?;
     }
     Ok(numbers)
 }
@@ -263,6 +312,10 @@ impl LookUps for Book {
         rows_where(alloc, self.orders(), &(status, moment))
     }
 
+    fn orders_processing(&mut self, alloc: Global) -> Result<Vec<OrderRow>, StorageFault> {
+        rows_where(alloc, self.orders(), &Processing)
+    }
+
     fn authorizations_numbered(
         &mut self,
         alloc: Global,
@@ -307,5 +360,9 @@ impl LookUps for Book {
 
     fn owners_of(&mut self, alloc: Global, challenge: u64) -> Result<Vec<u64>, StorageFault> {
         holders(alloc, self.authorizations(), challenge)
+    }
+
+    fn owners_processing(&mut self, alloc: Global) -> Result<Vec<u64>, StorageFault> {
+        all_working(alloc, self.authorizations())
     }
 }

@@ -1,7 +1,9 @@
 //! The rows of a desk one by one, by number.
 ghost use Rattle.std.specs.Prelude.{◌≡◌, IfOk};
 ghost use Rattle.desk_parts.specs.Above.{accounts_above, authorizations_above, challenges_above, first_of, orders_above};
+ghost use Rattle.desk_model.specs.Tables.{Tables};
 ghost use Rattle.desk_storage.specs.Sight.{ForTables, Reads};
+ghost use Rattle.stored_rows.specs.IsBook.{IsBook};
 
 use crate::look_ups::LookUps;
 use desk_model::{AccountRow, AuthorizationRow, ChallengeRow, OrderRow};
@@ -44,4 +46,7 @@ pub trait RowsAbove: LookUps {
         ensures reads { Reads Self.sight self.old self.new result }
         ensures found { ForTables Self.sight self.old self.new (λ T.
             IfOk result (λ rows. rows.items ≡ first_of (challenges_above T number))) };
+
+    // Whatever tables the source has are a book.
+    ghost books: { (source : Self) (T : Tables) → Self.sight.holds source T → IsBook T };
 }

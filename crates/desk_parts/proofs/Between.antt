@@ -172,21 +172,21 @@ listed_part k j T h = filtered_each _ (λ (o : OrderRow). j.orders o.number) T.o
 -- ---- what stands in a part after an entry
 
 -- tables without orders
-abbrev bare : Tables → Tables
+abbrev pub bare : Tables → Tables
 bare T = record T { orders = [] }
 
 bare_ordered : (T : Tables) → IsOrdered T → IsOrdered (bare T)
 bare_ordered T h = record { nonces = h.nonces; accounts = h.accounts; authorizations = h.authorizations; orders = (tt, tt) }
 
 -- numbers of all orders, and new ones
-abbrev open_kept : Kept → Tables → Kept
+abbrev pub open_kept : Kept → Tables → Kept
 open_kept k T = grown k (bare T)
 
 swept_bare : (k : Kept) (T : Tables) (m : ℕ) → IsOrdered T → swept m (restricted k (bare T)) ≡ restricted (open_kept k T) (swept m (bare T))
 swept_bare k T m h = ap (swept m) (sym (grown_part k (bare T))) ∙ swept_part (open_kept k T) (bare T) m (grown_closed k (bare T) (bare_ordered T h) tt)
 
 -- the accounts of what the verdict's entry touches are kept
-abbrev HoldersOf : Kept → Tables → Verdict → Type 0
+abbrev pub HoldersOf : Kept → Tables → Verdict → Type 0
 HoldersOf k S (moves move) = HoldersKept k S (entry_of move)
 HoldersOf k S _ = Unit {0}
 
@@ -239,7 +239,7 @@ entry_stands k T m e h holders =
     ap (λ (E : Tables). (effect m E e).authorizations) (swept_bare k T m h)
     ∙ authorizations_part (open_kept k T) (swept m (bare T)) m e closed.new_authorizations holders
 
-authorizations_stand : (k : Kept) (T : Tables) (m : ℕ) (v : Verdict) → IsOrdered T → HoldersOf (open_kept k T) (swept m T) v →
+pub authorizations_stand : (k : Kept) (T : Tables) (m : ℕ) (v : Verdict) → IsOrdered T → HoldersOf (open_kept k T) (swept m T) v →
     (effects m (swept m (restricted k T)) (entries_of v)).authorizations
     ≡ filter (λ r. (open_kept k T).authorizations r.number) (effects m (swept m T) (entries_of v)).authorizations
 authorizations_stand k T m (refused n ss) h holders = ap (λ (E : Tables). E.authorizations) (swept_bare k T m h)
@@ -305,7 +305,7 @@ entry_ends k T m e n h =
     (ordered_by e m S.meta.policy (S.meta.counters.authorizations + 1) (S.meta.counters.orders + 1))
     (each_after (EndBy n) (map (moved_order e m S.authorizations (effect m S e).authorizations) S.orders) _ h))
 
-orders_end : (k : Kept) (T : Tables) (m : ℕ) (v : Verdict) (n : ℕ) → EachOf (EndBy n) (effects m (swept m T) (entries_of v)).orders →
+pub orders_end : (k : Kept) (T : Tables) (m : ℕ) (v : Verdict) (n : ℕ) → EachOf (EndBy n) (effects m (swept m T) (entries_of v)).orders →
     EachOf (EndBy n) (effects m (swept m (restricted k T)) (entries_of v)).orders
 orders_end k T m (refused j ss) n h =
     ends_kept n (swept_order m T.authorizations) (swept_order m (restricted k T).authorizations)
@@ -373,7 +373,7 @@ answers_between k T Q m (ask.Office a) h holders low high = settles_between k T 
 -- ---- a part for a call
 
 -- nothing is listed where nothing is kept
-none_listed : (T : Tables) → KeepsListed no_rows T
+pub none_listed : (T : Tables) → KeepsListed no_rows T
 none_listed T = each_all _ T.orders (λ o kept. cc)
 
 rows_answer : (k : Kept) (T : Tables) (m : ℕ) (a : Ask) → IsOrdered T → HoldersFor k T m a → Keeps k (touched_rows T m a) → touched_at T m a

@@ -11,3 +11,5 @@ pub mod Replies
 pub mod Reusing
 pub mod Verdicts
 pub mod Walks
+pub mod Work
+pub mod WorkLoading

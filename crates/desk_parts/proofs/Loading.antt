@@ -56,11 +56,11 @@ use Rattle.desk_parts.proofs.Found.{found_if, found_none, found_once, found_same
 
 -- ---- tests on lists
 
-any_flat : {X Y : Type 0} (p : Y → Bool) (f : X → List Y) (xs : List X) → list_any p (flat_map f xs) ≡ list_any (λ x. list_any p (f x)) xs
+pub any_flat : {X Y : Type 0} (p : Y → Bool) (f : X → List Y) (xs : List X) → list_any p (flat_map f xs) ≡ list_any (λ x. list_any p (f x)) xs
 any_flat p f [] = refl
 any_flat p f (x ∷ xs) = list_any-append p (f x) (flat_map f xs) ∙ ap (λ b. list_any p (f x) || b) (any_flat p f xs)
 
-any_beside : {X : Type 0} (p : X → Bool) (b : Bool) (xs : List X) → list_any (λ x. p x && b) xs ≡ (b && list_any p xs)
+pub any_beside : {X : Type 0} (p : X → Bool) (b : Bool) (xs : List X) → list_any (λ x. p x && b) xs ≡ (b && list_any p xs)
 any_beside p b [] = none b
   where
     none : (c : Bool) → false ≡ (c && false)
@@ -195,10 +195,10 @@ of_nonce x = x.serial
 abbrev of_account : AccountRow → ℕ
 of_account x = x.number
 
-abbrev of_authorization : AuthorizationRow → ℕ
+abbrev pub of_authorization : AuthorizationRow → ℕ
 of_authorization r = r.number
 
-abbrev of_order : OrderRow → ℕ
+abbrev pub of_order : OrderRow → ℕ
 of_order o = o.number
 
 past_life : (m life : ℕ) (x : Nonce) → nat_lt x.issued (m - life) ≡ not (nat_le m (x.issued + life))
@@ -240,7 +240,7 @@ orders_at : (T : Tables) → IsOrdered T → (ns : List ℕ) → IsFound of_orde
 orders_at T h ns = found_by of_order (λ k o. o.number == k) (orders_numbered T) T.orders
     (λ k. found_filter of_order (λ o. o.number == k) 1 T.orders h.orders.0) ns
 
-authorizations_at : (T : Tables) → IsOrdered T → (ns : List ℕ) → IsFound of_authorization
+pub authorizations_at : (T : Tables) → IsOrdered T → (ns : List ℕ) → IsFound of_authorization
     (λ r. list_any (λ k. r.number == k) ns) T.authorizations (flat_map (authorizations_numbered T) ns)
 authorizations_at T h ns =
     found_by of_authorization (λ k r. r.number == k) (authorizations_numbered T) T.authorizations
@@ -396,7 +396,7 @@ orders_once_found : (T : Tables) (m : ℕ) (a : Ask) → IsOrdered T → IsFound
 orders_once_found T m a h = found_once of_order (is_touched_order T m a) 1 T.orders (found_orders T m a) h.orders.0 (orders_found T m a h)
 
 -- authorizations that the orders found list
-authorizations_listed : (T : Tables) (test : OrderRow → Bool) (rows : List OrderRow) → IsOrdered T → IsFound of_order test T.orders rows →
+pub authorizations_listed : (T : Tables) (test : OrderRow → Bool) (rows : List OrderRow) → IsOrdered T → IsFound of_order test T.orders rows →
     IsFound of_authorization (λ r. list_any (λ o. test o && lists o r.number) T.orders) T.authorizations (listed_authorizations T rows)
 authorizations_listed T test rows h is =
     found_same of_authorization _ _ T.authorizations (listed_authorizations T rows)

@@ -106,7 +106,7 @@ orders_shown k E n h =
     (each _ _ E.orders (λ o f l. f (and_parts (o.account == n) _ l).0) h))
 
 -- what an order lists
-rows_same : (k : Kept) (rows : List AuthorizationRow) (ns : List ℕ) → EachOf (λ n. k.authorizations n ≡ true) ns →
+pub rows_same : (k : Kept) (rows : List AuthorizationRow) (ns : List ℕ) → EachOf (λ n. k.authorizations n ≡ true) ns →
     rows_of (filter (λ a. k.authorizations a.number) rows) ns ≡ rows_of rows ns
 rows_same k rows [] h = refl
 rows_same k rows (n ∷ ns) h =

@@ -1,6 +1,7 @@
 -- The rows above a number: what a pass through a table still has before it.
 use Rattle.std.specs.Prelude.{ℕ, nat_lt, List, take}
 use Rattle.std.specs.List.{filter, flat_map}
+use Rattle.desk_model.specs.Derived.{sorted_challenges}
 use Rattle.desk_model.specs.Tables.{Tables}
 use Rattle.desk_model.specs.declared.rows.AccountRow.{AccountRow}
 use Rattle.desk_model.specs.declared.rows.AuthorizationRow.{AuthorizationRow}
@@ -24,6 +25,6 @@ orders_above T n = above (λ o. o.number) n T.orders
 abbrev pub authorizations_above : Tables → ℕ → List AuthorizationRow
 authorizations_above T n = above (λ r. r.number) n T.authorizations
 
--- challenges, through all authorizations
+-- challenges by number, through all authorizations
 abbrev pub challenges_above : Tables → ℕ → List ChallengeRow
-challenges_above T n = above (λ c. c.number) n (flat_map (λ r. r.challenges) T.authorizations)
+challenges_above T n = above (λ c. c.number) n (sorted_challenges (flat_map (λ r. r.challenges) T.authorizations))

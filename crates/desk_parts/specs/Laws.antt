@@ -4,6 +4,7 @@ use Rattle.desk_model.specs.Tables.{Tables}
 use Rattle.desk_model.specs.declared.call.Call.{Call}
 use Rattle.desk_laws.specs.Ordered.{IsOrdered}
 use Rattle.desk_parts.specs.AnswersAs.{AnswersAs}
+use Rattle.desk_parts.specs.IsEnough.{IsEnoughFor, enough}
 use Rattle.desk_parts.specs.IsPart.{IsPartFor}
 use Rattle.desk_parts.specs.Loaded.{loaded}
 use Rattle.desk_model.specs.Touched.{touched}
@@ -23,6 +24,18 @@ PartsAreOrdered = (T P : Tables) (call : Call) → IsOrdered T → IsPartFor cal
 -- a part for a call answers it as the whole
 abbrev pub PartsAnswer : Type 0
 PartsAnswer = (T P : Tables) (call : Call) → IsOrdered T → IsPartFor call T P → AnswersAs (max call.at T.meta.counters.clock) call.ask T P
+
+-- so it is enough for it
+abbrev pub PartsAreEnough : Type 0
+PartsAreEnough = (T P : Tables) (call : Call) → IsOrdered T → IsPartFor call T P → IsEnoughFor call T P
+
+-- and so are what a list of work shows and what decides its status, for the list
+abbrev pub FewRowsAreEnough : Type 0
+FewRowsAreEnough = (T : Tables) (call : Call) → IsOrdered T → IsEnoughFor call T (enough T call)
+
+-- rows that are enough for a call, of tables that stand by number, stand by number
+abbrev pub EnoughIsOrdered : Type 0
+EnoughIsOrdered = (T P : Tables) (call : Call) → IsOrdered T → IsEnoughFor call T P → IsOrdered P
 
 -- what the look-ups find is what the call touches
 abbrev pub LoadedIsTouched : Type 0

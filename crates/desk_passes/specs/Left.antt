@@ -1,7 +1,7 @@
 -- What a pass has before it.
 use Rattle.std.specs.Prelude.{◌≡◌, ℕ, List, [], ◌∷◌, Option, Some, None}
 use Rattle.std.specs.List.{flat_map}
-use Rattle.desk_model.specs.Derived.{account_faults, authorization_faults, challenge_faults, order_faults}
+use Rattle.desk_model.specs.Derived.{account_faults, authorization_faults, challenge_faults, order_faults, sorted_challenges}
 use Rattle.desk_model.specs.Tables.{Tables}
 use Rattle.desk_model.specs.declared.rows.StatusFault.{StatusFault}
 use Rattle.desk_parts.specs.Above.{accounts_above, authorizations_above, challenges_above, orders_above}
@@ -20,7 +20,7 @@ abbrev pub faults_of : Tables → FaultKind → List StatusFault
 faults_of T kind.Account = flat_map account_faults T.accounts
 faults_of T kind.Order = flat_map (order_faults T.meta.counters.clock T.authorizations) T.orders
 faults_of T kind.Authorization = flat_map (authorization_faults T.meta.counters.clock) T.authorizations
-faults_of T kind.Challenge = flat_map challenge_faults (flat_map (λ r. r.challenges) T.authorizations)
+faults_of T kind.Challenge = flat_map challenge_faults (sorted_challenges (flat_map (λ r. r.challenges) T.authorizations))
 
 -- what was given is the first of what was left, or nothing was left
 abbrev pub IsNext : {X : Type 0} → Option X → List X → List X → Type 0

@@ -1,12 +1,12 @@
 //! What passes rest on, and what they give together.
 ghost use Rattle.std.specs.Prelude.{◌≡◌, [], ◌∷◌};
-ghost use Rattle.desk_passes.specs.Laws.{KindsMakeAllFaults, PicturesAreInOrder};
+ghost use Rattle.desk_passes.specs.Laws.{BooksAreInOrder, KindsMakeAllFaults};
 
 use crate::fault_kind::FaultKind;
 
-/// The tables of a legal history are in the order that passes ask for.
-pub fn pictures_are_in_order()
-    ensures { PicturesAreInOrder }
+/// The tables of each book are in the order that passes ask for, whatever statuses they store.
+pub fn books_are_in_order()
+    ensures { BooksAreInOrder }
 {}
 
 /// The status faults of accounts, orders, authorizations and challenges, one kind after the other, are all that there are.

@@ -10,6 +10,6 @@ mod orders;
 mod status_faults;
 
 pub use fault_kind::FaultKind;
-pub use laws::{kinds_make_all_faults, pictures_are_in_order};
+pub use laws::{books_are_in_order, kinds_make_all_faults};
 pub use orders::Orders;
 pub use status_faults::{StatusFaults, moment_of};

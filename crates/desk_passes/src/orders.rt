@@ -43,7 +43,7 @@ impl<'a, S: RowsAbove> Orders<'a, S> {
         ensures same_source { result.source.ghost_name ≡ source.entry.ghost_name }
         ensures unread { result.source.now ≡ source.old }
         ensures unfailed { result.fault ≡ None }
-        ensures all { (T : Tables) → IsInOrder T → orders_above T result.above ≡ T.orders }
+        ensures all { (T : Tables) → S.sight.holds source.old T → orders_above T result.above ≡ T.orders }
     {
         Orders {
             source,
@@ -61,7 +61,7 @@ impl<'a, S: RowsAbove> Orders<'a, S> {
     pub fn next(&mut self, alloc: Global) -> Result<Option<OrderRow>, StorageFault>
         ensures same_source { self.new.source.ghost_name ≡ self.old.source.ghost_name }
         ensures reads { Reads S.sight self.old.source.now self.new.source.now result }
-        ensures next { ForTables S.sight self.old.source.now self.new.source.now (λ T. IsInOrder T →
+        ensures next { ForTables S.sight self.old.source.now self.new.source.now (λ T.
             IfOk result (λ order. IsNext order (orders_above T self.old.above) (orders_above T self.new.above))) }
         ensures onward { IfOk result (λ order. OnSome order (self.old.above < self.new.above × self.new.above < 2 ^ 64)) }
         ensures failed { IfErr result (λ fault. self.new.fault ≡ Some fault) }

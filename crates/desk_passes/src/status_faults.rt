@@ -46,7 +46,7 @@ impl<'a, S: RowsAbove> StatusFaults<'a, S> {
         ensures same_source { result.source.ghost_name ≡ source.entry.ghost_name }
         ensures unread { result.source.now ≡ source.old }
         ensures unfailed { result.fault ≡ None }
-        ensures all { (T : Tables) → IsInOrder T → moment ≡ T.meta.counters.clock →
+        ensures all { (T : Tables) → S.sight.holds source.old T → moment ≡ T.meta.counters.clock →
             faults_above T result.kind result.moment result.above ≡ faults_of T kind }
     {
         StatusFaults {
@@ -67,7 +67,7 @@ impl<'a, S: RowsAbove> StatusFaults<'a, S> {
     pub fn next(&mut self, alloc: Global) -> Result<Option<StatusFault>, StorageFault>
         ensures same_source { self.new.source.ghost_name ≡ self.old.source.ghost_name }
         ensures reads { Reads S.sight self.old.source.now self.new.source.now result }
-        ensures next { ForTables S.sight self.old.source.now self.new.source.now (λ T. IsInOrder T →
+        ensures next { ForTables S.sight self.old.source.now self.new.source.now (λ T.
             IfOk result (λ found. IsNext found (faults_above T self.old.kind self.old.moment self.old.above)
             (faults_above T self.new.kind self.new.moment self.new.above))) }
         ensures onward { IfOk result (λ found. OnSome found (self.old.above < self.new.above × self.new.above < 2 ^ 64)) }

@@ -1,7 +1,8 @@
 -- What each look-up of the first row above a number finds.
-use Rattle.std.proofs.Common.{◌≡◌, ℕ, pos, List, [], ◌∷◌, ◌++◌, map, filter, refl, sym, ap, subst, ◌∙◌, codes}
-use Rattle.std.specs.Prelude.{nat_lt}
+use Rattle.std.proofs.Common.{◌≡◌, ◌≢◌, inl, inr, ℕ, pos, Bool, cond, List, [], ◌∷◌, ◌++◌, map, filter, refl, sym, ap, subst, ◌∙◌, arith, codes}
+use Rattle.std.specs.Prelude.{nat_le, nat_lt}
 use Rattle.std.specs.List.{flat_map}
+use Rattle.std.proofs.lemmas.Bool.{le-leb, lt-leb}
 use Rattle.std.proofs.lemmas.List.{map-append, map-id}
 use Rattle.std.proofs.lemmas.Simd.{map-map}
 use Rattle.sqlite.specs.declared.types.Value.TheVariants.{Int}
@@ -18,6 +19,10 @@ use Rattle.desk_columns.specs.Limits.{IsStoredAccount, IsStoredAuthorization, Is
 use Rattle.desk_columns.specs.declared.flat_rows.BareChallenge.{BareChallenge}
 use Rattle.desk_columns.specs.declared.flat_rows.Owned.{Owned}
 use Rattle.desk_columns.proofs.RowsApart.{accounts-apart, authorizations-apart, challenges-apart, orders-apart}
+use Rattle.desk_laws.proofs.RowLists.{put_before, put_past}
+use Rattle.desk_laws.specs.Distinct.{Distinct}
+use Rattle.desk_model.specs.Change.{put}
+use Rattle.desk_model.specs.Derived.{insert_challenge, sorted_challenges}
 use Rattle.desk_model.specs.Kept.{EachOf}
 use Rattle.desk_model.specs.Tables.{Tables}
 use Rattle.desk_model.specs.declared.rows.AccountRow.{AccountRow}
@@ -27,14 +32,17 @@ use Rattle.desk_model.specs.declared.rows.OrderRow.{OrderRow}
 use Rattle.desk_parts.specs.Above.{accounts_above, authorizations_above, challenges_above, first_of, orders_above}
 use Rattle.desk_tables.specs.Holds.{Holds}
 use Rattle.desk_tables.specs.Layouts.{account_layout, authorization_layout, challenge_layout, order_layout}
+use Rattle.desk_tables.specs.Sorted.{sorted_by}
 use Rattle.desk_tables.proofs.Holding.{accounts_held, authorizations_held, challenges_held, orders_held}
+use Rattle.desk_tables.proofs.Keyed.{ranked}
+use Rattle.desk_tables.proofs.Sorting.{IsApart, each_sorted}
 use Rattle.desk_reading.specs.Bounded.{bounded}
 use Rattle.desk_reading.specs.Spelled.{account_in, authorization_in, challenge_in, order_in}
-use Rattle.desk_reading.specs.StoredBook.{IsStoredBook}
+use Rattle.stored_rows.specs.IsBook.{IsStoredBook}
 use Rattle.desk_reading.specs.Texts.{select_account_above, select_authorization_above, select_challenge_above, select_order_above}
 use Rattle.desk_reading.proofs.Answered.{IsReadingUpTo, by, first_row}
 use Rattle.desk_reading.proofs.FoundRows.{found_first}
-use Rattle.desk_reading.proofs.Lists.{filter-map, first-map}
+use Rattle.desk_reading.proofs.Lists.{each_map_sorted, filter-map, first-map}
 use Rattle.desk_reading.proofs.Tests.{above_bounded, above_test}
 use Rattle.desk_reading.proofs.Told.{account_project, account_spelled, authorization_project, authorization_spelled}
 use Rattle.desk_reading.proofs.Told.{challenge_project, challenge_spelled, order_project, order_spelled}
@@ -98,13 +106,46 @@ rows_owned (r ∷ rs) =
     map-append (λ (c : Owned ChallengeRow). c.row) (owned_by r.number r.challenges) (challenge_rows rs)
     ∙ (λ i. own_rows r.number r.challenges i ++ rows_owned rs i)
 
+-- a challenge is put where it is inserted, where none has its number
+put_inserted : (c : Owned ChallengeRow) (ds : List (Owned ChallengeRow)) → IsApart challenge_layout.key c ds
+    → map (λ (d : Owned ChallengeRow). d.row) (put challenge_layout.key c ds) ≡ insert_challenge c.row (map (λ (d : Owned ChallengeRow). d.row) ds)
+put_inserted c [] apart = refl
+put_inserted c (d ∷ ds) apart = elim (ranked d.row.number c.row.number) [
+  | inl less ↦
+      ap (map (λ (e : Owned ChallengeRow). e.row)) (put_past challenge_layout.key c d ds less.low)
+      ∙ ap (λ l. d.row ∷ l) (put_inserted c ds apart.1)
+      ∙ sym (inserted (lt-leb c.row.number d.row.number less.low))
+  | inr (inl tied) ↦ absurd (apart.0 (sym tied.same))
+  | inr (inr more) ↦
+      ap (map (λ (e : Owned ChallengeRow). e.row)) (put_before challenge_layout.key c d ds more.high)
+      ∙ sym (inserted (le-leb c.row.number d.row.number (omega (arith, more.high))))
+]
+  where
+    rows : List ChallengeRow
+    rows = map (λ (e : Owned ChallengeRow). e.row) ds
+
+    inserted : {b : Bool} → nat_le c.row.number d.row.number ≡ b
+        → insert_challenge c.row (d.row ∷ rows) ≡ cond b (c.row ∷ d.row ∷ rows) (d.row ∷ insert_challenge c.row rows)
+    inserted is = ap (λ b. cond b (c.row ∷ d.row ∷ rows) (d.row ∷ insert_challenge c.row rows)) is
+
+-- so the sorted ones are those of the model
+sorted_owned : (cs : List (Owned ChallengeRow)) → Distinct challenge_layout.key cs
+    → map (λ (c : Owned ChallengeRow). c.row) (sorted_by challenge_layout.key cs) ≡ sorted_challenges (map (λ (c : Owned ChallengeRow). c.row) cs)
+sorted_owned [] apart = refl
+sorted_owned (c ∷ cs) apart =
+    put_inserted c (sorted_by challenge_layout.key cs) (each_sorted challenge_layout.key (λ d. challenge_layout.key c ≢ challenge_layout.key d) cs apart.0)
+    ∙ ap (insert_challenge c.row) (sorted_owned cs apart.1)
+
 -- the first above a number
-pub first_challenge : (T : Tables) (n : ℕ) → map (λ (c : Owned ChallengeRow). c.row)
-    (first_of (filter (λ (c : Owned ChallengeRow). nat_lt n c.row.number) (challenge_rows T.authorizations))) ≡ first_of (challenges_above T n)
-first_challenge T n =
-    sym (first-map (λ (c : Owned ChallengeRow). c.row) (filter (λ (c : Owned ChallengeRow). nat_lt n c.row.number) (challenge_rows T.authorizations)))
-    ∙ ap first_of (sym (filter-map (λ (c : ChallengeRow). nat_lt n c.number) (λ (c : Owned ChallengeRow). c.row) (challenge_rows T.authorizations)))
-    ∙ ap (λ cs. first_of (filter (λ (c : ChallengeRow). nat_lt n c.number) cs)) (rows_owned T.authorizations)
+pub first_challenge : (T : Tables) (n : ℕ) → Distinct challenge_layout.key (challenge_rows T.authorizations) → map (λ (c : Owned ChallengeRow). c.row)
+    (first_of (filter (λ (c : Owned ChallengeRow). nat_lt n c.row.number) (sorted_by challenge_layout.key (challenge_rows T.authorizations))))
+    ≡ first_of (challenges_above T n)
+first_challenge T n apart =
+    let all = sorted_by challenge_layout.key (challenge_rows T.authorizations) in
+    sym (first-map (λ (c : Owned ChallengeRow). c.row) (filter (λ (c : Owned ChallengeRow). nat_lt n c.row.number) all))
+    ∙ ap first_of (sym (filter-map (λ (c : ChallengeRow). nat_lt n c.number) (λ (c : Owned ChallengeRow). c.row) all))
+    ∙ ap (λ cs. first_of (filter (λ (c : ChallengeRow). nat_lt n c.number) cs))
+    (sorted_owned (challenge_rows T.authorizations) apart ∙ ap sorted_challenges (rows_owned T.authorizations))
 
 -- ---- what is found
 
@@ -146,15 +187,16 @@ module _ (old new : State) (T : Tables) (rows : List Row) (values : Row) (has : 
       → Shown select_challenge_above values old new rows
       → map (λ (c : Owned BareChallenge). c.row) found ≡ map bare (first_of (challenges_above T n))
   challenge_above_found found kept spells h =
-      let all = challenge_rows T.authorizations in
+      let all = sorted_by challenge_layout.key (challenge_rows T.authorizations) in
       let first = first_of (filter (λ (c : Owned ChallengeRow). nat_lt n c.row.number) all) in
       let is : found ≡ map bare_row first =
       found_first challenge_layout bare_row challenge_columns IsStoredChallenge challenge_in challenge_project challenge_spelled
       challenges-apart select_challenge_above is_higher (Int (pos (bounded n)) ∷ []) (λ c. nat_lt (bounded n) c.row.number) (λ c. nat_lt n c.row.number)
       challenge_above_reading
       (λ c. above_test c.row.number (bounded n)) (λ c k. above_bounded c.row.number n k.number.1) old new values all rows found
-      (challenges_held old.now T has) book.stored.challenges given h kept spells in
+      (challenges_held old.now T has) (each_map_sorted challenge_layout.key bare_row IsStoredChallenge (challenge_rows T.authorizations) book.stored.challenges)
+      given h kept spells in
       ap (map (λ (c : Owned BareChallenge). c.row)) is
       ∙ map-map (λ (c : Owned BareChallenge). c.row) bare_row first
       ∙ sym (map-map bare (λ (c : Owned ChallengeRow). c.row) first)
-      ∙ ap (map bare) (first_challenge T n)
+      ∙ ap (map bare) (first_challenge T n has.rising.challenges)

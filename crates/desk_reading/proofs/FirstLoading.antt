@@ -2,12 +2,14 @@
 use Rattle.std.proofs.Common.{◌≡◌, ℕ, pos, ◌++◌, ◌+◌, ◌<◌, length, take, get_or, List, [], ◌∷◌, map, Option, Some, None, refl, sym, ap, subst, ◌∙◌}
 use Rattle.std.specs.List.{cons_option, filter_map}
 use Rattle.std.specs.Prelude.{option_to_list}
+use Rattle.std.specs.List.Sorted.{IsPermutation}
 use Rattle.std.proofs.lemmas.List.{take_more}
+use Rattle.std.proofs.lemmas.List.Sorted.{IsPermutation-map}
 use Rattle.std.proofs.lemmas.Simd.{map-map}
 use Rattle.sqlite.specs.Held.{Held, state}
 use Rattle.sqlite.specs.Store.{Ghosts}
 use Rattle.desk_columns.specs.Columns.{authorization_columns, challenge_columns, key_columns}
-use Rattle.desk_columns.specs.Flat.{bare_row, challenge_rows, key_rows}
+use Rattle.desk_columns.specs.Flat.{answer_key, bare_row, challenge_rows, key_rows}
 use Rattle.desk_columns.specs.declared.columns.StoredRows.{StoredRows}
 use Rattle.desk_columns.specs.declared.flat_rows.Owned.{Owned}
 use Rattle.desk_model.specs.Tables.{Tables}
@@ -18,7 +20,11 @@ use Rattle.desk_reading.specs.Shown.{AreColumnsOf}
 use Rattle.desk_reading.proofs.FirstTables.{accounts_read, authorizations_read, challenges_read, listed_shown, meta_read, nonces_read, orders_read}
 use Rattle.desk_reading.proofs.ShownRows.{shown_still}
 use Rattle.desk_reading.proofs.WholeTables.{listed_in_order}
+use Rattle.desk_reading.proofs.Lists.{map_moved, picked_moved}
 use Rattle.desk_tables.specs.Holds.{HoldsFirst}
+use Rattle.desk_tables.specs.Layouts.{challenge_layout}
+use Rattle.desk_tables.specs.Sorted.{sorted_by}
+use Rattle.desk_tables.proofs.Sorting.{sorted_moves}
 use Rattle.stored_laws.proofs.BlankBooks.{bare_same, blank_row, rows_blank}
 use Rattle.stored_laws.specs.Blank.{blank, blank_authorization, zeros}
 
@@ -39,6 +45,13 @@ keys_are_blank (c ∷ cs) = by c.row.answered (keys_are_blank cs)
         ≡ map key_columns (key_rows (map blank_row (answered_so c o ∷ cs)))
     by None rest = rest
     by (Some a) rest = ap (λ ks. (record { chall = pos c.row.number; thumb = zeros }) ∷ ks) rest
+
+-- they move with the challenges
+blank_keys_moved : (cs ds : List (Owned ChallengeRow)) → IsPermutation cs ds
+    → IsPermutation (map key_columns (key_rows (map blank_row cs))) (map key_columns (key_rows (map blank_row ds)))
+blank_keys_moved cs ds moved =
+    IsPermutation-map key_columns (key_rows (map blank_row cs)) (key_rows (map blank_row ds))
+    (picked_moved (λ (c : Owned ChallengeRow). answer_key c.row) (map blank_row cs) (map blank_row ds) (IsPermutation-map blank_row cs ds moved))
 
 -- ---- one more row
 
@@ -74,7 +87,9 @@ first_columns {S} g conn stored T has it =
     let held : (before : Held S) → (state g before).now ≡ (state g conn).now → HoldsFirst (state g before).now T =
     λ before same. subst (λ db. HoldsFirst db T) (sym same) has in
     let rows = challenge_rows T.authorizations in
-    let challs : stored.challs ≡ map (λ c. challenge_columns (bare_row c)) rows =
+    let columns = λ (c : Owned ChallengeRow). challenge_columns (bare_row c) in
+    let sorted = sorted_by challenge_layout.key rows in
+    let challs : stored.challs ≡ map columns sorted =
     it.challenges.columns ∙ challenges_read (state g it.challenges.before) (state g it.challenges.after) T it.challenges.rows
     (held it.challenges.before it.challenges.same) it.challenges.shown in
     record {
@@ -92,11 +107,14 @@ first_columns {S} g conn stored T has it =
       listed = listed_in_order T.orders it.listed.rows stored.order_authzs
           (listed_shown (state g it.listed.before) (state g it.listed.after) T it.listed.rows (held it.listed.before it.listed.same) it.listed.shown)
           it.listed.columns;
-      challenges = challs
-          ∙ sym (map-map challenge_columns bare_row rows)
-          ∙ ap (map challenge_columns) (sym (ap (map bare_row) (rows_blank T.authorizations) ∙ bare_same rows));
-      keys = it.blank_keys ∙ ap (filter_map blank_key) challs ∙ keys_are_blank rows
-          ∙ ap (λ cs. map key_columns (key_rows cs)) (sym (rows_blank T.authorizations));
+      challenges = subst (IsPermutation stored.challs)
+          (sym (map-map challenge_columns bare_row rows)
+          ∙ ap (map challenge_columns) (sym (ap (map bare_row) (rows_blank T.authorizations) ∙ bare_same rows)))
+          (map_moved challenge_layout.key columns rows stored.challs has.rising.challenges challs);
+      keys = subst (λ ks. IsPermutation ks (map key_columns (key_rows (challenge_rows (blank T).authorizations))))
+          (sym (it.blank_keys ∙ ap (filter_map blank_key) challs ∙ keys_are_blank sorted))
+          (subst (λ cs. IsPermutation (map key_columns (key_rows (map blank_row sorted))) (map key_columns (key_rows cs))) (sym (rows_blank T.authorizations))
+          (blank_keys_moved sorted rows (sorted_moves challenge_layout.key rows has.rising.challenges)));
     }
 
 -- and so they were before calls that changed nothing

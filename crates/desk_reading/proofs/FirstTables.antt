@@ -20,6 +20,8 @@ use Rattle.desk_schema.specs.Failing.{IsFailure}
 use Rattle.desk_tables.specs.Holds.{HoldsFirst}
 use Rattle.desk_tables.specs.Images.{formatted_columns, listed_cells, listed_params}
 use Rattle.desk_tables.specs.Layouts.{IsRising, Layout, account_layout, authorization_layout, challenge_layout, formatted_layout, nonce_layout, order_layout}
+use Rattle.desk_tables.specs.Sorted.{sorted_by}
+use Rattle.desk_tables.proofs.Sorting.{sorted_rises}
 use Rattle.desk_reading.specs.Failures.{FailsToRead, HasTexts, IsReadable, MayRead}
 use Rattle.desk_reading.specs.Fitting.{FitsAccount, FitsAuthorization, FitsChallenge, FitsListed, FitsMeta, FitsNonce, FitsOrder}
 use Rattle.desk_reading.specs.Spelled.{account_in, authorization_in, challenge_in, meta_in, nonce_in, order_in}
@@ -30,6 +32,7 @@ use Rattle.desk_reading.proofs.Failing.{IsSureIn, query_fails, reading_fails}
 use Rattle.desk_reading.proofs.FirstReadings as first
 use Rattle.desk_reading.proofs.Fits.{account_fits, all_fit, authorization_fits, challenge_fits, listed_fits, meta_fits, nonce_fits, order_fits}
 use Rattle.desk_reading.proofs.KeyedReadings.{shown_whole, whole_in}
+use Rattle.desk_reading.proofs.Lists.{each_map_sorted}
 use Rattle.desk_reading.proofs.Told.{IsSpelled, account_project, account_spelled, authorization_project, authorization_spelled}
 use Rattle.desk_reading.proofs.Told.{challenge_project, challenge_spelled, formatted_spelled, listed_project, meta_project}
 use Rattle.desk_reading.proofs.Told.{nonce_project, nonce_spelled, order_project, order_spelled}
@@ -70,10 +73,11 @@ module _ (old new : State) (T : Tables) (rows : List Row) (has : HoldsFirst old.
 
   -- `chall`
   pub challenges_read : Shown select_challenges [] old new rows
-      → map challenge_in rows ≡ map (λ c. challenge_columns (bare_row c)) (challenge_rows T.authorizations)
+      → map challenge_in rows ≡ map (λ c. challenge_columns (bare_row c)) (sorted_by challenge_layout.key (challenge_rows T.authorizations))
   challenges_read h =
+      let cs = challenge_rows T.authorizations in
       whole_in challenge_layout (λ c. challenge_columns (bare_row c)) challenge_in challenge_project challenge_spelled select_challenges
-      first.challenges_reading old new (challenge_rows T.authorizations) rows has.schema has.challenges has.rising.challenges h
+      first.challenges_reading old new (sorted_by challenge_layout.key cs) rows has.schema has.challenges (sorted_rises challenge_layout.key cs) h
 
   -- `ord_authz`, in some order
   pub listed_shown : Shown select_listed [] old new rows → IsPermutation (map listed_cells (listed_rows T.orders)) rows
@@ -159,7 +163,9 @@ module _ {S : Type 0} (g : Ghosts S) (here : Held S) (T : Tables) (has : HoldsFi
   pub challenges_readable : IsReadable g here select_challenges FitsChallenge
   challenges_readable before after e same may =
       let it = held before same in
+      let cs = challenge_rows T.authorizations in
       fails_in challenge_layout (λ c. challenge_columns (bare_row c)) challenge_in challenge_project challenge_spelled select_challenges
       first.challenges_reading first.challenges_sure HasTextChallenge FitsChallenge
-      challenge_fits (state g before) (state g after) (challenge_rows T.authorizations) e it.schema it.challenges it.rising.challenges may
-      (subst (EachOf HasTextChallenge) (map-map challenge_columns bare_row (challenge_rows T.authorizations)) texts.challs)
+      challenge_fits (state g before) (state g after) (sorted_by challenge_layout.key cs) e it.schema it.challenges (sorted_rises challenge_layout.key cs) may
+      (each_map_sorted challenge_layout.key (λ c. challenge_columns (bare_row c)) HasTextChallenge cs
+      (subst (EachOf HasTextChallenge) (map-map challenge_columns bare_row cs) texts.challs))

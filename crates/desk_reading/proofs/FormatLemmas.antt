@@ -1,21 +1,27 @@
--- The tables of a desk are of no later format.
-use Rattle.std.proofs.Common.{◌≡◌, ◌<ℤ◌, ℤ, arith, List, [], ◌∷◌, true, refl, sym, ap, subst, ◌∙◌}
+-- The tables of a desk are of no later format, and a later format shows.
+use Rattle.std.proofs.Common.{◌≡◌, ◌<ℤ◌, ℤ, arith, inl, inr, List, [], ◌∷◌, map, true, refl, sym, ap, subst, ◌∙◌}
 use Rattle.std.specs.Int.Signed.{<ℤ_irrefl}
 use Rattle.sqlite.specs.declared.types.Value.TheVariants.{Int}
 use Rattle.sqlite_value.specs.Order.{Row, column}
+use Rattle.sqlite_sql.specs.Query.{Output}
 use Rattle.sqlite_sql.specs.Term.{col}
-use Rattle.sqlite.specs.State.{State, Shown}
+use Rattle.sqlite.specs.State.{State, FailsToQuery, Shown}
+use Rattle.sqlite.specs.declared.error.Error.{Error}
 use Rattle.sqlite.proofs.Callers.{one_permutation}
 use Rattle.desk_columns.specs.Columns.{first_format, known_format}
 use Rattle.desk_model.specs.Tables.{Tables}
 use Rattle.desk_model.specs.declared.rows.Meta.{Meta}
 use Rattle.desk_tables.specs.Holds.{Holds, HoldsFirst}
 use Rattle.desk_tables.specs.Images.{formatted_image, meta_image}
-use Rattle.desk_reading.specs.Format.{IsNewer}
+use Rattle.desk_reading.specs.Failures.{MayRead}
+use Rattle.desk_reading.specs.Format.{IsNewer, IsOfLaterFormat}
 use Rattle.desk_reading.specs.Texts.{select_format}
-use Rattle.desk_reading.proofs.Answered.{answers, picked, shown_somehow}
+use Rattle.desk_reading.proofs.Answered.{IsOrderedAs, answers, picked, shown_somehow}
+use Rattle.desk_reading.proofs.Failing.{query_fails}
 use Rattle.desk_reading.proofs.FirstReadings as first
 use Rattle.desk_reading.proofs.Readings.{format_reading}
+use Rattle.desk_reading.proofs.SureTexts.{format_sure}
+use Rattle.desk_schema.specs.Failing.{IsFailure}
 
 -- one row of this format is of no later one
 pub never_newer : (old new : State) (T : Tables) (rows : List Row) → Holds old.now T → Shown select_format [] old new rows → ¬ IsNewer rows
@@ -45,3 +51,42 @@ first_never_newer old new T rows has h newer =
     let same : newer.format ≡ first_format = cc in
     let low : known_format <ℤ first_format = subst (λ n. known_format <ℤ n) same newer.above in
     absurd (omega (arith, low))
+
+-- ---- a later format
+
+-- a row of `meta`, whose columns hold this format
+abbrev one_row : ℤ → Meta → List (ℤ × Meta)
+one_row format m = (format, m) ∷ []
+
+-- what a reading of the format shows of it
+abbrev of_format : ℤ × Meta → Output
+of_format m = ([], Int m.0 ∷ [])
+
+-- rows that are shown so are of a later format
+newer_by : (format : ℤ) (m : Meta) (rows : List Row) → known_format <ℤ format
+    → IsOrderedAs (picked 0 [] (col 1 2 ∷ []) []) (map of_format (one_row format m)) rows → IsNewer rows
+newer_by format m rows above answered = record {
+  row = Int format ∷ [];
+  format = format;
+  alone = one_permutation (Int format ∷ []) rows (shown_somehow (picked 0 [] (col 1 2 ∷ []) []) of_format (one_row format m) rows answered);
+  is = refl;
+  above = above;
+}
+
+-- a later format shows
+pub later_is_newer : (old new : State) (rows : List Row) → IsOfLaterFormat old.now → Shown select_format [] old new rows → IsNewer rows
+later_is_newer old new rows later h = elim later.schema [
+  | inl todays ↦ newer_by later.format later.meta rows later.above
+      (answers formatted_image (λ (m : ℤ × Meta). m) 0 [] (col 1 2 ∷ []) [] [] (λ _. true) of_format (λ _. refl) (λ _. refl)
+      select_format format_reading (λ _. refl) old new (one_row later.format later.meta) rows todays later.alone h)
+  | inr ones ↦ newer_by later.format later.meta rows later.above
+      (answers formatted_image (λ (m : ℤ × Meta). m) 0 [] (col 1 2 ∷ []) [] [] (λ _. true) of_format (λ _. refl) (λ _. refl)
+      select_format first.format_reading (λ _. refl) old new (one_row later.format later.meta) rows ones later.alone h)
+]
+
+-- and a reading of it fails for memory or the disk alone
+pub later_fails : (old new : State) (e : Error) → IsOfLaterFormat old.now → MayRead old → FailsToQuery select_format [] old new e → IsFailure e
+later_fails old new e later may = elim later.schema [
+  | inl todays ↦ query_fails select_format 0 (col 1 2 ∷ []) [] format_reading format_sure old new todays e may
+  | inr ones ↦ query_fails select_format 0 (col 1 2 ∷ []) [] first.format_reading first.format_sure old new ones e may
+]

@@ -1,23 +1,24 @@
 -- Under the number of each challenge that was answered stands the key of its answer, and no other.
-use Rattle.std.proofs.Common.{◌≡◌, ℕ, ◌+◌, ◌<◌, List, [], ◌∷◌, map, filter, cond, Option, Some, None, IfOk, Result, refl, sym, ap, subst, ◌∙◌, arith}
+use Rattle.std.proofs.Common.{◌≡◌, ◌≢◌, ℕ, List, [], ◌∷◌, map, filter, cond, Option, Some, None, IfOk, Result, refl, sym, ap, subst, ◌∙◌}
 use Rattle.std.specs.List.{cons_option}
 use Rattle.std.specs.Prelude.{◌==◌, nat_lt, option_map}
-use Rattle.std.proofs.lemmas.Bool.{eq-eqb}
+use Rattle.std.proofs.lemmas.Bool.{eq-eqb, ne_eqb}
 use Rattle.std.proofs.lemmas.Option.{same_Some}
 use Rattle.std.proofs.lemmas.Simd.{map-map}
 use Rattle.desk_columns.specs.Flat.{answer_key, bare, bare_row, challenge_rows, key_rows}
 use Rattle.desk_columns.specs.declared.flat_rows.AnswerKey.{AnswerKey}
 use Rattle.desk_columns.specs.declared.flat_rows.BareChallenge.{BareChallenge}
 use Rattle.desk_columns.specs.declared.flat_rows.Owned.{Owned}
-use Rattle.desk_laws.proofs.Basics.{each, each-map, each_both, less_differs, more_differs}
+use Rattle.desk_laws.proofs.Basics.{each, each-map, each_both}
 use Rattle.desk_laws.proofs.Keeps.{each-filter}
-use Rattle.desk_laws.proofs.RowLists.{ascends_above, ascends_from}
-use Rattle.desk_laws.specs.Ordered.{Ascends}
+use Rattle.desk_laws.specs.Distinct.{Distinct}
 use Rattle.desk_model.specs.Kept.{EachOf}
 use Rattle.desk_model.specs.Tables.{Tables}
 use Rattle.desk_model.specs.declared.objects.Answer.{Answer}
 use Rattle.desk_model.specs.declared.rows.ChallengeRow.{ChallengeRow}
 use Rattle.desk_parts.specs.Above.{challenges_above, first_of}
+use Rattle.desk_tables.specs.Sorted.{sorted_by}
+use Rattle.desk_tables.proofs.Sorting.{each_sorted}
 use Rattle.desk_reading.specs.Keys.{HasItsKey, keys_of}
 use Rattle.desk_reading.specs.Under.{rows_under}
 use Rattle.desk_reading.proofs.AboveRows.{first_challenge}
@@ -36,26 +37,16 @@ answered_so c o = record c { row = record c.row { answered = o } }
 abbrev under : ℕ → List AnswerKey → List AnswerKey
 under n keys = filter (λ (k : AnswerKey). k.challenge == n) keys
 
--- keys ascend as the challenges do
-pub keys_up : (n : ℕ) (rows : List (Owned ChallengeRow)) → Ascends number n rows → Ascends (λ k. k.challenge) n (key_rows rows)
-keys_up n [] up = tt
-keys_up n (c ∷ cs) up = by c.row.answered (keys_up (c.row.number + 1) cs up.1)
-  where
-    by : (a : Option Answer) → Ascends (λ k. k.challenge) (c.row.number + 1) (key_rows cs)
-        → Ascends (λ k. k.challenge) n (cons_option (answer_key (answered_so c a).row) (key_rows cs))
-    by None rest = ascends_from (λ k. k.challenge) n (c.row.number + 1) (key_rows cs) (omega (arith, up.0)) rest
-    by (Some a) rest = (up.0, rest)
-
--- higher challenges have no key of a lower number
-keys_lower : (k n : ℕ) (rows : List (Owned ChallengeRow)) → k < n → Ascends number n rows → under k (key_rows rows) ≡ []
-keys_lower k n [] low up = refl
-keys_lower k n (c ∷ cs) low up = by c.row.answered (keys_lower k (c.row.number + 1) cs (omega (arith, low, up.0)) up.1)
+-- other challenges have no key of this number
+keys_other : (k : ℕ) (rows : List (Owned ChallengeRow)) → EachOf (λ c. k ≢ number c) rows → under k (key_rows rows) ≡ []
+keys_other k [] apart = refl
+keys_other k (c ∷ cs) apart = by c.row.answered (keys_other k cs apart.1)
   where
     by : (a : Option Answer) → under k (key_rows cs) ≡ [] → under k (cons_option (answer_key (answered_so c a).row) (key_rows cs)) ≡ []
     by None rest = rest
     by (Some a) rest =
         ap (λ b. cond b ((record { challenge = c.row.number; thumb = a.thumb }) ∷ under k (key_rows cs)) (under k (key_rows cs)))
-        (more_differs c.row.number k (omega (arith, low, up.0)))
+        (ne_eqb c.row.number k (λ same. apart.0 (sym same)))
         ∙ rest
 
 -- the key of a challenge is the one under its number
@@ -63,36 +54,35 @@ abbrev IsOwn : List (Owned ChallengeRow) → ChallengeRow → Type 0
 IsOwn rows c = (k : AnswerKey) → answer_key c ≡ Some k → under c.number (key_rows rows) ≡ k ∷ []
 
 -- that of the first
-own_first : (c : Owned ChallengeRow) (cs : List (Owned ChallengeRow)) → Ascends number (c.row.number + 1) cs → IsOwn (c ∷ cs) c.row
-own_first c cs up = by c.row.answered
+own_first : (c : Owned ChallengeRow) (cs : List (Owned ChallengeRow)) → EachOf (λ d. number c ≢ number d) cs → IsOwn (c ∷ cs) c.row
+own_first c cs apart = by c.row.answered
   where
     by : (a : Option Answer) (k : AnswerKey) → answer_key (answered_so c a).row ≡ Some k
         → under c.row.number (cons_option (answer_key (answered_so c a).row) (key_rows cs)) ≡ k ∷ []
     by None k is = absurd (let x = is in cc)
     by (Some a) k is =
         let own : AnswerKey = record { challenge = c.row.number; thumb = a.thumb } in
-        let rest : under c.row.number (key_rows cs) ≡ [] = keys_lower c.row.number (c.row.number + 1) cs (omega arith) up in
+        let rest : under c.row.number (key_rows cs) ≡ [] = keys_other c.row.number cs apart in
         let same : own ≡ k = same_Some own k is in
         ap (λ b. cond b (own ∷ under c.row.number (key_rows cs)) (under c.row.number (key_rows cs))) (eq-eqb c.row.number c.row.number refl)
         ∙ (λ i. same i ∷ rest i)
 
--- the key of a lower challenge is not looked at
-own_behind : (c : Owned ChallengeRow) (cs : List (Owned ChallengeRow)) (d : ChallengeRow) → c.row.number < d.number → IsOwn cs d → IsOwn (c ∷ cs) d
-own_behind c cs d low own k is = by c.row.answered ∙ own k is
+-- the key of another challenge is not looked at
+own_behind : (c : Owned ChallengeRow) (cs : List (Owned ChallengeRow)) (d : ChallengeRow) → c.row.number ≢ d.number → IsOwn cs d → IsOwn (c ∷ cs) d
+own_behind c cs d apart own k is = by c.row.answered ∙ own k is
   where
     by : (a : Option Answer) → under d.number (cons_option (answer_key (answered_so c a).row) (key_rows cs)) ≡ under d.number (key_rows cs)
     by None = refl
     by (Some a) =
         ap (λ b. cond b ((record { challenge = c.row.number; thumb = a.thumb }) ∷ under d.number (key_rows cs)) (under d.number (key_rows cs)))
-        (less_differs c.row.number d.number low)
+        (ne_eqb c.row.number d.number apart)
 
 -- those of all
-pub keys_own : (n : ℕ) (rows : List (Owned ChallengeRow)) → Ascends number n rows → EachOf (λ c. IsOwn rows c.row) rows
-keys_own n [] up = tt
-keys_own n (c ∷ cs) up = (
-  own_first c cs up.1,
-  each _ _ cs (λ d both. own_behind c cs d.row both.0 both.1)
-      (each_both _ _ cs (ascends_above number c.row.number (c.row.number + 1) cs (omega arith) up.1) (keys_own (c.row.number + 1) cs up.1)),
+pub keys_own : (rows : List (Owned ChallengeRow)) → Distinct number rows → EachOf (λ c. IsOwn rows c.row) rows
+keys_own [] apart = tt
+keys_own (c ∷ cs) apart = (
+  own_first c cs apart.0,
+  each _ _ cs (λ d both. own_behind c cs d.row both.0 both.1) (each_both _ _ cs apart.0 (keys_own cs apart.1)),
 )
 
 -- ---- what was found
@@ -122,20 +112,21 @@ bare_under n rows =
     let own = filter (λ (c : Owned ChallengeRow). c.owner == n) rows in
     map-map (λ (b : Owned BareChallenge). b.row) bare_row own ∙ sym (map-map bare (λ (c : Owned ChallengeRow). c.row) own)
 
-module _ (T : Tables) (up : Ascends number 0 (challenge_rows T.authorizations)) where
+module _ (T : Tables) (apart : Distinct number (challenge_rows T.authorizations)) where
   -- each challenge of an authorization has its key
   pub keys_under : (n : ℕ) → EachOf (HasItsKey T) (rows_under n (challenge_rows T.authorizations))
   keys_under n =
       let all = challenge_rows T.authorizations in
       each-map (HasItsKey T) (λ (c : Owned ChallengeRow). c.row) (filter (λ c. c.owner == n) all)
-      (each-filter (λ (c : Owned ChallengeRow). HasItsKey T c.row) (λ c. c.owner == n) all (keys_own 0 all up))
+      (each-filter (λ (c : Owned ChallengeRow). HasItsKey T c.row) (λ c. c.owner == n) all (keys_own all apart))
 
   -- so has the first above a number
   pub keys_above : (n : ℕ) → EachOf (HasItsKey T) (first_of (challenges_above T n))
   keys_above n =
-      let all = challenge_rows T.authorizations in
       let P = λ (c : Owned ChallengeRow). HasItsKey T c.row in
+      let rows = challenge_rows T.authorizations in
+      let all = sorted_by number rows in
       let above = filter (λ (c : Owned ChallengeRow). nat_lt n c.row.number) all in
-      subst (EachOf (HasItsKey T)) (first_challenge T n)
+      subst (EachOf (HasItsKey T)) (first_challenge T n apart)
       (each-map (HasItsKey T) (λ (c : Owned ChallengeRow). c.row) (first_of above)
-      (each-first P above (each-filter P (λ c. nat_lt n c.row.number) all (keys_own 0 all up))))
+      (each-first P above (each-filter P (λ c. nat_lt n c.row.number) all (each_sorted number P rows (keys_own rows apart)))))

@@ -28,4 +28,5 @@ pub mod TableFailures
 pub mod Tests
 pub mod Told
 pub mod UnderLemmas
+pub mod WaitingOwners
 pub mod WholeTables

@@ -29,7 +29,7 @@ use Rattle.desk_tables.specs.Images.{listed_cells, listed_params}
 use Rattle.desk_tables.proofs.Keyed.{ranked, three}
 use Rattle.desk_reading.specs.Bounded.{bounded}
 use Rattle.desk_reading.specs.Spelled.{listed_in}
-use Rattle.desk_reading.specs.StoredBook.{IsStoredBook}
+use Rattle.stored_rows.specs.IsBook.{IsStoredBook}
 use Rattle.desk_reading.specs.Texts.{select_listed_by, select_listing}
 use Rattle.desk_reading.proofs.Answered.{IsReading, answers, by, less, passes, picked, shown_in_order}
 use Rattle.desk_reading.proofs.FoundRows.{filter-each}

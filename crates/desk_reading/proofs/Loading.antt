@@ -23,8 +23,8 @@ reordered stored T are =
       orders = as_it_is _ _ (are.orders ∙ sym (map-map order_columns without_listed T.orders));
       authzs = as_it_is _ _ (are.authorizations ∙ sym (map-map authorization_columns without_challenges T.authorizations));
       order_authzs = are.listed;
-      challs = as_it_is _ _ are.challenges;
-      chall_keys = as_it_is _ _ are.keys;
+      challs = are.challenges;
+      chall_keys = are.keys;
     }
 
 -- what the database showed of the tables that it held are their columns

@@ -8,6 +8,7 @@ use Rattle.sqlite_tied.specs.Compute.{everything}
 use Rattle.desk_reading.specs.Texts.{select_accounts_numbered, select_accounts_with_key, select_authorizations_numbered}
 use Rattle.desk_reading.specs.Texts.{select_authorizations_named, select_authorizations_of, select_authorizations_past, select_challenges_numbered}
 use Rattle.desk_reading.specs.Texts.{select_challenges_of, select_keys_of, select_listed_by, select_listing, select_nonces_before}
+use Rattle.desk_reading.specs.Texts.{select_challenges_processing, select_orders_processing}
 use Rattle.desk_reading.specs.Texts.{select_nonces_numbered, select_orders_numbered, select_orders_of, select_orders_past}
 use Rattle.desk_reading.proofs.Answered.{IsReading, by}
 use Rattle.desk_reading.proofs.Told.{account_project, authorization_project, challenge_project, key_project, listed_project, nonce_project, order_project}
@@ -98,6 +99,16 @@ orders_past_reading = record {
   selecting = refl;
 }
 
+-- orders of a status
+pub orders_processing_reading : IsReading select_orders_processing 4 (is_equal 11) order_project (by 0 ∷ [])
+unfolding everything
+orders_processing_reading = record {
+  names = codes "num" ∷ codes "account" ∷ codes "made" ∷ codes "expires" ∷ codes "finalized" ∷ codes "csr"
+      ∷ codes "certified" ∷ codes "cert" ∷ codes "failed" ∷ codes "problem" ∷ codes "status" ∷ [];
+  means = refl;
+  selecting = refl;
+}
+
 -- authorizations of a number
 pub authorizations_numbered_reading : IsReading select_authorizations_numbered 5 (is_equal 0) authorization_project (by 0 ∷ [])
 unfolding everything
@@ -160,6 +171,16 @@ listing_reading = record {
 pub challenges_numbered_reading : IsReading select_challenges_numbered 8 (is_equal 0) challenge_project (by 0 ∷ [])
 unfolding everything
 challenges_numbered_reading = record {
+  names = codes "num" ∷ codes "authz" ∷ codes "kind" ∷ codes "token" ∷ codes "answered" ∷ codes "reported"
+      ∷ codes "outcome" ∷ codes "status" ∷ [];
+  means = refl;
+  selecting = refl;
+}
+
+-- challenges of a status
+pub challenges_processing_reading : IsReading select_challenges_processing 8 (is_equal 8) challenge_project (by 0 ∷ [])
+unfolding everything
+challenges_processing_reading = record {
   names = codes "num" ∷ codes "authz" ∷ codes "kind" ∷ codes "token" ∷ codes "answered" ∷ codes "reported"
       ∷ codes "outcome" ∷ codes "status" ∷ [];
   means = refl;

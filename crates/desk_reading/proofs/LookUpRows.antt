@@ -1,5 +1,5 @@
 -- What each look-up by number, by a column or by a status finds.
-use Rattle.std.proofs.Common.{◌≡◌, ◌&&◌, ℕ, pos, List, [], ◌∷◌, map, filter, Bool, refl, sym, subst, ◌∙◌, arith}
+use Rattle.std.proofs.Common.{◌≡◌, ◌&&◌, ℕ, pos, List, [], ◌∷◌, map, filter, Bool, refl, sym, ap, subst, ◌∙◌, arith}
 use Rattle.std.specs.Prelude.{◌==◌, nat_lt, bytes_eq}
 use Rattle.std.proofs.lemmas.List.{map-id}
 use Rattle.sqlite.specs.declared.types.Value.TheVariants.{Int, Text}
@@ -14,7 +14,9 @@ use Rattle.desk_columns.specs.declared.flat_rows.BareChallenge.{BareChallenge}
 use Rattle.desk_columns.specs.declared.flat_rows.Owned.{Owned}
 use Rattle.desk_columns.proofs.RowsApart.{accounts-apart, authorizations-apart, challenges-apart, keys-apart, nonces-apart, orders-apart}
 use Rattle.desk_model.specs.Derived.{authz_code, order_code}
-use Rattle.desk_model.specs.Document.{authorization_status_text, order_status_text}
+use Rattle.desk_model.specs.Document.{authorization_status_text, challenge_status_text, order_status_text}
+use Rattle.desk_model.specs.Legal.{is_processing_challenge}
+use Rattle.desk_model.specs.Order.{is_processing}
 use Rattle.desk_model.specs.Kept.{EachOf}
 use Rattle.desk_model.specs.Tables.{Tables}
 use Rattle.desk_model.specs.declared.objects.Nonce.{Nonce}
@@ -23,30 +25,38 @@ use Rattle.desk_model.specs.declared.rows.AuthorizationRow.{AuthorizationRow}
 use Rattle.desk_model.specs.declared.rows.ChallengeRow.{ChallengeRow}
 use Rattle.desk_model.specs.declared.rows.OrderRow.{OrderRow}
 use Rattle.desk_model.specs.declared.status.AuthzStatus.{AuthzStatus}
+use Rattle.desk_model.specs.declared.status.ChallengeStatus.TheVariants as chall
 use Rattle.desk_model.specs.declared.status.OrderStatus.{OrderStatus}
+use Rattle.desk_model.specs.declared.status.OrderStatus.TheVariants as order
 use Rattle.desk_parts.specs.LookUps.{accounts_numbered, accounts_with_key, authorizations_numbered, authorizations_of}
 use Rattle.desk_parts.specs.LookUps.{authorizations_named, authorizations_past, nonces_before, nonces_numbered, orders_numbered, orders_of, orders_past}
+use Rattle.desk_parts.specs.LookUps.{orders_processing}
 use Rattle.desk_tables.specs.Holds.{Holds}
 use Rattle.desk_tables.specs.Layouts.{account_layout, authorization_layout, challenge_layout, key_layout, nonce_layout, order_layout}
-use Rattle.desk_tables.proofs.Holding.{accounts_held, authorizations_held, challenges_held, nonces_held, orders_held}
+use Rattle.desk_tables.specs.Sorted.{sorted_by}
+use Rattle.desk_tables.proofs.AnswerKeys.{keys_apart}
+use Rattle.desk_tables.proofs.Holding.{accounts_held, authorizations_held, challenges_held, keys_held, nonces_held, orders_held}
+use Rattle.desk_tables.proofs.Sorting.{each_sorted, filter_ascending, filter_number}
 use Rattle.desk_reading.specs.Bounded.{bounded}
 use Rattle.desk_reading.specs.Keys.{keys_of}
 use Rattle.desk_reading.specs.Spelled.{account_in, authorization_in, challenge_in, key_in, nonce_in, order_in}
-use Rattle.desk_reading.specs.StoredBook.{IsStoredBook}
+use Rattle.stored_rows.specs.IsBook.{IsStoredBook}
 use Rattle.desk_reading.specs.Texts.{select_accounts_numbered, select_accounts_with_key}
 use Rattle.desk_reading.specs.Texts.{select_authorizations_named, select_authorizations_numbered, select_authorizations_of, select_authorizations_past}
 use Rattle.desk_reading.specs.Texts.{select_challenges_numbered, select_challenges_of, select_keys_of}
 use Rattle.desk_reading.specs.Texts.{select_nonces_before, select_nonces_numbered, select_orders_numbered}
-use Rattle.desk_reading.specs.Texts.{select_orders_of, select_orders_past}
+use Rattle.desk_reading.specs.Texts.{select_challenges_processing, select_orders_of, select_orders_past, select_orders_processing}
 use Rattle.desk_reading.proofs.Answered.{IsReading, by, passes}
 use Rattle.desk_reading.proofs.FoundRows.{found_keyed}
 use Rattle.desk_reading.proofs.LookUpReadings.{accounts_numbered_reading, accounts_with_key_reading}
 use Rattle.desk_reading.proofs.LookUpReadings.{are_equal, authorizations_named_reading, authorizations_numbered_reading, authorizations_of_reading}
 use Rattle.desk_reading.proofs.LookUpReadings.{authorizations_past_reading, challenges_numbered_reading, challenges_of_reading}
 use Rattle.desk_reading.proofs.LookUpReadings.{is_equal, is_lower, keys_of_reading, nonces_before_reading, nonces_numbered_reading}
+use Rattle.desk_reading.proofs.LookUpReadings.{challenges_processing_reading, orders_processing_reading}
 use Rattle.desk_reading.proofs.LookUpReadings.{orders_numbered_reading, orders_of_reading, orders_past_reading, past}
-use Rattle.desk_reading.proofs.WholeTables.{keys_held}
-use Rattle.desk_reading.proofs.StatusTests.{authorization_status_test, order_status_test}
+use Rattle.desk_reading.proofs.Lists.{each_map_sorted}
+use Rattle.desk_reading.proofs.UnderLemmas.{own_ascend}
+use Rattle.desk_reading.proofs.StatusTests.{authorization_status_test, challenge_waits, order_status_test, order_waits}
 use Rattle.desk_reading.proofs.Tests.{below_bounded, below_test, number_test, number_text_test, same_bounded, text_below_test, text_test}
 use Rattle.desk_reading.proofs.Told.{account_project, account_spelled, authorization_project, authorization_spelled}
 use Rattle.desk_reading.proofs.Told.{challenge_project, challenge_spelled, key_project, key_spelled, nonce_project}
@@ -137,6 +147,13 @@ module _ (old new : State) (T : Tables) (rows : List Row) (values : Row) (has : 
         (λ x. text_below_test (order_status_text x.status) (order_status_text status) x.expires (bounded m))
         (λ x k i. order_status_test x.status status i && below_bounded x.expires m (let e = k.expires in omega (arith, e)) i) given h
 
+    pub orders_processing_found : values ≡ Text (order_status_text order.Processing) ∷ [] → Shown select_orders_processing values old new rows
+        → found ≡ map without_listed (orders_processing T)
+    orders_processing_found given h =
+        orders select_orders_processing (is_equal 11) (Text (order_status_text order.Processing) ∷ [])
+        (λ x. bytes_eq (order_status_text x.status) (order_status_text order.Processing)) (λ x. is_processing x.status) orders_processing_reading
+        (λ x. text_test (order_status_text x.status) (order_status_text order.Processing)) (λ x k. order_waits x.status) given h
+
   -- ---- authorizations, without their challenges
 
   module _ (found : List AuthorizationRow) (kept : EachOf IsStoredAuthorization found)
@@ -191,32 +208,49 @@ module _ (old new : State) (T : Tables) (rows : List Row) (values : Row) (has : 
         → IsReading text 8 tests challenge_project (by 0 ∷ [])
         → ((x : Owned ChallengeRow) → passes tests params (challenge_layout.image x) ≡ sql x)
         → ((x : Owned ChallengeRow) → IsStoredChallenge (bare_row x) → sql x ≡ test x)
-        → values ≡ params → Shown text values old new rows → found ≡ map bare_row (filter test (challenge_rows T.authorizations))
+        → values ≡ params → Shown text values old new rows
+        → found ≡ map bare_row (filter test (sorted_by challenge_layout.key (challenge_rows T.authorizations)))
     challenges text tests params sql test reading tests_are agree given h =
+        let cs = challenge_rows T.authorizations in
         found_keyed challenge_layout bare_row challenge_columns IsStoredChallenge challenge_in challenge_project challenge_spelled
-        challenges-apart text tests params sql test reading tests_are agree old new values (challenge_rows T.authorizations) rows found
-        (challenges_held old.now T has) book.stored.challenges given h kept spells
+        challenges-apart text tests params sql test reading tests_are agree old new values (sorted_by challenge_layout.key cs) rows found
+        (challenges_held old.now T has) (each_map_sorted challenge_layout.key bare_row IsStoredChallenge cs book.stored.challenges) given h kept spells
 
     pub challenges_numbered_found : (n : ℕ) → values ≡ Int (pos (bounded n)) ∷ [] → Shown select_challenges_numbered values old new rows
         → found ≡ map bare_row (filter (λ c. c.row.number == n) (challenge_rows T.authorizations))
     challenges_numbered_found n given h =
         challenges select_challenges_numbered (is_equal 0) (Int (pos (bounded n)) ∷ []) (λ c. c.row.number == bounded n) (λ c. c.row.number == n)
         challenges_numbered_reading (λ c. number_test c.row.number (bounded n)) (λ c k. same_bounded c.row.number n k.number.1) given h
+        ∙ ap (map bare_row) (filter_number challenge_layout.key n (challenge_rows T.authorizations) has.rising.challenges)
+
+    -- in the order of their numbers
+    pub challenges_processing_found : values ≡ Text (challenge_status_text chall.Processing) ∷ [] → Shown select_challenges_processing values old new rows
+        → found ≡ map bare_row (filter (λ c. is_processing_challenge c.row.status) (sorted_by challenge_layout.key (challenge_rows T.authorizations)))
+    challenges_processing_found given h =
+        challenges select_challenges_processing (is_equal 8) (Text (challenge_status_text chall.Processing) ∷ [])
+        (λ c. bytes_eq (challenge_status_text c.row.status) (challenge_status_text chall.Processing)) (λ c. is_processing_challenge c.row.status)
+        challenges_processing_reading
+        (λ c. text_test (challenge_status_text c.row.status) (challenge_status_text chall.Processing)) (λ c k. challenge_waits c.row.status) given h
 
     pub challenges_of_found : (n : ℕ) → values ≡ Int (pos (bounded n)) ∷ [] → Shown select_challenges_of values old new rows
         → found ≡ map bare_row (filter (λ c. c.owner == n) (challenge_rows T.authorizations))
     challenges_of_found n given h =
         challenges select_challenges_of (is_equal 2) (Int (pos (bounded n)) ∷ []) (λ c. c.owner == bounded n) (λ c. c.owner == n)
         challenges_of_reading (λ c. number_test c.owner (bounded n)) (λ c k. same_bounded c.owner n k.authorization.1) given h
+        ∙ ap (map bare_row) (filter_ascending challenge_layout.key (λ c. c.owner == n) 1 (challenge_rows T.authorizations) has.rising.challenges
+        (own_ascend n 0 T.authorizations has.rising.authorizations book.book.in_order.challenges))
 
   -- ---- the key of an answer
 
   pub keys_of_found : (found : List AnswerKey) → EachOf IsStoredKey found → map key_in rows ≡ map key_columns found
       → (n : ℕ) → values ≡ Int (pos (bounded n)) ∷ [] → Shown select_keys_of values old new rows → found ≡ keys_of T n
   keys_of_found found kept spells n given h =
-      let keys = key_rows (challenge_rows T.authorizations) in
+      let all = key_rows (challenge_rows T.authorizations) in
+      let keys = sorted_by key_layout.key all in
       found_keyed key_layout (λ (x : AnswerKey). x) key_columns IsStoredKey key_in key_project key_spelled keys-apart select_keys_of (is_equal 0)
       (Int (pos (bounded n)) ∷ []) (λ k. k.challenge == bounded n) (λ k. k.challenge == n) keys_of_reading
       (λ k. number_test k.challenge (bounded n)) (λ k limits. same_bounded k.challenge n limits.challenge.1) old new values keys rows found
-      (keys_held old.now T has) (subst (EachOf IsStoredKey) (sym (map-id keys)) book.stored.keys) given h kept spells
-      ∙ map-id (keys_of T n)
+      (keys_held old.now T has) (subst (EachOf IsStoredKey) (sym (map-id keys)) (each_sorted key_layout.key IsStoredKey all book.stored.keys)) given h kept
+      spells
+      ∙ map-id (filter (λ k. k.challenge == n) keys)
+      ∙ filter_number key_layout.key n all (keys_apart (challenge_rows T.authorizations) has.rising.challenges)

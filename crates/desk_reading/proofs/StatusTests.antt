@@ -2,11 +2,30 @@
 use Rattle.std.proofs.Common.{◌≡◌, refl}
 use Rattle.std.specs.Prelude.{◌==◌, bytes_eq}
 use Rattle.desk_model.specs.Derived.{authz_code, order_code}
-use Rattle.desk_model.specs.Document.{authorization_status_text, order_status_text}
+use Rattle.desk_model.specs.Document.{authorization_status_text, challenge_status_text, order_status_text}
+use Rattle.desk_model.specs.Legal.{is_processing_challenge}
+use Rattle.desk_model.specs.Order.{is_processing}
 use Rattle.desk_model.specs.declared.status.AuthzStatus.{AuthzStatus}
 use Rattle.desk_model.specs.declared.status.AuthzStatus.TheVariants as authz
+use Rattle.desk_model.specs.declared.status.ChallengeStatus.{ChallengeStatus}
+use Rattle.desk_model.specs.declared.status.ChallengeStatus.TheVariants as chall
 use Rattle.desk_model.specs.declared.status.OrderStatus.{OrderStatus}
 use Rattle.desk_model.specs.declared.status.OrderStatus.TheVariants as order
+
+-- of an order that waits
+pub order_waits : (s : OrderStatus) → bytes_eq (order_status_text s) (order_status_text order.Processing) ≡ is_processing s
+order_waits order.Pending = refl
+order_waits order.Ready = refl
+order_waits order.Processing = refl
+order_waits order.Valid = refl
+order_waits order.Invalid = refl
+
+-- of a challenge that waits
+pub challenge_waits : (s : ChallengeStatus) → bytes_eq (challenge_status_text s) (challenge_status_text chall.Processing) ≡ is_processing_challenge s
+challenge_waits chall.Pending = refl
+challenge_waits chall.Processing = refl
+challenge_waits chall.Valid = refl
+challenge_waits chall.Invalid = refl
 
 -- of an order
 pub order_status_test : (s t : OrderStatus) → bytes_eq (order_status_text s) (order_status_text t) ≡ (order_code s == order_code t)

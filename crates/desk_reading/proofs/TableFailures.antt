@@ -20,7 +20,8 @@ use Rattle.desk_tables.specs.Holds.{Holds}
 use Rattle.desk_tables.specs.Images.{listed_cells, listed_params}
 use Rattle.desk_tables.specs.Layouts.{HasRows, Layout, account_layout, authorization_layout, challenge_layout}
 use Rattle.desk_tables.specs.Layouts.{key_layout, meta_layout, nonce_layout, order_layout}
-use Rattle.desk_tables.proofs.Holding.{accounts_held, authorizations_held, challenges_held, meta_held, nonces_held, orders_held}
+use Rattle.desk_tables.specs.Sorted.{sorted_by}
+use Rattle.desk_tables.proofs.Holding.{accounts_held, authorizations_held, challenges_held, keys_held, meta_held, nonces_held, orders_held}
 use Rattle.desk_reading.specs.Failures.{FailsToRead, HasTexts, IsReadable, MayRead}
 use Rattle.desk_reading.specs.Fitting.{FitsAccount, FitsAuthorization, FitsChallenge, FitsKey, FitsListed, FitsMeta, FitsNonce, FitsOrder}
 use Rattle.desk_reading.specs.Spelled.{account_in, authorization_in, challenge_in, key_in, meta_in, nonce_in, order_in}
@@ -30,7 +31,7 @@ use Rattle.desk_reading.proofs.Answered.{IsReading, by}
 use Rattle.desk_reading.proofs.Failing.{IsSure, query_fails, reading_fails}
 use Rattle.desk_reading.proofs.Fits.{account_fits, all_fit, authorization_fits, challenge_fits, key_fits, listed_fits, meta_fits, nonce_fits, order_fits}
 use Rattle.desk_reading.proofs.KeyedReadings.{shown_keyed}
-use Rattle.desk_reading.proofs.Lists.{filter-all}
+use Rattle.desk_reading.proofs.Lists.{each_map_sorted, filter-all}
 use Rattle.desk_reading.proofs.Readings.{accounts_reading, authorizations_reading, challenges_reading, format_reading, keys_reading}
 use Rattle.desk_reading.proofs.Readings.{listed_reading, meta_reading, nonces_reading, orders_reading}
 use Rattle.desk_reading.proofs.SureTexts.{accounts_sure, authorizations_sure, challenges_sure, format_sure, keys_sure}
@@ -38,7 +39,7 @@ use Rattle.desk_reading.proofs.SureTexts.{listed_sure, meta_sure, nonces_sure, o
 use Rattle.desk_reading.proofs.Told.{IsSpelled, account_project, account_spelled, authorization_project, authorization_spelled}
 use Rattle.desk_reading.proofs.Told.{challenge_project, challenge_spelled, key_project, key_spelled, listed_project, meta_project, meta_spelled}
 use Rattle.desk_reading.proofs.Told.{nonce_project, nonce_spelled, order_project, order_spelled}
-use Rattle.desk_reading.proofs.WholeTables.{keys_held, listed_cells_shown}
+use Rattle.desk_reading.proofs.WholeTables.{listed_cells_shown}
 
 -- the reading of a table by number
 keyed_fails : {X C : Type 0} (L : Layout X) (columns : X → C) (spelled : Row → C) (project : List Term) → (is : IsSpelled L columns spelled project)
@@ -91,13 +92,14 @@ module _ (old new : State) (T : Tables) (e : Error) (has : Holds old.now T) (may
   challenges_fails =
       keyed_fails challenge_layout (λ c. challenge_columns (bare_row c)) challenge_in challenge_project challenge_spelled select_challenges
       challenges_reading challenges_sure HasTextChallenge FitsChallenge
-      challenge_fits old new (challenge_rows T.authorizations) e (challenges_held old.now T has) may
-      (subst (EachOf HasTextChallenge) (map-map challenge_columns bare_row (challenge_rows T.authorizations)) texts.challs)
+      challenge_fits old new (sorted_by challenge_layout.key (challenge_rows T.authorizations)) e (challenges_held old.now T has) may
+      (each_map_sorted challenge_layout.key (λ c. challenge_columns (bare_row c)) HasTextChallenge (challenge_rows T.authorizations)
+      (subst (EachOf HasTextChallenge) (map-map challenge_columns bare_row (challenge_rows T.authorizations)) texts.challs))
 
   -- `chall_key`
   pub keys_fails : FailsToRead select_keys [] old new FitsKey e → IsFailure e
   keys_fails =
-      let keys = key_rows (challenge_rows T.authorizations) in
+      let keys = sorted_by key_layout.key (key_rows (challenge_rows T.authorizations)) in
       keyed_fails key_layout key_columns key_in key_project key_spelled select_keys keys_reading keys_sure (λ _. Unit {0}) FitsKey
       key_fits old new keys e (keys_held old.now T has) may (each_all (λ _. Unit {0}) (map key_columns keys) (λ _. tt))
 

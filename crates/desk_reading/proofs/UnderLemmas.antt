@@ -1,14 +1,14 @@
 -- Rows under their owners: each owner's rows are its own, and so are their numbers.
-use Rattle.std.proofs.Common.{◌≡◌, ℕ, ◌+◌, ◌<◌, Bool, true, false, cond, List, [], ◌∷◌, ◌++◌, map, filter, refl, sym, ap, ◌∙◌, arith, append-nil}
+use Rattle.std.proofs.Common.{◌≡◌, ℕ, ◌+◌, ◌<◌, Bool, true, false, cond, List, [], ◌∷◌, ◌++◌, map, filter, refl, sym, ap, subst, ◌∙◌, arith, append-nil}
 use Rattle.std.specs.Prelude.{◌==◌}
 use Rattle.std.specs.List.{flat_map}
-use Rattle.std.proofs.lemmas.Bool.{eq-eqb}
+use Rattle.std.proofs.lemmas.Bool.{eq-eqb, eqb-true}
 use Rattle.std.proofs.lemmas.List.{map-append}
 use Rattle.std.proofs.lemmas.Simd.{map-map}
 use Rattle.desk_columns.specs.Flat.{challenge_rows, listed_rows, owned_by}
 use Rattle.desk_columns.specs.declared.flat_rows.Owned.{Owned}
 use Rattle.desk_laws.proofs.Basics.{each, each_both, less_differs, more_differs}
-use Rattle.desk_laws.proofs.RowLists.{ascends_above}
+use Rattle.desk_laws.proofs.RowLists.{ascends_above, ascends_map}
 use Rattle.desk_laws.specs.Ordered.{Ascends}
 use Rattle.desk_model.specs.Kept.{EachOf}
 use Rattle.desk_model.specs.Derived.{numbers_of}
@@ -18,6 +18,7 @@ use Rattle.desk_model.specs.declared.rows.ChallengeRow.{ChallengeRow}
 use Rattle.desk_model.specs.declared.rows.Listed.{Listed}
 use Rattle.desk_model.specs.declared.rows.OrderRow.{OrderRow}
 use Rattle.desk_parts.specs.LookUps.{challenges, orders_listing, owners_of, places}
+use Rattle.desk_tables.specs.Layouts.{challenge_layout}
 use Rattle.stored_rows.specs.Nesting.{child_rows}
 use Rattle.desk_reading.specs.Under.{HasItsChallenges, HasItsListed, rows_under}
 use Rattle.desk_reading.proofs.Lists.{filter-map}
@@ -92,6 +93,52 @@ orders_have n os up = each_under (λ (o : OrderRow). o.number) (λ o. o.listed) 
 -- each authorization has its challenges
 pub authorizations_have : (n : ℕ) (rs : List AuthorizationRow) → Ascends (λ a. a.number) n rs → EachOf (HasItsChallenges rs) rs
 authorizations_have n rs up = each_under (λ (a : AuthorizationRow). a.number) (λ a. a.challenges) n rs up
+
+-- ---- the challenges of one authorization
+
+-- those under its number, before others
+own_kept : (n : ℕ) (cs : List ChallengeRow) (rest : List (Owned ChallengeRow))
+    → filter (λ c. c.owner == n) (owned_by n cs ++ rest) ≡ owned_by n cs ++ filter (λ c. c.owner == n) rest
+own_kept n [] rest = refl
+own_kept n (c ∷ cs) rest =
+    ap (λ b. cond b ((record { owner = n; row = c }) ∷ filter (λ d. d.owner == n) (owned_by n cs ++ rest)) (filter (λ d. d.owner == n) (owned_by n cs ++ rest)))
+    (eq-eqb n n refl)
+    ∙ ap (λ l. (record { owner = n; row = c }) ∷ l) (own_kept n cs rest)
+
+-- and not under another's
+own_left : (n m : ℕ) → (m == n) ≡ false → (cs : List ChallengeRow) (rest : List (Owned ChallengeRow))
+    → filter (λ c. c.owner == n) (owned_by m cs ++ rest) ≡ filter (λ c. c.owner == n) rest
+own_left n m is [] rest = refl
+own_left n m is (c ∷ cs) rest =
+    ap (λ b. cond b ((record { owner = m; row = c }) ∷ filter (λ d. d.owner == n) (owned_by m cs ++ rest)) (filter (λ d. d.owner == n) (owned_by m cs ++ rest)))
+    is
+    ∙ own_left n m is cs rest
+
+-- higher authorizations have none
+own_above : (n m : ℕ) (rs : List AuthorizationRow) → n < m → Ascends (λ a. a.number) m rs → filter (λ c. c.owner == n) (challenge_rows rs) ≡ []
+own_above n m [] low up = refl
+own_above n m (a ∷ rs) low up =
+    own_left n a.number (more_differs a.number n (omega (arith, low, up.0))) a.challenges (challenge_rows rs)
+    ∙ own_above n (a.number + 1) rs (omega (arith, low, up.0)) up.1
+
+-- they ascend as those of each authorization do
+pub own_ascend : (n m : ℕ) (rs : List AuthorizationRow) → Ascends (λ a. a.number) m rs → EachOf (λ a. Ascends (λ c. c.number) 1 a.challenges) rs
+    → Ascends challenge_layout.key 1 (filter (λ c. c.owner == n) (challenge_rows rs))
+own_ascend n m [] up all = tt
+own_ascend n m (a ∷ rs) up all = by (a.number == n) refl (own_ascend n (a.number + 1) rs up.1 all.1)
+  where
+    by : (b : Bool) → (a.number == n) ≡ b → Ascends challenge_layout.key 1 (filter (λ c. c.owner == n) (challenge_rows rs))
+        → Ascends challenge_layout.key 1 (filter (λ c. c.owner == n) (owned_by a.number a.challenges ++ challenge_rows rs))
+    by true is rest =
+        let same : a.number ≡ n = eqb-true a.number n is in
+        let own : filter (λ c. c.owner == n) (owned_by a.number a.challenges ++ challenge_rows rs) ≡ owned_by n a.challenges =
+        ap (λ k. filter (λ c. c.owner == n) (owned_by k a.challenges ++ challenge_rows rs)) same
+        ∙ own_kept n a.challenges (challenge_rows rs)
+        ∙ ap (λ l. owned_by n a.challenges ++ l) (own_above n (a.number + 1) rs (omega (arith, same)) up.1)
+        ∙ append-nil (owned_by n a.challenges) in
+        subst (Ascends challenge_layout.key 1) (sym own)
+        (ascends_map (λ c. c.number) challenge_layout.key (λ c. record { owner = n; row = c }) (λ c. refl) 1 a.challenges all.0)
+    by false is rest = subst (Ascends challenge_layout.key 1) (sym (own_left n a.number is a.challenges (challenge_rows rs))) rest
 
 -- ---- numbers
 

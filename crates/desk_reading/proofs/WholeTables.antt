@@ -6,7 +6,6 @@ use Rattle.std.proofs.lemmas.Simd.{map-map}
 use Rattle.sqlite.specs.declared.types.Value.TheVariants.{Int}
 use Rattle.sqlite_value.specs.Order.{Row}
 use Rattle.sqlite_sql.specs.Term.{Term}
-use Rattle.sqlite.specs.Effect.{Database}
 use Rattle.sqlite.specs.Schema.{Schema}
 use Rattle.sqlite.specs.State.{State, Shown}
 use Rattle.desk_columns.specs.Columns.{account_columns, authorization_columns, challenge_columns, key_columns}
@@ -22,6 +21,7 @@ use Rattle.desk_columns.specs.declared.columns.OrderAuthzColumns.{OrderAuthzColu
 use Rattle.desk_columns.specs.declared.columns.OrderColumns.{OrderColumns}
 use Rattle.desk_columns.specs.declared.flat_rows.Owned.{Owned}
 use Rattle.desk_model.specs.Tables.{Tables}
+use Rattle.desk_model.specs.declared.rows.ChallengeRow.{ChallengeRow}
 use Rattle.desk_model.specs.declared.rows.Listed.{Listed}
 use Rattle.desk_model.specs.declared.rows.OrderRow.{OrderRow}
 use Rattle.desk_tables.specs.Hidden.{hidden, row_of}
@@ -29,14 +29,15 @@ use Rattle.desk_tables.specs.Holds.{Holds, HoldsListed}
 use Rattle.desk_tables.specs.Images.{listed_cells, listed_params}
 use Rattle.desk_tables.specs.Layouts.{HasRows, Layout, account_layout, authorization_layout, challenge_layout}
 use Rattle.desk_tables.specs.Layouts.{key_layout, meta_layout, nonce_layout, order_layout}
-use Rattle.desk_tables.proofs.Holding.{accounts_held, authorizations_held, challenges_held, meta_held, nonces_held, orders_held}
+use Rattle.desk_tables.specs.Sorted.{sorted_by}
+use Rattle.desk_tables.proofs.AnswerKeys.{keys_apart}
+use Rattle.desk_tables.proofs.Holding.{accounts_held, authorizations_held, challenges_held, keys_held, meta_held, nonces_held, orders_held}
 use Rattle.desk_reading.specs.Spelled.{account_in, authorization_in, challenge_in, key_in, listed_in, meta_in, nonce_in, order_in}
 use Rattle.desk_reading.specs.Texts.{select_accounts, select_authorizations, select_challenges, select_keys}
 use Rattle.desk_reading.specs.Texts.{select_listed, select_meta, select_nonces, select_orders}
 use Rattle.desk_reading.proofs.Answered.{IsReading, IsReadingIn, all_rows, answers, by, shown_somehow, picked}
-use Rattle.desk_reading.proofs.KeyRows.{keys_up}
 use Rattle.desk_reading.proofs.KeyedReadings.{columns_of, reads_keyed}
-use Rattle.desk_reading.proofs.Lists.{filter-all}
+use Rattle.desk_reading.proofs.Lists.{filter-all, map_moved}
 use Rattle.desk_reading.proofs.Readings.{accounts_reading, authorizations_reading, challenges_reading, keys_reading, listed_reading}
 use Rattle.desk_reading.proofs.Readings.{meta_reading, nonces_reading, orders_reading}
 use Rattle.desk_reading.proofs.Told.{IsSpelled, account_project, account_spelled, authorization_project, authorization_spelled}
@@ -50,11 +51,6 @@ whole : {X C : Type 0} (L : Layout X) (columns : X → C) (spelled : Row → C) 
     → map spelled rows ≡ map columns xs
 whole L columns spelled project is text reading old new xs rows has h =
     reads_keyed L columns spelled project is text [] [] (λ _. true) reading (λ _. refl) old new xs rows has h ∙ ap (map columns) (filter-all xs)
-
--- the keys of answers stand by number
-pub keys_held : (db : Database) (T : Tables) → Holds db T → HasRows key_layout db (key_rows (challenge_rows T.authorizations))
-keys_held db T has =
-    record { schema = has.schema; rows_are = has.keys; rising = keys_up 0 (challenge_rows T.authorizations) has.rising.challenges }
 
 -- over a schema, what orders list is shown in some order
 pub listed_cells_in : {schema : Schema} → IsReadingIn schema all_rows select_listed 6 [] listed_project (by 1 ∷ by 2 ∷ [])
@@ -122,22 +118,25 @@ module _ (old new : State) (T : Tables) (rows : List Row) where
       authorizations_reading
       old new T.authorizations rows (authorizations_held old.now T has) h
 
-  -- `chall`
+  -- `chall`, by number
   pub challenges_read : (all : List ChallColumns) → Holds old.now T → Shown select_challenges [] old new rows → all ≡ map challenge_in rows
-      → all ≡ map challenge_columns (map bare_row (challenge_rows T.authorizations))
+      → IsPermutation all (map challenge_columns (map bare_row (challenge_rows T.authorizations)))
   challenges_read all has h are =
-      are
-      ∙ whole challenge_layout (λ c. challenge_columns (bare_row c)) challenge_in challenge_project challenge_spelled select_challenges challenges_reading
-      old new (challenge_rows T.authorizations) rows (challenges_held old.now T has) h
-      ∙ sym (map-map challenge_columns bare_row (challenge_rows T.authorizations))
+      let columns = λ (c : Owned ChallengeRow). challenge_columns (bare_row c) in
+      let key = challenge_layout.key in
+      let cs = challenge_rows T.authorizations in
+      let sorted = are ∙ whole challenge_layout columns challenge_in challenge_project challenge_spelled select_challenges challenges_reading
+      old new (sorted_by key cs) rows (challenges_held old.now T has) h in
+      subst (IsPermutation all) (sym (map-map challenge_columns bare_row cs)) (map_moved key columns cs all has.rising.challenges sorted)
 
-  -- `chall_key`
+  -- `chall_key`, by number
   pub keys_read : (all : List ChallKeyColumns) → Holds old.now T → Shown select_keys [] old new rows → all ≡ map key_in rows
-      → all ≡ map key_columns (key_rows (challenge_rows T.authorizations))
+      → IsPermutation all (map key_columns (key_rows (challenge_rows T.authorizations)))
   keys_read all has h are =
-      are
-      ∙ whole key_layout key_columns key_in key_project key_spelled select_keys keys_reading old new (key_rows (challenge_rows T.authorizations)) rows
-      (keys_held old.now T has) h
+      let cs = challenge_rows T.authorizations in
+      map_moved key_layout.key key_columns (key_rows cs) all (keys_apart cs has.rising.challenges)
+      (are ∙ whole key_layout key_columns key_in key_project key_spelled select_keys keys_reading old new (sorted_by key_layout.key (key_rows cs)) rows
+      (keys_held old.now T has) h)
 
   -- `ord_authz` is shown in some order
   pub listed_cells_shown : Holds old.now T → Shown select_listed [] old new rows → IsPermutation (map listed_cells (listed_rows T.orders)) rows

@@ -11,6 +11,5 @@ pub mod Reads
 pub mod Selecting
 pub mod Shown
 pub mod Spelled
-pub mod StoredBook
 pub mod Texts
 pub mod Under

@@ -35,7 +35,7 @@ module _ {S : Type 0} (g : Ghosts S) where
     pub challenges : IsShown select_challenges challenge_in conn stored.challs
     pub keys : IsShown select_keys key_in conn stored.chall_keys
 
--- the columns are those of these tables, in the order of their keys; what orders list is in any
+-- the columns are those of these tables, in the order of their keys; the children of orders and authorizations are in any
 pub record AreColumnsOf (stored : StoredRows) (T : Tables) : Type 0 where
   pub metas : stored.metas ≡ map meta_columns (T.meta ∷ [])
   pub nonces : stored.nonces ≡ map nonce_columns T.nonces
@@ -43,5 +43,5 @@ pub record AreColumnsOf (stored : StoredRows) (T : Tables) : Type 0 where
   pub orders : stored.orders ≡ map order_columns T.orders
   pub authorizations : stored.authzs ≡ map authorization_columns T.authorizations
   pub listed : IsPermutation stored.order_authzs (map listed_columns (listed_rows T.orders))
-  pub challenges : stored.challs ≡ map challenge_columns (map bare_row (challenge_rows T.authorizations))
-  pub keys : stored.chall_keys ≡ map key_columns (key_rows (challenge_rows T.authorizations))
+  pub challenges : IsPermutation stored.challs (map challenge_columns (map bare_row (challenge_rows T.authorizations)))
+  pub keys : IsPermutation stored.chall_keys (map key_columns (key_rows (challenge_rows T.authorizations)))

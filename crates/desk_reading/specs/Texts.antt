@@ -71,6 +71,11 @@ abbrev pub select_orders_past : List ℕ
 select_orders_past =
     codes "SELECT num, account, made, expires, finalized, csr, certified, cert, failed, problem, status FROM ord WHERE status = ?1 AND expires < ?2 ORDER BY num"
 
+-- orders of a status
+abbrev pub select_orders_processing : List ℕ
+select_orders_processing =
+    codes "SELECT num, account, made, expires, finalized, csr, certified, cert, failed, problem, status FROM ord WHERE status = ?1 ORDER BY num"
+
 -- authorizations of a number
 abbrev pub select_authorizations_numbered : List ℕ
 select_authorizations_numbered = codes "SELECT num, account, name, wildcard, made, expires, ended, end_kind, status FROM authz WHERE num = ?1 ORDER BY num"
@@ -100,6 +105,10 @@ select_listing = codes "SELECT ord, place, authz FROM ord_authz WHERE authz = ?1
 -- challenges of a number
 abbrev pub select_challenges_numbered : List ℕ
 select_challenges_numbered = codes "SELECT num, authz, kind, token, answered, reported, outcome, status FROM chall WHERE num = ?1 ORDER BY num"
+
+-- challenges of a status
+abbrev pub select_challenges_processing : List ℕ
+select_challenges_processing = codes "SELECT num, authz, kind, token, answered, reported, outcome, status FROM chall WHERE status = ?1 ORDER BY num"
 
 -- challenges of an authorization
 abbrev pub select_challenges_of : List ℕ

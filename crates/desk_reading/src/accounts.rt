@@ -6,7 +6,7 @@ ghost use Rattle.desk_parts.specs.Above.{accounts_above, first_of};
 ghost use Rattle.desk_parts.specs.LookUps.{accounts_numbered, accounts_with_key};
 ghost use Rattle.desk_schema.specs.Stays.{Asks};
 ghost use Rattle.desk_reading.specs.Held.{ForHeld};
-ghost use Rattle.desk_reading.specs.StoredBook.{IsStoredBook};
+ghost use Rattle.stored_rows.specs.IsBook.{IsStoredBook};
 
 use crate::fault::ReadFault;
 use crate::params::{number_param, text_param};

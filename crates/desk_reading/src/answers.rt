@@ -9,7 +9,7 @@ ghost use Rattle.desk_model.specs.declared.rows.ChallengeRow.{ChallengeRow as Ch
 ghost use Rattle.desk_schema.specs.Stays.{Asks};
 ghost use Rattle.desk_reading.specs.Held.{ForHeld};
 ghost use Rattle.desk_reading.specs.Keys.{HasItsKey, answered_as, keys_of};
-ghost use Rattle.desk_reading.specs.StoredBook.{IsStoredBook};
+ghost use Rattle.stored_rows.specs.IsBook.{IsStoredBook};
 
 use crate::fault::ReadFault;
 use crate::params::number_param;

@@ -4,21 +4,22 @@ ghost use Rattle.sqlite.specs.State.{HasCleanDisk, IsUnchanged};
 ghost use Rattle.sqlite.specs.Held.{state};
 ghost use Rattle.desk_columns.specs.Flat.{without_challenges};
 ghost use Rattle.desk_parts.specs.Above.{authorizations_above, challenges_above, first_of};
+ghost use Rattle.desk_parts.specs.LookUps.{AreNumbers, owners_processing};
 ghost use Rattle.desk_parts.specs.LookUps.{authorizations_named, authorizations_numbered, authorizations_of, authorizations_past, owners_of};
 ghost use Rattle.desk_schema.specs.Stays.{Asks};
 ghost use Rattle.desk_reading.specs.Held.{ForHeld};
-ghost use Rattle.desk_reading.specs.StoredBook.{IsStoredBook};
+ghost use Rattle.stored_rows.specs.IsBook.{IsStoredBook};
 ghost use Rattle.desk_reading.specs.Under.{HasItsChallenges};
 
 use crate::answers::with_answers;
 use crate::fault::ReadFault;
 use crate::owned::owners;
-use crate::params::{number_and_text, number_param, text_and_number};
+use crate::params::{number_and_text, number_param, text_and_number, text_param};
 use crate::parents::{Parent, find_owned, find_parents};
 use crate::rows::find_rows;
 use crate::tables::AUTHORIZATIONS;
 use desk_columns::{AuthzColumns, ChallColumns};
-use desk_model::{AuthorizationRow, AuthzStatus, ChallengeRow, Sequence};
+use desk_model::{AuthorizationRow, AuthzStatus, ChallengeRow, ChallengeStatus, Sequence};
 use sqlite::{Alter, Connection};
 use std::alloc::Global;
 
@@ -173,6 +174,30 @@ pub fn owners_of<S: Alter>(
         alloc,
         conn,
         "SELECT num, authz, kind, token, answered, reported, outcome, status FROM chall WHERE num = ?1 ORDER BY num",
+        &params,
+    )?;
+    owners(alloc, rows)
+}
+
+/// The numbers of the authorizations of challenges that are stored as waiting for the validator, in any order.
+///
+/// # Errors
+///
+/// The engine's, and `NotARow` where a row is not one of a desk; nothing is changed.
+pub fn owners_processing<S: Alter>(
+    alloc: Global,
+    conn: &mut Connection<S>,
+) -> Result<Vec<u64>, ReadFault>
+    ensures found { ForHeld (state S.Store conn.old) (state S.Store conn.new) (λ T. IsStoredBook T
+        → IfOk result (λ numbers. AreNumbers numbers.items (owners_processing T))) }
+    ensures unchanged { HasCleanDisk (state S.Store conn.new) → OnOk result (IsUnchanged (state S.Store conn.old) (state S.Store conn.new)) }
+    ensures asks { Asks (state S.Store conn.old) (state S.Store conn.new) }
+{
+    let params = text_param(ChallengeStatus::Processing.as_str());
+    let rows = find_rows::<S, ChallColumns>(
+        alloc,
+        conn,
+        "SELECT num, authz, kind, token, answered, reported, outcome, status FROM chall WHERE status = ?1 ORDER BY num",
         &params,
     )?;
     owners(alloc, rows)

@@ -8,7 +8,7 @@ ghost use Rattle.desk_schema.specs.Failing.{IsFailure};
 ghost use Rattle.desk_schema.specs.Stays.{Asks};
 ghost use Rattle.desk_reading.specs.Failures.{MayRead};
 ghost use Rattle.desk_reading.specs.First.{ForFirst};
-ghost use Rattle.desk_reading.specs.Format.{IsNewer, ShowsFormats};
+ghost use Rattle.desk_reading.specs.Format.{IsNewer, IsOfLaterFormat, ShowsFormats};
 ghost use Rattle.desk_reading.specs.Held.{ForHeld};
 
 use crate::query::all_rows;
@@ -53,6 +53,9 @@ pub fn is_newer<S: Alter>(conn: &mut Connection<S>) -> Result<bool, Error>
     ensures first { ForFirst (state S.Store conn.old) (state S.Store conn.new) (λ T. IfOk result (λ newer. newer ≡ false)) }
     ensures first_fails { ForFirst (state S.Store conn.old) (state S.Store conn.new) (λ T. MayRead (state S.Store conn.old) → IfErr result IsFailure) }
     ensures fails { ForHeld (state S.Store conn.old) (state S.Store conn.new) (λ T. MayRead (state S.Store conn.old) → IfErr result IsFailure) }
+    ensures later { HasCleanDisk (state S.Store conn.new) → IsOfLaterFormat (state S.Store conn.old).now → IfOk result IsTrue }
+    ensures later_fails { HasCleanDisk (state S.Store conn.new) → IsOfLaterFormat (state S.Store conn.old).now → MayRead (state S.Store conn.old)
+        → IfErr result IsFailure }
     ensures unchanged { HasCleanDisk (state S.Store conn.new) → OnOk result (IsUnchanged (state S.Store conn.old) (state S.Store conn.new)) }
     ensures asks { Asks (state S.Store conn.old) (state S.Store conn.new) }
 {

@@ -23,7 +23,7 @@ mod values;
 pub use accounts::{account_above, accounts_numbered, accounts_with_key, all_accounts};
 pub use authorizations::{
     all_authorizations, authorization_above, authorizations_named, authorizations_numbered,
-    authorizations_of, authorizations_past, challenge_above, owners_of,
+    authorizations_of, authorizations_past, challenge_above, owners_of, owners_processing,
 };
 pub use fault::ReadFault;
 pub use first::load_first;
@@ -32,5 +32,6 @@ pub use meta::meta_row;
 pub use nonces::{all_nonces, nonces_before, nonces_numbered};
 pub use orders::{
     all_orders, order_above, orders_listing, orders_numbered, orders_of, orders_past,
+    orders_processing,
 };
 pub use stored::load_stored;

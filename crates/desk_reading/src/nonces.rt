@@ -5,7 +5,7 @@ ghost use Rattle.sqlite.specs.Held.{state};
 ghost use Rattle.desk_parts.specs.LookUps.{nonces_before, nonces_numbered};
 ghost use Rattle.desk_schema.specs.Stays.{Asks};
 ghost use Rattle.desk_reading.specs.Held.{ForHeld};
-ghost use Rattle.desk_reading.specs.StoredBook.{IsStoredBook};
+ghost use Rattle.stored_rows.specs.IsBook.{IsStoredBook};
 
 use crate::fault::ReadFault;
 use crate::params::number_param;

@@ -4,15 +4,15 @@ ghost use Rattle.sqlite.specs.State.{HasCleanDisk, IsUnchanged};
 ghost use Rattle.sqlite.specs.Held.{state};
 ghost use Rattle.desk_columns.specs.Flat.{without_listed};
 ghost use Rattle.desk_parts.specs.Above.{first_of, orders_above};
-ghost use Rattle.desk_parts.specs.LookUps.{orders_listing, orders_numbered, orders_of, orders_past};
+ghost use Rattle.desk_parts.specs.LookUps.{orders_listing, orders_numbered, orders_of, orders_past, orders_processing};
 ghost use Rattle.desk_schema.specs.Stays.{Asks};
 ghost use Rattle.desk_reading.specs.Held.{ForHeld};
-ghost use Rattle.desk_reading.specs.StoredBook.{IsStoredBook};
+ghost use Rattle.stored_rows.specs.IsBook.{IsStoredBook};
 ghost use Rattle.desk_reading.specs.Under.{HasItsListed};
 
 use crate::fault::ReadFault;
 use crate::owned::owners;
-use crate::params::{number_param, text_and_number};
+use crate::params::{number_param, text_and_number, text_param};
 use crate::parents::{Parent, find_owned, find_parents};
 use crate::rows::find_rows;
 use crate::tables::ORDERS;
@@ -122,6 +122,29 @@ pub fn orders_past<S: Alter>(
         alloc,
         conn,
         "SELECT num, account, made, expires, finalized, csr, certified, cert, failed, problem, status FROM ord WHERE status = ?1 AND expires < ?2 ORDER BY num",
+        &params,
+    )
+}
+
+/// The orders that are stored as waiting for a certificate.
+///
+/// # Errors
+///
+/// The engine's, and `NotARow` where a row is not one of a desk; nothing is changed.
+pub fn orders_processing<S: Alter>(
+    alloc: Global,
+    conn: &mut Connection<S>,
+) -> Result<Vec<OrderRow>, ReadFault>
+    ensures found { ForHeld (state S.Store conn.old) (state S.Store conn.new) (λ T. IsStoredBook T
+        → IfOk result (λ rows. rows.items ≡ orders_processing T)) }
+    ensures unchanged { HasCleanDisk (state S.Store conn.new) → OnOk result (IsUnchanged (state S.Store conn.old) (state S.Store conn.new)) }
+    ensures asks { Asks (state S.Store conn.old) (state S.Store conn.new) }
+{
+    let params = text_param(OrderStatus::Processing.as_str());
+    find_parents::<S, OrderColumns, _>(
+        alloc,
+        conn,
+        "SELECT num, account, made, expires, finalized, csr, certified, cert, failed, problem, status FROM ord WHERE status = ?1 ORDER BY num",
         &params,
     )
 }

@@ -13,7 +13,7 @@ ghost use Rattle.desk_reading.specs.Bounded.{bounded};
 ghost use Rattle.desk_reading.specs.Heads.{ShowsHeads};
 ghost use Rattle.desk_reading.specs.Held.{ForHeld};
 ghost use Rattle.desk_reading.specs.Selecting.{IsQuery};
-ghost use Rattle.desk_reading.specs.StoredBook.{IsStoredBook};
+ghost use Rattle.stored_rows.specs.IsBook.{IsStoredBook};
 
 use crate::columns::Selected;
 use crate::fault::ReadFault;

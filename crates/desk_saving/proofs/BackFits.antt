@@ -1,16 +1,17 @@
--- Changes that keep children fit one after the other, where the children stand in order after all of them.
+-- Changes that keep children fit one after the other, where no two children are one after all of them.
 use Rattle.std.specs.Prelude.{IfSome, find, ◌==◌}
 use Rattle.std.proofs.Common.{◌≡◌, inl, inr, ℕ, ◌++◌, List, [], ◌∷◌, Option, Some, None, false, refl, sym, ap, subst, ◌∙◌, arith}
 use Rattle.std.proofs.lemmas.List.{append_assoc}
 use Rattle.sqlite.specs.Effect.{Database}
 use Rattle.desk_columns.specs.Flat.{challenge_rows, listed_rows, owned_by}
 use Rattle.desk_columns.specs.declared.flat_rows.Owned.{Owned}
+use Rattle.desk_laws.proofs.NewChildren.{kept_bring_new}
 use Rattle.desk_laws.proofs.RowLists.{ascends_filter, put_before, put_past}
+use Rattle.desk_laws.specs.Distinct.{Distinct}
 use Rattle.desk_laws.specs.News.{AreKept, KeepsChildren}
 use Rattle.desk_model.specs.Change.{applied, applied_one, put}
 use Rattle.desk_model.specs.Kept.{EachOf}
 use Rattle.desk_model.specs.Tables.{Tables}
-use Rattle.desk_model.specs.declared.rows.AuthorizationRow.{AuthorizationRow}
 use Rattle.desk_model.specs.declared.rows.Change.{Change}
 use Rattle.desk_model.specs.declared.rows.Change.TheVariants.{PutMeta, PutNonce, RemoveNonce, PutAccount, PutAuthorization, PutOrder}
 use Rattle.desk_model.specs.declared.rows.Listed.{Listed}
@@ -18,9 +19,8 @@ use Rattle.desk_model.specs.declared.rows.OrderRow.{OrderRow}
 use Rattle.desk_saving.specs.Fitting.{AreFit, InOrder, Saves}
 use Rattle.desk_saving.specs.Makes.{MakesAll}
 use Rattle.desk_saving.proofs.ListedAfter.{found_in}
-use Rattle.desk_saving.proofs.MadeChanges.{numbers_within}
-use Rattle.desk_saving.proofs.NestedRows.{children_put}
-use Rattle.desk_saving.proofs.Numbered.{find_here, find_later, puts_back}
+use Rattle.desk_saving.proofs.ChallengeNumbers.{numbers_differ, rows_differ}
+use Rattle.desk_saving.proofs.Numbered.{find_here, find_later}
 use Rattle.desk_tables.specs.Effects.{is_same_place}
 use Rattle.desk_tables.specs.Holds.{AreApart, AreRising}
 use Rattle.desk_tables.specs.Layouts.{IsRising, account_layout, authorization_layout, challenge_layout, nonce_layout, order_layout}
@@ -32,13 +32,13 @@ use Rattle.desk_tables.proofs.Keyed.{put_ascends, ranked}
 put_rises : {X : Type 0} (key : X → ℕ) (x : X) (xs : List X) → IsRising key xs → IsRising key (put key x xs)
 put_rises key x xs up = put_ascends key 0 x xs (omega arith) up
 
--- challenges rise before an authorization is put, where they do after
-challenges_back : (T : Tables) (x : AuthorizationRow) → KeepsChildren T (PutAuthorization x)
-    → IsRising challenge_layout.key (challenge_rows (put authorization_layout.key x T.authorizations))
-    → IsRising challenge_layout.key (challenge_rows T.authorizations)
-challenges_back T x kept up =
-    let is = children_put (λ a. a.number) (λ a. owned_by a.number a.challenges) challenge_layout.key 0 x T.authorizations (numbers_within T x kept) up in
-    puts_back challenge_layout.key 0 (owned_by x.number x.challenges) (challenge_rows T.authorizations) (subst (IsRising challenge_layout.key) (sym is) up)
+-- ---- challenges that differ
+
+-- they do before a change, where they do after
+challenges_back : (T : Tables) (c : Change) → KeepsChildren T c → Distinct challenge_layout.key (challenge_rows (applied_one c T).authorizations)
+    → Distinct challenge_layout.key (challenge_rows T.authorizations)
+challenges_back T c kept apart =
+    rows_differ T.authorizations (kept_bring_new (c ∷ []) T (kept, tt) (numbers_differ (applied_one c T).authorizations apart)).0
 
 -- ---- places that are apart
 
@@ -96,13 +96,13 @@ apart_back x os up kept apart = go (find (λ o. o.number == x.number) os) refl k
 
 -- ---- one change
 
--- children stand in order before a change, where they do after
+-- no two children are one before a change, where they are not after
 one_back : (T : Tables) (c : Change) → IsRising order_layout.key T.orders → KeepsChildren T c → InOrder (applied_one c T) → InOrder T
 one_back T (PutMeta x) up kept h = record { challenges = h.challenges; listed = h.listed }
 one_back T (PutNonce x) up kept h = record { challenges = h.challenges; listed = h.listed }
 one_back T (RemoveNonce n) up kept h = record { challenges = h.challenges; listed = h.listed }
 one_back T (PutAccount x) up kept h = record { challenges = h.challenges; listed = h.listed }
-one_back T (PutAuthorization x) up kept h = record { challenges = challenges_back T x kept h.challenges; listed = h.listed }
+one_back T (PutAuthorization x) up kept h = record { challenges = challenges_back T (PutAuthorization x) kept h.challenges; listed = h.listed }
 one_back T (PutOrder x) up kept h = record { challenges = h.challenges; listed = apart_back x T.orders up kept h.listed }
 
 -- orders rise after a change
@@ -114,7 +114,7 @@ orders_rise T (PutAccount x) up = up
 orders_rise T (PutAuthorization x) up = up
 orders_rise T (PutOrder x) up = put_rises order_layout.key x T.orders up
 
--- children stand in order before all changes
+-- nor before all changes
 all_back : (cs : List Change) (T : Tables) → IsRising order_layout.key T.orders → AreKept T cs → InOrder (applied cs T) → InOrder T
 all_back [] T up kept h = h
 all_back (c ∷ cs) T up kept h = one_back T c up kept.0 (all_back cs (applied_one c T) (orders_rise T c up) kept.1 h)

@@ -1,35 +1,23 @@
 -- The keys of answers, beside the challenges that they belong to.
 use Rattle.std.specs.Prelude.{filter_map, is_some, option_map, IsTrue}
 use Rattle.std.specs.List.{cons_option, flat_map}
-use Rattle.std.proofs.Common.{◌≡◌, inl, ℕ, ◌+◌, ◌++◌, List, [], ◌∷◌, map, Option, Some, None, refl, ap, ◌∙◌, arith}
+use Rattle.std.proofs.Common.{◌≡◌, inl, ℕ, ◌++◌, List, [], ◌∷◌, map, Option, Some, None, refl, ap, ◌∙◌}
 use Rattle.std.proofs.lemmas.List.Elements.{filter_map-append}
 use Rattle.desk_columns.specs.Flat.{answer_key, challenge_rows, key_rows, owned_by}
 use Rattle.desk_columns.specs.declared.flat_rows.AnswerKey.{AnswerKey}
 use Rattle.desk_columns.specs.declared.flat_rows.Owned.{Owned}
-use Rattle.desk_laws.proofs.RowLists.{ascends_from}
 use Rattle.desk_laws.specs.News.{KeepChallenges}
-use Rattle.desk_laws.specs.Ordered.{Ascends}
 use Rattle.desk_model.specs.Kept.{EachOf}
 use Rattle.desk_model.specs.declared.objects.Answer.{Answer}
 use Rattle.desk_model.specs.declared.rows.AuthorizationRow.{AuthorizationRow}
 use Rattle.desk_model.specs.declared.rows.ChallengeRow.{ChallengeRow}
 use Rattle.desk_saving.proofs.Numbered.{AreWithin, within_more}
-use Rattle.desk_tables.specs.Layouts.{challenge_layout, key_layout}
+use Rattle.desk_tables.specs.Layouts.{key_layout}
 use Rattle.written_rows.specs.Fits.{FitsChallenge, FitsKey}
 
 -- the key of an answer, where there is one
 abbrev key_of : ℕ → Option Answer → Option AnswerKey
 key_of n answer = option_map (λ a. record { challenge = n; thumb = a.thumb }) answer
-
--- they rise where the challenges do
-pub keys_rise : (n : ℕ) (rows : List (Owned ChallengeRow)) → Ascends challenge_layout.key n rows → Ascends key_layout.key n (key_rows rows)
-keys_rise n [] up = tt
-keys_rise n (c ∷ cs) up = by c.row.answered (keys_rise (c.row.number + 1) cs up.1)
-  where
-    by : (a : Option Answer) → Ascends key_layout.key (c.row.number + 1) (key_rows cs)
-        → Ascends key_layout.key n (cons_option (key_of c.row.number a) (key_rows cs))
-    by None rest = ascends_from key_layout.key n (c.row.number + 1) (key_rows cs) (omega (arith, up.0)) rest
-    by (Some a) rest = (up.0, rest)
 
 -- authorization by authorization
 pub keys_flat : (rows : List AuthorizationRow) → key_rows (challenge_rows rows) ≡ flat_map (λ a. key_rows (owned_by a.number a.challenges)) rows

@@ -1,3 +1,4 @@
+pub mod ChallengeNumbers
 pub mod Numbered
 pub mod NestedRows
 pub mod PlacedRows
@@ -6,7 +7,7 @@ mod ListedAfter
 pub mod RowsInTurn
 pub mod MadeChanges
 pub mod BackFits
-pub mod PicturesFit
+pub mod OrderedFit
 pub mod Leaving
 pub mod Exits
 mod Upgraded

@@ -1,45 +1,43 @@
 -- What each change makes of a desk's database.
 use Rattle.std.specs.Prelude.{IfSome, find, ◌==◌}
-use Rattle.std.proofs.Common.{◌≡◌, ℕ, List, [], ◌∷◌, map, Some, refl, sym, ap, subst, ◌∙◌}
+use Rattle.std.proofs.Common.{◌≡◌, ℕ, [], ◌∷◌, map, Some, sym, ap, subst, ◌∙◌}
 use Rattle.sqlite.specs.Effect.{Database}
 use Rattle.desk_columns.specs.Columns.{known_format}
 use Rattle.desk_columns.specs.Flat.{challenge_rows, key_rows, listed_rows, owned_by}
+use Rattle.desk_laws.specs.Distinct.{Distinct}
 use Rattle.desk_laws.specs.News.{KeepChallenges, KeepsChildren}
-use Rattle.desk_laws.specs.Ordered.{Ascends}
 use Rattle.desk_laws.specs.Placing.{puts}
 use Rattle.desk_model.specs.Change.{put}
 use Rattle.desk_model.specs.Tables.{Tables}
 use Rattle.desk_model.specs.declared.objects.Nonce.{Nonce}
 use Rattle.desk_model.specs.declared.rows.AccountRow.{AccountRow}
 use Rattle.desk_model.specs.declared.rows.AuthorizationRow.{AuthorizationRow}
-use Rattle.desk_model.specs.declared.rows.ChallengeRow.{ChallengeRow}
 use Rattle.desk_model.specs.declared.rows.Meta.{Meta}
 use Rattle.desk_model.specs.declared.rows.OrderRow.{OrderRow}
 use Rattle.desk_model.specs.declared.rows.Change.TheVariants.{PutMeta, PutNonce, RemoveNonce, PutAccount, PutAuthorization, PutOrder}
 use Rattle.desk_saving.specs.Makes.{Makes, PlacesAll, PutsAll, PutsChallenges}
-use Rattle.desk_saving.proofs.KeyRows.{keys_flat, keys_rise, keys_within}
+use Rattle.desk_saving.proofs.ChallengeNumbers.{keys_owned}
+use Rattle.desk_saving.proofs.KeyRows.{keys_flat, keys_within}
 use Rattle.desk_saving.proofs.ListedAfter.{listed_after}
 use Rattle.desk_saving.proofs.NestedRows.{children_put}
 use Rattle.desk_saving.proofs.Numbered.{AreWithin, within_same}
 use Rattle.desk_tables.specs.Effects.{Puts, Removes}
 use Rattle.desk_tables.specs.Holds.{HoldsListed}
 use Rattle.desk_tables.specs.Images.{challenge_image, key_image}
-use Rattle.desk_tables.specs.Layouts.{HasRows, IsRising, account_layout, authorization_layout, challenge_layout}
+use Rattle.desk_tables.specs.Layouts.{HasRows, account_layout, authorization_layout, challenge_layout}
 use Rattle.desk_tables.specs.Layouts.{formatted_layout, key_layout, listed_layout, nonce_layout, order_layout}
+use Rattle.desk_tables.specs.Sorted.{sorted_by}
 use Rattle.desk_tables.proofs.Holding.{accounts_held, authorizations_held, meta_held, nonces_held, orders_held}
+use Rattle.desk_tables.proofs.AnswerKeys.{keys_apart}
 use Rattle.desk_tables.proofs.MetaUpsert.{puts_known}
 use Rattle.desk_tables.proofs.NoIndexes.{no_index_account, no_index_authorization, no_index_challenge, no_index_key, no_index_listed}
 use Rattle.desk_tables.proofs.NoIndexes.{no_index_meta, no_index_nonce, no_index_order}
+use Rattle.desk_tables.proofs.Sorting.{sorted_rises}
 
 -- what orders list, in a table that is as it was
 listed_as : (old new : Database) (T : Tables) → new.trees 6 ≡ old.trees 6 → HoldsListed (old.trees 6) (listed_rows T.orders)
     → HoldsListed (new.trees 6) (listed_rows T.orders)
 listed_as old new T is h = record { numbered = h.numbered; has = is ∙ h.has; rising = h.rising; same = h.same }
-
--- the numbers of challenges, with or without their owner
-pub keys_owned : (n : ℕ) (cs : List ChallengeRow) → map challenge_layout.key (owned_by n cs) ≡ map (λ c. c.number) cs
-keys_owned n [] = refl
-keys_owned n (c ∷ cs) = ap (λ ks. c.number ∷ ks) (keys_owned n cs)
 
 -- ---- one row
 
@@ -133,16 +131,17 @@ numbers_within T x kept a found =
 
 -- the keys of answers that come take the places of those that are there
 keys_put : (T : Tables) (x : AuthorizationRow) → KeepsChildren T (PutAuthorization x)
-    → IsRising challenge_layout.key (challenge_rows (put authorization_layout.key x T.authorizations))
-    → puts key_layout.key (key_rows (owned_by x.number x.challenges)) (key_rows (challenge_rows T.authorizations))
-    ≡ key_rows (challenge_rows (put authorization_layout.key x T.authorizations))
-keys_put T x kept up =
+    → Distinct challenge_layout.key (challenge_rows (put authorization_layout.key x T.authorizations))
+    → puts key_layout.key (key_rows (owned_by x.number x.challenges)) (sorted_by key_layout.key (key_rows (challenge_rows T.authorizations)))
+    ≡ sorted_by key_layout.key (key_rows (challenge_rows (put authorization_layout.key x T.authorizations)))
+keys_put T x kept apart =
     let after = put authorization_layout.key x T.authorizations in
-    let rising = subst (Ascends key_layout.key 0) (keys_flat after) (keys_rise 0 (challenge_rows after) up) in
-    ap (puts key_layout.key (key_rows (owned_by x.number x.challenges))) (keys_flat T.authorizations)
-    ∙ children_put (λ a. a.number) (λ a. key_rows (owned_by a.number a.challenges)) key_layout.key 0 x T.authorizations
-    (λ a found. keys_within a.number x.number a.challenges x.challenges (stood_kept T x a kept found)) rising
-    ∙ sym (keys_flat after)
+    let own = key_rows (owned_by x.number x.challenges) in
+    let all = subst (Distinct key_layout.key) (keys_flat after) (keys_apart (challenge_rows after) apart) in
+    ap (λ ks. puts key_layout.key own (sorted_by key_layout.key ks)) (keys_flat T.authorizations)
+    ∙ children_put (λ a. a.number) (λ a. key_rows (owned_by a.number a.challenges)) key_layout.key x T.authorizations
+    (λ a found. keys_within a.number x.number a.challenges x.challenges (stood_kept T x a kept found)) all
+    ∙ sym (ap (sorted_by key_layout.key) (keys_flat after))
 
 -- an authorization, then its challenges, then the keys of their answers
 makes_three : (x : AuthorizationRow) (old mid late new : Database) → Puts authorization_layout x old mid
@@ -151,17 +150,20 @@ makes_three : (x : AuthorizationRow) (old mid late new : Database) → Puts auth
     → Makes (PutAuthorization x) old new
 makes_three x old mid late new first then last T has fits =
     let p = first T.authorizations (authorizations_held old T has) in
-    let between : HasRows challenge_layout mid (challenge_rows T.authorizations) =
-    record { schema = p.has.schema; rows_are = p.others 8 (λ e. cc) no_index_challenge ∙ has.challenges; rising = has.rising.challenges } in
-    let q = then p.sound (challenge_rows T.authorizations) between in
-    let behind : HasRows key_layout late (key_rows (challenge_rows T.authorizations)) =
+    let rows = challenge_rows T.authorizations in
+    let challenges = sorted_by challenge_layout.key rows in
+    let keys = sorted_by key_layout.key (key_rows rows) in
+    let between : HasRows challenge_layout mid challenges =
+    record { schema = p.has.schema; rows_are = p.others 8 (λ e. cc) no_index_challenge ∙ has.challenges; rising = sorted_rises challenge_layout.key rows } in
+    let q = then p.sound challenges between in
+    let behind : HasRows key_layout late keys =
     record {
       schema = q.has.schema;
       rows_are = q.others 17 (λ e. cc) no_index_key ∙ p.others 17 (λ e. cc) no_index_key ∙ has.keys;
-      rising = keys_rise 0 (challenge_rows T.authorizations) has.rising.challenges;
+      rising = sorted_rises key_layout.key (key_rows rows);
     } in
-    let r = last q.sound (key_rows (challenge_rows T.authorizations)) behind in
-    let children = children_put (λ a. a.number) (λ a. owned_by a.number a.challenges) challenge_layout.key 0 x T.authorizations
+    let r = last q.sound keys behind in
+    let children = children_put (λ a. a.number) (λ a. owned_by a.number a.challenges) challenge_layout.key x T.authorizations
     (numbers_within T x fits.children) fits.rising.challenges in
     record {
       sound = r.sound;

@@ -4,16 +4,16 @@ use Rattle.sqlite.specs.Effect.{Database}
 use Rattle.desk_columns.specs.Columns.{first_format, known_format}
 use Rattle.desk_columns.specs.Flat.{challenge_rows, key_rows}
 use Rattle.desk_columns.specs.declared.flat_rows.AnswerKey.{AnswerKey}
-use Rattle.desk_laws.proofs.RowLists.{puts_ascending}
 use Rattle.desk_laws.specs.Placing.{puts}
 use Rattle.desk_model.specs.declared.rows.Meta.{Meta}
 use Rattle.desk_schema.specs.Defined.{AddsKeyTable}
 use Rattle.desk_saving.specs.Upgrading.{Fills, Upgrades}
-use Rattle.desk_saving.proofs.KeyRows.{keys_rise}
 use Rattle.desk_tables.specs.Images.{formatted_image, key_image}
 use Rattle.desk_tables.specs.Layouts.{HasRows, formatted_layout, key_layout}
+use Rattle.desk_tables.proofs.AnswerKeys.{keys_apart}
 use Rattle.desk_tables.proofs.NoIndexes.{no_index_account, no_index_authorization, no_index_challenge, no_index_key, no_index_listed}
 use Rattle.desk_tables.proofs.NoIndexes.{no_index_meta, no_index_nonce, no_index_order}
+use Rattle.desk_tables.proofs.Sorting.{puts_sorted}
 
 -- the table that format 1 lacks, then its rows, then the row of `meta`
 pub upgrades : (meta : Meta) (keys : List AnswerKey) (old mid new : Database) → AddsKeyTable old mid → Fills meta keys mid new → Upgrades meta keys old new
@@ -26,7 +26,7 @@ upgrades meta keys old mid new adds fills T has same are =
     record { schema = q.has.schema; rows_are = q.others 0 (λ e. cc) no_index_meta ∙ k.kept.0 ∙ has.meta; rising = (omega arith, tt) } in
     let p = fills.2 ((first_format, T.meta) ∷ []) first in
     let all = key_rows (challenge_rows T.authorizations) in
-    let there = puts_ascending key_layout.key 0 all (keys_rise 0 (challenge_rows T.authorizations) has.rising.challenges) in
+    let there = puts_sorted key_layout.key all (keys_apart (challenge_rows T.authorizations) has.rising.challenges) in
     record {
       sound = p.sound;
       schema = p.has.schema;

@@ -1,10 +1,10 @@
 //! Which changes may be saved, and what a stop leaves.
 ghost use Rattle.desk_saving.specs.Committing.{LeftTablesAreFound};
-ghost use Rattle.desk_saving.specs.Fitting.{LeadingChangesFit};
+ghost use Rattle.desk_saving.specs.Fitting.{OrderedChangesFit};
 
-/// Changes that keep children and lead from the picture of one history to that of another may be saved.
-pub fn leading_changes_fit()
-    ensures { LeadingChangesFit }
+/// Changes that keep children may be saved where the tables with all of them stand by number.
+pub fn ordered_changes_fit()
+    ensures { OrderedChangesFit }
 {}
 
 /// The tables that a stop left are those that the next opening finds.

@@ -16,7 +16,7 @@ mod upserts;
 mod values;
 
 pub use fault::SaveFault;
-pub use laws::{leading_changes_fit, left_tables_are_found};
+pub use laws::{left_tables_are_found, ordered_changes_fit};
 pub use making::make_tables;
 pub use saving::save_all;
 pub use upgrading::upgrade_tables;

@@ -6,27 +6,25 @@ use Rattle.desk_model.specs.Tables.{Tables, picture}
 use Rattle.desk_model.specs.Change.{applied}
 use Rattle.desk_model.specs.declared.call.Call.{Call}
 use Rattle.desk_model.specs.declared.rows.Change.{Change}
-use Rattle.desk_laws.specs.News.{AreKept, AreNewChildren}
-use Rattle.desk_parts.specs.IsPart.{IsPartFor}
+use Rattle.desk_laws.specs.News.{AreKept}
+use Rattle.desk_parts.specs.IsEnough.{IsEnoughFor}
+use Rattle.stored_rows.specs.IsBook.{IsStoredBook}
 use Rattle.desk_storage.specs.Sight.{Sight, Keeps, Reads, Stands}
 use Rattle.desk_storage.specs.declared.fault.StorageFault.{StorageFault}
 use Rattle.desk_storage.specs.declared.fault.StorageFault.TheVariants as fault
 
--- the changes lead from the picture of a legal history to that of another: they keep the children of each row that they
--- replace, and the children of a new row stand nowhere yet
-pub record Leads (F G : History) (changes : List Change) : Type 0 where
-  pub before : Legal F
-  pub after : Legal G
-  pub kept : AreKept (picture F) changes
-  pub fresh : AreNewChildren (picture F) changes
-  pub makes : applied changes (picture F) ≡ picture G
+-- the changes fit these tables, one after the other: each row in the place of another keeps its children, and with all of them
+-- the tables are a book that a file can hold
+pub record Fit (T : Tables) (changes : List Change) : Type 0 where
+  pub kept : AreKept T changes
+  pub book : IsStoredBook (applied changes T)
 
 module _ {S C : Type 0} (v : Sight S C) where
   -- ---- a part for a call
 
-  -- the book is a part for the call, of whatever legal history's picture the store had
+  -- the book is enough for the call, a part of whatever legal history's picture the store had
   abbrev pub IsPartOf : Call → S → Tables → Type 0
-  IsPartOf call old book = (F : History) → Legal F → v.holds old (picture F) → IsPartFor call (picture F) book
+  IsPartOf call old book = (F : History) → Legal F → v.holds old (picture F) → IsEnoughFor call (picture F) book
 
   -- a part for the call was loaded, and nothing changed
   pub record Loads (call : Call) (old new : S) (result : Result Tables StorageFault) : Type 0 where
@@ -35,13 +33,13 @@ module _ {S C : Type 0} (v : Sight S C) where
 
   -- ---- changes
 
-  -- the store has the tables with the changes, and a stop leaves them alone
+  -- whatever tables the store had, where the changes fit them it has them with the changes, and a stop leaves these alone
   abbrev pub HasSaved : List Change → S → S → Type 0
-  HasSaved changes old new = (F G : History) → Leads F G changes → v.holds old (picture F) → Keeps v new (picture G)
+  HasSaved changes old new = (T : Tables) → Fit T changes → v.holds old T → Keeps v new (applied changes T)
 
-  -- the content has the tables with the changes
+  -- the content has the tables of the store with the changes, where they fit
   abbrev pub HasChanges : List Change → S → C → Type 0
-  HasChanges changes old c = (F G : History) → Leads F G changes → v.holds old (picture F) → v.has c (picture G)
+  HasChanges changes old c = (T : Tables) → Fit T changes → v.holds old T → v.has c (applied changes T)
 
   -- all changes were saved or, where memory was refused, none; after another fault a stop leaves all of them or none
   pub record Saves {R : Type 0} (changes : List Change) (old new : S) (result : Result R StorageFault) : Type 0 where

@@ -17,8 +17,8 @@ pub trait Storage {
     // What may be said of the store.
     ghost sight: { Sight Self Content };
 
-    // The faults that the store may meet.
-    ghost may_meet: { Fault → Type 0 };
+    // What is so of the store before and after a call that failed with this fault: what the fault comes from.
+    ghost causes: { Self → Self → Fault → Type 0 };
 
     /// The policy that the desk was made with.
     ///
@@ -28,18 +28,18 @@ pub trait Storage {
     fn policy(&mut self, alloc: Global) -> Result<Policy, StorageFault>
         ensures reads { Reads sight self.old self.new result }
         ensures found { ForTables sight self.old self.new (λ T. IfOk result (λ policy. policy ≡ T.meta.policy)) }
-        ensures met { IfErr result may_meet };
+        ensures caused { IfErr result (causes self.old self.new) };
 
-    /// A book of the rows that the call touches, and maybe more.
+    /// A book of rows that are enough for the call: it answers as all rows do.
     ///
     /// # Errors
     ///
     /// `Memory`: the store has what it had. `Device` or `Reopen`: it is to be opened again.
     fn load_part(&mut self, alloc: Global, call: &Call) -> Result<Book, StorageFault>
         ensures loads { Loads sight call.now self.old self.new result }
-        ensures met { IfErr result may_meet };
+        ensures caused { IfErr result (causes self.old self.new) };
 
-    /// Makes the changes, all of them or none.
+    /// Makes the changes in turn, all of them or none.
     ///
     /// # Errors
     ///
@@ -47,5 +47,5 @@ pub trait Storage {
     /// none.
     fn save(&mut self, alloc: Global, changes: Vec<Change>) -> Result<(), StorageFault>
         ensures saves { Saves sight changes.items self.old self.new result }
-        ensures met { IfErr result may_meet };
+        ensures caused { IfErr result (causes self.old self.new) };
 }

@@ -8,49 +8,48 @@ use Rattle.sqlite.specs.Store.{Ghosts}
 use Rattle.desk_columns.specs.Columns.{rows_columns}
 use Rattle.desk_columns.specs.Flat.{flat}
 use Rattle.desk_columns.specs.declared.columns.StoredRows.{StoredRows}
-use Rattle.desk_model.specs.History.{clock}
 use Rattle.desk_model.specs.Tables.{Tables}
-use Rattle.desk_reading.specs.Failures.{HasTexts, MayRead}
+use Rattle.desk_reading.specs.Failures.{MayRead}
 use Rattle.desk_reading.specs.Shown.{AreColumnsOf, AreShown}
 use Rattle.desk_reading.proofs.Loading.{reordered}
 use Rattle.desk_reading.proofs.ShownRows.{shown_before}
 use Rattle.desk_schema.specs.Names.{has_all_indexes}
-use Rattle.desk_reading.specs.StoredBook.{IsStoredBook}
 use Rattle.desk_storage.specs.declared.fault.StorageFault.TheVariants.{Memory}
-use Rattle.desk_store.specs.Desks.{HasDesk, IsDesk}
+use Rattle.desk_store.specs.Desks.{HasDesk, IsDesk, PicturesAreDesks}
 use Rattle.desk_store.specs.Making.{IsOfStorage}
 use Rattle.desk_store.specs.Opening.{IsWhole, ShowsBook}
 use Rattle.desk_store.specs.declared.open_fault.OpenFault.{OpenFault}
 use Rattle.desk_store.specs.declared.open_fault.OpenFault.TheVariants.{NotADesk, Storage}
 use Rattle.desk_tables.specs.Holds.{Holds}
-use Rattle.stored_rows.specs.IsBook.{IsBookOfStored}
-use Rattle.stored_laws.proofs.Books.{tables_book}
-use Rattle.stored_laws.proofs.Columns.{picture_told}
-use Rattle.stored_laws.proofs.FlatTexts.{tables_are_texts}
-use Rattle.stored_laws.proofs.Rows.{picture_stored}
+use Rattle.desk_laws.specs.Ordered.{IsOrdered}
+use Rattle.stored_rows.specs.IsBook.{IsBook, IsBookOfStored}
+use Rattle.stored_laws.proofs.Columns as columns
+use Rattle.stored_laws.proofs.FlatTexts.{picture_is_stored_book}
 use Rattle.stored_laws.specs.Told.{AreReorderedColumns, IsOnlyBookOf}
 
--- they are a book in the limits of the columns
-pub stored_book : (db : Database) (T : Tables) → IsDesk db T → IsStoredBook T
-stored_book db T desk =
-    subst IsStoredBook (sym desk.is_picture)
-    (record { book = tables_book desk.history desk.legal.each (clock desk.history); stored = picture_stored desk.history desk.legal })
+-- the tables of a legal history are a desk's
+pub pictures_are_desks : PicturesAreDesks
+pictures_are_desks db F legal holds = record { holds = holds; book = picture_is_stored_book F legal }
+
+-- a book stands by number
+pub book_ordered : (T : Tables) → IsBook T → IsOrdered T
+book_ordered T book = record {
+  nonces = (book.in_order.nonces, book.sound.counters.nonces);
+  accounts = (book.in_order.accounts, book.sound.counters.accounts);
+  authorizations = (book.in_order.authorizations, book.sound.counters.authorizations);
+  orders = (book.in_order.orders, book.sound.counters.orders);
+}
 
 -- a file that has their rows is their book and no other
 pub only_book : (db : Database) (T : Tables) → IsDesk db T → (stored : StoredRows) → AreReorderedColumns stored (rows_columns (flat T)) → IsOnlyBookOf stored T
 only_book db T desk stored told =
-    subst (IsOnlyBookOf stored) (sym desk.is_picture)
-    (picture_told desk.history desk.legal stored (subst (λ (U : Tables). AreReorderedColumns stored (rows_columns (flat U))) desk.is_picture told))
+    columns.book_told T desk.book.book desk.book.stored stored told
 
 -- the book that was made of the rows that were read
 pub book_told : {E : Type 0} (s : State) (stored : StoredRows) (made : Result Tables E) → IfOk made (λ book. IsBookOfStored stored book)
     → ((T : Tables) → Holds s.now T → AreColumnsOf stored T) → IfOk made (λ book. (T : Tables) → HasDesk s T → book ≡ T)
 book_told s stored (Ok book) is told = λ T has. (only_book s.now T has.desk stored (reordered stored T (told T has.desk.holds))).only book is
 book_told s stored (Err why) is told = tt
-
--- its texts are UTF-8
-pub desk_texts : (db : Database) (T : Tables) → IsDesk db T → HasTexts T
-desk_texts db T desk = subst HasTexts (sym desk.is_picture) (tables_are_texts desk.history desk.legal.each (clock desk.history))
 
 -- it may be read
 pub may_read : (s : State) (T : Tables) → HasDesk s T → MayRead s

@@ -170,7 +170,7 @@ module _ {S : Type 0} (g : Ghosts S) where
 -- the tables that were brought into today's format are the same desk
 pub second_desk : (db : Database) (old : State) (T : Tables) → HasFirst old T → Holds db T → IsDesk db T
 second_desk db old T has holds =
-    record { holds = holds; history = has.desk.history; legal = has.desk.legal; is_picture = has.desk.is_picture }
+    record { holds = holds; book = has.desk.book }
 
 -- and a store over them keeps them
 pub keeps_second : {S : Type 0} (g : Ghosts S) (old : State) (store : Store S) (T : Tables) → HasFirst old T → HasSecond (state g store.conn) T

@@ -7,11 +7,9 @@ use Rattle.sqlite.specs.State.{State}
 use Rattle.sqlite.specs.Store.{Ghosts}
 use Rattle.desk_columns.specs.Columns.{rows_columns}
 use Rattle.desk_columns.specs.Flat.{flat}
-use Rattle.desk_columns.specs.Limits.{AreStored}
 use Rattle.desk_columns.specs.declared.columns.StoredRows.{StoredRows}
-use Rattle.desk_model.specs.History.{clock}
 use Rattle.desk_model.specs.Tables.{Tables}
-use Rattle.desk_reading.specs.Failures.{HasTexts, MayRead}
+use Rattle.desk_reading.specs.Failures.{MayRead}
 use Rattle.desk_reading.specs.First.{AreFirstShown}
 use Rattle.desk_reading.specs.Shown.{AreColumnsOf}
 use Rattle.desk_reading.proofs.Loading.{reordered}
@@ -22,12 +20,9 @@ use Rattle.desk_store.specs.declared.open_fault.OpenFault.{OpenFault}
 use Rattle.desk_store.specs.declared.open_fault.OpenFault.TheVariants.{NotADesk, Storage}
 use Rattle.desk_tables.specs.Holds.{HoldsFirst}
 use Rattle.desk_upgrading.specs.FirstDesks.{HasFirst, IsFirstDesk}
-use Rattle.stored_rows.specs.IsBook.{IsBook, IsBookOfStored}
+use Rattle.stored_rows.specs.IsBook.{IsBookOfStored}
 use Rattle.stored_laws.proofs.BlankBooks.{blank_books}
-use Rattle.stored_laws.proofs.Books.{tables_book}
 use Rattle.stored_laws.proofs.Columns as columns
-use Rattle.stored_laws.proofs.FlatTexts.{tables_are_texts}
-use Rattle.stored_laws.proofs.Rows.{picture_stored}
 use Rattle.stored_laws.specs.Blank.{blank}
 use Rattle.stored_laws.specs.Told.{AreReorderedColumns, IsOnlyBookOf}
 
@@ -35,13 +30,7 @@ use Rattle.stored_laws.specs.Told.{AreReorderedColumns, IsOnlyBookOf}
 pub only_blank : (db : Database) (T : Tables) → IsFirstDesk db T → (stored : StoredRows) → AreReorderedColumns stored (rows_columns (flat (blank T)))
     → IsOnlyBookOf stored (blank T)
 only_blank db T desk stored told =
-    let book : IsBook T = subst IsBook (sym desk.is_picture) (tables_book desk.history desk.legal.each (clock desk.history)) in
-    let limits : AreStored (flat T) = subst (λ (U : Tables). AreStored (flat U)) (sym desk.is_picture) (picture_stored desk.history desk.legal) in
-    columns.book_told (blank T) (blank_books.book T book) (blank_books.stored T limits) stored told
-
--- its texts are UTF-8
-pub first_texts : (db : Database) (T : Tables) → IsFirstDesk db T → HasTexts T
-first_texts db T desk = subst HasTexts (sym desk.is_picture) (tables_are_texts desk.history desk.legal.each (clock desk.history))
+    columns.book_told (blank T) (blank_books.book T desk.book.book) (blank_books.stored T desk.book.stored) stored told
 
 -- it may be read
 pub first_may_read : (s : State) (T : Tables) → HasFirst s T → MayRead s

@@ -1,5 +1,6 @@
 pub mod Books
 pub mod EitherFormat
+pub mod Failing
 pub mod FirstBooks
 pub mod NewDesks
 pub mod OpeningFaults

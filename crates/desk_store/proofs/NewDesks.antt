@@ -12,6 +12,7 @@ use Rattle.desk_saving.specs.Committing.{HasCommitted, IsLeft}
 use Rattle.desk_saving.specs.Making.{MakesDesk, tables_of}
 use Rattle.desk_schema.specs.Schema.{no_schema}
 use Rattle.desk_tables.specs.Holds.{Holds}
+use Rattle.stored_laws.proofs.FlatTexts.{picture_is_stored_book}
 use Rattle.desk_store.specs.Desks.{IsDesk}
 use Rattle.desk_store.specs.Making.{IsNewDesk, Makes}
 
@@ -23,7 +24,7 @@ module _ (policy : Terms) (at : ℕ) (book : Tables) (is : book ≡ picture (fir
   -- a database that was made is a desk
   new_desk : (old new : Database) → MakesDesk book.meta old new → old.schema ≡ no_schema → IsDesk new (picture (first_history policy at))
   new_desk old new makes none =
-      record { holds = subst (Holds new) alone (makes none); history = first_history policy at; legal = legal; is_picture = refl }
+      record { holds = subst (Holds new) alone (makes none); book = picture_is_stored_book (first_history policy at) legal }
 
   -- what a stop in the commit leaves
   pub desk_left : (old : State) (trees : Trees) → IsLeft (MakesDesk book.meta old.now) trees → IsNewDesk policy at old trees

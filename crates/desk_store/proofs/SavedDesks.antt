@@ -7,30 +7,33 @@ use Rattle.sqlite.specs.State.{State, HasCleanDisk, IsUnchanged, Survives}
 use Rattle.sqlite.specs.Store.{Ghosts}
 use Rattle.sqlite.specs.Tree.{Trees}
 use Rattle.sqlite.proofs.StateLemmas.{survives_then}
-use Rattle.desk_model.specs.Entry.{History}
-use Rattle.desk_model.specs.Tables.{picture}
+use Rattle.desk_model.specs.Change.{applied}
+use Rattle.desk_model.specs.Tables.{Tables}
 use Rattle.desk_model.specs.declared.rows.Change.{Change}
 use Rattle.desk_saving.specs.Committing.{GoesBack, HasCommitted, IsBeforeCommit, IsLeft}
 use Rattle.desk_saving.specs.declared.fault.SaveFault.{SaveFault}
 use Rattle.desk_schema.specs.Stays.{Asks}
-use Rattle.desk_saving.specs.Fitting.{Saves as Puts}
-use Rattle.desk_saving.proofs.PicturesFit.{leading_fit}
-use Rattle.desk_storage.specs.Storing.{HasChanges, HasSaved, Leads, Saves}
+use Rattle.desk_saving.specs.Fitting.{FitAfter, Saves as Puts}
+use Rattle.desk_saving.proofs.OrderedFit.{ordered_fit}
+use Rattle.desk_storage.specs.Storing.{Fit, HasChanges, HasSaved, Saves}
 use Rattle.desk_storage.specs.declared.fault.StorageFault.{StorageFault}
 use Rattle.desk_storage.specs.declared.fault.StorageFault.TheVariants as fault
 use Rattle.desk_store.proofs.Standing.{desk_back, desk_unchanged, failed, honest_by, stands_by}
 use Rattle.desk_store.specs.Desks.{IsDesk, sight_by}
 use Rattle.desk_tables.specs.Holds.{Holds}
 
--- a database with the changes is a desk with the longer history's picture
-desk_after : (F G : History) (changes : List Change) (old new : Database) → Leads F G changes → IsDesk old (picture F)
-    → Puts changes old new → IsDesk new (picture G)
-desk_after F G changes old new leads was puts = record {
-  holds = subst (Holds new) leads.makes (puts (picture F) was.holds (leading_fit F G changes leads.kept leads.makes));
-  history = G;
-  legal = leads.after;
-  is_picture = refl;
-}
+-- the changes may be saved
+may_save : (T : Tables) (changes : List Change) → Fit T changes → FitAfter T changes
+may_save T changes fit = ordered_fit T changes fit.kept (record {
+  orders = fit.book.book.in_order.orders;
+  places = fit.book.book.in_order.places;
+  challenges = fit.book.book.sound.distinct.challenges;
+})
+
+-- a database with the changes is a desk with the tables after them
+desk_after : (T : Tables) (changes : List Change) (old new : Database) → Fit T changes → IsDesk old T → Puts changes old new
+    → IsDesk new (applied changes T)
+desk_after T changes old new fit was puts = record { holds = puts T was.holds (may_save T changes fit); book = fit.book }
 
 -- a call that was answered
 abbrev done : Result (Unit {0}) StorageFault
@@ -40,21 +43,21 @@ module _ {S X : Type 0} (g : Ghosts S) (conn : X → Held S) where
   -- what a stop may leave of the commit has the changes
   pub changes_left : (changes : List Change) (old : X) (c : Trees) → IsLeft (Puts changes (state g (conn old)).now) c
       → HasChanges (sight_by g conn) changes old c
-  changes_left changes old c left F G leads has = (left.0, left.1, desk_after F G changes (state g (conn old)).now left.0 leads has.desk left.2)
+  changes_left changes old c left T fit has = (left.0, left.1, desk_after T changes (state g (conn old)).now left.0 fit has.desk left.2)
 
   -- what was committed has the changes
   pub saved_by : (changes : List Change) (old new : X) → (state g (conn new)).in_transaction ≡ false
       → (state g (conn new)).step_limit ≡ (state g (conn old)).step_limit
       → HasCommitted (state g (conn old)) (state g (conn new)) (Puts changes) → HasSaved (sight_by g conn) changes old new
-  saved_by changes old new idle limit it F G leads has =
-      let desk = desk_after F G changes (state g (conn old)).now (state g (conn new)).committed leads has.desk it.does in
+  saved_by changes old new idle limit it T fit has =
+      let desk = desk_after T changes (state g (conn old)).now (state g (conn new)).committed fit has.desk it.does in
       record {
         tables = record {
           is_open = it.is_open;
           idle = idle;
           unlimited = limit ∙ has.unlimited;
           settled = it.settled;
-          desk = subst (λ db. IsDesk db (picture G)) (sym it.settled) desk;
+          desk = subst (λ db. IsDesk db (applied changes T)) (sym it.settled) desk;
         };
         left = λ c may. ((state g (conn new)).committed, it.left c may, desk);
       }

@@ -7,7 +7,7 @@ use Rattle.sqlite.specs.Store.{Ghosts}
 use Rattle.sqlite.specs.Tree.{Trees}
 use Rattle.desk_model.specs.Tables.{Tables}
 use Rattle.desk_reading.specs.Held.{ForHeld}
-use Rattle.desk_reading.specs.StoredBook.{IsStoredBook}
+use Rattle.stored_rows.specs.IsBook.{IsStoredBook}
 use Rattle.desk_saving.specs.Committing.{GoesBack}
 use Rattle.desk_schema.specs.Stays.{Asks, Stays}
 use Rattle.desk_storage.specs.Sight.{Reads, Stands}
@@ -15,7 +15,6 @@ use Rattle.desk_storage.specs.declared.fault.StorageFault.{StorageFault}
 use Rattle.desk_storage.specs.declared.fault.StorageFault.TheVariants as fault
 use Rattle.desk_schema.proofs.StaysLemmas.{asks_then}
 use Rattle.desk_store.specs.Desks.{HasDesk, IsDesk, sight_by}
-use Rattle.desk_store.proofs.Books.{stored_book}
 
 -- ---- states
 
@@ -119,5 +118,5 @@ pub hands_on : {R E : Type 0} (P : Tables → R → Type 0) (old mid new : State
     → ForHeld old mid (λ T. IsStoredBook T → IfOk read (P T)) → IfOk result (λ found. read ≡ Ok found) → (HasCleanDisk new → HasCleanDisk mid)
     → HasCleanDisk new → (T : Tables) → HasDesk old T → IfOk result (P T)
 hands_on P old mid new read (Ok found) of same honest clean T has =
-    subst (λ r. IfOk r (P T)) same (of (honest clean) T has.desk.holds (stored_book _ T has.desk))
+    subst (λ r. IfOk r (P T)) same (of (honest clean) T has.desk.holds has.desk.book)
 hands_on P old mid new read (Err why) of same honest clean T has = tt

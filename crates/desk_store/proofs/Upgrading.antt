@@ -30,10 +30,5 @@ desk_left_by old mid B trees limit same book left T has =
     let there = first_unchanged old mid T limit same has in (
       left.0,
       left.1,
-      record {
-        holds = left.2 T there.desk (same_blank T B (book T has));
-        history = there.desk.history;
-        legal = there.desk.legal;
-        is_picture = there.desk.is_picture;
-      },
+      record { holds = left.2 T there.desk (same_blank T B (book T has)); book = there.desk.book },
     )

@@ -1,10 +1,13 @@
 -- Which fault an error of the engine is.
 use Rattle.std.specs.Prelude.{◌≡◌, ◌⊎◌}
+use Rattle.sqlite.specs.State.{State, HasCleanDisk}
+use Rattle.sqlite.specs.Tree.{Trees}
 use Rattle.sqlite.specs.declared.error.Error.{Error}
 use Rattle.sqlite.specs.declared.error.Error.TheVariants.{SqliteFailure}
 use Rattle.sqlite.specs.declared.error.ErrorCode.TheVariants as code
 use Rattle.desk_reading.specs.declared.fault.ReadFault.{ReadFault}
 use Rattle.desk_reading.specs.declared.fault.ReadFault.TheVariants.{Engine, NotARow}
+use Rattle.desk_saving.specs.Committing.{IsBeforeCommit}
 use Rattle.desk_saving.specs.declared.fault.SaveFault.{SaveFault}
 use Rattle.desk_saving.specs.declared.fault.SaveFault.TheVariants.{Row, Statement, Commit}
 use Rattle.desk_storage.specs.declared.fault.StorageFault.{StorageFault}
@@ -51,7 +54,24 @@ abbrev pub IsOfReading : ReadFault → StorageFault → Type 0
 IsOfReading (Engine error) f = IsOfStatement (cause_of error) f
 IsOfReading NotARow f = f ≡ fault.Device
 
--- the fault of a reading that failed in opening
+-- ---- what a call that failed left
+
+-- nothing was written: a stop leaves nothing that it did not leave before
+pub record LeavesNothing (old new : State) : Type 0 where
+  pub honest : HasCleanDisk new → HasCleanDisk old
+  pub left : HasCleanDisk new → (trees : Trees) → new.may_leave trees → old.may_leave trees
+
+-- a save failed by this refusal, of which the fault comes; only a commit may have written
+pub record FailedToSave (old new : State) (why : StorageFault) : Type 0 where
+  pub refusal : SaveFault
+  pub fault : IsOfSave refusal why
+  pub before : IsBeforeCommit refusal → LeavesNothing old new
+
+-- a call of the store failed: it wrote nothing, or it was to save
+abbrev pub Failed : State → State → StorageFault → Type 0
+Failed old new why = LeavesNothing old new ⊎ FailedToSave old new why
+
+-- the fault of a reading that failed in opening: of memory, the disk or a size it is the store's, else there is no desk
 abbrev pub IsOfOpening : Cause → OpenFault → Type 0
 IsOfOpening cause.Memory f = (f ≡ Storage fault.Memory) ⊎ (f ≡ Storage fault.Reopen)
 IsOfOpening cause.Device f = f ≡ Storage fault.Device

@@ -11,13 +11,16 @@ use Rattle.desk_model.specs.Tables.{Tables, picture}
 use Rattle.desk_storage.specs.Sight.{Sight}
 use Rattle.desk_store.specs.declared.store.Store.{Store}
 use Rattle.desk_tables.specs.Holds.{Holds}
+use Rattle.stored_rows.specs.IsBook.{IsStoredBook}
 
--- the database holds these tables, and they are the picture of a legal history
+-- the database holds these tables, and they are a book that a file can hold, whatever statuses its rows store
 pub record IsDesk (db : Database) (T : Tables) : Type 0 where
   pub holds : Holds db T
-  pub history : History
-  pub legal : Legal history
-  pub is_picture : T ≡ picture history
+  pub book : IsStoredBook T
+
+-- so are the tables of a legal history
+abbrev pub PicturesAreDesks : Type 0
+PicturesAreDesks = (db : Database) (F : History) → Legal F → Holds db (picture F) → IsDesk db (picture F)
 
 -- between transactions an open connection without a limit on steps has these tables
 pub record HasDesk (s : State) (T : Tables) : Type 0 where

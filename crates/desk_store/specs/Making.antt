@@ -7,6 +7,7 @@ use Rattle.desk_model.specs.Terms.{Terms}
 use Rattle.desk_model.specs.Tables.{picture}
 use Rattle.desk_schema.specs.Schema.{no_schema}
 use Rattle.desk_storage.specs.declared.fault.StorageFault.{StorageFault}
+use Rattle.desk_store.specs.Causes.{FailedToSave}
 use Rattle.desk_store.specs.Desks.{AreOfDesk, HasDesk}
 use Rattle.desk_store.specs.declared.open_fault.OpenFault.{OpenFault}
 use Rattle.desk_store.specs.declared.open_fault.OpenFault.TheVariants.{Storage}
@@ -23,6 +24,10 @@ pub record IsMade (policy : Terms) (at : ℕ) (new : State) : Type 0 where
 -- where there was nothing and no limit on steps, there is the new desk
 abbrev pub Makes : Terms → ℕ → State → State → Type 0
 Makes policy at old new = old.now.schema ≡ no_schema → old.step_limit ≡ None → IsMade policy at new
+
+-- a making failed: its one transaction was not saved
+abbrev pub FailedToMake : State → State → OpenFault → Type 0
+FailedToMake old new f = (why : StorageFault) × (f ≡ Storage why) × FailedToSave old new why
 
 -- the store failed
 abbrev pub IsOfStorage : OpenFault → Type 0

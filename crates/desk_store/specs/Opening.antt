@@ -7,10 +7,14 @@ use Rattle.sqlite.specs.Tree.{Trees}
 use Rattle.desk_columns.specs.declared.columns.StoredRows.{StoredRows}
 use Rattle.desk_model.specs.Tables.{Tables}
 use Rattle.desk_reading.specs.First.{AreFirstShown}
-use Rattle.desk_reading.specs.Format.{IsNewer, ShowsFormats}
+use Rattle.desk_reading.specs.Failures.{MayRead}
+use Rattle.desk_reading.specs.Format.{IsNewer, IsOfLaterFormat, ShowsFormats}
 use Rattle.desk_reading.specs.Shown.{AreShown}
 use Rattle.desk_schema.specs.Names.{has_all_indexes, uses_key_table}
+use Rattle.desk_store.specs.Causes.{Failed, LeavesNothing}
 use Rattle.desk_store.specs.Desks.{AreOfDesk}
+use Rattle.desk_store.specs.declared.open_fault.OpenFault.{OpenFault}
+use Rattle.desk_store.specs.declared.open_fault.OpenFault.TheVariants.{NewerFormat, NotADesk, Storage}
 use Rattle.desk_upgrading.specs.FirstDesks.{HasFirst}
 use Rattle.stored_rows.specs.IsBook.{IsBookOfStored}
 
@@ -46,6 +50,17 @@ module _ {S : Type 0} (g : Ghosts S) where
   -- it showed anything else
   abbrev pub ShowsKnownFormat : Held S → Type 0
   ShowsKnownFormat conn = (after : Held S) × ShowsFormats (state g conn) (state g after) (λ rows. ¬ IsNewer rows)
+
+-- an open connection without a limit on steps has the tables of a desk and one row of `meta`, of a later format
+pub record HasLaterFormat (s : State) : Type 0 where
+  pub may_read : MayRead s
+  pub later : IsOfLaterFormat s.now
+
+-- an opening failed: the store failed, or it wrote nothing
+abbrev pub FailedToOpen : State → State → OpenFault → Type 0
+FailedToOpen old new (Storage why) = Failed old new why
+FailedToOpen old new NotADesk = LeavesNothing old new
+FailedToOpen old new NewerFormat = LeavesNothing old new
 
 -- of a database without the table of keys: whatever desk the connection had in format 1, the trees are those of the same desk in today's format
 pub record IsUpgraded (old : State) (trees : Trees) : Type 0 where

@@ -94,6 +94,11 @@ impl<S: Alter> LookUps for Store<S> {
         self.told(read)
     }
 
+    fn orders_processing(&mut self, alloc: Global) -> Result<Vec<OrderRow>, StorageFault> {
+        let read = rows::orders_processing(alloc, &mut self.conn);
+        self.told(read)
+    }
+
     fn authorizations_numbered(
         &mut self,
         alloc: Global,
@@ -143,6 +148,11 @@ impl<S: Alter> LookUps for Store<S> {
 
     fn owners_of(&mut self, alloc: Global, challenge: u64) -> Result<Vec<u64>, StorageFault> {
         let read = rows::owners_of(alloc, &mut self.conn, challenge);
+        self.told(read)
+    }
+
+    fn owners_processing(&mut self, alloc: Global) -> Result<Vec<u64>, StorageFault> {
+        let read = rows::owners_processing(alloc, &mut self.conn);
         self.told(read)
     }
 }

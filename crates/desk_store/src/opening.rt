@@ -1,5 +1,5 @@
 //! The opening of a desk.
-ghost use Rattle.std.specs.Prelude.{◌≡◌, ◌≢◌, ◌⊎◌, Err, IfErr, IfOk, IsTrue, OnErr, OnOk, false};
+ghost use Rattle.std.specs.Prelude.{◌≡◌, ◌≢◌, ◌⊎◌, Err, IfErr, IfOk, IsTrue, MatchResult, OnErr, OnOk, false};
 ghost use Rattle.sqlite.specs.State.{HasCleanDisk, IsUnchanged, Survives};
 ghost use Rattle.sqlite.specs.Held.{state};
 ghost use Rattle.desk_model.specs.Tables.{Tables};
@@ -8,10 +8,10 @@ ghost use Rattle.desk_saving.specs.Committing.{GoesBack, IsLeft};
 ghost use Rattle.desk_schema.specs.Names.{uses_key_table};
 ghost use Rattle.desk_schema.specs.Stays.{Asks};
 ghost use Rattle.desk_storage.specs.declared.fault.StorageFault.TheVariants.{Memory as memory};
-ghost use Rattle.desk_store.specs.Causes.{IsOfOpening, cause_of};
+ghost use Rattle.desk_store.specs.Causes.{FailedToSave, IsOfOpening, cause_of};
 ghost use Rattle.desk_store.specs.Desks.{AreOfDesk, HasDesk};
 ghost use Rattle.desk_store.specs.Making.{IsOfStorage};
-ghost use Rattle.desk_store.specs.Opening.{IsUpgraded, IsWhole, IsWholeFirst, ShowsBook, ShowsFirstBook, ShowsKnownFormat, ShowsNewerFormat};
+ghost use Rattle.desk_store.specs.Opening.{FailedToOpen, HasLaterFormat, IsUpgraded, IsWhole, IsWholeFirst, ShowsBook, ShowsFirstBook, ShowsKnownFormat, ShowsNewerFormat};
 ghost use Rattle.desk_store.specs.declared.open_fault.OpenFault.TheVariants.{NewerFormat as newer_format, NotADesk as not_a_desk, Storage as of_storage};
 ghost use Rattle.desk_upgrading.specs.FirstDesks.{BringsDesk, HasFirst, HasSecond, UpgradesDesk};
 ghost use Rattle.stored_laws.specs.Blank.{blank};
@@ -50,6 +50,8 @@ fn check_format<S: Alter>(conn: &mut Connection<S>) -> Result<(), OpenFault>
     ensures unchanged { HasCleanDisk (state S.Store conn.new) → OnOk result (IsUnchanged (state S.Store conn.old) (state S.Store conn.new)) }
     ensures desk { HasCleanDisk (state S.Store conn.new) → IfErr result (λ why. (T : Tables) → HasDesk (state S.Store conn.old) T → IsOfStorage why) }
     ensures first { HasCleanDisk (state S.Store conn.new) → IfErr result (λ why. (T : Tables) → HasFirst (state S.Store conn.old) T → IsOfStorage why) }
+    ensures later { HasCleanDisk (state S.Store conn.new) → HasLaterFormat (state S.Store conn.old)
+        → MatchResult result (λ _. ⊥) (λ why. (why ≡ newer_format) ⊎ IsOfStorage why) }
     ensures answering { HasCleanDisk (state S.Store conn.new) → result ≡ Err (of_storage memory) → IsTrue (state S.Store conn.new).is_open }
     ensures asks { Asks (state S.Store conn.old) (state S.Store conn.new) }
 {
@@ -129,6 +131,7 @@ fn upgrade_book<S: Alter>(
     ensures brings { HasCleanDisk (state S.Store conn.new) → OnOk result (BringsDesk book (state S.Store conn.old) (state S.Store conn.new)) }
     ensures back { (state S.Store conn.old).now ≡ (state S.Store conn.old).committed → HasCleanDisk (state S.Store conn.new)
         → OnErr result (GoesBack (state S.Store conn.old) (state S.Store conn.new)) }
+    ensures failed { IfErr result (FailedToSave (state S.Store conn.old) (state S.Store conn.new)) }
     ensures answering { HasCleanDisk (state S.Store conn.new) → result ≡ Err memory → IsTrue (state S.Store conn.new).is_open }
     ensures left { Survives (state S.Store conn.old) (state S.Store conn.new) (IsLeft (UpgradesDesk book (state S.Store conn.old).now)) }
     ensures spared { result ≡ Err memory → Survives (state S.Store conn.old) (state S.Store conn.new) (λ _. ⊥) }
@@ -157,6 +160,7 @@ fn upgrade_desk<S: Alter>(alloc: Global, conn: &mut Connection<S>) -> Result<(),
         → AreOfDesk trees T) }
     ensures spared { result ≡ Err (of_storage memory) → Survives (state S.Store conn.old) (state S.Store conn.new) (λ _. ⊥) }
     ensures desk { HasCleanDisk (state S.Store conn.new) → IfErr result (λ why. (T : Tables) → HasFirst (state S.Store conn.old) T → IsOfStorage why) }
+    ensures failed { IfErr result (FailedToOpen (state S.Store conn.old) (state S.Store conn.new)) }
     ensures answering { HasCleanDisk (state S.Store conn.new) → result ≡ Err (of_storage memory) → IsTrue (state S.Store conn.new).is_open }
 {
     match read_first(alloc, conn) {
@@ -207,6 +211,7 @@ fn open_known<S: Alter>(alloc: Global, conn: &mut Connection<S>) -> Result<(), O
         → OnOk result (uses_key_table (state S.Store conn.old).now.schema ≡ false → IsWholeFirst S.Store conn.old) }
     ensures desk { HasCleanDisk (state S.Store conn.new) → IfErr result (λ why. (T : Tables) → HasDesk (state S.Store conn.old) T → IsOfStorage why) }
     ensures first { HasCleanDisk (state S.Store conn.new) → IfErr result (λ why. (T : Tables) → HasFirst (state S.Store conn.old) T → IsOfStorage why) }
+    ensures failed { IfErr result (FailedToOpen (state S.Store conn.old) (state S.Store conn.new)) }
     ensures answering { HasCleanDisk (state S.Store conn.new) → result ≡ Err (of_storage memory) → IsTrue (state S.Store conn.new).is_open }
 {
     if !has_indexes(conn.schema()) {
@@ -247,6 +252,9 @@ pub(crate) fn open_desk<S: Alter>(alloc: Global, conn: &mut Connection<S>) -> Re
         → OnOk result (uses_key_table (state S.Store conn.old).now.schema ≡ false → IsWholeFirst S.Store conn.old) }
     ensures desk { HasCleanDisk (state S.Store conn.new) → IfErr result (λ why. (T : Tables) → HasDesk (state S.Store conn.old) T → IsOfStorage why) }
     ensures first { HasCleanDisk (state S.Store conn.new) → IfErr result (λ why. (T : Tables) → HasFirst (state S.Store conn.old) T → IsOfStorage why) }
+    ensures later { HasCleanDisk (state S.Store conn.new) → HasLaterFormat (state S.Store conn.old)
+        → MatchResult result (λ _. ⊥) (λ why. (why ≡ newer_format) ⊎ IsOfStorage why) }
+    ensures failed { IfErr result (FailedToOpen (state S.Store conn.old) (state S.Store conn.new)) }
     ensures answering { HasCleanDisk (state S.Store conn.new) → result ≡ Err (of_storage memory) → IsTrue (state S.Store conn.new).is_open }
 {
     match check_format(conn) {

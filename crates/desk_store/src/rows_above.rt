@@ -39,4 +39,6 @@ impl<S: Alter> RowsAbove for Store<S> {
         let read = rows::challenge_above(alloc, &mut self.conn, number);
         self.told(read)
     }
+
+    ghost books = { λ store T has. has.desk.book.book };
 }

@@ -8,22 +8,24 @@ ghost use Rattle.desk_saving.specs.Committing.{GoesBack};
 ghost use Rattle.desk_schema.specs.Names.{uses_key_table, uses_names};
 ghost use Rattle.desk_schema.specs.Stays.{Asks};
 ghost use Rattle.desk_storage.specs.Sight.{ForTables, Keeps, Reads};
-ghost use Rattle.desk_storage.specs.Storing.{Loads};
+ghost use Rattle.desk_storage.specs.Storing.{Loads, Saves};
 ghost use Rattle.desk_storage.specs.declared.fault.StorageFault.TheVariants.{Memory as memory};
+ghost use Rattle.desk_store.specs.Causes.{Failed, FailedToSave};
 ghost use Rattle.desk_store.specs.Desks.{HasDesk, store_sight};
-ghost use Rattle.desk_store.specs.Making.{IsNewDesk, IsOfStorage, Makes};
-ghost use Rattle.desk_store.specs.Opening.{IsUpgraded, IsWhole, IsWholeFirst, ShowsKnownFormat, ShowsNewerFormat};
+ghost use Rattle.desk_store.specs.Making.{FailedToMake, IsNewDesk, IsOfStorage, Makes};
+ghost use Rattle.desk_store.specs.Opening.{FailedToOpen, HasLaterFormat, IsUpgraded, IsWhole, IsWholeFirst, ShowsKnownFormat, ShowsNewerFormat};
 ghost use Rattle.desk_store.specs.declared.open_fault.OpenFault.TheVariants.{NewerFormat as newer_format, NotADesk as not_a_desk, Storage as of_storage};
 ghost use Rattle.desk_upgrading.specs.FirstDesks.{HasFirst};
 
-use crate::faults::reading_fault;
+use crate::faults::{reading_fault, saving_fault};
 use crate::making::make_desk;
 use crate::open_fault::OpenFault;
 use crate::opening::{open_desk, read_book};
 use desk_book::Book;
 use desk_loading::load_part;
-use desk_model::{Call, Clock, Policy};
+use desk_model::{Call, Change, Clock, Policy};
 use desk_reading::ReadFault;
+use desk_saving::save_all;
 use desk_schema::uses_names;
 use desk_storage::StorageFault;
 use sqlite::{Alter, Connection};
@@ -50,7 +52,8 @@ impl<S: Alter> Store<S> {
     /// # Errors
     ///
     /// `NotADesk` where a table, an index or a view has a name of the desk's; the connection is then the one that was
-    /// given. `Storage` where the store failed: a connection that is still open has what it had.
+    /// given. `Storage` where the store failed, by the faults of `save`: `Device` where a statement is refused for what is neither
+    /// memory, the disk nor a size. A connection that is still open has what it had.
     pub fn make(
         alloc: Global,
         conn: Connection<S>,
@@ -59,9 +62,9 @@ impl<S: Alter> Store<S> {
     ) -> Result<Store<S>, Unopened<S>>
         requires idle { conn.in_transaction ≡ false }
         ensures taken { IsTrue (uses_names (state S.Store conn).now.schema) → result ≡ Err (record { fault = not_a_desk; conn = conn }) }
-        ensures free { uses_names (state S.Store conn).now.schema ≡ false → IfErr result (λ un. IsOfStorage un.fault) }
         ensures idle { MatchResult result (λ store. store.conn.in_transaction ≡ false) (λ un. un.conn.in_transaction ≡ false) }
         ensures made { IfOk result (λ store. HasCleanDisk (state S.Store store.conn) → Makes policy at (state S.Store conn) (state S.Store store.conn)) }
+        ensures failed { uses_names (state S.Store conn).now.schema ≡ false → IfErr result (λ un. FailedToMake (state S.Store conn) (state S.Store un.conn) un.fault) }
         ensures back { uses_names (state S.Store conn).now.schema ≡ false
             → IfErr result (λ un. HasCleanDisk (state S.Store un.conn) → GoesBack (state S.Store conn) (state S.Store un.conn)) }
         ensures answering { IfErr result (λ un. HasCleanDisk (state S.Store un.conn) → un.fault ≡ of_storage memory → IsTrue (state S.Store un.conn).is_open) }
@@ -92,6 +95,7 @@ impl<S: Alter> Store<S> {
     /// `NewerFormat` where `meta` has one row of a later format; else `NotADesk` where a table, a column or an index is
     /// missing, or where no book has the rows: nothing was changed. `Storage` where the store failed: after `Memory` the
     /// database is as it was; else a stop leaves what it left before or, of a desk in format 1, the same desk in today's format.
+    /// A reading that is refused for what is neither memory, the disk nor a size is `NotADesk`, a statement of the upgrade `Device`.
     pub fn open(alloc: Global, conn: Connection<S>) -> Result<Store<S>, Unopened<S>>
         requires idle { conn.in_transaction ≡ false }
         ensures idle { MatchResult result (λ store. store.conn.in_transaction ≡ false) (λ un. un.conn.in_transaction ≡ false) }
@@ -117,6 +121,10 @@ impl<S: Alter> Store<S> {
             → IsWholeFirst S.Store conn) }
         ensures desk { IfErr result (λ un. HasCleanDisk (state S.Store un.conn) → (T : Tables) → HasDesk (state S.Store conn) T → IsOfStorage un.fault) }
         ensures first { IfErr result (λ un. HasCleanDisk (state S.Store un.conn) → (T : Tables) → HasFirst (state S.Store conn) T → IsOfStorage un.fault) }
+        ensures later { HasLaterFormat (state S.Store conn) → MatchResult result
+            (λ store. HasCleanDisk (state S.Store store.conn) → ⊥)
+            (λ un. HasCleanDisk (state S.Store un.conn) → (un.fault ≡ newer_format) ⊎ IsOfStorage un.fault) }
+        ensures failed { IfErr result (λ un. FailedToOpen (state S.Store conn) (state S.Store un.conn) un.fault) }
         ensures answering { IfErr result (λ un. HasCleanDisk (state S.Store un.conn) → un.fault ≡ of_storage memory → IsTrue (state S.Store un.conn).is_open) }
     {
         let mut conn = conn;
@@ -152,6 +160,29 @@ impl<S: Alter> Store<S> {
         ensures touched { ForTables (store_sight S.Store) self.old self.new (λ T. IfOk result (λ book. book ≡ touched T call.now)) }
     {
         load_part(alloc, self, call)
+    }
+
+    /// Makes changes that fit the tables, one after the other, in one transaction: all of them, or none. They fit where each row
+    /// in the place of another keeps its children, and the tables with all of them are a book.
+    ///
+    /// # Errors
+    ///
+    /// `Memory` where a growth was refused before the commit and the transaction was given up: the store has what it had.
+    /// `Reopen` where memory was refused otherwise, or where the commit was refused by anything but the disk. `Device` for each
+    /// other refusal. After `Device` or `Reopen` the store is to be opened again, and then has all changes or none.
+    pub fn save(&mut self, alloc: Global, changes: &[Change]) -> Result<(), StorageFault>
+        ensures saves { Saves (store_sight S.Store) changes.now self.old self.new result }
+        ensures failed { self.old.conn.in_transaction ≡ false → IfErr result (FailedToSave (state S.Store self.old.conn) (state S.Store self.new.conn)) }
+        ensures closed { IfErr result (Failed (state S.Store self.old.conn) (state S.Store self.new.conn)) }
+    {
+        // No call leaves a transaction open; a store that had one would not know what it holds.
+        if !self.conn.is_autocommit() {
+            return Err(StorageFault::Reopen);
+        }
+        match save_all(alloc, &mut self.conn, changes) {
+            Ok(()) => Ok(()),
+            Err(fault) => Err(saving_fault(&mut self.conn, fault)),
+        }
     }
 
     // What a reading found, or the fault of the store where it failed.

@@ -11,12 +11,15 @@ use Rattle.desk_model.specs.Tables.{Tables}
 use Rattle.desk_model.specs.declared.rows.Meta.{Meta}
 use Rattle.desk_schema.specs.Defined.{Defines}
 use Rattle.desk_schema.specs.Schema.{no_schema}
-use Rattle.desk_columns.specs.Flat.{challenge_rows}
+use Rattle.desk_columns.specs.Flat.{challenge_rows, key_rows}
 use Rattle.desk_tables.specs.Effects.{Puts}
 use Rattle.desk_tables.specs.Holds.{Holds}
-use Rattle.desk_tables.specs.Layouts.{HasRows, account_layout, authorization_layout, challenge_layout, listed_layout, meta_layout, nonce_layout, order_layout}
+use Rattle.desk_tables.specs.Layouts.{HasRows, account_layout, authorization_layout, challenge_layout, key_layout, listed_layout, meta_layout}
+use Rattle.desk_tables.specs.Layouts.{nonce_layout, order_layout}
+use Rattle.desk_tables.specs.Sorted.{sorted_by}
 use Rattle.desk_tables.proofs.NoIndexes.{no_index_account, no_index_authorization, no_index_challenge, no_index_key}
 use Rattle.desk_tables.proofs.NoIndexes.{no_index_listed, no_index_nonce, no_index_order}
+use Rattle.desk_tables.proofs.Sorting.{sorted_rises}
 
 -- ---- table by table
 
@@ -45,9 +48,14 @@ module _ (db : Database) (T : Tables) (has : Holds db T) where
   pub listed_held : HasRows listed_layout db has.listed.numbered
   listed_held = record { schema = has.schema; rows_are = has.listed.has; rising = has.listed.rising }
 
-  -- the challenges
-  pub challenges_held : HasRows challenge_layout db (challenge_rows T.authorizations)
-  challenges_held = record { schema = has.schema; rows_are = has.challenges; rising = has.rising.challenges }
+  -- the challenges, by number
+  pub challenges_held : HasRows challenge_layout db (sorted_by challenge_layout.key (challenge_rows T.authorizations))
+  challenges_held =
+      record { schema = has.schema; rows_are = has.challenges; rising = sorted_rises challenge_layout.key (challenge_rows T.authorizations) }
+
+  -- the keys of answers, by the number of the challenge
+  pub keys_held : HasRows key_layout db (sorted_by key_layout.key (key_rows (challenge_rows T.authorizations)))
+  keys_held = record { schema = has.schema; rows_are = has.keys; rising = sorted_rises key_layout.key (key_rows (challenge_rows T.authorizations)) }
 
 -- ---- the same database
 

@@ -1,4 +1,5 @@
 pub mod AccountUpsert
+pub mod AnswerKeys
 pub mod AuthorizationUpsert
 pub mod Casts
 pub mod ChallengeUpsert
@@ -16,5 +17,6 @@ pub mod NonceRemoval
 pub mod NonceUpsert
 pub mod OrderUpsert
 pub mod Removal
+pub mod Sorting
 pub mod Upsert
 pub mod UpsertStatement

@@ -3,4 +3,5 @@ pub mod Hidden
 pub mod Holds
 pub mod Images
 pub mod Layouts
+pub mod Sorted
 pub mod Texts

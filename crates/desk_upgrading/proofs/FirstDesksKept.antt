@@ -4,23 +4,26 @@ use Rattle.sqlite.specs.State.{State}
 use Rattle.sqlite.specs.Tree.{Trees}
 use Rattle.desk_saving.specs.Committing.{HasCommitted, IsLeft}
 use Rattle.sqlite.specs.Effect.{Database}
-use Rattle.desk_laws.specs.FirstLaws.{AreUnderKeysNow}
 use Rattle.desk_laws.proofs.FirstKeys.{rows_under}
 use Rattle.desk_model.specs.History.{clock}
 use Rattle.desk_model.specs.Tables.{Tables}
-use Rattle.desk_upgrading.specs.FirstDesks.{BringsDesk, FirstDesksUpgrade, IsFirstDesk, UpgradesDesk}
+use Rattle.desk_upgrading.specs.FirstDesks.{BringsDesk, FirstDesksUpgrade, PicturesAreFirstDesks, UpgradesDesk}
 use Rattle.desk_tables.specs.Holds.{Holds}
 use Rattle.desk_upgrading.proofs.FirstKeysFound.{blank_keys, first_keys_are}
+use Rattle.stored_laws.proofs.FlatTexts.{picture_is_stored_book}
 
--- in a desk of format 1 each answer was under the key that its account has
-under_now : (db : Database) (T : Tables) → IsFirstDesk db T → AreUnderKeysNow T
-under_now db T desk =
-    subst AreUnderKeysNow (sym desk.is_picture) (rows_under desk.history desk.legal.each desk.keeps (clock desk.history))
+-- the tables of a legal history in which no account got another key are such a desk
+pub pictures_are_first : PicturesAreFirstDesks
+pictures_are_first db F legal keeps holds = record {
+  holds = holds;
+  book = picture_is_stored_book F legal;
+  keys = rows_under F legal.each keeps (clock F);
+}
 
 -- with the keys that the accounts have
 pub desks_upgrade : FirstDesksUpgrade
 desks_upgrade B old new upgrades T desk same =
-    upgrades T desk.holds (ap (λ (t : Tables). t.meta) same) (sym (first_keys_are T (under_now old T desk)) ∙ blank_keys T B same)
+    upgrades T desk.holds (ap (λ (t : Tables). t.meta) same) (sym (first_keys_are T desk.keys) ∙ blank_keys T B same)
 
 -- what was committed, in other words
 pub committed_as : {A E : Type 0} (r : Result A E) (old new : State) (Does Says : Database → Database → Type 0)

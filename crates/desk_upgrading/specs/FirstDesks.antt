@@ -3,7 +3,7 @@ use Rattle.std.specs.Prelude.{◌≡◌, false, None, IsTrue}
 use Rattle.sqlite.specs.Effect.{Database}
 use Rattle.sqlite.specs.State.{State}
 use Rattle.sqlite.specs.Tree.{Trees}
-use Rattle.desk_laws.specs.FirstLaws.{KeepsKeys}
+use Rattle.desk_laws.specs.FirstLaws.{AreUnderKeysNow, KeepsKeys}
 use Rattle.desk_model.specs.Entry.{History}
 use Rattle.desk_model.specs.Legal.{Legal}
 use Rattle.desk_model.specs.Tables.{Tables, picture}
@@ -12,14 +12,18 @@ use Rattle.desk_saving.specs.Upgrading.{Upgrades}
 use Rattle.desk_tables.specs.Holds.{Holds, HoldsFirst}
 use Rattle.desk_upgrading.specs.FirstKeys.{first_keys}
 use Rattle.stored_laws.specs.Blank.{blank}
+use Rattle.stored_rows.specs.IsBook.{IsStoredBook}
 
--- the database holds these tables in format 1, and they are the picture of a legal history in which no account got another key
+-- the database holds these tables in format 1, and they are a book that a file can hold, whatever statuses its rows store; format 1
+-- tells no keys of answers, and each answer was under the key that its account has
 pub record IsFirstDesk (db : Database) (T : Tables) : Type 0 where
   pub holds : HoldsFirst db T
-  pub history : History
-  pub legal : Legal history
-  pub keeps : KeepsKeys history
-  pub is_picture : T ≡ picture history
+  pub book : IsStoredBook T
+  pub keys : AreUnderKeysNow T
+
+-- such are the tables of a legal history in which no account got another key
+abbrev pub PicturesAreFirstDesks : Type 0
+PicturesAreFirstDesks = (db : Database) (F : History) → Legal F → KeepsKeys F → HoldsFirst db (picture F) → IsFirstDesk db (picture F)
 
 -- whatever desk of these rows, but for the keys of answers, the database holds in format 1, it then holds it in format 2
 abbrev pub UpgradesDesk : Tables → Database → Database → Type 0

@@ -4,8 +4,11 @@ use Rattle.desk_laws.proofs.Basics.{each-map}
 use Rattle.desk_columns.specs.TextColumns.{RowsHoldTexts}
 use Rattle.desk_columns.proofs.Utf8Columns.{texts_are_written}
 use Rattle.desk_laws.proofs.TextFacts.{hold_texts}
+use Rattle.desk_model.specs.History.{clock}
 use Rattle.desk_model.specs.Tables.{Tables, tables_at}
-use Rattle.stored_laws.specs.Laws.{TablesAreTexts}
+use Rattle.stored_laws.proofs.Books.{tables_book}
+use Rattle.stored_laws.proofs.Rows.{picture_stored}
+use Rattle.stored_laws.specs.Laws.{PicturesAreStoredBooks, TablesAreTexts}
 use Rattle.desk_columns.specs.Flat.{flat, without_challenges, without_listed}
 
 -- as the tables hold them
@@ -21,3 +24,11 @@ flat_holds T h =
 -- so the columns of a history's tables are texts
 pub tables_are_texts : TablesAreTexts
 tables_are_texts F follows t = texts_are_written.rows (flat (tables_at F t)) (flat_holds (tables_at F t) (hold_texts F follows t))
+
+-- so a file can hold the tables of a desk
+pub picture_is_stored_book : PicturesAreStoredBooks
+picture_is_stored_book F legal = record {
+  book = tables_book F legal.each (clock F);
+  stored = picture_stored F legal;
+  texts = tables_are_texts F legal.each (clock F);
+}

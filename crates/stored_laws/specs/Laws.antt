@@ -15,7 +15,7 @@ use Rattle.desk_model.specs.declared.entry.Entry.{Entry}
 use Rattle.stored_laws.specs.InLimits.{AreInLimits, IsPutInLimits}
 use Rattle.stored_laws.specs.Told.{AreReorderedColumns, IsOnlyBookOf}
 use Rattle.desk_columns.specs.Flat.{flat}
-use Rattle.stored_rows.specs.IsBook.{IsBook}
+use Rattle.stored_rows.specs.IsBook.{IsBook, IsStoredBook}
 
 -- the tables of a history are a book, at each moment
 abbrev pub TablesAreBooks : Type 0
@@ -58,3 +58,7 @@ PicturesAreTold =
 -- each TEXT column of a desk's rows is UTF-8, at each moment
 abbrev pub TablesAreTexts : Type 0
 TablesAreTexts = (F : History) → EachFollows F → (t : ℕ) → ColumnsAreTexts (rows_columns (flat (tables_at F t)))
+
+-- so the tables of a desk are a book that a file can hold
+abbrev pub PicturesAreStoredBooks : Type 0
+PicturesAreStoredBooks = (F : History) → Legal F → IsStoredBook (picture F)

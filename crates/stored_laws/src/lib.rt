@@ -2,7 +2,7 @@
 #![tactic(auto)]
 
 ghost use Rattle.stored_laws.specs.Blank.{BlankBooks};
-ghost use Rattle.stored_laws.specs.Laws.{BooksAreTold, PartsAreInLimits, PicturesAreStored, PicturesAreTold, RecordsAreInLimits};
+ghost use Rattle.stored_laws.specs.Laws.{BooksAreTold, PartsAreInLimits, PicturesAreStored, PicturesAreStoredBooks, PicturesAreTold, RecordsAreInLimits};
 ghost use Rattle.stored_laws.specs.Laws.{RowsAreStored, TablesAreBooks, TablesAreInLimits, TablesAreTexts};
 
 /// The tables of a legal history are a book whose rows are in the limits of their columns, and a file that holds these
@@ -17,5 +17,6 @@ pub fn pictures_are_books()
     ensures texts { TablesAreTexts }
     ensures told { BooksAreTold }
     ensures one_book { PicturesAreTold }
+    ensures stored_books { PicturesAreStoredBooks }
     ensures blank { BlankBooks }
 {}

@@ -10,6 +10,7 @@ use Rattle.stored_rows.specs.FaultNumbers.{challenges_of}
 use Rattle.desk_columns.specs.Flat.{AreReordered, flat}
 use Rattle.desk_columns.specs.Columns.{rows_columns}
 use Rattle.desk_columns.specs.Limits.{AreStored}
+use Rattle.desk_columns.specs.TextColumns.{ColumnsAreTexts}
 use Rattle.desk_columns.specs.declared.columns.StoredRows.{StoredRows}
 use Rattle.desk_columns.specs.declared.flat_rows.FlatRows.{FlatRows}
 
@@ -67,3 +68,9 @@ pub record IsBookOfStored (stored : StoredRows) (T : Tables) : Type 0 where
   pub spelled : stored ≡ rows_columns flat_rows
   pub in_limits : AreStored flat_rows
   pub book : IsBookOf flat_rows T
+
+-- the tables are a book that a file can hold: its rows in the limits of their columns, and its texts UTF-8
+pub record IsStoredBook (T : Tables) : Type 0 where
+  pub book : IsBook T
+  pub stored : AreStored (flat T)
+  pub texts : ColumnsAreTexts (rows_columns (flat T))

@@ -1,7 +1,7 @@
 use Rattle.stored_laws.proofs.BlankBooks.{blank_books}
 use Rattle.stored_laws.proofs.Books.{tables_book}
 use Rattle.stored_laws.proofs.Columns.{book_told, picture_told}
-use Rattle.stored_laws.proofs.FlatTexts.{tables_are_texts}
+use Rattle.stored_laws.proofs.FlatTexts.{picture_is_stored_book, tables_are_texts}
 use Rattle.stored_laws.proofs.Records.{records_in_limits}
 use Rattle.stored_laws.proofs.Rows.{flat_stored, parts_in_limits, picture_stored, tables_in_limits}
 use Rattle.stored_laws.proofs.pictures_are_books.Goals as goal
@@ -35,3 +35,6 @@ returns-clause-one_book c = picture_told
 
 pub returns-clause-blank : goal.returns-clause-blank
 returns-clause-blank c = blank_books
+
+pub returns-clause-stored_books : goal.returns-clause-stored_books
+returns-clause-stored_books c = picture_is_stored_book

@@ -1,10 +1,18 @@
 use Rattle.std.proofs.Common.{◌≡◌, [], sym, ap, ◌∙◌, length}
 use Rattle.std.specs.Prelude.{nat_eq}
-use Rattle.desk_calls.proofs.Exiting.{answered_alone, core_result_met, nothing, refused, saved, storage_result_in_time, storage_result_met, unsaved}
+use Rattle.desk_calls.proofs.Exiting.{answered_alone, core_result_caused, loaded, nothing, refused, saved, stands_here, storage_result_caused}
+use Rattle.desk_calls.proofs.Exiting.{storage_result_in_time, unsaved}
 use Rattle.desk_calls.proofs.desk.attempt.Goals as goal
 
-pub returns-in_err-outcome-clause-met : goal.returns-in_err-outcome-clause-met
-returns-in_err-outcome-clause-met g c = core_result_met g.K.Storage.may_meet c.in_err-outcome.field-0.0 _ c.from_residual-in_err-outcome.ensures.1
+pub returns-in_err-book-clause-caused : goal.returns-in_err-book-clause-caused
+returns-in_err-book-clause-caused g c =
+    storage_result_caused g.K.Storage.sight g.K.Storage.causes c.args.store.now c.args.store.now c.load_part.new.self c.in_err-book.field-0.0 _
+    (stands_here g.K.Storage.sight c.args.store.now) c.in_err-book.ensures.caused c.from_residual.ensures.1
+
+pub returns-in_err-outcome-clause-caused : goal.returns-in_err-outcome-clause-caused
+returns-in_err-outcome-clause-caused g c =
+    core_result_caused g.K.Storage.sight g.K.Storage.causes c.args.store.now c.load_part.new.self c.in_err-outcome.field-0.0 _
+    c.from_residual-in_err-outcome.ensures.1
 
 pub returns-in_err-outcome-clause-exit : goal.returns-in_err-outcome-clause-exit
 returns-in_err-outcome-clause-exit g c =
@@ -22,9 +30,11 @@ returns-then-is_empty-clause-exit g c =
 pub returns-in_err-save-clause-late : goal.returns-in_err-save-clause-late
 returns-in_err-save-clause-late g c late = absurd (storage_result_in_time c.in_err-save.field-0.0 _ c.from_residual-in_err-save.ensures.1 late)
 
-pub returns-in_err-save-clause-met : goal.returns-in_err-save-clause-met
-returns-in_err-save-clause-met g c =
-    storage_result_met g.K.Storage.may_meet c.in_err-save.field-0.0 _ c.in_err-save.ensures.met c.from_residual-in_err-save.ensures.1
+pub returns-in_err-save-clause-caused : goal.returns-in_err-save-clause-caused
+returns-in_err-save-clause-caused g c =
+    storage_result_caused g.K.Storage.sight g.K.Storage.causes c.args.store.now c.load_part.new.self c.save.new.self c.in_err-save.field-0.0 _
+    (loaded g.K.Storage.sight c.args.call.now c.args.store.now c.load_part.new.self c.in_ok-book.book c.in_ok-book.ensures.loads)
+    c.in_err-save.ensures.caused c.from_residual-in_err-save.ensures.1
 
 pub returns-in_err-save-clause-exit : goal.returns-in_err-save-clause-exit
 returns-in_err-save-clause-exit g c =

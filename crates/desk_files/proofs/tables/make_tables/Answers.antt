@@ -27,8 +27,9 @@ returns-in-Ok-clause-made g c clean none unlimited =
 pub returns-in-Err-clause-unmade : goal.returns-in-Err-clause-unmade
 returns-in-Err-clause-unmade g c clean none is_open =
     let free = subst (λ schema. uses_names schema ≡ false) (sym none) refl in
+    let failed = c.in-Err.ensures.failed free in
     record {
-      fault = c.in-Err.ensures.free free;
+      fault = (failed.0, failed.1);
       left = λ trees may. elim ((c.in-Err.ensures.left free).crash clean trees may) [
         | inl was ↦ inl (g.met.A.Store.settled c.args.conn.store trees is_open was)
         | inr made ↦ inr (made none)

@@ -4,7 +4,7 @@ use Rattle.sqlite.specs.State.{HasCleanDisk, IsUnchanged}
 use Rattle.desk_columns.specs.Flat.{bare}
 use Rattle.desk_reading.specs.Held.{ForHeld}
 use Rattle.desk_reading.specs.Keys.{HasItsKey}
-use Rattle.desk_reading.specs.StoredBook.{IsStoredBook}
+use Rattle.stored_rows.specs.IsBook.{IsStoredBook}
 use Rattle.desk_reading.proofs.NestLemmas.{AreFilled}
 use Rattle.desk_schema.specs.Stays.{Asks}
 use Rattle.desk_reading.proofs.answers.with_answers.Given as goal

@@ -1,6 +1,6 @@
 use Rattle.std.proofs.Common.{IsTrue, sym, ◌∙◌}
 use Rattle.sqlite.specs.Held.{state}
-use Rattle.desk_reading.proofs.FormatLemmas.{first_never_newer, never_newer}
+use Rattle.desk_reading.proofs.FormatLemmas.{first_never_newer, later_fails, later_is_newer, never_newer}
 use Rattle.desk_reading.proofs.Readings.{format_reading}
 use Rattle.desk_schema.specs.Failing.{IsFailure}
 use Rattle.desk_reading.proofs.Results.{failed_as, not_true}
@@ -46,4 +46,15 @@ returns-in_err-rows-clause-first_fails g c clean T has may =
     failed_as c.from_residual.result c.in_err-rows.field-0.0 IsFailure
     (first.format_fails (state g.S.Store c.args.conn.now) (state g.S.Store c.all_rows.new.conn) T c.in_err-rows.field-0.0 has may
     (c.in_err-rows.ensures.err clean))
+    c.from_residual.ensures.1
+
+pub returns-clause-later : goal.returns-clause-later
+returns-clause-later g c clean later =
+    c.is_newer_row.ensures.1 (rw (← c.deref.ensures.value) at
+    (later_is_newer (state g.S.Store c.args.conn.now) (state g.S.Store c.all_rows.new.conn) _ later (c.in_ok-rows.ensures.shown clean)))
+
+pub returns-in_err-rows-clause-later_fails : goal.returns-in_err-rows-clause-later_fails
+returns-in_err-rows-clause-later_fails g c clean later may =
+    failed_as c.from_residual.result c.in_err-rows.field-0.0 IsFailure
+    (later_fails (state g.S.Store c.args.conn.now) (state g.S.Store c.all_rows.new.conn) c.in_err-rows.field-0.0 later may (c.in_err-rows.ensures.err clean))
     c.from_residual.ensures.1

@@ -2,7 +2,7 @@ use Rattle.std.proofs.Common.{◌≡◌, IsTrue, drop, length, take}
 use Rattle.sqlite.specs.Held.{state}
 use Rattle.sqlite.specs.State.{HasCleanDisk, IsUnchanged}
 use Rattle.desk_reading.specs.Held.{ForHeld}
-use Rattle.desk_reading.specs.StoredBook.{IsStoredBook}
+use Rattle.stored_rows.specs.IsBook.{IsStoredBook}
 use Rattle.desk_reading.proofs.NestLemmas.{AreFilled}
 use Rattle.desk_schema.specs.Stays.{Asks}
 use Rattle.desk_reading.proofs.parents.find_parents.Given as goal

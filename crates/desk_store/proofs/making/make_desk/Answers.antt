@@ -7,6 +7,7 @@ use Rattle.desk_saving.specs.Committing.{HasCommitted, IsLeft}
 use Rattle.desk_saving.specs.Making.{MakesDesk}
 use Rattle.desk_store.proofs.NewDesks.{desk_left, desk_made}
 use Rattle.desk_store.proofs.Standing.{back_then, same_fault}
+use Rattle.desk_store.proofs.Failing.{failed_to_save}
 use Rattle.desk_store.proofs.making.make_desk.Goals as goal
 
 pub returns-in-Ok-clause-made : goal.returns-in-Ok-clause-made
@@ -40,3 +41,8 @@ returns-in-Err-clause-left g c =
     (λ _ trees left. desk_left c.args.policy c.args.at c.new-book.result c.new-book.ensures.picture c.new-book.ensures.legal old trees
     (subst (λ (meta : Meta). IsLeft (MakesDesk meta old.now) trees) c.meta.ensures left))
     (λ _ _ none. absurd none) c.make_tables-made.ensures.left c.saving_fault.ensures.asks.survives
+
+pub returns-in-Err-clause-failed : goal.returns-in-Err-clause-failed
+returns-in-Err-clause-failed g c =
+    failed_to_save (state g.S.Store c.args.conn.now) (state g.S.Store c.make_tables-made.new.conn) (state g.S.Store c.saving_fault.new.conn)
+    c.in-Err.fault c.saving_fault.result c.saving_fault.ensures.fault c.in-Err.ensures.before c.saving_fault.ensures.asks

@@ -1,4 +1,4 @@
-use Rattle.std.proofs.Common.{arith}
+use Rattle.std.proofs.Common.{arith, inr}
 use Rattle.sqlite.specs.Held.{state}
 use Rattle.sqlite.specs.State.{HasCleanDisk}
 use Rattle.desk_schema.proofs.StaysLemmas.{asks_then}
@@ -32,3 +32,9 @@ pub returns-in-Err-clause-asks : goal.returns-in-Err-clause-asks
 returns-in-Err-clause-asks g c =
     asks_then (state g.S.Store c.args.conn.now) (state g.S.Store c.is_newer.new.conn) (state g.S.Store c.opening_fault.new.conn) c.is_newer.ensures.asks
     c.opening_fault.ensures.asks
+
+pub returns-in-Err-clause-later : goal.returns-in-Err-clause-later
+returns-in-Err-clause-later g c clean later =
+    let clean_mid : HasCleanDisk (state g.S.Store c.is_newer.new.conn) = let le = c.opening_fault.ensures.asks.survives.clean in omega (arith, clean, le) in
+    inr (failure_is_storage c.in-Err.error c.opening_fault.result (c.in-Err.ensures.later_fails clean_mid later.later later.may_read)
+    c.opening_fault.ensures.fault)

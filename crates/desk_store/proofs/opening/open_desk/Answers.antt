@@ -9,6 +9,7 @@ use Rattle.desk_store.proofs.EitherFormat.{asks_behind, back_asked, back_behind,
 use Rattle.desk_store.proofs.EitherFormat.{left_asked, of_answer, of_failure, refused_so, settled_behind, upgraded_behind}
 use Rattle.desk_store.proofs.OpeningFaults.{fails_later}
 use Rattle.desk_store.proofs.Upgrading.{first_unchanged}
+use Rattle.desk_store.proofs.Failing.{leaves_nothing, opened_behind, opened_nothing}
 use Rattle.desk_store.proofs.opening.open_desk.Goals as goal
 
 pub returns-in-Ok-clause-asks : goal.returns-in-Ok-clause-asks
@@ -138,3 +139,20 @@ returns-in-Err-clause-left g c =
 
 pub returns-in-Err-clause-spared : goal.returns-in-Err-clause-spared
 returns-in-Err-clause-spared g c memory = c.check_format.ensures.asks.survives
+
+pub returns-in-Ok-clause-failed : goal.returns-in-Ok-clause-failed
+returns-in-Ok-clause-failed g c =
+    opened_behind (state g.S.Store c.args.conn.now) (state g.S.Store c.check_format.new.conn) (state g.S.Store c.open_known.new.conn) c.open_known.result
+    c.check_format.ensures.asks c.open_known.ensures.failed
+
+pub returns-in-Ok-clause-later : goal.returns-in-Ok-clause-later
+returns-in-Ok-clause-later g c clean later =
+    let mid = state g.S.Store c.check_format.new.conn in
+    let clean_mid : HasCleanDisk mid = let le = c.open_known.ensures.left.clean in omega (arith, clean, le) in
+    absurd (c.in-Ok.ensures.later clean_mid later)
+
+pub returns-in-Err-clause-failed : goal.returns-in-Err-clause-failed
+returns-in-Err-clause-failed g c =
+    let old = state g.S.Store c.args.conn.now in
+    let new = state g.S.Store c.check_format.new.conn in
+    opened_nothing old new c.in-Err.fault (leaves_nothing old new c.check_format.ensures.asks.survives)

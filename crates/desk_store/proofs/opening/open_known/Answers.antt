@@ -6,6 +6,7 @@ use Rattle.desk_schema.specs.Names.{has_all_indexes, uses_key_table}
 use Rattle.desk_store.proofs.Books.{always_ok}
 use Rattle.desk_store.proofs.EitherFormat.{always_err, any_fault, back_asked, desk_indexes, first_indexes, lacks_keys}
 use Rattle.desk_store.proofs.EitherFormat.{left_asked, not_both, of_answer, uses_keys, whole_by, whole_first_by}
+use Rattle.desk_store.proofs.Failing.{asked_to_open, leaves_nothing}
 use Rattle.desk_store.proofs.opening.open_known.Goals as goal
 
 -- ---- an index is missing
@@ -127,3 +128,14 @@ returns-else-uses_key_table-clause-desk g c clean =
 pub returns-else-uses_key_table-clause-first : goal.returns-else-uses_key_table-clause-first
 returns-else-uses_key_table-clause-first g c clean =
     c.upgrade_desk.ensures.desk clean
+
+-- ---- what a failure left
+
+pub returns-then-not-has_indexes-clause-failed : goal.returns-then-not-has_indexes-clause-failed
+returns-then-not-has_indexes-clause-failed g c =
+    let old = state g.S.Store c.args.conn.now in
+    leaves_nothing old old (asks_nothing old).survives
+
+pub returns-then-uses_key_table-clause-failed : goal.returns-then-uses_key_table-clause-failed
+returns-then-uses_key_table-clause-failed g c =
+    asked_to_open (state g.S.Store c.args.conn.now) (state g.S.Store c.check_rows.new.conn) c.check_rows.result c.check_rows.ensures.asks

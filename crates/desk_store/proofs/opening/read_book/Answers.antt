@@ -1,7 +1,7 @@
 use Rattle.std.proofs.Common.{arith}
 use Rattle.sqlite.specs.Held.{state}
 use Rattle.sqlite.specs.State.{HasCleanDisk}
-use Rattle.desk_store.proofs.Books.{book_fails, book_shown, book_told, desk_texts, may_read}
+use Rattle.desk_store.proofs.Books.{book_fails, book_shown, book_told, may_read}
 use Rattle.desk_store.proofs.OpeningFaults.{book_is_known, failure_is_storage, reading_is_known}
 use Rattle.desk_store.specs.Causes.{cause_of}
 use Rattle.desk_store.proofs.opening.read_book.Goals as goal
@@ -19,7 +19,7 @@ returns-in-Err-clause-desk g c clean T has =
     let clean_mid : HasCleanDisk (state g.S.Store c.load_stored.new.conn) = let le = c.opening_fault.ensures.asks.survives.clean in omega (arith, clean, le) in
     failure_is_storage c.in-Err.error c.opening_fault.result
     (c.in-Err.ensures.fails clean_mid T has.desk.holds (may_read (state g.S.Store c.args.conn.now) T has)
-    (desk_texts (state g.S.Store c.args.conn.now).now T has.desk)) c.opening_fault.ensures.fault
+    has.desk.book.texts) c.opening_fault.ensures.fault
 
 pub returns-in-Ok-clause-shown : goal.returns-in-Ok-clause-shown
 returns-in-Ok-clause-shown g c clean = book_shown g.S.Store c.args.conn.now c.in-Ok.stored c.book_of.result c.book_of.ensures.book (c.in-Ok.ensures.shown clean)

@@ -1,7 +1,7 @@
 use Rattle.std.proofs.Common.{arith}
 use Rattle.sqlite.specs.Held.{state}
 use Rattle.sqlite.specs.State.{HasCleanDisk}
-use Rattle.desk_store.proofs.FirstBooks.{first_fails, first_may_read, first_shown, first_texts, first_told}
+use Rattle.desk_store.proofs.FirstBooks.{first_fails, first_may_read, first_shown, first_told}
 use Rattle.desk_store.proofs.OpeningFaults.{book_is_known, failure_is_storage, reading_is_known}
 use Rattle.desk_store.specs.Causes.{cause_of}
 use Rattle.desk_store.proofs.opening.read_first.Goals as goal
@@ -19,7 +19,7 @@ returns-in-Err-clause-desk g c clean T has =
     let clean_mid : HasCleanDisk (state g.S.Store c.load_first.new.conn) = let le = c.opening_fault.ensures.asks.survives.clean in omega (arith, clean, le) in
     failure_is_storage c.in-Err.error c.opening_fault.result
     (c.in-Err.ensures.fails clean_mid T has.desk.holds (first_may_read (state g.S.Store c.args.conn.now) T has)
-    (first_texts (state g.S.Store c.args.conn.now).now T has.desk)) c.opening_fault.ensures.fault
+    has.desk.book.texts) c.opening_fault.ensures.fault
 
 pub returns-in-Ok-clause-shown : goal.returns-in-Ok-clause-shown
 returns-in-Ok-clause-shown g c clean =

@@ -3,6 +3,7 @@ use Rattle.sqlite.proofs.StateLemmas.{survives_then}
 use Rattle.sqlite.specs.Held.{state}
 use Rattle.sqlite.specs.State.{HasCleanDisk}
 use Rattle.desk_store.proofs.Standing.{back_then, same_fault}
+use Rattle.desk_store.proofs.Failing.{failed_to_save}
 use Rattle.desk_store.proofs.opening.upgrade_book.Goals as goal
 
 pub returns-in-Err-clause-back : goal.returns-in-Err-clause-back
@@ -24,3 +25,8 @@ pub returns-in-Err-clause-spared : goal.returns-in-Err-clause-spared
 returns-in-Err-clause-spared g c memory =
     survives_then (state g.S.Store c.args.conn.now) (state g.S.Store c.upgrade-upgraded.new.conn) (state g.S.Store c.saving_fault.new.conn) _ _ _
     (λ _ _ none. none) (λ _ _ none. none) (c.in-Err.ensures.before (c.saving_fault.ensures.early (same_fault _ _ memory))) c.saving_fault.ensures.asks.survives
+
+pub returns-in-Err-clause-failed : goal.returns-in-Err-clause-failed
+returns-in-Err-clause-failed g c =
+    failed_to_save (state g.S.Store c.args.conn.now) (state g.S.Store c.upgrade-upgraded.new.conn) (state g.S.Store c.saving_fault.new.conn)
+    c.in-Err.fault c.saving_fault.result c.saving_fault.ensures.fault c.in-Err.ensures.before c.saving_fault.ensures.asks

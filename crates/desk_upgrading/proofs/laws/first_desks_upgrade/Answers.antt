@@ -1,5 +1,8 @@
-use Rattle.desk_upgrading.proofs.FirstDesksKept.{desks_upgrade}
+use Rattle.desk_upgrading.proofs.FirstDesksKept.{desks_upgrade, pictures_are_first}
 use Rattle.desk_upgrading.proofs.laws.first_desks_upgrade.Goals as goal
 
-pub returns : goal.returns
-returns c = desks_upgrade
+pub returns-clause-upgraded : goal.returns-clause-upgraded
+returns-clause-upgraded c = desks_upgrade
+
+pub returns-clause-pictures : goal.returns-clause-pictures
+returns-clause-pictures c = pictures_are_first

@@ -1,4 +1,4 @@
-use Rattle.std.proofs.Common.{ap}
+use Rattle.std.proofs.Common.{ap, refl}
 use Rattle.sqlite.specs.Held.{state}
 use Rattle.desk_store.proofs.OpeningFaults.{not_free, same_storage}
 use Rattle.desk_store.proofs.Standing.{failed}
@@ -23,3 +23,6 @@ returns-in-Err-clause-answering g c clean memory = c.in-Err.ensures.answering cl
 
 pub returns-in-Err-clause-left : goal.returns-in-Err-clause-left
 returns-in-Err-clause-left g c free = c.make_desk.ensures.left
+
+pub returns-in-Err-clause-failed : goal.returns-in-Err-clause-failed
+returns-in-Err-clause-failed g c free = (c.in-Err.fault, refl, c.in-Err.ensures.failed)

@@ -67,3 +67,12 @@ returns-in-Err-clause-first g c = c.in-Err.ensures.first
 
 pub returns-in-Err-clause-answering : goal.returns-in-Err-clause-answering
 returns-in-Err-clause-answering g c clean memory = c.in-Err.ensures.answering clean (ap (failed (Unit {0})) memory)
+
+pub returns-in-Ok-clause-later : goal.returns-in-Ok-clause-later
+returns-in-Ok-clause-later g c later clean = c.in-Ok.ensures.later clean later
+
+pub returns-in-Err-clause-later : goal.returns-in-Err-clause-later
+returns-in-Err-clause-later g c later clean = c.in-Err.ensures.later clean later
+
+pub returns-in-Err-clause-failed : goal.returns-in-Err-clause-failed
+returns-in-Err-clause-failed g c = c.in-Err.ensures.failed

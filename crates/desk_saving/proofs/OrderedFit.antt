@@ -1,43 +1,24 @@
--- The children of a picture stand in order, so that changes which lead to one may be saved.
+-- Changes fit where no two children of the tables with all of them are one.
 use Rattle.std.specs.Prelude.{◌==◌}
 use Rattle.std.specs.List.{flat_map}
-use Rattle.std.proofs.Common.{◌≡◌, ◌≢◌, ℕ, ◌+◌, ◌<◌, ◌≤◌, ◌++◌, ◌&&◌, List, [], ◌∷◌, map, Bool, true, false, refl, sym, ap, subst, ◌∙◌, arith}
+use Rattle.std.proofs.Common.{◌≡◌, ◌≢◌, ℕ, ◌+◌, ◌<◌, ◌≤◌, ◌++◌, ◌&&◌, List, [], ◌∷◌, Bool, true, false, refl, sym, subst, arith}
 use Rattle.std.proofs.lemmas.Bool.{ne_eqb}
-use Rattle.std.proofs.lemmas.List.{map-append}
-use Rattle.desk_columns.specs.Flat.{challenge_rows, listed_rows, owned_by}
+use Rattle.desk_columns.specs.Flat.{listed_rows, owned_by}
 use Rattle.desk_columns.specs.declared.flat_rows.Owned.{Owned}
 use Rattle.desk_laws.proofs.Basics.{each, each-append, each-map, each_all}
-use Rattle.desk_laws.proofs.Recorded.{challenges_ordered, tables_ordered}
-use Rattle.desk_laws.proofs.RowLists.{ascends_above, ascends_from}
+use Rattle.desk_laws.proofs.RowLists.{ascends_above}
 use Rattle.desk_laws.specs.Ordered.{Ascends}
-use Rattle.desk_model.specs.Entry.{History}
-use Rattle.desk_model.specs.History.{clock}
 use Rattle.desk_model.specs.Kept.{EachOf}
-use Rattle.desk_model.specs.Order.{orders}
-use Rattle.desk_model.specs.Tables.{order_row, tables_at}
+use Rattle.desk_model.specs.Change.{applied}
+use Rattle.desk_model.specs.Tables.{Tables}
 use Rattle.desk_model.specs.declared.rows.AuthorizationRow.{AuthorizationRow}
 use Rattle.desk_model.specs.declared.rows.Listed.{Listed}
 use Rattle.desk_model.specs.declared.rows.OrderRow.{OrderRow}
-use Rattle.desk_saving.specs.Fitting.{InOrder, LeadingChangesFit}
-use Rattle.desk_saving.proofs.MadeChanges.{keys_owned}
-use Rattle.desk_saving.proofs.Numbered.{ascends_alike}
+use Rattle.desk_saving.specs.Fitting.{OrderedChangesFit}
+use Rattle.desk_saving.proofs.ChallengeNumbers.{challenges_differ_under}
 use Rattle.desk_saving.proofs.PlacedRows.{owners_apart}
 use Rattle.desk_tables.specs.Effects.{is_same_place}
 use Rattle.desk_tables.specs.Holds.{AreApart}
-use Rattle.desk_tables.specs.Layouts.{challenge_layout}
-use Rattle.desk_laws.proofs.OrderFacts.{places_ascend}
-
--- ---- challenges
-
--- their numbers, with or without their owners
-keys_of_all : (rows : List AuthorizationRow)
-    → map challenge_layout.key (challenge_rows rows) ≡ map (λ c. c.number) (flat_map (λ (a : AuthorizationRow). a.challenges) rows)
-keys_of_all [] = refl
-keys_of_all (a ∷ rows) =
-    map-append challenge_layout.key (owned_by a.number a.challenges) (challenge_rows rows)
-    ∙ ap (λ ks. ks ++ map challenge_layout.key (challenge_rows rows)) (keys_owned a.number a.challenges)
-    ∙ ap (λ ks. map (λ c. c.number) a.challenges ++ ks) (keys_of_all rows)
-    ∙ sym (map-append (λ c. c.number) a.challenges (flat_map (λ (a : AuthorizationRow). a.challenges) rows))
 
 -- ---- places
 
@@ -88,20 +69,14 @@ apart_listed m (o ∷ os) up places =
     apart_joined o.number (o.number + 1) o.listed os (omega arith) up.1 (apart_own o.number 1 o.listed places.0)
     (apart_listed (o.number + 1) os up.1 places.1)
 
--- ---- pictures
+-- ---- tables
 
--- the children of the tables of a history
-picture_in_order : (F : History) (t : ℕ) → InOrder (tables_at F t)
-picture_in_order F t =
-    let rows = (tables_at F t).authorizations in
-    record {
-      challenges = ascends_alike challenge_layout.key (λ c. c.number) 0 (challenge_rows rows) (flat_map (λ (a : AuthorizationRow). a.challenges) rows)
-          (keys_of_all rows)
-          (ascends_from (λ c. c.number) 0 1 (flat_map (λ (a : AuthorizationRow). a.challenges) rows) (omega arith) (challenges_ordered F t));
-      listed = apart_listed 1 (tables_at F t).orders (tables_ordered F t).orders.0
-          (each-map _ (order_row F t) (orders F) (each_all _ (orders F) (λ o. places_ascend 1 o.authorizations)));
-    }
-
--- changes that keep children and lead from picture to picture fit
-pub leading_fit : LeadingChangesFit
-leading_fit F G changes kept leads = record { kept = kept; in_order = subst InOrder (sym leads) (picture_in_order G (clock G)) }
+-- changes that keep children fit where the tables with all of them stand by number, and their challenges differ
+pub ordered_fit : OrderedChangesFit
+ordered_fit T changes kept stand = record {
+  kept = kept;
+  in_order = record {
+    challenges = challenges_differ_under (applied changes T).authorizations stand.challenges;
+    listed = apart_listed 1 (applied changes T).orders stand.orders stand.places;
+  };
+}
