@@ -20,7 +20,7 @@ bin/desk: $(SOURCES)
 
 try:
 	@$(HAS_RT)
-	@echo 'Answering examples/first.jsonl by a desk in memory over the crates as they are, WITHOUT PROOF.'
+	@echo 'Answering examples/first.jsonl by a desk over a book in memory, over the crates as they are, WITHOUT PROOF.'
 	@python3 -B scripts/try.py
 
 first: bin/desk
@@ -56,7 +56,7 @@ test: edits
 	@python3 -B scripts/predicted.py bin/desk --batches 40
 	@echo "Trying the operator's words: reports, whole and stopped after each line, and revocations."
 	@python3 -B scripts/words.py bin/desk
-	@echo 'Stopping the program at each write to a file, the upgrade of a file too, and failing each call to the disk once, where it serves, too.'
+	@echo 'Stopping the program at each write to a file, the upgrade of a file too, and failing each call to the disk once, where it serves, too, and counting syncs.'
 	@python3 -B scripts/stops.py bin/desk
 	@echo 'Serving over loopback: replies byte for byte, requests that are none, connections that fail, what ends the program.'
 	@python3 -B scripts/serve.py bin/desk
@@ -64,6 +64,8 @@ test: edits
 	@python3 -B scripts/growths.py bin/desk --step 9
 	@echo 'Killing the program at random moments while it serves, 20 times (make kills: 200).'
 	@python3 -B scripts/kills.py bin/desk --times 20
+	@echo 'Refusing memory to calls of the library, each seventh growth, without proof.'
+	@python3 -B scripts/library_growths.py --step 7
 	@echo 'Answering the first batch without proof, as make try does.'
 	@python3 -B scripts/try.py
 	@echo 'Trying a house around the desk, where the packages for it are there.'
@@ -74,6 +76,7 @@ test: edits
 growths hostile kills predicted:
 	@test -x bin/desk || { echo 'desk: there is no bin/desk; make builds it' >&2; exit 1; }
 	@python3 -B scripts/$@.py bin/desk
+	@! [ $@ = growths ] || python3 -B scripts/library_growths.py
 
 # The program, its manual page from its own help, and a unit for systemd.
 install:

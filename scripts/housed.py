@@ -21,7 +21,7 @@ use desk_loading::RowsAbove;
 use desk_model::Policy;
 use desk_storage::Storage;
 use desk_store::OpenFault;
-use file_tasks::{Task, make_desk, run_over_file};
+use file_tasks::{Task, Wary, make_desk, run_over_file};
 use std::process::ExitCode;
 
 #[derive(Drop)]
@@ -41,6 +41,8 @@ impl From<OpenFault> for Failed {
 impl<'a> Task for Serve<'a> {
     type Fault = Failed;
 
+    ghost gives = { λ _. Unit {0} };
+
     fn run<K: Storage + RowsAbove + Drop>(&mut self, store: K) -> Result<(K, Result<u8, Failed>), Failed> {
         let Ok(mut desk) = Desk::adopt(self.rt.alloc(), store) else {
             return Err(Failed);
@@ -49,7 +51,7 @@ impl<'a> Task for Serve<'a> {
             return Err(Failed);
         };
         match serve_all(self.rt.alloc(), self.rt, &listener, &mut desk, None, &mut self.rt.stderr()) {
-            Ok(()) => Ok((desk.close(), Ok(0))),
+            Ok(()) => Ok((desk.into_store(), Ok(0))),
             Err(_) => Err(Failed),
         }
     }
@@ -62,7 +64,7 @@ fn main(rt: HostRuntime) -> ExitCode {
     if make_desk(&rt, "ca.db", policy).is_err() {
         return ExitCode::from(1);
     }
-    match run_over_file(&rt, "ca.db", Serve { rt: &rt }) {
+    match run_over_file(&rt, "ca.db", Wary, Serve { rt: &rt }) {
         Ok(status) => ExitCode::from(status),
         Err(_) => ExitCode::from(1),
     }

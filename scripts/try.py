@@ -1,9 +1,9 @@
 #!/usr/bin/env python3
 """Answers examples/first.jsonl by the crates of this repository as they are, without proof, in a minute or so.
 
-  scripts/try.py     runs `rt try` on a small program over a copy of the crates: a batch, answered by a new desk in memory
+  scripts/try.py     runs `rt try` on a small program over a copy of the crates: a batch, answered by a new desk over a book in memory
 
-The program `desk` itself takes more than twice as long to compile, for its files, ports and words.
+The program `desk` itself takes more than twice as long to compile, for its database, ports and words.
 """
 import os
 import shutil
@@ -16,8 +16,9 @@ CALLS = f"{ROOT}/examples/first.jsonl"
 MAIN = """\
 //! Answers the lines of standard input by a new desk in memory.
 #![tactic(auto)]
-use batches::batch_in_memory;
-use desk_model::Policy;
+use batches::batch;
+use desk_calls::{Desk, Memory};
+use desk_model::{Clock, Policy};
 use std::io;
 use std::process::ExitCode;
 
@@ -26,10 +27,10 @@ fn main(rt: HostRuntime) -> ExitCode {
     let Ok(Some(policy)) = Policy::new(alloc, "https://ca.example", 3600, 604800, 2592000) else {
         return ExitCode::from(1);
     };
-    match batch_in_memory(alloc, policy, rt.reader(), &mut io::writer(&rt), &mut rt.stderr()) {
-        Ok(status) => ExitCode::from(status),
-        Err(_) => ExitCode::from(1),
-    }
+    let Ok(mut desk) = Desk::adopt(alloc, Memory::make(alloc, policy, Clock::at(0))) else {
+        return ExitCode::from(1);
+    };
+    ExitCode::from(batch(alloc, rt.reader(), &mut io::writer(&rt), &mut rt.stderr(), &mut desk))
 }
 """
 
@@ -40,7 +41,7 @@ def main():
         shutil.copytree(f"{ROOT}/crates", f"{room}/crates", ignore=shutil.ignore_patterns("out", "must-fail"))
         shutil.copyfile(f"{ROOT}/crates.txt", f"{room}/crates.txt")
         with open(f"{room}/crates.txt", "a", encoding="utf-8") as crates:
-            crates.write("first: batches desk_model\n")
+            crates.write("first: batches desk_calls desk_model\n")
         os.makedirs(f"{room}/crates/first/src")
         with open(f"{room}/crates/first/src/main.rt", "w", encoding="utf-8") as program:
             program.write(MAIN)

@@ -1,6 +1,5 @@
 -- What is said to a line of a batch, by a desk over any store.
-use Rattle.std.specs.Prelude.{◌≡◌, ◌⊎◌, ℕ, List, true, false, Result, Ok, Err}
-use Rattle.desk_model.specs.declared.call.Call.{Call}
+use Rattle.std.specs.Prelude.{◌≡◌, ◌⊎◌, ℕ, List, Ok, Err}
 use Rattle.desk_model.specs.declared.reply.Reply.{Reply}
 use Rattle.requests.specs.Lines.{Spells, line_text}
 use Rattle.requests.specs.declared.lines.Line.{Line}
@@ -9,35 +8,20 @@ use Rattle.requests.specs.declared.request.Request.TheVariants as request
 use Rattle.batches.specs.LineRequests.{IsRequestOf, call_of}
 use Rattle.batches.specs.declared.lines.AnswerFault.{AnswerFault}
 use Rattle.batches.specs.declared.lines.AnswerFault.TheVariants as answerfault
-use Rattle.desk_calls.specs.Answers.{Answers, is_closed_after}
+use Rattle.desk_calls.specs.Meets.{Meets}
 use Rattle.desk_calls.specs.State.{DeskState}
 use Rattle.desk_calls.specs.declared.fault.DeskFault.{DeskFault}
-use Rattle.desk_calls.specs.declared.fault.DeskFault.TheVariants as deskfault
 use Rattle.desk_storage.specs.Sight.{Sight}
 
 module _ {S C : Type 0} (v : Sight S C) where
-  -- an open desk answers a call, and is closed after some faults
-  pub record AnswersOpen (call : Call) (old new : DeskState S) (result : Result Reply DeskFault) : Type 0 where
-    pub answers : Answers v call old.store new.store result
-    pub flag : new.is_closed ≡ is_closed_after result
-
-  -- a closed desk answers that it is to be opened again, and is untouched
-  abbrev pub RefusesClosed : DeskState S → DeskState S → Result Reply DeskFault → Type 0
-  RefusesClosed old new result = (result ≡ Err deskfault.Reopen) × (new ≡ old)
-
-  -- how a desk answers a call, open or closed
-  pub record Meets (call : Call) (old new : DeskState S) (result : Result Reply DeskFault) : Type 0 where
-    pub when_open : old.is_closed ≡ false → AnswersOpen call old new result
-    pub when_closed : old.is_closed ≡ true → RefusesClosed old new result
-
   -- the reply to a line with this request: the desk's to its call, or the refusal of a request that is none
   abbrev pub RepliesTo : DeskState S → Line → Request → Reply → DeskState S → Type 0
-  RepliesTo old l (request.Asks what) reply new = Meets (call_of l what) old new (Ok reply)
+  RepliesTo old l (request.Asks what) reply new = Meets v (call_of l what) old new (Ok reply)
   RepliesTo old l (request.Refused refusal) reply new = (reply ≡ refusal) × (new ≡ old)
 
   -- the desk has no reply to the call of a line
   abbrev pub DeclinesTo : DeskState S → Line → Request → DeskFault → DeskState S → Type 0
-  DeclinesTo old l (request.Asks what) why new = Meets (call_of l what) old new (Err why)
+  DeclinesTo old l (request.Asks what) why new = Meets v (call_of l what) old new (Err why)
   DeclinesTo old l (request.Refused refusal) why new = ⊥
 
   -- the bytes spell a line, and what it asks is replied to so

@@ -4,4 +4,4 @@
 mod line_requests;
 mod lines;
 
-pub use lines::{AnswerFault, batch, batch_in_memory, batch_line};
+pub use lines::{AnswerFault, batch, batch_line};

@@ -4,8 +4,8 @@ ghost use Rattle.http_requests.specs.Spelled.{Spells};
 ghost use Rattle.batches.specs.LineRequests.{IsRequestOf, are_given, are_visible, head_bytes, request_bytes};
 
 use desk_model::{Allow, Refusal};
-use http_requests::read_call;
-use requests::{Line, Request, is_visible, refusal_reply, unserved};
+use http_requests::read_call_by;
+use requests::{Line, Request, Routes, is_visible, refusal_reply, unserved};
 use std::alloc::{AllocError, Global};
 
 /// What a line asks, or the refusal of its request, which is read by the rules for a connection (RFC 9112, 2 to 6).
@@ -13,7 +13,11 @@ use std::alloc::{AllocError, Global};
 /// # Errors
 ///
 /// Where there is no memory for it.
-pub(crate) fn request_of(alloc: Global, line: &Line) -> Result<Request, AllocError>
+pub(crate) fn request_of(
+    alloc: Global,
+    routes: &mut Routes,
+    line: &Line,
+) -> Result<Request, AllocError>
     ensures { IfOk result (λ r. IsRequestOf line.now r) }
 {
     if !are_visible(line) {
@@ -22,9 +26,9 @@ pub(crate) fn request_of(alloc: Global, line: &Line) -> Result<Request, AllocErr
     }
     // Without a method or a path no bytes can be made of it.
     if !are_given(line) {
-        return Ok(Request::Refused(unserved(alloc, line.path.as_str())?));
+        return Ok(Request::Refused(unserved(alloc, routes, line.path.as_str())?));
     }
-    spelled_by(alloc, line)
+    spelled_by(alloc, routes, line)
 }
 
 // Whether the method and the path are of visible characters.
@@ -42,11 +46,11 @@ fn are_given(line: &Line) -> bool
 }
 
 // What the bytes of a line's request ask.
-fn spelled_by(alloc: Global, line: &Line) -> Result<Request, AllocError>
+fn spelled_by(alloc: Global, routes: &mut Routes, line: &Line) -> Result<Request, AllocError>
     ensures { IfOk result (λ r. Spells (request_bytes line.now) r) }
 {
     let bytes = request_bytes(alloc, line)?;
-    match read_call(alloc, &mut bytes.as_slice()) {
+    match read_call_by(alloc, routes, &mut bytes.as_slice()) {
         Ok(heard) => heard.request,
         // Bytes in memory are read without a fault.
         Err(_) => Err(AllocError),

@@ -1,14 +1,15 @@
 //! Batches: a call a line in, a reply a line out.
-ghost use Rattle.std.specs.Prelude.{◌≡◌, ◌≤◌, IfErr, IfOk, MatchResult};
+ghost use Rattle.std.specs.Prelude.{◌≡◌, ◌≤◌, MatchResult};
 ghost use Rattle.batches.specs.LineRequests.{call_of};
-ghost use Rattle.desk_calls.specs.declared.fault.DeskFault.TheVariants.{Memory as memory_fault};
+ghost use Rattle.desk_calls.specs.Meets.{ActsOnce};
+ghost use Rattle.desk_calls.specs.SeenDesks.{IsSeenOn};
 ghost use Rattle.batches.specs.Said.{Says, SaysNothing, RepliesTo, DeclinesTo};
 
 use crate::line_requests::request_of;
-use desk_calls::{Desk, DeskFault, Memory};
-use desk_model::{Ask, Call, Clock, Policy, Reply};
+use desk_calls::{Desk, DeskFault};
+use desk_model::{Ask, Call, Reply};
 use desk_storage::Storage;
-use requests::{Line, LineFault, Request, read_line, reply_line};
+use requests::{Line, LineFault, Request, Routes, read_line, reply_line};
 use std::alloc::Global;
 use std::io::{self, BufRead, BufReader, ErrorKind, Read, Write};
 use thiserror::Error;
@@ -56,12 +57,27 @@ pub fn batch_line<K: Storage + Drop>(
         (λ said. Says K.Storage.sight desk.old line.now said.items desk.new)
         (λ fault. SaysNothing K.Storage.sight desk.old line.now fault desk.new) }
 {
+    let mut routes = Routes::new();
+    batch_line_by(alloc, &mut routes, desk, line)
+}
+
+// The output line, by routes that are lent for one line after the other.
+fn batch_line_by<K: Storage + Drop>(
+    alloc: Global,
+    routes: &mut Routes,
+    desk: &mut Desk<K>,
+    line: &[u8],
+) -> Result<Vec<u8>, AnswerFault>
+    ensures { MatchResult result
+        (λ said. Says K.Storage.sight desk.old line.now said.items desk.new)
+        (λ fault. SaysNothing K.Storage.sight desk.old line.now fault desk.new) }
+{
     let line = match read_line(alloc, line) {
         Ok(line) => line,
         Err(LineFault::NotACall) => return Err(AnswerFault::NotACall),
         Err(LineFault::Memory) => return Err(AnswerFault::Memory),
     };
-    let request = match request_of(alloc, &line) {
+    let request = match request_of(alloc, routes, &line) {
         Ok(request) => request,
         Err(_) => return Err(AnswerFault::Memory),
     };
@@ -119,7 +135,9 @@ pub fn batch<K: Storage + Drop, R: Read + Drop, W: Write, E: Write>(
     errors: &mut E,
     desk: &mut Desk<K>,
 ) -> u8
-    ensures { result ≤ 1 }
+    ensures status { result ≤ 1 }
+    ensures seen { IsSeenOn K.Storage.sight desk.old desk.new }
+    ensures policy { desk.new.policy ≡ desk.old.policy }
 {
     match answer_lines(alloc, reader, writer, desk) {
         Ok(()) => 0,
@@ -130,43 +148,26 @@ pub fn batch<K: Storage + Drop, R: Read + Drop, W: Write, E: Write>(
     }
 }
 
-/// Answers the lines of a reader on a writer as `batch` does, by a new desk in memory with this policy, made at moment 0,
-/// which is gone at the end; and gives the exit status.
-///
-/// # Errors
-///
-/// `Memory` where there is no memory for the desk.
-pub fn batch_in_memory<R: Read + Drop, W: Write, E: Write>(
-    alloc: Global,
-    policy: Policy,
-    reader: R,
-    writer: &mut W,
-    errors: &mut E,
-) -> Result<u8, DeskFault>
-    ensures status { IfOk result (λ s. s ≤ 1) }
-    ensures failed { IfErr result (λ fault. fault ≡ memory_fault) }
-{
-    match Desk::adopt(alloc, Memory::make(alloc, policy, Clock::at(0))) {
-        Ok(mut desk) => Ok(batch(alloc, reader, writer, errors, &mut desk)),
-        Err(unadopted) => Err(DeskFault::from(unadopted.fault)),
-    }
-}
-
+// Answers the lines of a reader, up to the first that is not answered.
 fn answer_lines<K: Storage + Drop, R: Read + Drop, W: Write>(
     alloc: Global,
     reader: R,
     writer: &mut W,
     desk: &mut Desk<K>,
-) -> Result<(), BatchFault> {
+) -> Result<(), BatchFault>
+    ensures seen { IsSeenOn K.Storage.sight desk.old desk.new }
+    ensures policy { desk.new.policy ≡ desk.old.policy }
+{
     let Ok(mut reader) = BufReader::new(alloc, reader) else {
         return Err(BatchFault::Desk(DeskFault::Memory));
     };
     let mut line = Vec::new(alloc);
+    let mut routes = Routes::new();
     for number in 1..u64::MAX {
         if !next_line(&mut reader, &mut line)? {
             return Ok(());
         }
-        answer_line(alloc, desk, number, line.as_slice(), writer)?;
+        answer_line(alloc, &mut routes, desk, number, line.as_slice(), writer)?;
     }
     Ok(())
 }
@@ -193,24 +194,46 @@ fn next_line<R: BufRead>(reader: &mut R, line: &mut Vec<u8>) -> Result<bool, Bat
 // Answers the line of this number, from 1.
 fn answer_line<K: Storage + Drop, W: Write>(
     alloc: Global,
+    routes: &mut Routes,
     desk: &mut Desk<K>,
     number: u64,
     line: &[u8],
     writer: &mut W,
+) -> Result<(), BatchFault>
+    ensures { ActsOnce K.Storage.sight desk.old desk.new }
+{
+    let answered = batch_line_by(alloc, routes, desk, line);
+    put_answer(number, answered, writer)
+}
+
+// Writes what is said to the line of this number, from 1, or tells why nothing is.
+fn put_answer<W: Write>(
+    number: u64,
+    answered: Result<Vec<u8>, AnswerFault>,
+    writer: &mut W,
 ) -> Result<(), BatchFault> {
-    match batch_line(alloc, desk, line) {
-        Ok(said) => match write_line(writer, said.as_slice()) {
-            Ok(()) => Ok(()),
-            Err(_) => Err(BatchFault::Output),
-        },
+    match answered {
+        Ok(said) => write_line(writer, said),
         Err(AnswerFault::NotACall) => Err(BatchFault::NotACall(number)),
         Err(AnswerFault::Desk(fault)) => Err(BatchFault::Desk(fault)),
         Err(AnswerFault::Memory) => Err(BatchFault::Desk(DeskFault::Memory)),
     }
 }
 
-fn write_line<W: Write>(writer: &mut W, line: &[u8]) -> io::Result<()> {
+// Writes a line with its end, in one piece.
+fn write_line<W: Write>(writer: &mut W, line: Vec<u8>) -> Result<(), BatchFault> {
+    let mut line = line;
+    if line.push(b'\n').is_err() {
+        return Err(BatchFault::Desk(DeskFault::Memory));
+    }
+    match put_line(writer, line.as_slice()) {
+        Ok(()) => Ok(()),
+        Err(_) => Err(BatchFault::Output),
+    }
+}
+
+// Writes a line that has its end, and hands it on.
+fn put_line<W: Write>(writer: &mut W, line: &[u8]) -> io::Result<()> {
     writer.write_all(line)?;
-    writer.write_all(b"\n")?;
     writer.flush()
 }

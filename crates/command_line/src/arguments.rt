@@ -27,6 +27,9 @@ pub(crate) const COUNT: &str = "count";
 /// The file that holds the desk of a batch.
 pub(crate) const BATCH_FILE: &str = "file";
 
+/// How often a commit to the file syncs.
+pub(crate) const SYNC: &str = "sync";
+
 /// The account whose orders are listed.
 pub(crate) const ACCOUNT: &str = "account";
 

@@ -29,8 +29,8 @@ fn flag<'a>(alloc: Global, id: &'a str, help: &'a str) -> Arg<'a> {
         .help(help)
 }
 
-fn arg<'a>(alloc: Global, argument: Argument) -> Arg<'a> {
-    match argument {
+fn arg<'a>(alloc: Global, argument: Argument) -> Result<Arg<'a>, AllocError> {
+    Ok(match argument {
         Argument::Positional { id, value, help } => {
             positional(alloc, id, help).value_parser(value.parser())
         }
@@ -46,8 +46,18 @@ fn arg<'a>(alloc: Global, argument: Argument) -> Arg<'a> {
         Argument::Seconds { id, default, help } => option(alloc, id, "N", help)
             .value_parser(clap::value_parser!(u64))
             .default_value(default.text),
+        Argument::Choice {
+            id,
+            value,
+            default,
+            of,
+            help,
+        } => option(alloc, id, "WORD", help)
+            .value_parser(value.parser())
+            .default_value(default)
+            .requires_arg(of)?,
         Argument::Flag { id, help } => flag(alloc, id, help),
-    }
+    })
 }
 
 // The command of a word.
@@ -56,7 +66,7 @@ fn command<'a>(alloc: Global, word: &'static Word) -> Result<Command<'a>, AllocE
         .about(word.about)
         .after_help(word.after);
     for &argument in word.arguments {
-        command = command.arg(arg(alloc, argument))?;
+        command = command.arg(arg(alloc, argument)?)?;
     }
     Ok(command)
 }

@@ -34,11 +34,21 @@ pub(crate) const MAKE: &str = after!(
     "desk make /var/lib/desk/desk.db --base https://ca.example --nonce-life 600"
 );
 
+// What `--sync` supposes of the disk.
+macro_rules! synced {
+    ($example:literal) => {
+        after!(
+            "Syncs:\n  A call's commit is on the disk before its reply is written. By twice nothing is supposed of what\n  a loss of power leaves of bytes that were written and not synced. By once each of them is supposed\n  to be the old or the new one then, as on a disk that finishes each sector it begins, and most\n  commits sync once.\n\n",
+            $example
+        )
+    };
+}
+
 /// Below the options of `serve`.
-pub(crate) const SERVE: &str = after!("desk serve /var/lib/desk/desk.db --port 8080");
+pub(crate) const SERVE: &str = synced!("desk serve /var/lib/desk/desk.db --port 8080");
 
 /// Below the options of `batch`.
-pub(crate) const BATCH: &str = after!("desk batch --file /var/lib/desk/desk.db < calls.jsonl");
+pub(crate) const BATCH: &str = synced!("desk batch --file /var/lib/desk/desk.db < calls.jsonl");
 
 /// Below the options of `status`.
 pub(crate) const STATUS: &str = after!("desk status /var/lib/desk/desk.db --status pending");

@@ -13,5 +13,5 @@ mod words;
 
 pub use fault::WordsFault;
 pub use lives::{AUTHZ_LIFE, Life, NONCE_LIFE, ORDER_LIFE};
-pub use order::{Listing, Order, Target, Terms};
+pub use order::{Listing, Order, SyncedFile, Syncs, Target, Terms};
 pub use reading::read_words;

@@ -12,8 +12,8 @@ pub enum Order<'a> {
     },
     /// To serve connections.
     Serve {
-        /// The path of the file that holds the desk.
-        file: &'a str,
+        /// The file that holds the desk.
+        file: SyncedFile<'a>,
         /// The port of 127.0.0.1, 0 for one that the machine chooses.
         port: u16,
         /// After how many connections to end, or `None` for 2^64 - 1.
@@ -42,9 +42,35 @@ pub enum Order<'a> {
     },
     /// To answer the lines of standard input.
     Batch {
-        /// The path of the file that holds the desk, or `None` for a new desk in memory.
-        file: Option<&'a str>,
+        /// The file that holds the desk, or `None` for a new desk in memory.
+        file: Option<SyncedFile<'a>>,
     },
+}
+
+/// The file that holds a desk which records calls.
+#[derive(Clone, Copy)]
+pub struct SyncedFile<'a> {
+    /// Its path.
+    pub path: &'a str,
+    /// How often a commit syncs its log.
+    pub syncs: Syncs,
+}
+
+/// How often a commit syncs the log of a file.
+#[derive(Clone, Copy)]
+pub enum Syncs {
+    /// Most commits once: each byte that was written and not synced is supposed to be the old or the new one after a loss of power.
+    Once,
+    /// Twice: nothing is supposed of such bytes.
+    Twice,
+}
+
+impl Syncs {
+    /// The word for once.
+    pub(crate) const ONCE: &'static str = "once";
+
+    /// The word for twice.
+    pub(crate) const TWICE: &'static str = "twice";
 }
 
 /// What is revoked.

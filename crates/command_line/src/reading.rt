@@ -2,7 +2,7 @@
 use crate::arguments;
 use crate::fault::WordsFault;
 use crate::grammar::desk;
-use crate::order::{Listing, Order, Target, Terms};
+use crate::order::{Listing, Order, SyncedFile, Syncs, Target, Terms};
 use crate::task::Task;
 use clap::error::ErrorKind;
 use clap::{ArgMatches, Command};
@@ -28,13 +28,17 @@ fn make<'a>(given: &ArgMatches<'a>) -> Option<Order<'a>> {
 }
 
 fn serve<'a>(given: &ArgMatches<'a>) -> Option<Order<'a>> {
-    let (file, port) = file(given).zip(given.get_one::<u16>(arguments::PORT))?;
+    let (path, port) = file(given).zip(given.get_one::<u16>(arguments::PORT))?;
+    let file = synced(path, given);
     let count = given.get_one::<u64>(arguments::COUNT);
     Some(Order::Serve { file, port, count })
 }
 
 fn batch<'a>(given: &ArgMatches<'a>) -> Order<'a> {
-    let file = given.get_str(arguments::BATCH_FILE);
+    let file = match given.get_str(arguments::BATCH_FILE) {
+        Some(path) => Some(synced(path, given)),
+        None => None,
+    };
     Order::Batch { file }
 }
 
@@ -65,6 +69,16 @@ fn revoke_account<'a>(given: &ArgMatches<'a>) -> Option<Order<'a>> {
 // The file that holds the desk, or that will.
 fn file<'a>(given: &ArgMatches<'a>) -> Option<&'a str> {
     given.get_str(arguments::FILE)
+}
+
+// The file at a path, with how often a commit to it syncs.
+fn synced<'a>(path: &'a str, given: &ArgMatches<'a>) -> SyncedFile<'a> {
+    let syncs = if given.get_str(arguments::SYNC) == Some(Syncs::ONCE) {
+        Syncs::Once
+    } else {
+        Syncs::Twice
+    };
+    SyncedFile { path, syncs }
 }
 
 // The number of what is revoked.

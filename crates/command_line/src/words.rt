@@ -1,5 +1,6 @@
 //! The words that the program knows, as help lists them.
 use crate::lives::{AUTHZ_LIFE, Life, NONCE_LIFE, ORDER_LIFE};
+use crate::order::Syncs;
 use crate::task::Task;
 use crate::{arguments, help};
 use clap::builder::ValueParser;
@@ -9,6 +10,9 @@ const LAST_NUMBER: u64 = 1 << 62;
 
 // The statuses of an order (RFC 8555, 7.1.6).
 const ORDER_STATUSES: &[&str] = &["pending", "ready", "processing", "valid", "invalid"];
+
+// How often a commit may sync.
+const SYNCS: &[&str] = &[Syncs::ONCE, Syncs::TWICE];
 
 /// A word, with what help says of it above its options and below them.
 pub(crate) struct Word {
@@ -47,6 +51,14 @@ pub(crate) enum Argument {
         default: Life,
         help: &'static str,
     },
+    /// An option of another argument: a word, with the one that stands where it is not given.
+    Choice {
+        id: &'static str,
+        value: Value,
+        default: &'static str,
+        of: &'static str,
+        help: &'static str,
+    },
     /// An option that takes none.
     Flag {
         id: &'static str,
@@ -67,6 +79,8 @@ pub(crate) enum Value {
     Number,
     /// The status of an order.
     Status,
+    /// How often a commit syncs.
+    Syncs,
 }
 
 impl Value {
@@ -78,6 +92,7 @@ impl Value {
             Value::Port => clap::value_parser!(u16),
             Value::Number => ValueParser::unsigned(1, LAST_NUMBER),
             Value::Status => ValueParser::Names(ORDER_STATUSES),
+            Value::Syncs => ValueParser::Names(SYNCS),
         }
     }
 }
@@ -95,6 +110,19 @@ const NUMBER: Argument = Argument::Positional {
     value: Value::Number,
     help: "its number, 1 to 2^62",
 };
+
+// How often a commit to the file that an argument names syncs.
+macro_rules! sync {
+    ($of:expr) => {
+        Argument::Choice {
+            id: arguments::SYNC,
+            value: Value::Syncs,
+            default: Syncs::TWICE,
+            of: $of,
+            help: "how often a commit syncs the log of the file; once supposes more of the disk, as said below",
+        }
+    };
+}
 
 const MAKE: &[Argument] = &[
     Argument::Positional {
@@ -142,15 +170,19 @@ const SERVE: &[Argument] = &[
         is_required: false,
         help: "how many connections to serve, 0 to 2^64 - 1; without it 2^64 - 1",
     },
+    sync!(arguments::FILE),
 ];
 
-const BATCH: &[Argument] = &[Argument::Option {
-    id: arguments::BATCH_FILE,
-    value_name: "FILE",
-    value: Value::Text,
-    is_required: false,
-    help: "the file that holds the desk; without it a new desk in memory",
-}];
+const BATCH: &[Argument] = &[
+    Argument::Option {
+        id: arguments::BATCH_FILE,
+        value_name: "FILE",
+        value: Value::Text,
+        is_required: false,
+        help: "the file that holds the desk; without it a new desk in memory",
+    },
+    sync!(arguments::BATCH_FILE),
+];
 
 const STATUS: &[Argument] = &[
     DESK_FILE,

@@ -1,16 +1,7 @@
 //! The program `desk`.
 #![tactic(auto)]
 
-mod answering;
-mod commands;
-mod desks;
-mod fault;
-mod reporting;
-mod revoking;
-
-use crate::commands::run_words;
-use crate::fault::{Fault, tell};
-use desk_calls::DeskFault;
+use commands::{run_words, tell_no_memory};
 use std::io;
 use std::process::ExitCode;
 
@@ -23,7 +14,7 @@ fn main(rt: HostRuntime) -> ExitCode {
             &mut io::writer(&rt),
             &mut rt.stderr(),
         ),
-        Err(_) => tell(&mut rt.stderr(), Fault::Desk(DeskFault::Memory)),
+        Err(_) => tell_no_memory(&mut rt.stderr()),
     };
     ExitCode::from(status)
 }

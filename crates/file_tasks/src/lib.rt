@@ -1,9 +1,12 @@
-//! Desks in files at a path: made, and used by tasks.
+//! Desks in files at a path, or in memory: made, and used by tasks.
 #![tactic(auto)]
 
 mod files;
 mod over_file;
+mod over_memory;
 mod tasks;
 
 pub use over_file::{make_desk, run_over_file};
+pub use over_memory::run_in_memory;
+pub use sqlite::{Unknown, Wary};
 pub use tasks::Task;

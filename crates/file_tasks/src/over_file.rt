@@ -1,4 +1,6 @@
 //! A task by the store of a file.
+ghost use Rattle.std.specs.Prelude.{IfOk};
+
 use crate::files::{close, make, open};
 use crate::tasks::Task;
 use desk_model::Policy;
@@ -16,22 +18,15 @@ pub fn make_desk(rt: &HostRuntime, path: &str, policy: Policy) -> Result<(), Ope
 
 /// Opens the desk of a file, does a task with its store, closes it, and gives the exit status.
 ///
-/// The file is missing or empty, or holds no desk: `NotADesk`. It holds one of a later format: `NewerFormat`. Nothing is taken
-/// for granted of bytes whose write was cut off.
+/// The file is missing or empty, or holds no desk: `NotADesk`. It holds one of a later format: `NewerFormat`. What is taken for
+/// granted of bytes whose write was cut off is said by the start: nothing by `Wary`, so that each commit syncs twice, and by
+/// `Unknown` that each byte is the old or the new one, so that most commits sync once.
 ///
 /// # Errors
 ///
 /// The task's own, and those of opening and closing the file; where the task has a fault, or another exit status than 0,
 /// closing adds none.
-pub fn run_over_file<T: Task + Drop>(rt: &HostRuntime, file: &str, task: T) -> Result<u8, T::Fault>
-where
-    T::Fault: From<OpenFault>,
-{
-    run_from(rt, file, Wary, task)
-}
-
-// The same, for all bytes that the file may hold at the start.
-fn run_from<S: Start, T: Task + Drop>(
+pub fn run_over_file<S: Start, T: Task + Drop>(
     rt: &HostRuntime,
     file: &str,
     start: S,
@@ -39,6 +34,7 @@ fn run_from<S: Start, T: Task + Drop>(
 ) -> Result<u8, T::Fault>
 where
     T::Fault: From<OpenFault>,
+    ensures { IfOk result T.Task.gives }
 {
     let mut task = task;
     let (store, outcome) = run_over(open(rt, file, start)?, &mut task)?;
@@ -52,10 +48,12 @@ where
     }
 }
 
-// Does a task with a store, whatever the engine keeps its file in.
-fn run_over<S: Alter + Drop, T: Task>(
+/// Does a task with a store, whatever the engine keeps it in.
+pub(crate) fn run_over<S: Alter + Drop, T: Task>(
     store: Store<S>,
     task: &mut T,
-) -> Result<(Store<S>, Result<u8, T::Fault>), T::Fault> {
+) -> Result<(Store<S>, Result<u8, T::Fault>), T::Fault>
+    ensures { IfOk result (λ done. IfOk done.1 T.gives) }
+{
     task.run(store)
 }

@@ -1,4 +1,6 @@
 //! What is done with the store of a desk's file.
+ghost use Rattle.std.specs.Prelude.{ℕ, IfOk};
+
 use desk_loading::RowsAbove;
 use desk_storage::Storage;
 
@@ -8,6 +10,9 @@ pub trait Task {
     /// Why it ends, if not by its exit status.
     type Fault;
 
+    // The exit statuses that it may give.
+    ghost gives: { ℕ → Type 0 };
+
     /// Does it, and gives the store back, with the exit status or with why there is none.
     ///
     /// # Errors
@@ -16,5 +21,6 @@ pub trait Task {
     fn run<K: Storage + RowsAbove + Drop>(
         &mut self,
         store: K,
-    ) -> Result<(K, Result<u8, Self::Fault>), Self::Fault>;
+    ) -> Result<(K, Result<u8, Self::Fault>), Self::Fault>
+        ensures { IfOk result (λ done. IfOk done.1 gives) };
 }

@@ -1,7 +1,6 @@
 //! The list of status faults.
 ghost use Rattle.std.specs.Prelude.{◌≡◌, ◌↔◌, ◌≢◌, [], IfOk, IsTrue};
 ghost use Rattle.desk_model.specs.Derived.{status_faults};
-ghost use Rattle.desk_passes.specs.InOrder.{IsInOrder};
 ghost use Rattle.desk_passes.specs.Left.{faults_of};
 ghost use Rattle.desk_storage.specs.Sight.{ForTables};
 ghost use Rattle.reports.specs.Reported.{Reports};
@@ -81,7 +80,7 @@ fn write_kind<K: RowsAbove, W: Write>(
     moment: u64,
 ) -> Result<bool, ReportFault>
     ensures reads { Reports K.sight source.old source.new result }
-    ensures found { ForTables K.sight source.old source.new (λ T. IsInOrder T → moment ≡ T.meta.counters.clock →
+    ensures found { ForTables K.sight source.old source.new (λ T. moment ≡ T.meta.counters.clock →
         IfOk result (λ found. IsTrue found ↔ faults_of T kind ≢ [])) }
 {
     let mut found = false;
@@ -102,7 +101,7 @@ fn write_kinds<K: RowsAbove, W: Write>(
     moment: u64,
 ) -> Result<bool, ReportFault>
     ensures reads { Reports K.sight source.old source.new result }
-    ensures found { ForTables K.sight source.old source.new (λ T. IsInOrder T → moment ≡ T.meta.counters.clock →
+    ensures found { ForTables K.sight source.old source.new (λ T. moment ≡ T.meta.counters.clock →
         IfOk result (λ found. IsTrue found ↔ status_faults T ≢ [])) }
 {
     let mut found = false;
@@ -127,7 +126,7 @@ pub fn list_faults<K: RowsAbove, W: Write>(
     form: Form,
 ) -> Result<bool, ReportFault>
     ensures reads { Reports K.sight source.old source.new result }
-    ensures found { ForTables K.sight source.old source.new (λ T. IsInOrder T →
+    ensures found { ForTables K.sight source.old source.new (λ T.
         IfOk result (λ found. IsTrue found ↔ status_faults T ≢ [])) }
 {
     let moment = moment_of(alloc, source)?;

@@ -1,6 +1,5 @@
 use Rattle.std.proofs.Common.{◌≡◌, ◌-◌, ◌^◌}
 use Rattle.desk_storage.specs.Sight.{ForTables, Stands}
-use Rattle.desk_passes.specs.InOrder.{IsInOrder}
 use Rattle.desk_passes.specs.Left.{faults_above, faults_of}
 use Rattle.reports.proofs.Searching.{Searches}
 use Rattle.reports.proofs.faults.write_kind.Given as goal
@@ -9,7 +8,7 @@ abbrev pub invariant-loop-fault : goal.invariant-loop-fault
 invariant-loop-fault g l = record {
   name : l.faults.source.ghost_name ≡ l.initial.faults.source.ghost_name;
   stands : Stands g.K.LookUps.sight l.fn.source l.faults.source.now;
-  found : ForTables g.K.LookUps.sight l.fn.source l.faults.source.now (λ T. IsInOrder T → l.moment ≡ T.meta.counters.clock
+  found : ForTables g.K.LookUps.sight l.fn.source l.faults.source.now (λ T. l.moment ≡ T.meta.counters.clock
       → Searches l.found (faults_of T l.fn.kind) (faults_above T l.faults.kind l.faults.moment l.faults.above));
 }
 

@@ -17,10 +17,10 @@ kinds = Account ∷ Order ∷ Authorization ∷ Challenge ∷ []
 pub loop-kind-preserved : goal.loop-kind-preserved
 loop-kind-preserved g c = record {
   stands = search rules;
-  found = λ honest T holds h now.
+  found = λ honest T holds now.
       let before = c.in_ok-write_kind.ensures.reads.honest honest in
-      let here = c.in_ok-write_kind.ensures.found honest T (c.loop-kind.invariant.stands.tables before T holds) h now in
-      let so_far = c.loop-kind.invariant.found before T holds h now in
+      let here = c.in_ok-write_kind.ensures.found honest T (c.loop-kind.invariant.stands.tables before T holds) now in
+      let so_far = c.loop-kind.invariant.found before T holds now in
       elim c.if-branch.branch [
         | then-branch w ↦ subst (λ f. Searches f (flat_map (faults_of T) kinds) (flat_map (faults_of T) (drop (c.loop-kind.kind-index + 1) kinds)))
             (sym w.found-is) (turn_found (faults_of T) kinds c.loop-kind.kind-index Account c.loop-kind.found c.loop-kind-test.true so_far
@@ -33,8 +33,8 @@ loop-kind-preserved g c = record {
 
 -- the four kinds make all faults
 pub returns-clause-found : goal.returns-clause-found
-returns-clause-found g c honest T holds h now =
-    subst (λ all. IsTrue c.loop-kind.found ↔ all ≢ []) (kinds_make_all T h)
+returns-clause-found g c honest T holds now =
+    subst (λ all. IsTrue c.loop-kind.found ↔ all ≢ []) (kinds_make_all T)
     (tells c.loop-kind.found (flat_map (faults_of T) kinds)
     (subst (λ l. Searches c.loop-kind.found (flat_map (faults_of T) kinds) (flat_map (faults_of T) l))
-    (drop_all c.loop-kind.kind-index kinds c.loop-kind-test.false) (c.loop-kind.invariant.found honest T holds h now)))
+    (drop_all c.loop-kind.kind-index kinds c.loop-kind-test.false) (c.loop-kind.invariant.found honest T holds now)))

@@ -34,7 +34,11 @@ impl<'a, W: Write> Revoke<'a, W> {
 }
 
 impl<'a, W: Write> Task for Revoke<'a, W> {
+    ghost use Rattle.std.specs.Prelude.{◌≡◌};
+
     type Fault = Fault;
+
+    ghost gives = { λ status. status ≡ 0 };
 
     fn run<K: Storage + RowsAbove + Drop>(
         &mut self,
@@ -47,7 +51,7 @@ impl<'a, W: Write> Task for Revoke<'a, W> {
             Target::Account(number) => writeln!(self.out, "account {number} revoked"),
         };
         match told {
-            Ok(()) => Ok((desk.close(), Ok(0))),
+            Ok(()) => Ok((desk.into_store(), Ok(0))),
             Err(_) => Err(Fault::Output),
         }
     }

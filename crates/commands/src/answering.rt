@@ -20,7 +20,11 @@ pub(crate) struct AnswerLines<'r, 'o, 'e, R: Read, W: Write, E: Write> {
 }
 
 impl<'r, 'o, 'e, R: Read, W: Write, E: Write> Task for AnswerLines<'r, 'o, 'e, R, W, E> {
+    ghost use Rattle.std.specs.Prelude.{◌≤◌};
+
     type Fault = Fault;
+
+    ghost gives = { λ status. status ≤ 1 };
 
     fn run<K: Storage + RowsAbove + Drop>(
         &mut self,
@@ -34,7 +38,7 @@ impl<'r, 'o, 'e, R: Read, W: Write, E: Write> Task for AnswerLines<'r, 'o, 'e, R
             self.errors,
             &mut desk,
         );
-        Ok((desk.close(), Ok(status)))
+        Ok((desk.into_store(), Ok(status)))
     }
 }
 
@@ -68,7 +72,11 @@ impl<'a, W: Write, E: Write> ServeConnections<'a, W, E> {
 }
 
 impl<'a, W: Write, E: Write> Task for ServeConnections<'a, W, E> {
+    ghost use Rattle.std.specs.Prelude.{◌≡◌};
+
     type Fault = Fault;
+
+    ghost gives = { λ status. status ≡ 0 };
 
     fn run<K: Storage + RowsAbove + Drop>(
         &mut self,
@@ -79,6 +87,6 @@ impl<'a, W: Write, E: Write> Task for ServeConnections<'a, W, E> {
             Ok(()) => Ok(0),
             Err(fault) => Err(fault),
         };
-        Ok((desk.close(), outcome))
+        Ok((desk.into_store(), outcome))
     }
 }

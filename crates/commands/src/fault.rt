@@ -1,4 +1,6 @@
 //! Why a command ends, and how that is said.
+ghost use Rattle.std.specs.Prelude.{◌≡◌};
+
 use connections::ServeFault;
 use desk_calls::DeskFault;
 use desk_model::Refusal;
@@ -10,12 +12,6 @@ use thiserror::Error;
 /// Why a command ends.
 #[derive(Clone, Copy, Debug, Error)]
 pub(crate) enum Fault {
-    /// A limit of the terms is broken.
-    #[error("bad policy")]
-    BadPolicy,
-    /// A word names no status of an order.
-    #[error("no status of an order")]
-    NoStatus,
     /// A fault of the desk, 20 to 27.
     #[error(transparent)]
     Desk(#[from] DeskFault),
@@ -28,6 +24,17 @@ pub(crate) enum Fault {
     /// The machine failed, or the desk is served no longer.
     #[error(transparent)]
     Serve(#[from] ServeFault),
+}
+
+/// What a word gets wrong that the parser does not see.
+#[derive(Clone, Copy, Debug, Error)]
+pub(crate) enum Wrong {
+    /// A limit of the terms is broken.
+    #[error("bad policy")]
+    Policy,
+    /// It names no status of an order.
+    #[error("no status of an order")]
+    Status,
 }
 
 impl From<OpenFault> for Fault {
@@ -50,10 +57,17 @@ impl From<ReportFault> for Fault {
 }
 
 /// Says why a command ended, and gives the exit status.
-pub(crate) fn tell<E: Write>(errors: &mut E, fault: Fault) -> u8 {
+pub(crate) fn tell<E: Write>(errors: &mut E, fault: Fault) -> u8
+    ensures { result ≡ 1 }
+{
     let _ = writeln!(errors, "desk: {fault}");
-    match fault {
-        Fault::BadPolicy | Fault::NoStatus => 2,
-        _ => 1,
-    }
+    1
+}
+
+/// Says what a word gets wrong, and gives the exit status.
+pub(crate) fn refuse<E: Write>(errors: &mut E, wrong: Wrong) -> u8
+    ensures { result ≡ 2 }
+{
+    let _ = writeln!(errors, "desk: {wrong}");
+    2
 }

@@ -1,4 +1,7 @@
 //! Reports on the rows of a store.
+ghost use Rattle.std.specs.Prelude.{MatchOption};
+ghost use Rattle.commands.specs.Statuses.{NamesStatus};
+
 use crate::fault::Fault;
 use command_line::Listing;
 use desk_loading::RowsAbove;
@@ -17,17 +20,15 @@ pub(crate) fn form(json: bool) -> Form {
     if json { Form::Json } else { Form::Text }
 }
 
-/// The orders that the words ask for.
-///
-/// # Errors
-///
-/// `NoStatus` where the word of the status names none.
-pub(crate) fn filter(listing: Listing<'_>) -> Result<OrderFilter, Fault> {
+/// The orders that the words ask for, or `None` where the word of their status names none.
+pub(crate) fn filter(listing: Listing<'_>) -> Option<OrderFilter>
+    ensures { MatchOption result (NamesStatus listing.entry → ⊥) (λ _. NamesStatus listing.entry) }
+{
     let status = match listing.status {
-        Some(word) => Some(OrderStatus::from_text(word).ok_or(Fault::NoStatus)?),
+        Some(word) => Some(OrderStatus::from_text(word)?),
         None => None,
     };
-    Ok(OrderFilter {
+    Some(OrderFilter {
         account: listing.account,
         status,
     })
@@ -43,7 +44,11 @@ pub(crate) struct ListOrders<'a, W: Write> {
 }
 
 impl<'a, W: Write> Task for ListOrders<'a, W> {
+    ghost use Rattle.std.specs.Prelude.{◌≡◌};
+
     type Fault = Fault;
+
+    ghost gives = { λ status. status ≡ 0 };
 
     fn run<K: Storage + RowsAbove + Drop>(
         &mut self,
@@ -64,7 +69,11 @@ pub(crate) struct CheckStatuses<'a, W: Write> {
 }
 
 impl<'a, W: Write> Task for CheckStatuses<'a, W> {
+    ghost use Rattle.std.specs.Prelude.{◌≡◌, ◌⊎◌};
+
     type Fault = Fault;
+
+    ghost gives = { λ status. (status ≡ 0) ⊎ (status ≡ 3) };
 
     fn run<K: Storage + RowsAbove + Drop>(
         &mut self,

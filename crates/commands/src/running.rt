@@ -1,0 +1,222 @@
+//! The words of the command line, done.
+ghost use Rattle.std.specs.Prelude.{◌≡◌, ◌≤◌, IfOk, MatchOption, true, false};
+ghost use Rattle.desk_model.specs.Terms.{are_terms};
+ghost use Rattle.commands.specs.Statuses.{EndsBy, Gives, terms_of};
+
+use crate::answering::{AnswerLines, ServeConnections};
+use crate::fault::{Fault, Wrong, refuse, tell};
+use crate::reporting::{CheckStatuses, ListOrders, filter, form};
+use crate::revoking::Revoke;
+use command_line::{
+    AUTHZ_LIFE, Listing, NONCE_LIFE, ORDER_LIFE, Order, SyncedFile, Syncs, Terms, WordsFault,
+    read_words,
+};
+use desk_calls::DeskFault;
+use desk_model::Policy;
+use file_tasks::{Task, Unknown, Wary, make_desk, run_in_memory, run_over_file};
+use std::alloc::Global;
+use std::io::{Read, Write};
+
+// The terms of a desk that is made in memory.
+const TERMS: Terms<'static> = Terms {
+    base: "https://ca.example",
+    nonce_life: NONCE_LIFE.seconds,
+    order_life: ORDER_LIFE.seconds,
+    authz_life: AUTHZ_LIFE.seconds,
+};
+
+/// Does what the words of a command line ask for, of which the first is the program's name, and gives the exit status: 0 where
+/// it is done, 1 after a fault or a refusal, 2 where the words are wrong or a limit is broken, 3 where a stored status is wrong.
+pub fn run_words<R: Read + Drop, W: Write, E: Write>(
+    rt: &HostRuntime,
+    words: &[String],
+    reader: R,
+    out: &mut W,
+    errors: &mut E,
+) -> u8
+    ensures { result ≤ 3 }
+{
+    match read_words(rt.alloc(), words) {
+        Ok(order) => run_order(rt, order, reader, out, errors),
+        Err(fault) => tell_words(&fault, out, errors),
+    }
+}
+
+/// Says that there is no memory for the words of a command line, and gives the exit status.
+pub fn tell_no_memory<E: Write>(errors: &mut E) -> u8
+    ensures { result ≡ 1 }
+{
+    tell(errors, Fault::Desk(DeskFault::Memory))
+}
+
+/// Does an order, and gives the exit status, as `run_words` does.
+pub fn run_order<R: Read + Drop, W: Write, E: Write>(
+    rt: &HostRuntime,
+    order: Order<'_>,
+    reader: R,
+    out: &mut W,
+    errors: &mut E,
+) -> u8
+    ensures { EndsBy order.entry result }
+{
+    match try_order(rt, order, reader, out, errors) {
+        Ok(status) => status,
+        Err(fault) => tell(errors, fault),
+    }
+}
+
+// Does an order, and gives the exit status where no fault ends it.
+fn try_order<R: Read + Drop, W: Write, E: Write>(
+    rt: &HostRuntime,
+    order: Order<'_>,
+    reader: R,
+    out: &mut W,
+    errors: &mut E,
+) -> Result<u8, Fault>
+    ensures { IfOk result (Gives order.entry) }
+{
+    match order {
+        Order::Make { file, terms } => make_file(rt, file, terms, out, errors),
+        Order::Serve { file, port, count } => {
+            let task = ServeConnections {
+                rt,
+                port,
+                count,
+                out,
+                errors,
+            };
+            run_over_synced(rt, file, task)
+        }
+        Order::Status { file, listing } => list_file(rt, file, listing, out, errors),
+        Order::Check { file, json } => {
+            let task = CheckStatuses {
+                alloc: rt.alloc(),
+                out,
+                form: form(json),
+            };
+            run_over_file(rt, file, Wary, task)
+        }
+        Order::Revoke { file, target } => run_over_file(rt, file, Wary, Revoke { rt, target, out }),
+        Order::Batch { file } => answer_lines(rt, file, reader, out, errors),
+    }
+}
+
+// Makes a desk in a new file, where its terms keep the limits.
+fn make_file<W: Write, E: Write>(
+    rt: &HostRuntime,
+    file: &str,
+    terms: Terms<'_>,
+    out: &mut W,
+    errors: &mut E,
+) -> Result<u8, Fault>
+    ensures { IfOk result (Gives (Order.Make file.entry terms.entry)) }
+{
+    let Some(policy) = policy(rt.alloc(), terms)? else {
+        return Ok(refuse(errors, Wrong::Policy));
+    };
+    make_desk(rt, file, policy)?;
+    match writeln!(out, "made") {
+        Ok(()) => Ok(0),
+        Err(_) => Err(Fault::Output),
+    }
+}
+
+// Lists orders of the desk in a file, where the word of their status names one.
+fn list_file<W: Write, E: Write>(
+    rt: &HostRuntime,
+    file: &str,
+    listing: Listing<'_>,
+    out: &mut W,
+    errors: &mut E,
+) -> Result<u8, Fault>
+    ensures { IfOk result (Gives (Order.Status file.entry listing.entry)) }
+{
+    let Some(filter) = filter(listing) else {
+        return Ok(refuse(errors, Wrong::Status));
+    };
+    let task = ListOrders {
+        alloc: rt.alloc(),
+        out,
+        form: form(listing.json),
+        filter,
+    };
+    run_over_file(rt, file, Wary, task)
+}
+
+// Answers the lines of a reader, by the desk of a file or by a new one in memory.
+fn answer_lines<R: Read + Drop, W: Write, E: Write>(
+    rt: &HostRuntime,
+    file: Option<SyncedFile<'_>>,
+    mut reader: R,
+    out: &mut W,
+    errors: &mut E,
+) -> Result<u8, Fault>
+    ensures { IfOk result (λ status. status ≤ 1) }
+{
+    let alloc = rt.alloc();
+    let task = AnswerLines {
+        alloc,
+        reader: &mut reader,
+        out,
+        errors,
+    };
+    match file {
+        Some(file) => run_over_synced(rt, file, task),
+        None => run_in_memory(alloc, default_policy(alloc)?, task),
+    }
+}
+
+// Does a task with the desk in a file, to which each commit syncs so often.
+fn run_over_synced<T: Task<Fault = Fault> + Drop>(
+    rt: &HostRuntime,
+    file: SyncedFile<'_>,
+    task: T,
+) -> Result<u8, Fault>
+    ensures { IfOk result T.Task.gives }
+{
+    match file.syncs {
+        Syncs::Once => run_over_file(rt, file.path, Unknown, task),
+        Syncs::Twice => run_over_file(rt, file.path, Wary, task),
+    }
+}
+
+// Says what the words lack, or the help that they ask for.
+fn tell_words<W: Write, E: Write>(fault: &WordsFault, out: &mut W, errors: &mut E) -> u8
+    ensures { result ≤ 2 }
+{
+    match fault {
+        WordsFault::Help(text) => match write!(out, "{text}") {
+            Ok(()) => 0,
+            Err(_) => tell(errors, Fault::Output),
+        },
+        WordsFault::Wrong(text) => {
+            let _ = write!(errors, "{text}");
+            2
+        }
+        WordsFault::Memory => tell_no_memory(errors),
+    }
+}
+
+// The policy of terms, or `None` where they break a limit.
+fn policy(alloc: Global, terms: Terms<'_>) -> Result<Option<Policy>, Fault>
+    ensures { IfOk result (λ made. MatchOption made (are_terms (terms_of terms.entry) ≡ false) (λ _. are_terms (terms_of terms.entry) ≡ true)) }
+{
+    match Policy::new(
+        alloc,
+        terms.base,
+        terms.nonce_life,
+        terms.order_life,
+        terms.authz_life,
+    ) {
+        Ok(policy) => Ok(policy),
+        Err(_) => Err(Fault::Desk(DeskFault::Memory)),
+    }
+}
+
+// The policy of a desk that is made in memory.
+fn default_policy(alloc: Global) -> Result<Policy, Fault> {
+    match policy(alloc, TERMS)? {
+        Some(policy) => Ok(policy),
+        None => unreachable!(),
+    }
+}

@@ -1,0 +1,37 @@
+//! A task by a store in memory.
+ghost use Rattle.std.specs.Prelude.{IfOk};
+
+use crate::over_file::run_over;
+use crate::tasks::Task;
+use desk_model::{Clock, Policy};
+use desk_storage::StorageFault;
+use desk_store::{OpenFault, Store};
+use sqlite::{Connection, MemStore};
+use std::alloc::Global;
+
+// The store of a new desk in memory, made at moment 0.
+fn make_store(alloc: Global, policy: Policy) -> Result<Store<MemStore>, OpenFault> {
+    let Ok(conn) = Connection::open_in_memory(alloc) else {
+        return Err(OpenFault::Storage(StorageFault::Memory));
+    };
+    match Store::make(alloc, conn, policy, Clock::at(0)) {
+        Ok(store) => Ok(store),
+        Err(unmade) => Err(unmade.fault),
+    }
+}
+
+/// Makes a desk with a policy, at moment 0, in memory, does a task with its store, and gives the exit status; the desk is then gone.
+///
+/// # Errors
+///
+/// The task's own, and `Storage` where the desk was not made.
+pub fn run_in_memory<T: Task + Drop>(alloc: Global, policy: Policy, task: T) -> Result<u8, T::Fault>
+where
+    T::Fault: From<OpenFault>,
+    ensures { IfOk result T.Task.gives }
+{
+    let mut task = task;
+    let (store, outcome) = run_over(make_store(alloc, policy)?, &mut task)?;
+    drop(store);
+    outcome
+}
