@@ -53,6 +53,11 @@ def whole_and_cut(program, folder, name, lives, calls, wanted):
     return whole
 
 
+def synced(path, word):
+    """The words of a batch and of serving over a file, with a word on how often a commit syncs."""
+    return [["batch", "--file", path, "--sync", word], ["serve", path, "--port", "0", "--count", "0", "--sync", word]]
+
+
 def ends(program, folder):
     """Wrong words, files and terms."""
     path = fresh(program, folder, "again")
@@ -65,7 +70,9 @@ def ends(program, folder):
     see("a bad base", run(program, "make", f"{folder}/bad.db", "--base", "ca"), (2, b"", b"desk: bad policy\n"))
     see("no file for a bad base", os.path.exists(f"{folder}/bad.db"), False)
     see("a life of 0", run(program, "make", f"{folder}/bad.db", "--base", "https://ca.example", "--order-life", "0")[::2], (2, b"desk: bad policy\n"))
-    for words in ([], ["nothing"], ["make", path], ["make", path, "--base", "https://ca.example", "--nonce-life", "-1"], ["batch", "more"]):
+    for words in ([], ["nothing"], ["make", path], ["make", path, "--base", "https://ca.example", "--nonce-life", "-1"], ["batch", "more"],
+                  ["batch", "--sync", "once"], ["batch", "--sync", "twice"], *synced(path, "thrice"), *synced(path, ""), *synced(path, "Once"),
+                  *(more + ["--sync", "once"] for more in synced(path, "once"))):
         status, out, errors = run(program, *words)
         see(f"words {words}", (status, out, errors != b""), (2, b"", True))
     see("help", (run(program, "--help")[0], run(program, "--help")[2]), (0, b""))
@@ -131,6 +138,20 @@ def missing_columns(program, folder):
         see(said, run(program, "batch", "--file", path), NOT_A_DESK)
         see(f"{said}: its bytes", bytes_of(path) == before, True)
     see("columns that were dropped", dropped > 20, True)
+
+
+def as_often(program, folder):
+    """The replies to a batch, and the tables then, are the same however often a commit syncs."""
+    calls, wanted = example("order")
+    found = []
+    for word in ("once", "twice"):
+        path = fresh(program, folder, f"synced-{word}")
+        for part in (calls[:3], calls[3:]):
+            found.append(run(program, *synced(path, word)[0], given=b"".join(part)))
+        see(f"served, synced {word}", run(program, *synced(path, word)[1])[::2], (0, b""))
+        found.append(tables_of(path, folder))
+    see("synced once and twice", found[:3], found[3:])
+    see("synced once", (found[0][1] + found[1][1], found[1][::2]), (wanted, (0, b"")))
 
 
 def first_rows(program, folder):
@@ -240,7 +261,7 @@ def broken_input(program, _):
 
 def main(program):
     with workspace("files") as folder:
-        for tries in (batches, first_rows, ends, strange, missing_columns, used_up, cut_short, upgrades, strange_upgrades, cut_upgrades,
+        for tries in (batches, as_often, first_rows, ends, strange, missing_columns, used_up, cut_short, upgrades, strange_upgrades, cut_upgrades,
                       without_room, later_calls, full_output, broken_input, together, shell):
             tries(program, folder)
     return finish("Files")

@@ -5,7 +5,8 @@ Each scenario is a call that is made again and again on copies of one file, whil
 through, its first write, its second, and so on, until a run ends by itself. Then the same with a disk that fails once: the first read,
 write or sync fails, the second, and so on, and the program goes on. After each stop or failure the program opens the file
 again, and its tables are those before the call or those after it: the latter, where the reply was printed. So it is with the
-opening of files of format 1, which makes them format 2.
+opening of files of format 1, which makes them format 2, and with calls that one run answers, synced once each or twice. How
+often the program syncs for a call is counted, too.
 """
 import base64
 import collections
@@ -16,7 +17,7 @@ import tempfile
 from functools import partial
 
 from first_format import RICH, is_first, restore, upgraded
-from served import Server, refusal, request
+from served import NEW_NONCE, Server, refusal, request
 from stories import Machine
 from trying import (BASE, KEY, begin, checked, copy, faults, finish, fresh, library, nonce_text, order_of, remove, run, see, side_by_side, tables_of,
                     workspace)
@@ -306,6 +307,92 @@ def first_requests(program, preloads, folder):
         desk.answer(call)
 
 
+# The calls that one run answers: the first commit of a run always syncs twice.
+TOGETHER = 4
+
+
+def calls_together(desk):
+    """The lines of a nonce, of an account, and of the account again, each by the nonce of the reply before it."""
+    account = [desk.signed("/new-account", {}, nonce=nonce_text(serial)) for serial in range(1, TOGETHER)]
+    return [desk.line("GET", "/new-nonce", random="00" * 16), *account]
+
+
+class Together:
+    """A batch of calls over a copy of a file: the tables after each number of them, and the replies."""
+
+    def __init__(self, program, folder, syncs):
+        desk = Desk(program, folder)
+        self.program, self.folder, self.source, self.path = program, folder, desk.path, f"{folder}/copy.db"
+        self.name, self.calls = f"calls that sync {syncs}", calls_together(desk)
+        self.words = [program, "batch", "--sync", syncs, "--file", self.path]
+        self.tables, self.replies = [], b""
+        for count in range(TOGETHER + 1):
+            self.again()
+            status, self.replies, _ = run(*self.words, given=b"".join(self.calls[:count]))
+            see(f"{self.name}: the replies of {count}", (status, self.replies.count(b"\n")), (0, count))
+            self.tables.append(tables_of(self.path, folder))
+
+    def again(self):
+        copy(self.source, self.path)
+
+    def look(self, said, replies):
+        """The tables that are left are those after the calls that were replied to, or after one more; the file is a desk."""
+        count = replies.count(b"\n")
+        see(f"{said}: the replies", self.replies.startswith(replies), True)
+        see(f"{said}: opened again", checked(self.program, self.path), (0, b"no fault\n", b""))
+        see(f"{said}: tables of the calls", tables_of(self.path, self.folder) in self.tables[count:count + 2], True)
+
+
+def try_together(program, preload, folder, syncs):
+    """Stops at each write of a batch of calls, and half way through it."""
+    together, count = Together(program, folder, syncs), 0
+    for half in (False, True):
+        for at in range(1, 10000):
+            together.again()
+            ran = stopped(preload, together.path, at, half, together.words, b"".join(together.calls))
+            if ran.returncode != STOPPED:
+                see(f"{together.name}: a run that is not stopped", (ran.returncode, ran.stdout), (0, together.replies))
+                break
+            count += 1
+            together.look(f"{together.name}, stopped at write {at}", ran.stdout)
+    print(f"{together.name}: stopped at {count} writes")
+
+
+def syncs_of_batch(desk, env, counted, words):
+    """How often a batch syncs for each of some calls, the first one left out, each asked after the reply to the one before."""
+    counts = []
+    with subprocess.Popen([desk.program, "batch", "--file", desk.path, *words], stdin=subprocess.PIPE, stdout=subprocess.PIPE, env=env) as ran:
+        for call in calls_together(desk):
+            ran.stdin.write(call)
+            ran.stdin.flush()
+            see(f"a call with {words}", ran.stdout.readline()[:2], b"20")
+            counts.append(os.path.getsize(counted))
+        ran.stdin.close()
+    return [after - before for before, after in zip(counts, counts[1:])]
+
+
+def syncs_of_serving(desk, env, counted, words):
+    """How often `serve` syncs for each of some nonces, the first one left out; one more is asked, as the end of serving syncs, too."""
+    server, counts = Server(desk.program, desk.path, "--count", str(TOGETHER + 1), *words, env=env), []
+    for _ in range(TOGETHER):
+        see(f"a nonce with {words}", server.ask(NEW_NONCE)[9:12], b"204")
+        counts.append(os.path.getsize(counted))
+    see(f"the nonce after those with {words}", server.ask(NEW_NONCE)[9:12], b"204")
+    see(f"serving with {words}: its end", server.ended(), SERVED[0])
+    return [after - before for before, after in zip(counts, counts[1:])]
+
+
+def try_syncs(program, preload, folder):
+    """Each commit but the first syncs as often as the words say, and twice where they don't."""
+    for syncs, count in ((("--sync", "once"), 1), (("--sync", "twice"), 2), ((), 2)):
+        for syncs_of in (syncs_of_batch, syncs_of_serving):
+            with tempfile.TemporaryDirectory(dir=folder) as room:
+                desk, counted = Desk(program, room), f"{room}/syncs"
+                found = syncs_of(desk, {**os.environ, "LD_PRELOAD": preload, "SYNCS": counted}, counted, syncs)
+                see(f"{syncs_of.__name__} {syncs}", found, [count] * (TOGETHER - 1))
+    print(f"syncs of {TOGETHER - 1} calls counted, in batches and served")
+
+
 def finalize(desk):
     desk.ready_order()
     return desk.signed("/order/1/finalize", {"csr": "AQID"})
@@ -377,10 +464,12 @@ def try_scenario(program, preloads, scenario, folder):
 
 def main(program):
     with workspace("stops") as folder, tempfile.TemporaryDirectory() as built:
-        preloads = {name: library(name, built) for name in ("stop_at_write", "machine")}
+        preloads = {name: library(name, built) for name in ("stop_at_write", "machine", "count_syncs")}
         given = program, preloads["stop_at_write"]
         tries = [partial(first_requests, program, preloads), partial(try_make, *given), partial(new_nonce, *given)]
         tries += [partial(try_scenario, program, preloads, scenario) for scenario in SCENARIOS]
+        tries += [partial(try_together, *given, syncs=syncs) for syncs in ("once", "twice")]
+        tries += [partial(try_syncs, program, preloads["count_syncs"])]
         side_by_side([*tries, *(partial(try_upgrade, *given, name) for name in RICH)], folder)
     return finish("Stops")
 

@@ -21,10 +21,11 @@ LAST = 2**62
 PAGE = 4096
 OTHER_KEY = {"crv": "P-256", "kty": "EC", "x": "Aw", "y": "BA"}
 LIFE = "1 to 315360000"
+SYNCS = ("--sync", "once, twice", "default: twice", "loss of power", "the old or the new one")
 HELP = {
     "make": ("FILE", "--base", "8 to 256 bytes", "--nonce-life", "3600", "--order-life", "604800", "--authz-life", "2592000", LIFE),
-    "serve": ("FILE", "--port", "0 to 65535", "--count", "2^64 - 1"),
-    "batch": ("--file", "in memory"),
+    "serve": ("FILE", "--port", "0 to 65535", "--count", "2^64 - 1", *SYNCS),
+    "batch": ("--file", "in memory", *SYNCS),
     "status": ("FILE", "--account", "1 to 2^62", "--status", "pending, ready, processing, valid, invalid", "--json"),
     "check": ("FILE", "--json", "status 3"),
     "revoke-authz": ("FILE", "N", "1 to 2^62"),
@@ -88,6 +89,21 @@ def wrong_statuses(program, folder):
     wanted = [b"account 1: stored revoked, derived valid", b"order 2: stored pending, derived invalid", b"authz 2: stored expired, derived pending",
               b"chall 4: stored processing, derived pending"]
     see("several, in order", said.splitlines(), wanted)
+
+
+def interleaved(program, folder):
+    """Challenges whose numbers interleave between authorizations, as a desk makes none, are checked by number, and saved where they stand."""
+    desk = desk_with_orders(program, folder, "interleaved")
+    change(desk.path, *(f"UPDATE chall SET num = {to} WHERE num = {number}" for number, to in ((2, 9), (3, 2), (9, 3))), "UPDATE chall SET status = 'valid'")
+    lines = b"".join(b"chall %d: stored valid, derived pending\n" % number for number in (1, 2, 3, 4))
+    see("interleaved challenges", run(program, "check", desk.path), (3, lines, b""))
+    change(desk.path, "UPDATE chall SET status = 'pending'")
+    see("an answer to one of them", desk.answer(desk.signed("/chall/2", {}))[0], "200")
+    tables = tables_of(desk.path, folder)
+    rows = [(1, 1, b"pending"), (2, 2, b"processing"), (3, 1, b"pending"), (4, 2, b"pending")]
+    see("the interleaved rows", [(row[0], row[1], row[-1]) for row in tables["chall"]], rows)
+    see("the keys of their answers", [row[0] for row in tables["chall_key"]], [2])
+    see("their statuses", run(program, "check", desk.path), (0, b"no fault\n", b""))
 
 
 def narrowed(program, folder):
@@ -279,7 +295,7 @@ def helps(program, folder):
 
 def main(program):
     with workspace("words") as folder:
-        for tries in (reports, wrong_statuses, narrowed, wrong_statuses_as_json, stopped_reports, readers_gone, revocations, shared_revocation,
+        for tries in (reports, wrong_statuses, interleaved, narrowed, wrong_statuses_as_json, stopped_reports, readers_gone, revocations, shared_revocation,
                       wrong_words, helps):
             tries(program, folder)
     return finish("Words")
