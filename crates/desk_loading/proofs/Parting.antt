@@ -1,5 +1,6 @@
 -- The rows that a call touches, and those that are enough for it, are a part for it.
-use Rattle.std.proofs.Common.{◌≡◌, sym, subst}
+use Rattle.std.proofs.Common.{◌≡◌, ℕ, max, sym, subst}
+use Rattle.std.proofs.Math.Nat.{le-max_right}
 use Rattle.std.specs.Prelude.{Result, Ok, Err, IfOk}
 use Rattle.desk_model.specs.History.{clock}
 use Rattle.desk_model.specs.Tables.{Tables, picture}
@@ -8,6 +9,7 @@ use Rattle.desk_model.specs.declared.call.Call.{Call}
 use Rattle.desk_laws.specs.Ordered.{IsOrdered}
 use Rattle.desk_laws.proofs.Recorded.{tables_ordered}
 use Rattle.desk_parts.specs.IsEnough.{IsEnoughFor, enough}
+use Rattle.desk_parts.proofs.Answering.{pictures_stated, stated_for}
 use Rattle.desk_parts.proofs.Cut.{touched_part}
 use Rattle.desk_parts.proofs.Work.{few_enough, part_enough}
 use Rattle.desk_storage.specs.Sight.{ForTables, Reads, Sight}
@@ -37,6 +39,8 @@ module _ {S C : Type 0} (v : Sight S C) where
     reads = reads;
     part = λ honest F legal held.
         let ordered = tables_ordered F (clock F) in
-        subst (IsEnoughFor call (picture F)) (sym (found honest (picture F) held ordered)) (few_enough (picture F) call ordered);
+        let m : ℕ = max call.at (clock F) in
+        subst (IsEnoughFor call (picture F)) (sym (found honest (picture F) held ordered))
+        (few_enough (picture F) call ordered (stated_for call.ask m (picture F) (pictures_stated F m legal.each (le-max_right call.at (clock F)))));
   }
   loads_enough call old new (Err why) reads found = record { reads = reads; part = λ honest. tt }

@@ -1,15 +1,16 @@
 //! The book of the rows that are enough for a call.
 ghost use Rattle.std.specs.Prelude.{◌≡◌, [], filter, IfOk};
 ghost use Rattle.desk_laws.specs.Ordered.{IsOrdered};
+ghost use Rattle.desk_model.specs.Touched.{only_meta};
 ghost use Rattle.desk_loading.specs.Finding.{Finds};
 ghost use Rattle.desk_parts.specs.IsEnough.{challenge_work_rows, enough, has_work, is_worked_on, order_work_rows};
 ghost use Rattle.desk_parts.specs.LookUps.{orders_processing};
 ghost use Rattle.desk_storage.specs.Sight.{ForTables, Reads};
 ghost use Rattle.desk_storage.specs.Storing.{Loads};
 
+use crate::few::few_book;
 use crate::gathering::{put_each, put_found, put_linked};
 use crate::look_ups::LookUps;
-use crate::touched::touched_book;
 use desk_book::{Book, Table};
 use desk_model::{Ask, AuthorizationRow, Call, OfficeAsk, OrderRow};
 use desk_storage::StorageFault;
@@ -79,6 +80,23 @@ fn order_work_book<S: LookUps>(alloc: Global, source: &mut S) -> Result<Book, St
     )))
 }
 
+// ---- the directory
+
+// The book of the desk's own row.
+fn directory_book<S: LookUps>(alloc: Global, source: &mut S) -> Result<Book, StorageFault>
+    ensures reads { Reads S.sight source.old source.new result }
+    ensures found { ForTables S.sight source.old source.new (λ T. IfOk result (λ book. book ≡ only_meta T)) }
+{
+    let meta = source.meta_row(alloc)?;
+    Ok(Book::of_tables(
+        meta,
+        Table::new(alloc),
+        Table::new(alloc),
+        Table::new(alloc),
+        Table::new(alloc),
+    ))
+}
+
 // ---- each call
 
 // The book of the rows that are enough for a call.
@@ -89,16 +107,17 @@ fn enough_book<S: LookUps>(alloc: Global, source: &mut S, call: &Call) -> Result
     match &call.ask {
         Ask::Office(OfficeAsk::ChallengeWork) => challenge_work_book(alloc, source),
         Ask::Office(OfficeAsk::OrderWork) => order_work_book(alloc, source),
-        _ => touched_book(alloc, source, call),
+        Ask::Office(OfficeAsk::Directory) => directory_book(alloc, source),
+        _ => few_book(alloc, source, call),
     }
 }
 
-/// A book that is enough for the call, whatever legal history's picture the source has: for a list of work the rows that it
-/// lists and those that decide their statuses, for other calls exactly the rows that they touch.
+/// A book that is enough for the call, whatever legal history's picture the source has: the rows that it names or lists, those
+/// that fall by the passing of time, and those that decide a status that may change or is shown.
 ///
 /// # Errors
 ///
-/// As of `touched_book`.
+/// As of `load_part`.
 pub fn load_enough<S: LookUps>(
     alloc: Global,
     source: &mut S,

@@ -1,10 +1,11 @@
 //! Which rows lead to which.
 ghost use Rattle.std.specs.List.{flat_map};
+ghost use Rattle.std.specs.Prelude.{◌∷◌, []};
 ghost use Rattle.desk_model.specs.Derived.{numbers_of};
 ghost use Rattle.desk_parts.specs.LookUps.{accounts_numbered, authorizations_numbered, authorizations_of, nonces_numbered};
 ghost use Rattle.desk_parts.specs.LookUps.{authorizations_past, orders_listing, orders_numbered, orders_of, orders_past};
 
-use crate::gathering::{LeadsTo, put_each, put_found};
+use crate::gathering::{LeadsTo, put_copy, put_each, put_found};
 use crate::look_ups::LookUps;
 use desk_book::Table;
 use desk_model::{AccountRow, AuthorizationRow, AuthzStatus, Listed, Nonce, OrderRow, OrderStatus};
@@ -122,6 +123,20 @@ impl LeadsTo<AuthorizationRow> for AccountRow {
 }
 
 // ---- an authorization
+
+// The same authorization.
+impl LeadsTo<AuthorizationRow> for AuthorizationRow {
+    ghost rows_of = { λ T row. row ∷ [] };
+
+    fn put_rows<S: LookUps>(
+        &self,
+        alloc: Global,
+        source: &mut S,
+        table: &mut Table<AuthorizationRow>,
+    ) -> Result<(), StorageFault> {
+        Ok(put_copy(table, self)?)
+    }
+}
 
 // The orders that list it.
 impl LeadsTo<OrderRow> for AuthorizationRow {

@@ -55,8 +55,8 @@ pub(crate) fn put_new_keyed<S: LookUps>(
 
 // ---- authorizations
 
-// Puts the authorization of a challenge into a table, where one is named.
-fn put_owner<S: LookUps>(
+/// Puts the authorization of a challenge into a table, where one is named.
+pub(crate) fn put_owner<S: LookUps>(
     alloc: Global,
     source: &mut S,
     authorizations: &mut Table<AuthorizationRow>,
@@ -74,8 +74,8 @@ fn put_owner<S: LookUps>(
     }
 }
 
-// Puts the rows to which the rows of a table lead into another, where they are asked for.
-fn put_asked<S: LookUps, Q: Row + Drop + LeadsTo<R>, R: Row + Drop>(
+/// Puts the rows to which the rows of a table lead into another, where they are asked for.
+pub(crate) fn put_asked<S: LookUps, Q: Row + Drop + LeadsTo<R>, R: Row + Drop>(
     alloc: Global,
     source: &mut S,
     table: &mut Table<R>,

@@ -25,15 +25,15 @@ use std::alloc::Global;
 
 /// Rows of each table.
 #[derive(Drop)]
-struct Rows {
-    nonces: Table<Nonce>,
-    accounts: Table<AccountRow>,
-    authorizations: Table<AuthorizationRow>,
-    orders: Table<OrderRow>,
+pub(crate) struct Rows {
+    pub(crate) nonces: Table<Nonce>,
+    pub(crate) accounts: Table<AccountRow>,
+    pub(crate) authorizations: Table<AuthorizationRow>,
+    pub(crate) orders: Table<OrderRow>,
 }
 
-// Puts the nonces that are touched into a table: the one that is carried, and those past their life.
-fn put_nonces<S: LookUps>(
+/// Puts the nonces that are touched into a table: the one that is carried, and those past their life.
+pub(crate) fn put_nonces<S: LookUps>(
     alloc: Global,
     source: &mut S,
     nonces: &mut Table<Nonce>,

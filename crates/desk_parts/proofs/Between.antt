@@ -175,14 +175,14 @@ listed_part k j T h = filtered_each _ (λ (o : OrderRow). j.orders o.number) T.o
 abbrev pub bare : Tables → Tables
 bare T = record T { orders = [] }
 
-bare_ordered : (T : Tables) → IsOrdered T → IsOrdered (bare T)
+pub bare_ordered : (T : Tables) → IsOrdered T → IsOrdered (bare T)
 bare_ordered T h = record { nonces = h.nonces; accounts = h.accounts; authorizations = h.authorizations; orders = (tt, tt) }
 
 -- numbers of all orders, and new ones
 abbrev pub open_kept : Kept → Tables → Kept
 open_kept k T = grown k (bare T)
 
-swept_bare : (k : Kept) (T : Tables) (m : ℕ) → IsOrdered T → swept m (restricted k (bare T)) ≡ restricted (open_kept k T) (swept m (bare T))
+pub swept_bare : (k : Kept) (T : Tables) (m : ℕ) → IsOrdered T → swept m (restricted k (bare T)) ≡ restricted (open_kept k T) (swept m (bare T))
 swept_bare k T m h = ap (swept m) (sym (grown_part k (bare T))) ∙ swept_part (open_kept k T) (bare T) m (grown_closed k (bare T) (bare_ordered T h) tt)
 
 -- the accounts of what the verdict's entry touches are kept

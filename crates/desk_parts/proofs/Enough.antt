@@ -35,7 +35,8 @@ use Rattle.desk_parts.specs.AnswersAs.{AnswersAs, CarriesOutAs, IssuesAs, Passes
 use Rattle.desk_parts.specs.IsPart.{IsPartFor, Keeps}
 use Rattle.desk_parts.proofs.Listed.{KeepsListed}
 use Rattle.desk_model.specs.Touched.{touched, touched_at, touched_rows}
-use Rattle.desk_parts.proofs.Grown.{KeepsTouched, grown, grown_closed, grown_part, keeps_falling, keeps_named, keeps_touched}
+use Rattle.desk_parts.proofs.Grown.{KeepsTouched, grown, grown_closed, grown_part, keeps_falling, keeps_named, keeps_restated}
+use Rattle.desk_parts.proofs.Grown.{keeps_rows, keeps_touched, may_restate}
 use Rattle.desk_parts.proofs.Lists.{filtered_each}
 use Rattle.desk_laws.proofs.Plain.{covers_issued, fresh_kept, issued_closed, issued_covers, nonces_covered, spent_closed, spent_covers}
 use Rattle.desk_parts.proofs.Ready.{IsAnswered, IsReady, swept_names}
@@ -114,42 +115,52 @@ reply_same k m S (opens key contacts) index h = h.1
 reply_same k m S (orders account wanted) index h = h.1.1
 reply_same k m S (moves v) index h = h.1
 
-carried_out : (k : Kept) (T : Tables) (m : ℕ) (v : Verdict) → IsClosed k T → IsAnswered k m (swept m T) v → CarriesOutAs m T (restricted k T) v
-carried_out k T m v closed h =
-    let after : effects m (swept m (restricted k T)) (entries_of v) ≡ restricted k (effects m (swept m T) (entries_of v)) =
-    ap (λ P. effects m P (entries_of v)) (swept_part k T m closed)
-    ∙ effects_part k m (swept m T) (entries_of v) (verdict_covered k m (swept m T) v (swept_closed k T m closed) h) in
+-- a part that stays one is carried out as the whole, where the reply is the same
+pub carried_by : (k : Kept) (T : Tables) (m : ℕ) (v : Verdict) →
+    effects m (swept m (restricted k T)) (entries_of v) ≡ restricted k (effects m (swept m T) (entries_of v)) →
+    ((index : Bool) → verdict_reply index (restricted k (effects m (swept m T) (entries_of v))) v
+    ≡ verdict_reply index (effects m (swept m T) (entries_of v)) v) →
+    CarriesOutAs m T (restricted k T) v
+carried_by k T m v after same =
     record {
       standing = λ r. k.authorizations r.number;
       authorizations = ap (λ (E : Tables). E.authorizations) after;
       ends = λ n all. subst (EachOf (λ o. o.expires ≤ n)) (sym (ap (λ (E : Tables). E.orders) after))
           (filtered_each _ (λ (o : OrderRow). k.orders o.number) (effects m (swept m T) (entries_of v)).orders
           (each _ _ (effects m (swept m T) (entries_of v)).orders (λ o e kept. e) all));
-      shows = λ index. ap (λ E. verdict_reply index E v) after ∙ reply_same k m (swept m T) v index h;
+      shows = λ index. ap (λ E. verdict_reply index E v) after ∙ same index;
     }
+
+carried_out : (k : Kept) (T : Tables) (m : ℕ) (v : Verdict) → IsClosed k T → IsAnswered k m (swept m T) v → CarriesOutAs m T (restricted k T) v
+carried_out k T m v closed h =
+    carried_by k T m v
+    (ap (λ P. effects m P (entries_of v)) (swept_part k T m closed)
+    ∙ effects_part k m (swept m T) (entries_of v) (verdict_covered k m (swept m T) v (swept_closed k T m closed) h))
+    (λ index. reply_same k m (swept m T) v index h)
 
 -- ---- each ask
 
-issues_as : (k : Kept) (T : Tables) (m : ℕ) (a : Ask) → IsReady k T m a → IssuesAs m T (restricted k T)
+pub issues_as : (k : Kept) (T : Tables) (m : ℕ) (a : Ask) → IsReady k T m a → IssuesAs m T (restricted k T)
 issues_as k T m a ready =
     let closed : IsClosed k (swept m T) = swept_closed k T m ready.closed in
     record {
       records = λ r. recorded_local k T m (issued r
-          ∷ []) ready.closed (keeps_falling k T m a ready.touched) (closed, covers_issued k (swept m T) r, tt, tt);
+          ∷ []) ready.closed (keeps_falling (may_restate a) k T m a ready.restated) (closed, covers_issued k (swept m T) r, tt, tt);
     }
 
-settles_as : (k : Kept) (T : Tables) (m : ℕ) (a : OfficeAsk) → IsNoWork a → IsReady k T m (ask.Office a) → SettlesAs m a T (restricted k T)
+pub settles_as : (k : Kept) (T : Tables) (m : ℕ) (a : OfficeAsk) → IsNoWork a → IsReady k T m (ask.Office a) → SettlesAs m a T (restricted k T)
 settles_as k T m a none ready =
     let answered : IsAnswered k m (swept m T) (office_verdict (swept m T) a) = office_answered k T m a none ready in
     record {
       judged = ap (λ P. office_verdict P a) (swept_part k T m ready.closed) ∙ office_same k (swept m T) a (swept_names k T m (ask.Office a) ready.named);
       verdict = carried_out k T m (office_verdict (swept m T) a) ready.closed answered;
       records =
-          recorded_local k T m (entries_of (office_verdict (swept m T) a)) ready.closed (keeps_falling k T m (ask.Office a) ready.touched)
+          recorded_local k T m (entries_of (office_verdict (swept m T) a)) ready.closed
+          (keeps_falling (may_restate (ask.Office a)) k T m (ask.Office a) ready.restated)
           (verdict_covered k m (swept m T) (office_verdict (swept m T) a) (swept_closed k T m ready.closed) answered);
     }
 
-passes_as : (k : Kept) (T : Tables) (m : ℕ) (s : Signed) → IsReady k T m (ask.Signed s) → PassesAs m s T (restricted k T)
+pub passes_as : (k : Kept) (T : Tables) (m : ℕ) (s : Signed) → IsReady k T m (ask.Signed s) → PassesAs m s T (restricted k T)
 passes_as k T m s ready =
     let named = swept_names k T m (ask.Signed s) ready.named in
     record {
@@ -159,7 +170,7 @@ passes_as k T m s ready =
       verdict = λ r. carried_out k T m (signed_verdict (swept m T) r s) ready.closed (signed_answered k T m r s ready);
       records = λ r n fresh.
           recorded_local k T m (spent n ∷ issued fresh ∷ entries_of (signed_verdict (swept m T) r s)) ready.closed
-          (keeps_falling k T m (ask.Signed s) ready.touched)
+          (keeps_falling (may_restate (ask.Signed s)) k T m (ask.Signed s) ready.restated)
           (nonce_covered k m (swept m T) n fresh (signed_verdict (swept m T) r s) (swept_closed k T m ready.closed) (signed_answered k T m r s ready));
     }
 
@@ -213,7 +224,11 @@ work_as k T m a h = subst (SettlesAs m a T) (sym (restricted_all k T h)) (whole_
 pub ready_by : (k : Kept) (T : Tables) (m : ℕ) (a : Ask) → IsOrdered T → KeepsListed k T → Keeps k (touched_rows T m a) → IsReady (grown k T) T m a
 ready_by k T m a ordered listed h =
     let touched : KeepsTouched (grown k T) T m a = keeps_touched k T m a h in
-    record { closed = grown_closed k T ordered listed; touched = touched; named = keeps_named k T m a touched }
+    record {
+      closed = grown_closed k T ordered listed;
+      restated = keeps_restated (may_restate a) (grown k T) T m a touched;
+      named = keeps_named k T a (keeps_rows (grown k T) T m a touched);
+    }
 
 -- where rows are touched
 rows_settle : (k : Kept) (T : Tables) (m : ℕ) (a : OfficeAsk) → IsNoWork a → IsOrdered T → KeepsListed k T → Keeps k (touched_rows T m (ask.Office a)) →

@@ -158,7 +158,7 @@ put_filter number y p n (x ∷ xs) h e =
         (sym (more_differs (number y) (number x) lt))
 
 -- rows of these, put among some of them
-puts_filter : {X : Type 0} (number : X → ℕ) (n : ℕ) (xs : List X) → Ascends number n xs → (found : List X) → (p : X → Bool) →
+pub puts_filter : {X : Type 0} (number : X → ℕ) (n : ℕ) (xs : List X) → Ascends number n xs → (found : List X) → (p : X → Bool) →
     EachOf (λ y. find (λ x. number x == number y) xs ≡ Some y) found →
     puts number found (filter p xs) ≡ filter (λ x. list_any (λ y. number y == number x) found || p x) xs
 puts_filter number n xs h [] p f = refl

@@ -1,6 +1,9 @@
+pub mod Answering
 pub mod Between
 pub mod Cut
 pub mod Enough
+pub mod FewLoading
+pub mod Fewer
 pub mod Found
 pub mod Grown
 pub mod Listed
@@ -9,6 +12,7 @@ pub mod Loading
 pub mod Ready
 pub mod Replies
 pub mod Reusing
+pub mod Unlisted
 pub mod Verdicts
 pub mod Walks
 pub mod Work

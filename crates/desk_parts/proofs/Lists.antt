@@ -58,3 +58,7 @@ filter_same p q (x ∷ xs) h = λ i. cond (h.0 i) (x ∷ filter_same p q xs h.1 
 pub filter_nothing : {X : Type 0} (xs : List X) → [] ≡ filter (λ x. false) xs
 filter_nothing [] = refl
 filter_nothing (x ∷ xs) = filter_nothing xs
+
+-- a test that passes what another passes
+pub any_wider : {X : Type 0} (p q : X → Bool) (xs : List X) → ((x : X) → p x ≡ true → q x ≡ true) → list_any p xs ≡ true → list_any q xs ≡ true
+any_wider p q xs f h = any_gives p xs h (each _ _ xs (λ x member yes. member q (f x yes)) (each_member xs))

@@ -189,10 +189,10 @@ listing_found T ordered j =
 -- ---- the rules
 
 -- numbers of the rows
-abbrev of_nonce : Nonce → ℕ
+abbrev pub of_nonce : Nonce → ℕ
 of_nonce x = x.serial
 
-abbrev of_account : AccountRow → ℕ
+abbrev pub of_account : AccountRow → ℕ
 of_account x = x.number
 
 abbrev pub of_authorization : AuthorizationRow → ℕ
@@ -207,7 +207,7 @@ past_life m life x = by x.issued
     by : (n : ℕ) → nat_lt n (m - life) ≡ not (nat_le m (n + life))
     by n = grind (arith, nat_tests)
 
-nonces_found : (T : Tables) (m : ℕ) (a : Ask) → IsOrdered T → IsFound of_nonce (is_touched_nonce T m a) T.nonces (found_nonces T m a)
+pub nonces_found : (T : Tables) (m : ℕ) (a : Ask) → IsOrdered T → IsFound of_nonce (is_touched_nonce T m a) T.nonces (found_nonces T m a)
 nonces_found T m a h =
     found_same of_nonce _ (is_touched_nonce T m a) T.nonces (found_nonces T m a)
     (each_all _ T.nonces (λ x i. carried a x.serial i || past_life m T.meta.policy.nonce_life x i))
@@ -215,7 +215,7 @@ nonces_found T m a h =
     (found_by of_nonce (λ k x. x.serial == k) (nonces_numbered T) T.nonces (λ k. found_filter of_nonce (λ x. x.serial == k) 1 T.nonces h.nonces.0) (serials a))
     (found_filter of_nonce (λ x. nat_lt x.issued (m - T.meta.policy.nonce_life)) 1 T.nonces h.nonces.0))
 
-accounts_named : (T : Tables) (a : Ask) → IsOrdered T → IsFound of_account (is_named_account a) T.accounts (named_accounts T a)
+pub accounts_named : (T : Tables) (a : Ask) → IsOrdered T → IsFound of_account (is_named_account a) T.accounts (named_accounts T a)
 accounts_named T a h =
     found_same of_account _ (is_named_account a) T.accounts (named_accounts T a)
     (each_all _ T.accounts (λ x i. keyed a x.key i || (new_keyed a x.key i || account_listed a x.number i)))
@@ -233,7 +233,7 @@ accounts_named T a h =
         found_by of_account (λ k x. bytes_eq x.key k) (accounts_with_key T) T.accounts
         (λ k. found_filter of_account (λ x. bytes_eq x.key k) 1 T.accounts h.accounts.0) texts
 
-accounts_once_named : (T : Tables) (a : Ask) → IsOrdered T → IsFound of_account (is_named_account a) T.accounts (accounts_once (named_accounts T a))
+pub accounts_once_named : (T : Tables) (a : Ask) → IsOrdered T → IsFound of_account (is_named_account a) T.accounts (accounts_once (named_accounts T a))
 accounts_once_named T a h = found_once of_account (is_named_account a) 1 T.accounts (named_accounts T a) h.accounts.0 (accounts_named T a h)
 
 orders_at : (T : Tables) → IsOrdered T → (ns : List ℕ) → IsFound of_order (λ o. list_any (λ k. o.number == k) ns) T.orders (flat_map (orders_numbered T) ns)
@@ -246,11 +246,11 @@ authorizations_at T h ns =
     found_by of_authorization (λ k r. r.number == k) (authorizations_numbered T) T.authorizations
     (λ k. found_filter of_authorization (λ r. r.number == k) 1 T.authorizations h.authorizations.0) ns
 
-orders_named : (T : Tables) (a : Ask) → IsOrdered T → IsFound of_order (is_named_order a) T.orders (named_orders T a)
+pub orders_named : (T : Tables) (a : Ask) → IsOrdered T → IsFound of_order (is_named_order a) T.orders (named_orders T a)
 orders_named T a h = found_same of_order _ (is_named_order a) T.orders (named_orders T a)
     (each_all _ T.orders (λ o. order_listed a o.number)) (orders_at T h (order_numbers a))
 
-authorizations_named : (T : Tables) (a : Ask) → IsOrdered T → IsFound of_authorization (is_named_authorization a) T.authorizations (named_authorizations T a)
+pub authorizations_named : (T : Tables) (a : Ask) → IsOrdered T → IsFound of_authorization (is_named_authorization a) T.authorizations (named_authorizations T a)
 authorizations_named T a h =
     found_same of_authorization _ (is_named_authorization a) T.authorizations (named_authorizations T a)
     (each_all _ T.authorizations (λ r i. authorization_listed a r.number i || challenge_listed a r i))
@@ -275,7 +275,7 @@ authorizations_own T a h =
     (λ x. found_filter of_authorization (λ r. r.account == x.number) 1 T.authorizations h.authorizations.0) (accounts_once (named_accounts T a))))
 
 -- a test that knows nothing of the items stands before the others
-any_under : {X : Type 0} (b : Bool) (p : X → Bool) (xs : List X) → list_any (λ x. b && p x) xs ≡ (b && list_any p xs)
+pub any_under : {X : Type 0} (b : Bool) (p : X → Bool) (xs : List X) → list_any (λ x. b && p x) xs ≡ (b && list_any p xs)
 any_under true p xs = refl
 any_under false p [] = refl
 any_under false p (x ∷ xs) = any_under false p xs
@@ -301,7 +301,7 @@ same_bases one other b = by (bytes_eq one.base other.base) (same_bool one.wildca
     by false d e = refl
 
 -- the authorizations of an account for some names
-authorizations_by_names : (T : Tables) (n : ℕ) → IsOrdered T → (names : List Name)
+pub authorizations_by_names : (T : Tables) (n : ℕ) → IsOrdered T → (names : List Name)
     → IsFound of_authorization (λ r. list_any (same_name r.name) names && (r.account == n)) T.authorizations (flat_map (authorizations_for T n) names)
 authorizations_by_names T n h names =
     found_same of_authorization _ _ T.authorizations _
@@ -327,7 +327,7 @@ authorizations_asked T a h = by (asked_names a)
         (λ x. flat_map (authorizations_for T x.number) names) T.authorizations
         (λ x. authorizations_by_names T x.number h names) (accounts_once (named_accounts T a)))
 
-orders_over : (T : Tables) (m : ℕ) → IsOrdered T → IsFound of_order (is_past_order m) T.orders (past_orders T m)
+pub orders_over : (T : Tables) (m : ℕ) → IsOrdered T → IsFound of_order (is_past_order m) T.orders (past_orders T m)
 orders_over T m h =
     found_same of_order _ (is_past_order m) T.orders (past_orders T m) (each_all _ T.orders (λ o. by o.status (nat_lt o.expires m)))
     (found_both of_order (of_status order.Pending) (λ o. of_status order.Ready o || of_status order.Processing o) T.orders _ _ (one order.Pending)
@@ -349,7 +349,7 @@ orders_over T m h =
     by order.Valid b = refl
     by order.Invalid b = refl
 
-authorizations_over : (T : Tables) (m : ℕ) → IsOrdered T → IsFound of_authorization (is_overdue m) T.authorizations (past_authorizations T m)
+pub authorizations_over : (T : Tables) (m : ℕ) → IsOrdered T → IsFound of_authorization (is_overdue m) T.authorizations (past_authorizations T m)
 authorizations_over T m h =
     found_same of_authorization _ (is_overdue m) T.authorizations (past_authorizations T m)
     (each_all _ T.authorizations (λ r. by r.status (nat_lt r.expires m)))
@@ -374,7 +374,7 @@ authorizations_first T m a h =
     (found_both of_authorization (is_own_authorization T a) (is_overdue m) T.authorizations _ _ (authorizations_own T a h) (authorizations_over T m h))
 
 -- orders that list one of the rows found
-orders_listed : (T : Tables) (test : AuthorizationRow → Bool) (rows : List AuthorizationRow) → IsOrdered T
+pub orders_listed : (T : Tables) (test : AuthorizationRow → Bool) (rows : List AuthorizationRow) → IsOrdered T
     → IsFound of_authorization test T.authorizations rows →
     IsFound of_order (λ o. list_any (λ r. test r && lists o r.number) T.authorizations) T.orders (listing_orders T rows)
 orders_listed T test rows h is =

@@ -1,4 +1,4 @@
--- A part that is ready for an ask: closed, and with all that the ask touches and names.
+-- A part that is ready for an ask: closed, and with all that the ask names and that may change by it.
 use Rattle.std.proofs.Common.{◌≡◌, ℕ, List, refl, sym, ap, ◌∙◌, true, false, Bool, cond}
 use Rattle.std.specs.Prelude.{◌==◌}
 use Rattle.desk_model.specs.Effect.{effect, falls, is_overdue, swept, swept_authorization, swept_order}
@@ -27,12 +27,12 @@ use Rattle.desk_laws.proofs.Local.{swept_number, swept_order_number}
 use Rattle.desk_laws.proofs.SweptParts.{swept_account, swept_covers}
 use Rattle.desk_laws.specs.Parts.{ReusedKept}
 use Rattle.desk_model.specs.Asked.{asks_name, names_owner}
-use Rattle.desk_parts.proofs.Grown.{IsNamedBy, KeepsNamed, KeepsTouched, keeps_entry}
+use Rattle.desk_parts.proofs.Grown.{IsNamedBy, KeepsNamed, KeepsRestated, keeps_entry, may_restate}
 
 -- by the tables before the sweep
 pub record IsReady (k : Kept) (T : Tables) (m : ℕ) (a : Ask) : Type 0 where
   pub closed : IsClosed k T
-  pub touched : KeepsTouched k T m a
+  pub restated : KeepsRestated (may_restate a) k T m a
   pub named : KeepsNamed k T a
 
 -- an authorization is named and held as before it was swept
@@ -103,5 +103,5 @@ IsAnswered k m S (orders account wanted) = ReusedKept k (ordered account wanted)
 IsAnswered k m S (moves move) = IsCarried k m S (entry_of move) (λ T. moved_reply T move)
 
 -- an entry that touches what the ask names
-pub covered : (k : Kept) (T : Tables) (m : ℕ) (a : Ask) (e : Entry) → IsReady k T m a → IsNamedBy T m a e → Covers k (swept m T) e
-covered k T m a e ready named = swept_covers k T m e (keeps_entry k T m a e ready.touched named)
+pub covered : (k : Kept) (T : Tables) (m : ℕ) (a : Ask) (e : Entry) → IsReady k T m a → IsNamedBy T a e → Covers k (swept m T) e
+covered k T m a e ready named = swept_covers k T m e (keeps_entry k T m a e ready.restated named)

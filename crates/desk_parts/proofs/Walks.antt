@@ -9,7 +9,7 @@ use Rattle.desk_model.specs.Account.{is_valid as is_valid_account}
 use Rattle.desk_model.specs.Contact.{contacts_fault}
 use Rattle.desk_model.specs.Derived.{numbers_of}
 use Rattle.desk_model.specs.Document.{account_url, expected}
-use Rattle.desk_model.specs.Effect.{effect, has_row, lists_one, swept, touches_account, touches_authorization, names_order as entry_names_order}
+use Rattle.desk_model.specs.Effect.{effect, has_row, lists_one, swept}
 use Rattle.desk_model.specs.declared.call.OrderProblem.{OrderProblem}
 use Rattle.desk_model.specs.declared.entry.Ending.{Ending}
 use Rattle.desk_model.specs.declared.entry.Ending.TheVariants.{Deactivated as deactivated, Revoked as revoked}
@@ -59,10 +59,11 @@ use Rattle.desk_model.specs.declared.rows.OrderRow.{OrderRow}
 use Rattle.desk_laws.proofs.Basics.{each, each_all}
 use Rattle.desk_laws.proofs.SweptParts.{swept_closed}
 use Rattle.desk_model.specs.Asked.{asks_authorizations, asks_orders, names_account, names_authorization, names_order, names_owner, target_names}
-use Rattle.desk_model.specs.Touched.{is_first_authorization, is_named_account, is_named_authorization, is_own_authorization}
+use Rattle.desk_model.specs.Touched.{is_named_account, is_named_authorization, is_own_authorization}
+use Rattle.desk_parts.specs.Few.{is_end, restates}
 use Rattle.desk_lives.proofs.Steps.{check_keeps, either_keeps, given_keeps, no_fault_keeps}
 use Rattle.desk_parts.proofs.Listed.{KeepsListed}
-use Rattle.desk_parts.proofs.Grown.{IsNamedBy}
+use Rattle.desk_parts.proofs.Grown.{IsNamedBy, answers_challenge}
 use Rattle.desk_parts.proofs.Lists.{each_member, same_number, turned}
 use Rattle.desk_laws.proofs.Plain.{fresh_kept, nothing_touched}
 use Rattle.desk_laws.specs.Parts.{ReusedKept}
@@ -76,62 +77,97 @@ use Rattle.desk_parts.proofs.Replies.{opened_shown, order_shown, orders_shown, o
 
 -- ---- what entries touch
 
-no_account : (a : Ask) (T : Tables) (m : ℕ) (e : Entry) → ((r : AuthorizationRow) → touches_authorization e r ≡ true → is_first_authorization T m a r ≡ true) →
-    ((n : ℕ) → entry_names_order e n ≡ true → names_order a n ≡ true) → ((x : AccountRow) → touches_account e x ≡ false) → IsNamedBy T m a e
-no_account a T m e f g none = record { account = λ x h. (let no : touches_account e x ≡ false = none x in cc); authorization = f; order = g }
+opened_named : (T : Tables) (a : Ask) (key : List ℕ) (contacts : List (List ℕ)) → IsNamedBy T a (opened key contacts)
+opened_named T a key contacts = record { account = λ x h. cc; authorization = λ r h. cc; restated = λ r h. cc; order = λ n h. cc }
 
-opened_named : (T : Tables) (m : ℕ) (a : Ask) (key : List ℕ) (contacts : List (List ℕ)) → IsNamedBy T m a (opened key contacts)
-opened_named T m a key contacts = record { account = λ x h. cc; authorization = λ r h. cc; order = λ n h. cc }
+ordered_named : (T : Tables) (a : Ask) (n : ℕ) (ws : List _) → IsNamedBy T a (ordered n ws)
+ordered_named T a n ws = record { account = λ x h. cc; authorization = λ r h. cc; restated = λ r h. cc; order = λ j h. cc }
 
-ordered_named : (T : Tables) (m : ℕ) (a : Ask) (n : ℕ) (ws : List _) → IsNamedBy T m a (ordered n ws)
-ordered_named T m a n ws = record { account = λ x h. cc; authorization = λ r h. cc; order = λ j h. cc }
-
-contacts_named : (T : Tables) (m : ℕ) (a : Ask) (n : ℕ) (contacts : List (List ℕ)) → names_account a n ≡ true → IsNamedBy T m a (contacts_changed n contacts)
-contacts_named T m a n contacts named =
+contacts_named : (T : Tables) (a : Ask) (n : ℕ) (contacts : List (List ℕ)) → names_account a n ≡ true → IsNamedBy T a (contacts_changed n contacts)
+contacts_named T a n contacts named =
     record {
       account = λ x h. or_right _ _ (or_right _ _ (subst (λ j. names_account a j ≡ true) (eqb-true n x.number h) named));
       authorization = λ r h. cc;
+      restated = λ r h. cc;
       order = λ j h. cc;
     }
 
 -- an account that is there, with its authorizations
-ended_named : (T : Tables) (m : ℕ) (a : Ask) (n : ℕ) (ending : Ending) → names_account a n ≡ true →
-    ((r : AuthorizationRow) → (n == r.account) ≡ true → is_own_authorization T a r ≡ true) → IsNamedBy T m a (account_ended n ending)
-ended_named T m a n ending named owned =
+ended_named : (T : Tables) (a : Ask) (n : ℕ) (ending : Ending) → names_account a n ≡ true → restates a ≡ true →
+    ((r : AuthorizationRow) → (n == r.account) ≡ true → is_own_authorization T a r ≡ true) → IsNamedBy T a (account_ended n ending)
+ended_named T a n ending named ends owned =
     record {
       account = λ x h. or_right _ _ (or_right _ _ (subst (λ j. names_account a j ≡ true) (eqb-true n x.number h) named));
-      authorization = λ r h. or_right (is_named_authorization a r) _ (or_left _ _ (owned r h));
+      authorization = λ r h. or_right (is_named_authorization a r) _ (and_from _ _ ends (owned r h));
+      restated = λ r h. or_left _ _ ends;
       order = λ j h. cc;
     }
 
-authorization_named : (T : Tables) (m : ℕ) (a : Ask) (n : ℕ) (ending : Ending) → names_authorization a n ≡ true → IsNamedBy T m a (authorization_ended n ending)
-authorization_named T m a n ending named =
+authorization_named : (T : Tables) (a : Ask) (n : ℕ) (ending : Ending) → names_authorization a n ≡ true → restates a ≡ true →
+    IsNamedBy T a (authorization_ended n ending)
+authorization_named T a n ending named ends =
     record {
       account = λ x h. cc;
       authorization = λ r h. or_left _ _ (or_left _ _ (subst (λ j. names_authorization a j ≡ true) (eqb-true n r.number h) named));
+      restated = λ r h. or_left _ _ ends;
       order = λ j h. cc;
     }
 
-answered_named : (T : Tables) (m : ℕ) (a : Ask) (n : ℕ) → ((r : AuthorizationRow) → has_row n r ≡ true → names_owner a r ≡ true) → IsNamedBy T m a (answered n)
-answered_named T m a n named =
-    record { account = λ x h. cc; authorization = λ r h. or_left _ _ (or_right (names_authorization a r.number) _ (named r h)); order = λ j h. cc }
+answered_named : (T : Tables) (a : Ask) (n : ℕ) → ((r : AuthorizationRow) → has_row n r ≡ true → names_owner a r ≡ true) → answers_challenge a ≡ true →
+    IsNamedBy T a (answered n)
+answered_named T a n named moves =
+    record {
+      account = λ x h. cc;
+      authorization = λ r h. or_left _ _ (or_right (names_authorization a r.number) _ (named r h));
+      restated = λ r h. or_right (restates a) _ moves;
+      order = λ j h. cc;
+    }
 
-reported_named : (T : Tables) (m : ℕ) (a : Ask) (n : ℕ) (o : Outcome)
-    → ((r : AuthorizationRow) → has_row n r ≡ true → names_owner a r ≡ true) → IsNamedBy T m a (reported n o)
-reported_named T m a n o named =
-    record { account = λ x h. cc; authorization = λ r h. or_left _ _ (or_right (names_authorization a r.number) _ (named r h)); order = λ j h. cc }
+reported_named : (T : Tables) (a : Ask) (n : ℕ) (o : Outcome) → ((r : AuthorizationRow) → has_row n r ≡ true → names_owner a r ≡ true) → restates a ≡ true →
+    IsNamedBy T a (reported n o)
+reported_named T a n o named moves =
+    record {
+      account = λ x h. cc;
+      authorization = λ r h. or_left _ _ (or_right (names_authorization a r.number) _ (named r h));
+      restated = λ r h. or_left _ _ moves;
+      order = λ j h. cc;
+    }
 
-finalized_named : (T : Tables) (m : ℕ) (a : Ask) (n : ℕ) (csr : List ℕ) → names_order a n ≡ true → IsNamedBy T m a (finalized n csr)
-finalized_named T m a n csr named =
-    record { account = λ x h. cc; authorization = λ r h. cc; order = λ j h. subst (λ i. names_order a i ≡ true) (eqb-true n j h) named }
+finalized_named : (T : Tables) (a : Ask) (n : ℕ) (csr : List ℕ) → names_order a n ≡ true → IsNamedBy T a (finalized n csr)
+finalized_named T a n csr named =
+    record {
+      account = λ x h. cc;
+      authorization = λ r h. cc;
+      restated = λ r h. cc;
+      order = λ j h. subst (λ i. names_order a i ≡ true) (eqb-true n j h) named;
+    }
 
-certified_named : (T : Tables) (m : ℕ) (a : Ask) (n : ℕ) (bytes : List ℕ) → names_order a n ≡ true → IsNamedBy T m a (certified n bytes)
-certified_named T m a n bytes named =
-    record { account = λ x h. cc; authorization = λ r h. cc; order = λ j h. subst (λ i. names_order a i ≡ true) (eqb-true n j h) named }
+certified_named : (T : Tables) (a : Ask) (n : ℕ) (bytes : List ℕ) → names_order a n ≡ true → IsNamedBy T a (certified n bytes)
+certified_named T a n bytes named =
+    record {
+      account = λ x h. cc;
+      authorization = λ r h. cc;
+      restated = λ r h. cc;
+      order = λ j h. subst (λ i. names_order a i ≡ true) (eqb-true n j h) named;
+    }
 
-failed_named : (T : Tables) (m : ℕ) (a : Ask) (n : ℕ) (problem : OrderProblem) → names_order a n ≡ true → IsNamedBy T m a (failed n problem)
-failed_named T m a n problem named =
-    record { account = λ x h. cc; authorization = λ r h. cc; order = λ j h. subst (λ i. names_order a i ≡ true) (eqb-true n j h) named }
+failed_named : (T : Tables) (a : Ask) (n : ℕ) (problem : OrderProblem) → names_order a n ≡ true → IsNamedBy T a (failed n problem)
+failed_named T a n problem named =
+    record {
+      account = λ x h. cc;
+      authorization = λ r h. cc;
+      restated = λ r h. cc;
+      order = λ j h. subst (λ i. names_order a i ≡ true) (eqb-true n j h) named;
+    }
+
+-- a payload that changes something is not empty
+authorization_moves : (p : List ℕ) → authorization_change p ≡ Some authz_change.Deactivate → not (nothing p) ≡ true
+authorization_moves [] h = cc
+authorization_moves (b ∷ bs) h = refl
+
+challenge_moves : (p : List ℕ) → challenge_change p ≡ Some chall_change.Answer → not (nothing p) ≡ true
+challenge_moves [] h = cc
+challenge_moves (b ∷ bs) h = refl
 
 -- ---- parts of what is ready
 
@@ -164,7 +200,7 @@ report_answered k T m n finding ready =
     given_keeps (IsAnswered k m S) (outcome_of c.kind (expected c) finding) refusal.Malformed _ tt (λ o is.
     either_keeps (IsAnswered k m S) (holds (λ r. same_outcome r.outcome o) c.reported) _ _ (challenge_shown k S n owner)
     (check_keeps (IsAnswered k m S) (is_pending a.status && is_processing_challenge c.status) refusal.Conflict _ tt (λ stands. (
-      covered k T m (ask.Office (office.Report n finding)) (reported n o) ready (reported_named T m (ask.Office (office.Report n finding)) n o (λ r h. h)),
+      covered k T m (ask.Office (office.Report n finding)) (reported n o) ready (reported_named T (ask.Office (office.Report n finding)) n o (λ r h. h) refl),
       challenge_shown k (effect m S (reported n o)) n (owner_after k S m (reported n o) n (swept_closed k T m ready.closed) owner),
     ))))))
 
@@ -178,7 +214,7 @@ certify_answered k T m n bytes ready o =
     either_keeps (IsAnswered k m S) (holds (λ x. bytes_eq x.bytes bytes) o.certified) _ _ (order_shown k S n kept (swept_closed k T m ready.closed).listed)
     (check_keeps (IsAnswered k m S) (is_processing o.status) refusal.Conflict _ tt (λ ready_for. (
       covered k T m (ask.Office (office.Certify n bytes)) (certified n bytes) ready
-          (certified_named T m (ask.Office (office.Certify n bytes)) n bytes (same_number n)),
+          (certified_named T (ask.Office (office.Certify n bytes)) n bytes (same_number n)),
       order_shown k (effect m S (certified n bytes)) n kept (listed_then k T m (ask.Office (office.Certify n bytes)) (certified n bytes) ready tt),
     )))))
 
@@ -191,7 +227,7 @@ fail_answered k T m n problem ready o =
     either_keeps (IsAnswered k m S) (holds (λ f. same_problem f.problem problem) o.failed) _ _ (order_shown k S n kept (swept_closed k T m ready.closed).listed)
     (check_keeps (IsAnswered k m S) (is_processing o.status) refusal.Conflict _ tt (λ ready_for. (
       covered k T m (ask.Office (office.FailOrder n problem)) (failed n problem) ready
-          (failed_named T m (ask.Office (office.FailOrder n problem)) n problem (same_number n)),
+          (failed_named T (ask.Office (office.FailOrder n problem)) n problem (same_number n)),
       order_shown k (effect m S (failed n problem)) n kept (listed_then k T m (ask.Office (office.FailOrder n problem)) (failed n problem) ready tt),
     ))))
 
@@ -203,7 +239,7 @@ revoke_authorization_answered k T m n ready r =
     either_keeps (IsAnswered k m S) (is_revoked_status r.status) _ _ (authorization_shown k S n kept)
     (check_keeps (IsAnswered k m S) (is_live r.status) refusal.Conflict _ tt (λ stands. (
       covered k T m (ask.Office (office.RevokeAuthz n)) (authorization_ended n revoked) ready
-          (authorization_named T m (ask.Office (office.RevokeAuthz n)) n revoked (same_number n)),
+          (authorization_named T (ask.Office (office.RevokeAuthz n)) n revoked (same_number n) refl),
       authorization_shown k (effect m S (authorization_ended n revoked)) n kept,
     )))
 
@@ -219,7 +255,7 @@ revoke_account_answered k T m n ready x found =
     either_keeps (IsAnswered k m S) (holds (λ e. is_revoked e.ending) x.ended) _ _ (account_shown k S n kept)
     (check_keeps (IsAnswered k m S) (is_valid_account x.status) refusal.Conflict _ tt (λ stands. (
       covered k T m (ask.Office (office.RevokeAccount n)) (account_ended n revoked) ready
-          (ended_named T m (ask.Office (office.RevokeAccount n)) n revoked (same_number n)
+          (ended_named T (ask.Office (office.RevokeAccount n)) n revoked (same_number n) refl
           (λ r h. owned_by T (ask.Office (office.RevokeAccount n)) x refl here
           (each_found (λ y. (p : AccountRow → Bool) → p y ≡ true → list_any p T.accounts ≡ true)
           (λ y. y.number == n) T.accounts x (each_member T.accounts) found)
@@ -256,7 +292,7 @@ office_answered k T m (office.KeyOf n) w ready =
 -- ---- signed requests
 
 -- the request to a target
-abbrev sent : Signed → Target → Ask
+abbrev pub sent : Signed → Target → Ask
 sent s t = ask.Signed (record s { target = t })
 
 open_answered : (k : Kept) (T : Tables) (m : ℕ) (a : Ask) (key : List ℕ) (p : NewAccount) → IsReady k T m a → IsAnswered k m (swept m T) (open_account key p)
@@ -264,25 +300,25 @@ open_answered k T m a key p ready =
     let S : Tables = swept m T in
     check_keeps (IsAnswered k m S) (not p.only_existing) refusal.AccountDoesNotExist _ tt (λ new_too.
     no_fault_keeps (IsAnswered k m S) (contacts_fault p.contacts) _ (λ n. tt) (
-      covered k T m a (opened key p.contacts) ready (opened_named T m a key p.contacts),
+      covered k T m a (opened key p.contacts) ready (opened_named T a key p.contacts),
       opened_shown k (effect m S (opened key p.contacts)) (ready.closed.new_accounts (T.meta.counters.accounts + 1) (omega arith)),
     ))
 
 account_answered : (k : Kept) (T : Tables) (m : ℕ) (s : Signed) (j : ℕ) (x : AccountRow) (p : AccountChange) → IsReady k T m (sent s (to.Account j)) →
     k.accounts x.number ≡ true → is_named_account (sent s (to.Account j)) x ≡ true → ((q : AccountRow → Bool) → q x ≡ true → list_any q T.accounts ≡ true) →
-    (j == x.number) ≡ true → IsAnswered k m (swept m T) (account_verdict x.number p)
-account_answered k T m s j x change.Read ready kept named member here = account_shown k (swept m T) x.number kept
-account_answered k T m s j x change.Deactivate ready kept named member here = (
+    (j == x.number) ≡ true → account_change s.payload ≡ Some p → IsAnswered k m (swept m T) (account_verdict x.number p)
+account_answered k T m s j x change.Read ready kept named member here is = account_shown k (swept m T) x.number kept
+account_answered k T m s j x change.Deactivate ready kept named member here is = (
   covered k T m (sent s (to.Account j)) (account_ended x.number deactivated) ready
-      (ended_named T m (sent s (to.Account j)) x.number deactivated (turned j x.number here)
+      (ended_named T (sent s (to.Account j)) x.number deactivated (turned j x.number here) (ap (holds is_end) is)
       (λ r h. owned_by T (sent s (to.Account j)) x refl named member r h)),
   account_shown k (effect m (swept m T) (account_ended x.number deactivated)) x.number kept,
 )
-account_answered k T m s j x (change.Update None) ready kept named member here = account_shown k (swept m T) x.number kept
-account_answered k T m s j x (change.Update (Some contacts)) ready kept named member here =
+account_answered k T m s j x (change.Update None) ready kept named member here is = account_shown k (swept m T) x.number kept
+account_answered k T m s j x (change.Update (Some contacts)) ready kept named member here is =
     no_fault_keeps (IsAnswered k m (swept m T)) (contacts_fault contacts) _ (λ n. tt) (
       covered k T m (sent s (to.Account j)) (contacts_changed x.number contacts) ready
-          (contacts_named T m (sent s (to.Account j)) x.number contacts (turned j x.number here)),
+          (contacts_named T (sent s (to.Account j)) x.number contacts (turned j x.number here)),
       account_shown k (effect m (swept m T) (contacts_changed x.number contacts)) x.number kept,
     )
 
@@ -313,7 +349,7 @@ new_order_answered k T m a r n ids ready [] asked =
     let again : ReusedKept k (ordered n ws) = wanted_kept k (swept m T) n names names r asked (each_member names) in (
       again,
       (
-        covered k T m a (ordered n ws) ready (ordered_named T m a n ws),
+        covered k T m a (ordered n ws) ready (ordered_named T a n ws),
         made_shown k (effect m (swept m T) (ordered n ws)) (ready.closed.new_orders (T.meta.counters.orders + 1) (omega arith))
             (listed_then k T m a (ordered n ws) ready again),
       ),
@@ -324,80 +360,82 @@ finalize_answered : (k : Kept) (T : Tables) (m : ℕ) (s : Signed) (j : ℕ) (o 
 finalize_answered k T m s j o text ready =
     check_keeps (IsAnswered k m (swept m T)) (is_ready o.status) refusal.OrderNotReady _ tt (λ stands.
     given_keeps (IsAnswered k m (swept m T)) (csr_in text) refusal.BadCsr _ tt (λ csr is. (
-      covered k T m (sent s (to.Finalize j)) (finalized j csr) ready (finalized_named T m (sent s (to.Finalize j)) j csr (same_number j)),
+      covered k T m (sent s (to.Finalize j)) (finalized j csr) ready (finalized_named T (sent s (to.Finalize j)) j csr (same_number j)),
       finalized_shown k (effect m (swept m T) (finalized j csr)) j csr (ready.named.order j (same_number j))
           (listed_then k T m (sent s (to.Finalize j)) (finalized j csr) ready tt),
     )))
 
 authorization_answered : (k : Kept) (T : Tables) (m : ℕ) (s : Signed) (j : ℕ) (r : AuthorizationRow) (p : AuthorizationChange)
-    → IsReady k T m (sent s (to.Authz j)) →
+    → IsReady k T m (sent s (to.Authz j)) → authorization_change s.payload ≡ Some p →
     IsAnswered k m (swept m T) (authorization_verdict j r p)
-authorization_answered k T m s j r authz_change.Read ready = authorization_shown k (swept m T) j (ready.named.authorization j (same_number j))
-authorization_answered k T m s j r authz_change.Deactivate ready =
+authorization_answered k T m s j r authz_change.Read ready is = authorization_shown k (swept m T) j (ready.named.authorization j (same_number j))
+authorization_answered k T m s j r authz_change.Deactivate ready is =
     either_keeps (IsAnswered k m (swept m T)) (is_live r.status) _ _ (
       covered k T m (sent s (to.Authz j)) (authorization_ended j deactivated) ready
-          (authorization_named T m (sent s (to.Authz j)) j deactivated (same_number j)),
+          (authorization_named T (sent s (to.Authz j)) j deactivated (same_number j) (authorization_moves s.payload is)),
       authorization_shown k (effect m (swept m T) (authorization_ended j deactivated)) j (ready.named.authorization j (same_number j)),
     )
     (authorization_shown k (swept m T) j (ready.named.authorization j (same_number j)))
 
 challenge_answered : (k : Kept) (T : Tables) (m : ℕ) (s : Signed) (j : ℕ) (r : AuthorizationRow) (p : ChallengeChange) → IsReady k T m (sent s (to.Chall j)) →
-    IsAnswered k m (swept m T) (challenge_verdict j r p)
-challenge_answered k T m s j r chall_change.Read ready = client_challenge_shown k (swept m T) j (swept_names k T m (sent s (to.Chall j)) ready.named).owner
-challenge_answered k T m s j r chall_change.Answer ready =
+    challenge_change s.payload ≡ Some p → IsAnswered k m (swept m T) (challenge_verdict j r p)
+challenge_answered k T m s j r chall_change.Read ready is = client_challenge_shown k (swept m T) j (swept_names k T m (sent s (to.Chall j)) ready.named).owner
+challenge_answered k T m s j r chall_change.Answer ready is =
     let owner = (swept_names k T m (sent s (to.Chall j)) ready.named).owner in
     either_keeps (IsAnswered k m (swept m T)) (stands_open (λ c. is_pending_challenge c.status) r j) _ _ (
-      covered k T m (sent s (to.Chall j)) (answered j) ready (answered_named T m (sent s (to.Chall j)) j (λ a h. h)),
+      covered k T m (sent s (to.Chall j)) (answered j) ready (answered_named T (sent s (to.Chall j)) j (λ a h. h) (challenge_moves s.payload is)),
       client_challenge_shown k (effect m (swept m T) (answered j)) j (owner_after k (swept m T) m (answered j) j (swept_closed k T m ready.closed) owner),
     )
     (client_challenge_shown k (swept m T) j owner)
 
 -- the account with the key is x
-target_answered : (k : Kept) (T : Tables) (m : ℕ) (s : Signed) (r : List ℕ) (x : AccountRow) (p : List ℕ) (t : Target) → IsReady k T m (sent s t) →
+target_answered : (k : Kept) (T : Tables) (m : ℕ) (s : Signed) (r : List ℕ) (x : AccountRow) (t : Target) → IsReady k T m (sent s t) →
     k.accounts x.number ≡ true → is_named_account (sent s t) x ≡ true → ((q : AccountRow → Bool) → q x ≡ true → list_any q T.accounts ≡ true) →
     EachOf (λ o. asks_orders (sent s t) ≡ true → (o.account == x.number) ≡ true → k.orders o.number ≡ true) (swept m T).orders →
-    KeepsAsked k (swept m T).authorizations x.number (target_names t p) →
-    IsAnswered k m (swept m T) (target_verdict (swept m T) r x.number p t)
-target_answered k T m s r x p to.NewAccount ready kept named member owned asked =
-    given_keeps (IsAnswered k m (swept m T)) (new_account p) refusal.Malformed _ tt (λ q is. known_shown k (swept m T) x.number kept)
-target_answered k T m s r x p to.KeyChange ready kept named member owned asked =
-    given_keeps (IsAnswered k m (swept m T)) (key_change p) refusal.Malformed _ tt (λ c is.
+    KeepsAsked k (swept m T).authorizations x.number (target_names t s.payload) →
+    IsAnswered k m (swept m T) (target_verdict (swept m T) r x.number s.payload t)
+target_answered k T m s r x to.NewAccount ready kept named member owned asked =
+    given_keeps (IsAnswered k m (swept m T)) (new_account s.payload) refusal.Malformed _ tt (λ q is. known_shown k (swept m T) x.number kept)
+target_answered k T m s r x to.KeyChange ready kept named member owned asked =
+    given_keeps (IsAnswered k m (swept m T)) (key_change s.payload) refusal.Malformed _ tt (λ c is.
     check_keeps (IsAnswered k m (swept m T))
     (bytes_eq c.account (account_url T.meta.policy x.number) && holds (has_this_key (swept m T) x.number) c.old_key) refusal.Malformed _ tt (λ own.
     given_keeps (IsAnswered k m (swept m T)) c.new_key refusal.BadPublicKey _ tt
     (λ key there. rekey_answered k T m x.number key kept (account_with_key (swept m T) key))))
-target_answered k T m s r x p to.NewOrder ready kept named member owned asked =
-    given_keeps (IsAnswered k m (swept m T)) (new_order p) refusal.Malformed _ tt (λ ids is.
+target_answered k T m s r x to.NewOrder ready kept named member owned asked =
+    given_keeps (IsAnswered k m (swept m T)) (new_order s.payload) refusal.Malformed _ tt (λ ids is.
     check_keeps (IsAnswered k m (swept m T)) (has_length 1 most_names ids) refusal.Malformed _ tt
     (λ few. new_order_answered k T m (sent s to.NewOrder) r x.number ids ready (subproblems ids)
     (subst (KeepsAsked k (swept m T).authorizations x.number)
     (ap (option_and_then names_asked) is ∙ ap (λ b. cond {A = Option (List Name)} b (names_of ids (subproblems ids)) None) few) asked)))
-target_answered k T m s r x p (to.Account j) ready kept named member owned asked =
+target_answered k T m s r x (to.Account j) ready kept named member owned asked =
     check_keeps (IsAnswered k m (swept m T)) (j == x.number) refusal.NotFound _ tt (λ here.
-    given_keeps (IsAnswered k m (swept m T)) (account_change p) refusal.Malformed _ tt (λ q is. account_answered k T m s j x q ready kept named member here))
-target_answered k T m s r x p (to.Orders j) ready kept named member owned asked =
+    given_keeps (IsAnswered k m (swept m T)) (account_change s.payload) refusal.Malformed _ tt
+    (λ q is. account_answered k T m s j x q ready kept named member here is))
+target_answered k T m s r x (to.Orders j) ready kept named member owned asked =
     check_keeps (IsAnswered k m (swept m T)) (j == x.number) refusal.NotFound _ tt (λ here.
-    check_keeps (IsAnswered k m (swept m T)) (nothing p) refusal.Malformed _ tt (λ none.
+    check_keeps (IsAnswered k m (swept m T)) (nothing s.payload) refusal.Malformed _ tt (λ none.
     orders_shown k (swept m T) x.number (each _ _ (swept m T).orders (λ o f h. f refl h) owned)))
-target_answered k T m s r x p (to.Order j) ready kept named member owned asked =
+target_answered k T m s r x (to.Order j) ready kept named member owned asked =
     given_keeps (IsAnswered k m (swept m T)) (own (λ (y : OrderRow). y.account) x.number (order_on (swept m T) j)) refusal.NotFound _ tt (λ o is.
-    check_keeps (IsAnswered k m (swept m T)) (nothing p) refusal.Malformed _ tt (λ none.
+    check_keeps (IsAnswered k m (swept m T)) (nothing s.payload) refusal.Malformed _ tt (λ none.
     order_shown k (swept m T) j (ready.named.order j (same_number j)) (swept_closed k T m ready.closed).listed))
-target_answered k T m s r x p (to.Finalize j) ready kept named member owned asked =
+target_answered k T m s r x (to.Finalize j) ready kept named member owned asked =
     given_keeps (IsAnswered k m (swept m T)) (own (λ (y : OrderRow). y.account) x.number (order_on (swept m T) j)) refusal.NotFound _ tt (λ o is.
-    given_keeps (IsAnswered k m (swept m T)) (finalize p) refusal.Malformed _ tt (λ q says. finalize_answered k T m s j o q ready))
-target_answered k T m s r x p (to.Cert j) ready kept named member owned asked =
+    given_keeps (IsAnswered k m (swept m T)) (finalize s.payload) refusal.Malformed _ tt (λ q says. finalize_answered k T m s j o q ready))
+target_answered k T m s r x (to.Cert j) ready kept named member owned asked =
     given_keeps (IsAnswered k m (swept m T)) (own (λ (y : OrderRow). y.account) x.number (order_on (swept m T) j)) refusal.NotFound _ tt (λ o is.
-    check_keeps (IsAnswered k m (swept m T)) (nothing p) refusal.Malformed _ tt (λ none.
+    check_keeps (IsAnswered k m (swept m T)) (nothing s.payload) refusal.Malformed _ tt (λ none.
     given_keeps (IsAnswered k m (swept m T)) o.certified refusal.NotFound _ tt
     (λ c there. certificate_shown k (swept m T) j (ready.named.order j (same_number j)))))
-target_answered k T m s r x p (to.Authz j) ready kept named member owned asked =
+target_answered k T m s r x (to.Authz j) ready kept named member owned asked =
     given_keeps (IsAnswered k m (swept m T)) (own (λ (y : AuthorizationRow). y.account) x.number (authorization_on (swept m T) j))
     refusal.NotFound _ tt (λ a is.
-    given_keeps (IsAnswered k m (swept m T)) (authorization_change p) refusal.Malformed _ tt (λ q says. authorization_answered k T m s j a q ready))
-target_answered k T m s r x p (to.Chall j) ready kept named member owned asked =
+    given_keeps (IsAnswered k m (swept m T)) (authorization_change s.payload) refusal.Malformed _ tt
+    (λ q says. authorization_answered k T m s j a q ready says))
+target_answered k T m s r x (to.Chall j) ready kept named member owned asked =
     given_keeps (IsAnswered k m (swept m T)) (own (λ (y : AuthorizationRow). y.account) x.number (owner_on (swept m T) j)) refusal.NotFound _ tt (λ a is.
-    given_keeps (IsAnswered k m (swept m T)) (challenge_change p) refusal.Malformed _ tt (λ q says. challenge_answered k T m s j a q ready))
+    given_keeps (IsAnswered k m (swept m T)) (challenge_change s.payload) refusal.Malformed _ tt (λ q says. challenge_answered k T m s j a q ready says))
 
 -- by the key
 keyed_answered : (k : Kept) (T : Tables) (m : ℕ) (s : Signed) (r key : List ℕ) (t : Target) → IsReady k T m (sent s t) →
@@ -411,7 +449,7 @@ keyed_answered k T m s r key t ready named kept None found = tt
 keyed_answered k T m s r key t ready named kept (Some x) found =
     let is : bytes_eq x.key key ≡ true = found_passes (λ a. bytes_eq a.key key) T.accounts x found in
     check_keeps (IsAnswered k m (swept m T)) (is_valid_account x.status) refusal.Unauthorized _ tt (λ valid.
-    target_answered k T m s r x s.payload t ready
+    target_answered k T m s r x t ready
     (each_found _ (λ a. bytes_eq a.key key) T.accounts x kept found is)
     (named x is)
     (each_found (λ y. (p : AccountRow → Bool) → p y ≡ true → list_any p T.accounts ≡ true)

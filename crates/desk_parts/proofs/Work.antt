@@ -15,7 +15,7 @@ use Rattle.desk_model.specs.Names.{shown_name}
 use Rattle.desk_model.specs.Order.{is_processing}
 use Rattle.desk_model.specs.Shown.{ok, reply_of}
 use Rattle.desk_model.specs.Tables.{Tables}
-use Rattle.desk_model.specs.Touched.{lists, touched, touched_at}
+use Rattle.desk_model.specs.Touched.{lists}
 use Rattle.desk_model.specs.Tokens.{base64url}
 use Rattle.desk_model.specs.declared.call.Ask.{Ask}
 use Rattle.desk_model.specs.declared.call.Ask.TheVariants as ask
@@ -36,15 +36,18 @@ use Rattle.desk_laws.proofs.Basics.{each, each_both, each-map}
 use Rattle.desk_laws.proofs.Local.{filter_part, swept_order_number, swept_part}
 use Rattle.desk_laws.proofs.SweptParts.{swept_closed}
 use Rattle.desk_parts.specs.AnswersAs.{AnswersAs, CarriesOutAs, SettlesAs}
+use Rattle.desk_parts.specs.Few.{IsStatedFor, few_rows}
 use Rattle.desk_parts.specs.IsEnough.{IsEnoughFor, challenge_work_rows, enough, enough_at, has_work, is_worked_on, order_work_rows}
 use Rattle.desk_parts.specs.IsPart.{IsPartFor}
-use Rattle.desk_parts.proofs.Between.{authorizations_stand, open_kept, orders_end, parts_answer}
-use Rattle.desk_parts.proofs.Cut.{at_number, numbered, touched_part}
-use Rattle.desk_parts.proofs.Enough.{restricted_ordered}
+use Rattle.desk_parts.proofs.Between.{authorizations_stand, none_listed, open_kept, orders_end, parts_answer}
+use Rattle.desk_parts.proofs.Cut.{at_number, no_part, no_rows, numbered}
+use Rattle.desk_parts.proofs.Enough.{answers_at, restricted_ordered}
+use Rattle.desk_parts.proofs.Fewer.{few_cut, few_issue, few_kept, few_pass, few_settle}
 use Rattle.desk_parts.proofs.Grown.{grown, grown_closed, grown_part}
 use Rattle.desk_parts.proofs.Listed.{KeepsListed}
 use Rattle.desk_parts.proofs.Lists.{each_member, filter_nothing, filter_same, same_number}
 use Rattle.desk_parts.proofs.Replies.{rows_same}
+use Rattle.desk_parts.proofs.Walks.{IsNoWork}
 
 -- ---- parts are enough
 
@@ -239,32 +242,41 @@ issuer_settles T m h =
 
 -- ---- each call
 
-pub few_enough : (T : Tables) (call : Call) → IsOrdered T → IsEnoughFor call T (enough T call)
-few_enough T call h = by call.ask refl
+-- what is cut so and answers is enough
+enough_by : (T : Tables) (call : Call) (a : Ask) (k : Kept) → call.ask ≡ a → enough_at T (max call.at T.meta.counters.clock) a ≡ restricted k T →
+    AnswersAs (max call.at T.meta.counters.clock) a T (restricted k T) → IsEnoughFor call T (enough T call)
+enough_by T call a k is cut settles =
+    let m : ℕ = max call.at T.meta.counters.clock in
+    let same : enough T call ≡ restricted k T = ap (enough_at T m) is ∙ cut in
+    record { kept = k; cut = same; answers = subst (λ x. AnswersAs m x T (enough T call)) (sym is) (subst (AnswersAs m a T) (sym same) settles) }
+
+pub few_enough : (T : Tables) (call : Call) → IsOrdered T → IsStatedFor call.ask (max call.at T.meta.counters.clock) T → IsEnoughFor call T (enough T call)
+few_enough T call h stated = by call.ask refl
   where
     m : ℕ
     m = max call.at T.meta.counters.clock
 
-    work : (a : OfficeAsk) (k : Kept) (rows : Tables) → call.ask ≡ ask.Office a → enough_at T m (ask.Office a) ≡ rows → rows ≡ restricted k T →
-        SettlesAs m a T (restricted k T) → IsEnoughFor call T (enough T call)
-    work a k rows is here cut settles =
-        let same : enough T call ≡ restricted k T = ap (enough_at T m) is ∙ here ∙ cut in
-        record { kept = k; cut = same; answers = subst (λ x. AnswersAs m x T (enough T call)) (sym is) (subst (SettlesAs m a T) (sym same) settles) }
-
-    others : (a : Ask) → call.ask ≡ a → enough_at T m a ≡ touched_at T m a → IsEnoughFor call T (enough T call)
-    others a is here =
-        let same : enough T call ≡ touched T call = ap (enough_at T m) is ∙ here ∙ sym (ap (touched_at T m) is) in
-        subst (IsEnoughFor call T) (sym same) (part_enough T (touched T call) call h (touched_part T call h))
+    few : (a : OfficeAsk) → IsNoWork a → call.ask ≡ ask.Office a → enough_at T m (ask.Office a) ≡ few_rows T m (ask.Office a) →
+        IsEnoughFor call T (enough T call)
+    few a none is here =
+        enough_by T call (ask.Office a) (few_kept T m (ask.Office a)) is (here ∙ few_cut T m (ask.Office a) h) (few_settle T m a none h)
 
     by : (a : Ask) → call.ask ≡ a → IsEnoughFor call T (enough T call)
-    by (ask.Office office.ChallengeWork) is = work office.ChallengeWork (validator_kept T) _ is refl (validator_cut T h) (validator_settles T m h)
-    by (ask.Office office.OrderWork) is = work office.OrderWork (issuer_kept T) _ is refl (issuer_cut T h) (issuer_settles T m h)
-    by (ask.Office office.Directory) is = others (ask.Office office.Directory) is refl
-    by (ask.NewNonce head) is = others (ask.NewNonce head) is refl
-    by (ask.Signed s) is = others (ask.Signed s) is refl
-    by (ask.Office (office.Report n finding)) is = others (ask.Office (office.Report n finding)) is refl
-    by (ask.Office (office.Certify n bytes)) is = others (ask.Office (office.Certify n bytes)) is refl
-    by (ask.Office (office.FailOrder n problem)) is = others (ask.Office (office.FailOrder n problem)) is refl
-    by (ask.Office (office.RevokeAuthz n)) is = others (ask.Office (office.RevokeAuthz n)) is refl
-    by (ask.Office (office.RevokeAccount n)) is = others (ask.Office (office.RevokeAccount n)) is refl
-    by (ask.Office (office.KeyOf n)) is = others (ask.Office (office.KeyOf n)) is refl
+    by (ask.Office office.ChallengeWork) is =
+        enough_by T call (ask.Office office.ChallengeWork) (validator_kept T) is (validator_cut T h) (validator_settles T m h)
+    by (ask.Office office.OrderWork) is = enough_by T call (ask.Office office.OrderWork) (issuer_kept T) is (issuer_cut T h) (issuer_settles T m h)
+    by (ask.Office office.Directory) is =
+        enough_by T call (ask.Office office.Directory) no_rows is (no_part T)
+        (answers_at no_rows T m (ask.Office office.Directory) h (none_listed T) (record { nonces = tt; accounts = tt; authorizations = tt; orders = tt }))
+    by (ask.NewNonce head) is =
+        enough_by T call (ask.NewNonce head) (few_kept T m (ask.NewNonce head)) is (few_cut T m (ask.NewNonce head) h)
+        (few_issue T m (ask.NewNonce head) h refl refl)
+    by (ask.Signed s) is =
+        enough_by T call (ask.Signed s) (few_kept T m (ask.Signed s)) is (few_cut T m (ask.Signed s) h)
+        (few_pass T m s h (subst (λ a. IsStatedFor a m T) is stated))
+    by (ask.Office (office.Report n finding)) is = few (office.Report n finding) tt is refl
+    by (ask.Office (office.Certify n bytes)) is = few (office.Certify n bytes) tt is refl
+    by (ask.Office (office.FailOrder n problem)) is = few (office.FailOrder n problem) tt is refl
+    by (ask.Office (office.RevokeAuthz n)) is = few (office.RevokeAuthz n) tt is refl
+    by (ask.Office (office.RevokeAccount n)) is = few (office.RevokeAccount n) tt is refl
+    by (ask.Office (office.KeyOf n)) is = few (office.KeyOf n) tt is refl

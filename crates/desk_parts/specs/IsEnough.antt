@@ -5,13 +5,14 @@ use Rattle.desk_model.specs.Kept.{Kept, restricted}
 use Rattle.desk_model.specs.Legal.{is_processing_challenge}
 use Rattle.desk_model.specs.Order.{is_processing}
 use Rattle.desk_model.specs.Tables.{Tables}
-use Rattle.desk_model.specs.Touched.{lists, touched_at}
+use Rattle.desk_model.specs.Touched.{lists, only_meta}
 use Rattle.desk_model.specs.declared.call.Ask.{Ask}
 use Rattle.desk_model.specs.declared.call.Ask.TheVariants as ask
 use Rattle.desk_model.specs.declared.call.Call.{Call}
 use Rattle.desk_model.specs.declared.call.OfficeAsk.TheVariants as office
 use Rattle.desk_model.specs.declared.rows.AuthorizationRow.{AuthorizationRow}
 use Rattle.desk_parts.specs.AnswersAs.{AnswersAs}
+use Rattle.desk_parts.specs.Few.{few_rows}
 
 -- the part is cut from the whole, and answers the call as the whole does
 pub record IsEnoughFor (call : Call) (whole part : Tables) : Type 0 where
@@ -45,11 +46,12 @@ order_work_rows T =
       orders = filter (λ o. is_processing o.status) T.orders;
     }
 
--- for other calls: what they touch
+-- the directory shows no row; for other calls: what they name, what falls, and what decides a status that may change
 abbrev pub enough_at : Tables → ℕ → Ask → Tables
+enough_at T m (ask.Office office.Directory) = only_meta T
 enough_at T m (ask.Office office.ChallengeWork) = challenge_work_rows T
 enough_at T m (ask.Office office.OrderWork) = order_work_rows T
-enough_at T m a = touched_at T m a
+enough_at T m a = few_rows T m a
 
 -- at the moment at which the call acts
 abbrev pub enough : Tables → Call → Tables

@@ -1,9 +1,14 @@
 -- That parts are enough for calls.
-use Rattle.std.specs.Prelude.{max, ◌≡◌}
-use Rattle.desk_model.specs.Tables.{Tables}
+use Rattle.std.specs.Prelude.{ℕ, max, ◌≡◌, ◌≤◌}
+use Rattle.desk_model.specs.Effect.{swept}
+use Rattle.desk_model.specs.Entry.{History}
+use Rattle.desk_model.specs.History.{clock}
+use Rattle.desk_model.specs.Legal.{EachFollows}
+use Rattle.desk_model.specs.Tables.{Tables, picture}
 use Rattle.desk_model.specs.declared.call.Call.{Call}
 use Rattle.desk_laws.specs.Ordered.{IsOrdered}
 use Rattle.desk_parts.specs.AnswersAs.{AnswersAs}
+use Rattle.desk_parts.specs.Few.{IsStated, IsStatedFor}
 use Rattle.desk_parts.specs.IsEnough.{IsEnoughFor, enough}
 use Rattle.desk_parts.specs.IsPart.{IsPartFor}
 use Rattle.desk_parts.specs.Loaded.{loaded}
@@ -29,9 +34,14 @@ PartsAnswer = (T P : Tables) (call : Call) → IsOrdered T → IsPartFor call T 
 abbrev pub PartsAreEnough : Type 0
 PartsAreEnough = (T P : Tables) (call : Call) → IsOrdered T → IsPartFor call T P → IsEnoughFor call T P
 
--- and so are what a list of work shows and what decides its status, for the list
+-- and so are fewer rows: what is named, listed or falls, and what decides a status that may change or is shown
 abbrev pub FewRowsAreEnough : Type 0
-FewRowsAreEnough = (T : Tables) (call : Call) → IsOrdered T → IsEnoughFor call T (enough T call)
+FewRowsAreEnough =
+    (T : Tables) (call : Call) → IsOrdered T → IsStatedFor call.ask (max call.at T.meta.counters.clock) T → IsEnoughFor call T (enough T call)
+
+-- the statuses of a picture are at each later moment those that the rows give
+abbrev pub PicturesAreStated : Type 0
+PicturesAreStated = (F : History) (m : ℕ) → EachFollows F → clock F ≤ m → IsStated m (swept m (picture F))
 
 -- rows that are enough for a call, of tables that stand by number, stand by number
 abbrev pub EnoughIsOrdered : Type 0

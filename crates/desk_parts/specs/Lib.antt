@@ -1,5 +1,7 @@
 pub mod Above
 pub mod AnswersAs
+pub mod Few
+pub mod FewLoaded
 pub mod IsEnough
 pub mod IsPart
 pub mod Laws

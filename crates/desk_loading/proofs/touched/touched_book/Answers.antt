@@ -7,9 +7,8 @@ use Rattle.desk_model.specs.declared.call.OfficeAsk.TheVariants as office
 use Rattle.desk_model.specs.declared.rows.Meta.{Meta}
 use Rattle.desk_parts.proofs.Loading.{loaded_touched}
 use Rattle.desk_parts.specs.Loaded.{loaded_at}
-use Rattle.desk_loading.specs.Finding.{AreRowsOf}
-use Rattle.desk_loading.specs.declared.touched.Rows.{Rows}
 use Rattle.desk_loading.proofs.Gathered.{made_of}
+use Rattle.desk_loading.proofs.Tabled.{book_are}
 use Rattle.desk_loading.proofs.Readings.{reads_and, reads_failing, reads_standing, reads_then, stands_here, stands_read}
 use Rattle.desk_loading.proofs.touched.touched_book.Goals as goal
 
@@ -26,16 +25,6 @@ loaded_meta T m (ask.Office (office.FailOrder n problem)) = refl
 loaded_meta T m (ask.Office (office.RevokeAuthz n)) = refl
 loaded_meta T m (ask.Office (office.RevokeAccount n)) = refl
 loaded_meta T m (ask.Office (office.KeyOf n)) = refl
-
--- the tables of these rows
-abbrev book_with : Meta → Rows → Tables
-book_with meta rows =
-    record { meta = meta; nonces = rows.nonces; accounts = rows.accounts; authorizations = rows.authorizations; orders = rows.orders }
-
--- the tables of rows that are those of tables
-book_are : (meta : Meta) (rows : Rows) (T : Tables) → meta ≡ T.meta → AreRowsOf T rows → book_with meta rows ≡ T
-book_are meta rows T same are = λ i.
-    record { meta = same i; nonces = are.nonces i; accounts = are.accounts i; authorizations = are.authorizations i; orders = are.orders i }
 
 pub returns-clause-reads : goal.returns-clause-reads
 returns-clause-reads g c =
