@@ -18,7 +18,7 @@ stays_shown old new text c params e None is h = stays_unchanged old new h.3
 stays_shown old new text c params e (Some what) is h = absurd (let x = is in cc)
 
 -- a query failed
-stays_failed : (text : List ℕ) (params : Row) (old new : State) (e : Error) → IsQuery text → FailsToQuery text params old new e → Stays old new
+pub stays_failed : (text : List ℕ) (params : Row) (old new : State) (e : Error) → IsQuery text → FailsToQuery text params old new e → Stays old new
 unfolding FailsToQuery
 stays_failed text params old new e is (inl not_run) = stays_not_run old new text params e not_run
 stays_failed text params old new e is (inr ran) =

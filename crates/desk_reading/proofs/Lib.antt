@@ -1,6 +1,9 @@
+pub mod BookChecks
+pub mod BookOfShown
 pub mod AboveRows
 pub mod Answered
 pub mod Asking
+pub mod EarliestRows
 pub mod Failing
 pub mod Fits
 pub mod FirstLoading
@@ -22,7 +25,9 @@ pub mod ReadsChain
 pub mod Results
 pub mod Selecting
 pub mod ShownRows
+pub mod ShownTables
 pub mod StatusTests
+pub mod Streaming
 pub mod SureTexts
 pub mod TableFailures
 pub mod Tests

@@ -22,7 +22,7 @@ use Rattle.desk_laws.proofs.Basics.{less_differs, more_differs}
 -- ---- numbers
 
 -- SQL's `=`
-eq_as : (a b : ℕ) → is_eq (three a b) ≡ (a == b)
+pub eq_as : (a b : ℕ) → is_eq (three a b) ≡ (a == b)
 eq_as a b = elim (ranked a b) [
   | inl less ↦ rw (less.ranks, less_differs a b less.low) refl
   | inr (inl tied) ↦ rw (tied.ranks, eq-eqb a b tied.same) refl
@@ -30,7 +30,7 @@ eq_as a b = elim (ranked a b) [
 ]
 
 -- SQL's `<`
-lt_as : (a b : ℕ) → is_lt (three a b) ≡ nat_lt a b
+pub lt_as : (a b : ℕ) → is_lt (three a b) ≡ nat_lt a b
 lt_as a b = elim (ranked a b) [
   | inl less ↦ rw (less.ranks, lt-ltb a b less.low) refl
   | inr (inl tied) ↦ rw (tied.ranks, le-ltb a b (omega (arith, tied.same))) refl

@@ -1,5 +1,8 @@
 pub mod AllTables
+pub mod BookShown
 pub mod Bounded
+pub mod Earliest
+pub mod Checking
 pub mod Failures
 pub mod First
 pub mod Fitting

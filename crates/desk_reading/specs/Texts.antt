@@ -136,3 +136,17 @@ select_authorization_above = codes "SELECT num, account, name, wildcard, made, e
 -- a challenge
 abbrev pub select_challenge_above : List ℕ
 select_challenge_above = codes "SELECT num, authz, kind, token, answered, reported, outcome, status FROM chall WHERE num > ?1 ORDER BY num LIMIT 1"
+
+-- ---- the earliest moment of rows
+
+-- when the first nonce was issued
+abbrev pub select_earliest_issue : List ℕ
+select_earliest_issue = codes "SELECT issued FROM nonce ORDER BY issued LIMIT 1"
+
+-- when the first order of a status ends
+abbrev pub select_earliest_order_end : List ℕ
+select_earliest_order_end = codes "SELECT expires FROM ord WHERE status = ?1 ORDER BY expires LIMIT 1"
+
+-- when the first authorization of a status ends
+abbrev pub select_earliest_authorization_end : List ℕ
+select_earliest_authorization_end = codes "SELECT expires FROM authz WHERE status = ?1 ORDER BY expires LIMIT 1"

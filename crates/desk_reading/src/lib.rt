@@ -4,7 +4,10 @@
 mod accounts;
 mod answers;
 mod authorizations;
+mod checked;
+mod checking;
 mod columns;
+mod earliest;
 mod fault;
 mod first;
 mod format;
@@ -25,6 +28,8 @@ pub use authorizations::{
     all_authorizations, authorization_above, authorizations_named, authorizations_numbered,
     authorizations_of, authorizations_past, challenge_above, owners_of, owners_processing,
 };
+pub use checked::has_book_rows;
+pub use earliest::{earliest_authorization_end, earliest_issue, earliest_order_end};
 pub use fault::ReadFault;
 pub use first::load_first;
 pub use format::is_newer;

@@ -14,5 +14,6 @@ mod stored_book;
 
 pub use row_faults::{account_fault, authorization_fault, challenge_fault, order_fault};
 pub use rows_fault::RowsFault;
+pub use soundness::are_distinct;
 pub use status_check::check;
 pub use stored_book::from_rows;

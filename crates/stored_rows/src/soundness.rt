@@ -157,7 +157,8 @@ fn precedes<K: Ord>(key: &K, next: &K) -> bool
     key.cmp(next).is_lt()
 }
 
-fn are_distinct<K: Ord + Drop>(mut keys: Vec<K>) -> bool
+/// Whether no key stands twice.
+pub fn are_distinct<K: Ord + Drop>(mut keys: Vec<K>) -> bool
     ensures { IsTrue result ↔ IsDistinct (eq_by_cmp K.cmp) keys.items }
 {
     keys.sort_unstable();

@@ -1,0 +1,15 @@
+use Rattle.std.proofs.Common.{◌≡◌, ℕ, true, Result, Ok, Err, List, Ordering, nat_cmp, sym, ◌∙◌}
+use Rattle.std.specs.Prelude.{IfOk, HoldsAt, is_ok}
+use Rattle.checked_rows.specs.BookRows.{IsAmong}
+use Rattle.checked_rows.proofs.Among.{among_at}
+use Rattle.checked_rows.proofs.numbers.Numbers.has.Goals as goal
+
+-- a number that was found is among them
+found : (xs : List ℕ) (n : ℕ) (r : Result ℕ ℕ) → IfOk r (HoldsAt (λ y. nat_cmp y n ≡ Ordering.Equal) xs) → is_ok r ≡ true → IsAmong xs n
+found xs n (Ok i) holds is = among_at n xs i holds
+found xs n (Err i) holds is = absurd (cc is)
+
+pub returns : goal.returns
+returns c has =
+    rw (← c.self.view_is, ← c.deref.ensures.value) (found c.deref.result.now c.args.number c.binary_search.result c.binary_search.ensures.ok
+    (sym c.is_ok.ensures.value ∙ has))

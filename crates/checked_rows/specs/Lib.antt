@@ -1,0 +1,2 @@
+pub mod BookRows
+pub mod Passing

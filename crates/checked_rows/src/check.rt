@@ -1,0 +1,34 @@
+//! What checks the rows of a table.
+ghost use Rattle.std.specs.Prelude.{◌++◌, [], ◌∷◌, IfOk, IfSome, IsTrue, List};
+
+use desk_columns::Columns;
+use std::alloc::{AllocError, Global};
+
+/// What checks the rows of a table, one after the other.
+pub trait RowCheck<C: Columns>: Drop {
+    /// What is kept of a table whose rows all passed.
+    type Kept: Drop;
+
+    // From the first on it came to the second by these rows, each of which passed.
+    ghost Passed: { Self → Self → List C.Row → Type 0 };
+
+    // What these rows are, as this is kept of them, where they passed from here on.
+    ghost IsWhole: { Self → List C.Row → Self.Kept → Type 0 };
+
+    /// Whether the next row passes. Behind one that does not, nothing is said of the others.
+    ///
+    /// # Errors
+    ///
+    /// Where there is no memory for what is kept of it.
+    fn passes(&mut self, row: C::Row) -> Result<bool, AllocError>
+        ensures { IfOk result (λ passes. IsTrue passes → (first : Self) (rows : List C.Row) → Passed first self.old rows
+            → Passed first self.new (rows ++ row ∷ [])) };
+
+    /// What is kept of the rows that passed, behind the last one, if they are a whole table.
+    ///
+    /// # Errors
+    ///
+    /// Where there is no memory to tell.
+    fn finish(self, alloc: Global) -> Result<Option<Self::Kept>, AllocError>
+        ensures { IfOk result (λ kept. IfSome kept (λ kept. (first : Self) (rows : List C.Row) → Passed first self rows → IsWhole first rows kept)) };
+}

@@ -1,0 +1,65 @@
+//! The rows of `ord_authz`.
+ghost use Rattle.std.specs.Prelude.{◌≡◌, IsTrue};
+ghost use Rattle.desk_model.specs.Kept.{EachOf};
+ghost use Rattle.checked_rows.specs.BookRows.{AreListed, IsAmong, PlacesRise};
+ghost use Rattle.checked_rows.specs.Passing.{IsPlacedNext, IsPlacedUpTo};
+
+use crate::check::RowCheck;
+use crate::numbers::Numbers;
+use desk_columns::{OrderAuthzColumns, Owned};
+use desk_model::Listed;
+use std::alloc::{AllocError, Global};
+
+/// Checks that orders ascend, and the places of each, and that these orders list these authorizations.
+#[derive(Drop)]
+pub struct ListedCheck<'a> {
+    order: u64,
+    place: u64,
+    orders: &'a Numbers,
+    authorizations: &'a Numbers,
+}
+
+impl<'a> ListedCheck<'a> {
+    /// Before the first row.
+    pub fn new(orders: &'a Numbers, authorizations: &'a Numbers) -> ListedCheck<'a>
+        ensures orders { result.orders.now ≡ orders.now }
+        ensures authorizations { result.authorizations.now ≡ authorizations.now }
+    {
+        ListedCheck {
+            order: 0,
+            place: 0,
+            orders,
+            authorizations,
+        }
+    }
+
+    // Whether the place of the order is above the one before.
+    fn is_next(&self, order: u64, place: u64) -> bool
+        ensures { IsTrue result → IsPlacedNext self.now.order self.now.place order place }
+    {
+        order > self.order || (order == self.order && place > self.place)
+    }
+}
+
+impl<'a> RowCheck<OrderAuthzColumns> for ListedCheck<'a> {
+    type Kept = ();
+
+    ghost Passed = { λ first now rows. PlacesRise rows × EachOf (IsPlacedUpTo now.order now.place) rows
+        × (now.orders.now ≡ first.orders.now) × (now.authorizations.now ≡ first.authorizations.now)
+        × EachOf (λ l. IsAmong first.orders.now l.owner) rows × EachOf (λ l. IsAmong first.authorizations.now l.row.authorization) rows };
+
+    ghost IsWhole = { λ first rows kept. AreListed first.orders.now first.authorizations.now rows };
+
+    fn passes(&mut self, row: Owned<Listed>) -> Result<bool, AllocError> {
+        if !self.is_next(row.owner, row.row.place) {
+            return Ok(false);
+        }
+        self.order = row.owner;
+        self.place = row.row.place;
+        Ok(self.orders.has(row.owner) && self.authorizations.has(row.row.authorization))
+    }
+
+    fn finish(self, _alloc: Global) -> Result<Option<()>, AllocError> {
+        Ok(Some(()))
+    }
+}

@@ -1,0 +1,84 @@
+-- Tables that are checked one after the other.
+use Rattle.std.proofs.Common.{◌≡◌, ℕ, List, map, Bool, true, false, Result, Ok, Err, IfErr, IfOk, IsErrAnd, OnOk, refl, sym, ap, subst, ◌∙◌, arith}
+use Rattle.std.proofs.lemmas.Result.{IfOk-from_err}
+use Rattle.std.specs.Prelude.{IsErr, IsTrue}
+use Rattle.sqlite.specs.Effect.{Database}
+use Rattle.sqlite.specs.Held.{Held, state}
+use Rattle.sqlite.specs.Order.{Row}
+use Rattle.sqlite.specs.State.{HasCleanDisk, IsUnchanged}
+use Rattle.sqlite.specs.Store.{Ghosts}
+use Rattle.sqlite.specs.declared.error.Error.{Error}
+use Rattle.sqlite.proofs.Callers.{unchanged_then}
+use Rattle.desk_model.specs.Tables.{Tables}
+use Rattle.desk_reading.specs.BookShown.{Checks}
+use Rattle.desk_reading.specs.Checking.{ShowsTable}
+use Rattle.desk_reading.specs.Failures.{HasTexts, MayRead}
+use Rattle.desk_reading.proofs.Failing.{may_read_still}
+use Rattle.desk_reading.proofs.Results.{failed_as}
+use Rattle.desk_schema.specs.Failing.{IsFailure}
+use Rattle.desk_schema.specs.Stays.{Asks}
+use Rattle.desk_schema.proofs.StaysLemmas.{asks_then}
+use Rattle.desk_tables.specs.Holds.{Holds}
+
+module _ {S : Type 0} (g : Ghosts S) where
+  -- the reading of a table failed
+  pub checks_failed : (Readable : Type 0) (P : Database → Type 0) (old new : Held S) (e : Error) (r : Result Bool Error) → IsErr r → IsErrAnd r (λ x. x ≡ e)
+      → ((T : Tables) → Holds (state g old).now T → HasTexts T → Readable)
+      → (HasCleanDisk (state g new) → MayRead (state g old) → Readable → IsFailure e) → Asks (state g old) (state g new) → Checks g old new P r
+  checks_failed Readable P old new e r is_err same readable fails asks = record {
+    known = λ clean. IfOk-from_err r _ is_err;
+    fails = λ clean T has may texts. failed_as r e IsFailure (fails clean may (readable T has texts)) same;
+    unchanged = λ clean. IfOk-from_err r _ is_err;
+    asks = asks;
+  }
+
+  -- a row did not pass
+  pub checks_stopped : (P : Database → Type 0) (old new : Held S) → (HasCleanDisk (state g new) → IsUnchanged (state g old) (state g new))
+      → Asks (state g old) (state g new) → Checks g old new P (Ok false)
+  checks_stopped P old new same asks = record {
+    known = λ clean is. absurd (cc is);
+    fails = λ clean T has may texts. tt;
+    unchanged = same;
+    asks = asks;
+  }
+
+  -- all rows of the last table passed
+  pub checks_last : (P : Database → Type 0) (old new : Held S) → (HasCleanDisk (state g new) → P (state g old).now)
+      → (HasCleanDisk (state g new) → IsUnchanged (state g old) (state g new)) → Asks (state g old) (state g new) → Checks g old new P (Ok true)
+  checks_last P old new known same asks = record {
+    known = λ clean _. known clean;
+    fails = λ clean T has may texts. tt;
+    unchanged = same;
+    asks = asks;
+  }
+
+  -- all rows of this table passed, and then those below it are checked
+  pub checks_then : (P Q : Database → Type 0) (old mid new : Held S) (r : Result Bool Error)
+      → (HasCleanDisk (state g mid) → Q (state g old).now → P (state g old).now)
+      → (HasCleanDisk (state g mid) → IsUnchanged (state g old) (state g mid)) → Asks (state g old) (state g mid) → Checks g mid new Q r → Checks g old new P r
+  checks_then P Q old mid new r so same asks rest = record {
+    known = λ clean. told r (honest clean) (rest.known clean);
+    fails = λ clean T has may texts.
+        let still = same (honest clean) in
+        rest.fails clean T (subst (λ db. Holds db T) (sym still.0.now_is) has) (may_read_still (state g old) (state g mid) still asks may) texts;
+    unchanged = λ clean. unchanged r (honest clean) (rest.unchanged clean);
+    asks = asks_then (state g old) (state g mid) (state g new) asks rest.asks;
+  }
+    where
+      honest : HasCleanDisk (state g new) → HasCleanDisk (state g mid)
+      honest clean = omega (arith, clean, rest.asks.survives.clean)
+
+      told : (r : Result Bool Error) → HasCleanDisk (state g mid) → IfOk r (λ known. IsTrue known → Q (state g mid).now)
+          → IfOk r (λ known. IsTrue known → P (state g old).now)
+      told (Ok known) clean q = λ is. so clean (subst Q (same clean).0.now_is (q is))
+      told (Err e) clean q = tt
+
+      unchanged : (r : Result Bool Error) → HasCleanDisk (state g mid) → OnOk r (IsUnchanged (state g mid) (state g new))
+          → OnOk r (IsUnchanged (state g old) (state g new))
+      unchanged (Ok known) clean is = unchanged_then (state g old) (state g mid) (state g new) (same clean) is
+      unchanged (Err e) clean is = tt
+
+-- a table of which more is known
+pub table_as : {S C R : Type 0} {g : Ghosts S} {text : List ℕ} {spelled : Row → C} {write : R → C} {IsStored : R → Type 0} {db : Database} {P Q : List R → Type 0}
+    → (table : ShowsTable g text spelled write IsStored db P) → ((rows : List R) → P rows → Q rows) → ShowsTable g text spelled write IsStored db Q
+table_as table so = record { rows = table.rows; shown = table.shown; stored = table.stored; is = so table.rows table.is }

@@ -1,0 +1,54 @@
+use Rattle.std.proofs.Common.{◌≡◌, [], refl, sym, ◌∙◌, rules, arith}
+use Rattle.sqlite.specs.Held.{state}
+use Rattle.sqlite.specs.State.{HasCleanDisk}
+use Rattle.desk_schema.specs.Stays.{Asks}
+use Rattle.desk_schema.proofs.StaysLemmas.{asks_then, stays_unchanged}
+use Rattle.desk_reading.proofs.Streaming.{asks_begun, asks_refused, begun_query, given_all, given_more, given_none}
+use Rattle.desk_reading.proofs.checking.check_each.Goals as goal
+
+pub returns-in_err-rows-clause-asks : goal.returns-in_err-rows-clause-asks
+returns-in_err-rows-clause-asks g c =
+    asks_refused g.S.Store c.args.text.now c.requires c.query.result c.args.conn.now c.query.follows.lender-at-none _ c.in_err-rows.was c.query.follows.holds-at-none
+
+pub rows-init : goal.rows-init
+rows-init g c =
+    let made = c.in_ok-rows.ensures in
+    let store = g.S.Store in
+    let text = c.args.text.now in (
+      refl,
+      asks_begun store text c.requires c.args.conn.now _ made.begun made.mode made.survives,
+      λ clean. given_none store text g.C.Selected.spelled g.C.Columns.write g.C.Columns.IsStored g.K.RowCheck.Passed c.args.conn.now _ c.args.check.now
+          (begun_query store text c.requires c.args.conn.now _ (made.begun clean)),
+    )
+
+pub returns-in_default-clause-passed : goal.returns-in_default-clause-passed
+returns-in_default-clause-passed g c clean _ =
+    let moved = c.next.follows.holds-at-none in
+    let now = c.next.follows.lender-at-none.conn.now in
+    let late : HasCleanDisk (state g.S.Store now) = search rules in
+    let was = c.rows.invariant.2 (omega (arith, moved.survives.clean)) in
+    let shown = (rw (c.in_ok-row.was, c.in_default.is) at (moved.ok late)) c.args.text.now [] was.given was.gives in
+    given_all g.S.Store c.args.text.now g.C.Selected.spelled g.C.Columns.write g.C.Columns.IsStored g.K.RowCheck.Passed c.args.conn.now c.rows.rows.conn.now now
+    c.args.check.now c.rows.check was shown
+
+pub rows-preserved : goal.rows-preserved
+rows-preserved g c =
+    let store = g.S.Store in
+    let moved = c.next.follows.holds-at-none in
+    let mid = c.rows.rows.conn.now in
+    let now = c.next.follows.lender-at-none.conn.now in
+    let asks : Asks (state store mid) (state store now) =
+    record {
+      survives = moved.survives;
+      stays = λ clean. stays_unchanged (state store mid) (state store now) (rw c.in_ok-row.was at (moved.same clean));
+      idle = moved.mode;
+    } in (
+      moved.same_reference ∙ c.rows.invariant.0,
+      asks_then (state store c.args.conn.now) (state store mid) (state store now) c.rows.invariant.1 asks,
+      λ clean.
+          let was = c.rows.invariant.2 (omega (arith, moved.survives.clean)) in
+          let gives = (rw (c.in_ok-row.was, c.in-Some.is) at (moved.ok clean)) c.args.text.now [] was.given was.gives in
+          given_more store c.args.text.now g.C.Selected.spelled g.C.Columns.write g.C.Columns.IsStored g.K.RowCheck.Passed c.args.conn.now mid now
+          c.args.check.now c.rows.check c.check_row.new.check c.in-Some.row.now was gives (rw c.in_ok-row.was at (moved.same clean))
+          (c.in_ok-check_row.ensures.passed c.if-not-branch.false),
+    )
