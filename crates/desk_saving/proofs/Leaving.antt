@@ -1,5 +1,5 @@
 -- What a transaction leaves behind.
-use Rattle.std.proofs.Common.{◌≡◌, true, Result, Ok, Err, IfErr, IsOk, IsTrue, OnErr, OnOk, refl, sym, subst, ◌∙◌, arith}
+use Rattle.std.proofs.Common.{◌≡◌, Result, Ok, Err, IfErr, IsOk, IsTrue, OnErr, OnOk, refl, sym, subst, ◌∙◌, arith}
 use Rattle.sqlite.specs.Effect.{Database}
 use Rattle.sqlite.specs.Held.{Held, state}
 use Rattle.sqlite.specs.State.{HasCleanDisk, IsRolledBack, Survives}
@@ -8,11 +8,8 @@ use Rattle.sqlite.proofs.Callers.{survives_begin}
 use Rattle.sqlite.proofs.StateLemmas.{survives_then}
 use Rattle.desk_schema.specs.Advances.{Advances, KeepsLast}
 use Rattle.desk_saving.specs.Committing.{GoesBack, HasCommitted, IsBeforeCommit, IsLeft}
+use Rattle.desk_saving.specs.Refusals.{begun}
 use Rattle.desk_saving.specs.declared.fault.SaveFault.{SaveFault}
-
--- the connection inside a transaction that was just begun
-abbrev pub begun : {S : Type 0} → Held S → Held S
-begun h = record h { in_transaction = true }
 
 -- a connection before a transaction, when it was begun, at its last call and behind its end
 module _ {S : Type 0} (g : Ghosts S) (old first last after : Held S) (begins : first ≡ begun old) (done : Result (Unit {0}) SaveFault) where

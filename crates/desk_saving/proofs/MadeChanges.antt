@@ -1,6 +1,7 @@
 -- What each change makes of a desk's database.
-use Rattle.std.specs.Prelude.{IfSome, find, ◌==◌}
-use Rattle.std.proofs.Common.{◌≡◌, ℕ, [], ◌∷◌, map, Some, sym, ap, subst, ◌∙◌}
+use Rattle.std.specs.Prelude.{IfSome, find, true, ◌==◌}
+use Rattle.std.specs.List.Sorted.{IsPermutation}
+use Rattle.std.proofs.Common.{◌≡◌, ℕ, List, map, Some, sym, ap, subst, ◌∙◌}
 use Rattle.sqlite.specs.Effect.{Database}
 use Rattle.desk_columns.specs.Columns.{known_format}
 use Rattle.desk_columns.specs.Flat.{challenge_rows, key_rows, listed_rows, owned_by}
@@ -15,13 +16,16 @@ use Rattle.desk_model.specs.declared.rows.AuthorizationRow.{AuthorizationRow}
 use Rattle.desk_model.specs.declared.rows.Meta.{Meta}
 use Rattle.desk_model.specs.declared.rows.OrderRow.{OrderRow}
 use Rattle.desk_model.specs.declared.rows.Change.TheVariants.{PutMeta, PutNonce, RemoveNonce, PutAccount, PutAuthorization, PutOrder}
-use Rattle.desk_saving.specs.Makes.{Makes, PlacesAll, PutsAll, PutsChallenges}
+use Rattle.desk_saving.specs.Makes.{Makes, MakesAmong, PlacesAll, PutsAll, PutsChallenges}
 use Rattle.desk_saving.proofs.ChallengeNumbers.{keys_owned}
 use Rattle.desk_saving.proofs.KeyRows.{keys_flat, keys_within}
-use Rattle.desk_saving.proofs.ListedAfter.{listed_after}
+use Rattle.desk_saving.proofs.KnownOrders.{found_has, known_there}
+use Rattle.desk_saving.proofs.ListedAfter.{found_in, listed_after}
 use Rattle.desk_saving.proofs.NestedRows.{children_put}
 use Rattle.desk_saving.proofs.Numbered.{AreWithin, within_same}
-use Rattle.desk_tables.specs.Effects.{Puts, Removes}
+use Rattle.desk_tables.specs.Effects.{Puts, Removes, Renews}
+use Rattle.desk_saving.specs.Fitting.{is_known}
+use Rattle.desk_tables.specs.Hidden.{row_of}
 use Rattle.desk_tables.specs.Holds.{HoldsListed}
 use Rattle.desk_tables.specs.Images.{challenge_image, key_image}
 use Rattle.desk_tables.specs.Layouts.{HasRows, account_layout, authorization_layout, challenge_layout}
@@ -29,7 +33,7 @@ use Rattle.desk_tables.specs.Layouts.{formatted_layout, key_layout, listed_layou
 use Rattle.desk_tables.specs.Sorted.{sorted_by}
 use Rattle.desk_tables.proofs.Holding.{accounts_held, authorizations_held, meta_held, nonces_held, orders_held}
 use Rattle.desk_tables.proofs.AnswerKeys.{keys_apart}
-use Rattle.desk_tables.proofs.MetaUpsert.{puts_known}
+use Rattle.desk_tables.proofs.MetaUpsert.{renews_known}
 use Rattle.desk_tables.proofs.NoIndexes.{no_index_account, no_index_authorization, no_index_challenge, no_index_key, no_index_listed}
 use Rattle.desk_tables.proofs.NoIndexes.{no_index_meta, no_index_nonce, no_index_order}
 use Rattle.desk_tables.proofs.Sorting.{sorted_rises}
@@ -42,9 +46,9 @@ listed_as old new T is h = record { numbered = h.numbered; has = is ∙ h.has; r
 -- ---- one row
 
 -- the row of `meta`
-pub makes_meta : (x : Meta) (old new : Database) → Puts formatted_layout (known_format, x) old new → Makes (PutMeta x) old new
-makes_meta x old new puts T has fits =
-    let p = puts_known x old new puts (T.meta ∷ []) (meta_held old T has) in
+pub makes_meta : (x : Meta) (old new : Database) → Renews formatted_layout (known_format, x) old new → Makes (PutMeta x) old new
+makes_meta x old new renews T has fits =
+    let p = renews_known x T.meta old new renews (meta_held old T has) in
     record {
       sound = p.sound;
       schema = p.has.schema;
@@ -213,5 +217,32 @@ makes_order x old mid new first last T has fits =
       };
       challenges = q.others 8 (λ e. cc) no_index_challenge ∙ p.others 8 (λ e. cc) no_index_challenge ∙ has.challenges;
       keys = q.others 17 (λ e. cc) no_index_key ∙ p.others 17 (λ e. cc) no_index_key ∙ has.keys;
+      rising = fits.rising;
+    }
+
+-- an order that is known to be there, which keeps what it lists
+pub makes_renewed_order : (known : List OrderRow) (x : OrderRow) → is_known known x ≡ true → (old new : Database) → Renews order_layout x old new
+    → MakesAmong known (PutOrder x) old new
+makes_renewed_order known x is old new renews T has there fits =
+    let found = known_there known x.number T there is in
+    let stands = found_has x.number T.orders found.0 found.1 in
+    let kept = subst (λ o. IfSome o (λ (o : OrderRow). o.listed ≡ x.listed)) found.1 fits.children in
+    let p = renews T.orders (orders_held old T has) found.0 stands.0 stands.1 in
+    record {
+      sound = p.sound;
+      schema = p.has.schema;
+      meta = p.others 0 (λ e. cc) no_index_meta ∙ has.meta;
+      nonces = p.others 1 (λ e. cc) no_index_nonce ∙ has.nonces;
+      accounts = p.others 2 (λ e. cc) no_index_account ∙ has.accounts;
+      orders = p.has.rows_are;
+      authorizations = p.others 5 (λ e. cc) no_index_authorization ∙ has.authorizations;
+      listed = record {
+        numbered = has.listed.numbered;
+        has = p.others 6 (λ e. cc) no_index_listed ∙ has.listed.has;
+        rising = has.listed.rising;
+        same = subst (IsPermutation (map row_of has.listed.numbered)) (sym (found_in 0 x T.orders found.0 has.rising.orders found.1 kept).0) has.listed.same;
+      };
+      challenges = p.others 8 (λ e. cc) no_index_challenge ∙ has.challenges;
+      keys = p.others 17 (λ e. cc) no_index_key ∙ has.keys;
       rising = fits.rising;
     }

@@ -15,13 +15,15 @@ use Rattle.desk_model.specs.Kept.{EachOf}
 use Rattle.desk_model.specs.Tables.{Tables}
 use Rattle.desk_model.specs.declared.rows.Change.{Change}
 use Rattle.desk_model.specs.declared.rows.Listed.{Listed}
+use Rattle.desk_model.specs.declared.rows.OrderRow.{OrderRow}
 use Rattle.desk_schema.proofs.AdvanceLemmas.{advances_as, advances_then}
 use Rattle.desk_schema.specs.Advances.{Advances}
 use Rattle.desk_saving.specs.Fitting.{AreFit, IsFit}
 use Rattle.desk_laws.specs.Placing.{puts}
-use Rattle.desk_saving.specs.Makes.{ArePlaced, Makes, MakesAll, PlacesAll, PutsAll}
+use Rattle.desk_saving.specs.Makes.{ArePlaced, Makes, MakesAll, MakesAmong, PlacesAll, PutsAll}
 use Rattle.desk_saving.proofs.Numbered.{puts_snoc}
-use Rattle.desk_tables.specs.Effects.{Places, PlacesColumns, Puts, PutsColumns, Removes, RemovesNumbered, is_same_place}
+use Rattle.desk_saving.proofs.KnownOrders.{there_after}
+use Rattle.desk_tables.specs.Effects.{Places, PlacesColumns, Puts, PutsColumns, Removes, RemovesNumbered, Renews, RenewsColumns, is_same_place}
 use Rattle.desk_tables.specs.Hidden.{IsPlaced}
 use Rattle.desk_tables.specs.Holds.{Holds}
 use Rattle.desk_tables.specs.Layouts.{HasRows, Layout, nonce_layout}
@@ -38,6 +40,26 @@ puts_written L columns_of row old new written (Ok done) are it =
     let same = subst (λ w. IfOk w (λ columns. columns ≡ columns_of row)) it.1 are in
     advances_as old new (PutsColumns L columns_of it.0) (Puts L row) (λ does. does row (sym same)) it.2
 puts_written L columns_of row old new written (Err why) are it = tt
+
+-- the same of columns that another value has
+pub puts_held : {X C D B E F : Type 0} (L : Layout X) (columns_of : X → C) (row : X) (old new : State) (of : D → C) (written : Result D E) (q : Result B F)
+    → IfOk written (λ d. of d ≡ columns_of row)
+    → OnOk q ((put : D) × (written ≡ Ok put) × Advances old new (PutsColumns L columns_of (of put)))
+    → OnOk q (Advances old new (Puts L row))
+puts_held L columns_of row old new of written (Ok done) are it =
+    let same = subst (λ w. IfOk w (λ d. of d ≡ columns_of row)) it.1 are in
+    advances_as old new (PutsColumns L columns_of (of it.0)) (Puts L row) (λ does. does row (sym same)) it.2
+puts_held L columns_of row old new of written (Err why) are it = tt
+
+-- and of a row that is renewed
+pub renews_held : {X C D B E F : Type 0} (L : Layout X) (columns_of : X → C) (row : X) (old new : State) (of : D → C) (written : Result D E) (q : Result B F)
+    → IfOk written (λ d. of d ≡ columns_of row)
+    → OnOk q ((put : D) × (written ≡ Ok put) × Advances old new (RenewsColumns L columns_of (of put)))
+    → OnOk q (Advances old new (Renews L row))
+renews_held L columns_of row old new of written (Ok done) are it =
+    let same = subst (λ w. IfOk w (λ d. of d ≡ columns_of row)) it.1 are in
+    advances_as old new (RenewsColumns L columns_of (of it.0)) (Renews L row) (λ does. does row (sym same)) it.2
+renews_held L columns_of row old new of written (Err why) are it = tt
 
 -- what an order lists, by the columns that were written of it
 pub places_written : {B E F : Type 0} (row : Owned Listed) (old new : State) (written : Result OrderAuthzColumns E) (q : Result B F)
@@ -151,24 +173,34 @@ fit_snoc [] c T h = (tt, h.0)
 fit_snoc (d ∷ ds) c T h = let rest = fit_snoc ds c (applied_one d T) h.1 in ((h.0, rest.0), rest.1)
 
 -- one more
-one_more_made : (cs : List Change) (c : Change) (a b d : Database) → MakesAll cs a b → Makes c b d → MakesAll (cs ++ c ∷ []) a d
-one_more_made cs c a b d before last T has fits =
+one_more_made : (known : List OrderRow) (cs : List Change) (c : Change) (a b d : Database) → MakesAll known cs a b → MakesAmong known c b d
+    → MakesAll known (cs ++ c ∷ []) a d
+one_more_made known cs c a b d before last T has there fits =
     let parts = fit_snoc cs c T fits in
-    subst (Holds d) (sym (applied-append cs (c ∷ []) T)) (last (applied cs T) (before T has parts.0) parts.1)
+    subst (Holds d) (sym (applied-append cs (c ∷ []) T)) (last (applied cs T) (before T has there parts.0) (there_after known cs T there) parts.1)
 
 -- one more change
-pub advances_made : (first old new : State) (cs : List Change) (i : ℕ) (c : Change) → i < length cs → c ≡ get_or cs i c → Survives old new (λ _. ⊥)
-    → Advances first old (MakesAll (take i cs)) → Advances old new (Makes c)
-    → Advances first new (MakesAll (take (i + 1) cs))
-advances_made first old new cs i c low is survives before last =
-    let more = one_more_made (take i cs) c first.now old.now new.now in
-    subst (λ ys. Advances first new (MakesAll ys)) (sym (ap (λ k. take k cs) (add-one i) ∙ take-suc cs i c low ∙ ap (λ y. take i cs ++ y ∷ []) (sym is)))
-    (advances_then first old new (MakesAll (take i cs)) (Makes c) (MakesAll (take i cs ++ c ∷ [])) more survives before last)
+pub advances_made : (known : List OrderRow) (first old new : State) (cs : List Change) (i : ℕ) (c : Change) → i < length cs → c ≡ get_or cs i c
+    → Survives old new (λ _. ⊥)
+    → Advances first old (MakesAll known (take i cs)) → Advances old new (MakesAmong known c)
+    → Advances first new (MakesAll known (take (i + 1) cs))
+advances_made known first old new cs i c low is survives before last =
+    let more = one_more_made known (take i cs) c first.now old.now new.now in
+    subst (λ ys. Advances first new (MakesAll known ys)) (sym (ap (λ k. take k cs) (add-one i) ∙ take-suc cs i c low ∙ ap (λ y. take i cs ++ y ∷ []) (sym is)))
+    (advances_then first old new (MakesAll known (take i cs)) (MakesAmong known c) (MakesAll known (take i cs ++ c ∷ [])) more survives before last)
+
+-- the same of what makes the change where some orders are there
+pub among_on_ok : {A E : Type 0} (known : List OrderRow) (old new : State) (Does : Database → Database → Type 0) (c : Change)
+    → ((a b : Database) → Does a b → MakesAmong known c a b) → (r : Result A E) → OnOk r (Advances old new Does)
+    → OnOk r (Advances old new (MakesAmong known c))
+among_on_ok known old new Does c makes (Ok v) it = advances_as old new Does (MakesAmong known c) (makes old.now new.now) it
+among_on_ok known old new Does c makes (Err e) it = it
 
 -- what puts a row makes the change, where the call was answered
-pub makes_on_ok : {A E : Type 0} (old new : State) (Does : Database → Database → Type 0) (c d : Change) → d ≡ c
+pub makes_on_ok : {A E : Type 0} (known : List OrderRow) (old new : State) (Does : Database → Database → Type 0) (c d : Change) → d ≡ c
     → ((a b : Database) → Does a b → Makes c a b) → (r : Result A E) → OnOk r (Advances old new Does)
-    → OnOk r (Advances old new (Makes d))
-makes_on_ok old new Does c d is makes (Ok v) it =
-    subst (λ e. Advances old new (Makes e)) (sym is) (advances_as old new Does (Makes c) (makes old.now new.now) it)
-makes_on_ok old new Does c d is makes (Err e) it = it
+    → OnOk r (Advances old new (MakesAmong known d))
+makes_on_ok known old new Does c d is makes (Ok v) it =
+    subst (λ e. Advances old new (MakesAmong known e)) (sym is)
+    (advances_as old new Does (MakesAmong known c) (λ does T has there. makes old.now new.now does T has) it)
+makes_on_ok known old new Does c d is makes (Err e) it = it

@@ -9,7 +9,8 @@ use Rattle.desk_model.specs.Tables.{Tables}
 use Rattle.desk_model.specs.declared.rows.ChallengeRow.{ChallengeRow}
 use Rattle.desk_model.specs.declared.rows.Change.{Change}
 use Rattle.desk_model.specs.declared.rows.Listed.{Listed}
-use Rattle.desk_saving.specs.Fitting.{AreFit, IsFit}
+use Rattle.desk_model.specs.declared.rows.OrderRow.{OrderRow}
+use Rattle.desk_saving.specs.Fitting.{AreFit, AreThere, IsFit}
 use Rattle.desk_tables.specs.Effects.{Becomes, BecomesRows, is_same_place}
 use Rattle.desk_tables.specs.Hidden.{IsPlaced}
 use Rattle.desk_tables.specs.Holds.{Holds}
@@ -43,6 +44,10 @@ PlacesAll ls old new =
 abbrev pub Makes : Change → Database → Database → Type 0
 Makes change old new = (T : Tables) → Holds old T → IsFit T change → Holds new (applied_one change T)
 
--- the same of changes one after the other
-abbrev pub MakesAll : List Change → Database → Database → Type 0
-MakesAll changes old new = (T : Tables) → Holds old T → AreFit T changes → Holds new (applied changes T)
+-- the same where these orders are there
+abbrev pub MakesAmong : List OrderRow → Change → Database → Database → Type 0
+MakesAmong known change old new = (T : Tables) → Holds old T → AreThere known T → IsFit T change → Holds new (applied_one change T)
+
+-- and of changes one after the other
+abbrev pub MakesAll : List OrderRow → List Change → Database → Database → Type 0
+MakesAll known changes old new = (T : Tables) → Holds old T → AreThere known T → AreFit T changes → Holds new (applied changes T)

@@ -1,12 +1,14 @@
 -- Changes whose numbers the columns take.
-use Rattle.std.specs.Prelude.{◌≢◌}
+use Rattle.std.specs.Prelude.{◌≢◌, List}
 use Rattle.desk_columns.specs.Flat.{owned_by}
+use Rattle.desk_columns.specs.declared.flat_rows.AnswerKey.{AnswerKey}
 use Rattle.desk_model.specs.Kept.{EachOf}
 use Rattle.desk_model.specs.declared.rows.Change.{Change}
+use Rattle.desk_model.specs.declared.rows.Meta.{Meta}
 use Rattle.desk_model.specs.declared.rows.Change.TheVariants.{PutMeta, PutNonce, RemoveNonce, PutAccount, PutAuthorization, PutOrder}
 use Rattle.desk_saving.specs.declared.fault.SaveFault.{SaveFault}
 use Rattle.desk_saving.specs.declared.fault.SaveFault.TheVariants.{Row}
-use Rattle.written_rows.specs.Fits.{Fits, FitsAccount, FitsAuthorization, FitsChallenge, FitsListed, FitsMeta, FitsNonce, FitsOrder}
+use Rattle.written_rows.specs.Fits.{Fits, FitsAccount, FitsAuthorization, FitsChallenge, FitsKey, FitsListed, FitsMeta, FitsNonce, FitsOrder}
 use Rattle.written_rows.specs.declared.fault.WriteFault.TheVariants.{TooLarge}
 
 -- each number of the change is at most 2^63 - 1
@@ -17,6 +19,11 @@ FitsColumns (RemoveNonce serial) = Fits serial
 FitsColumns (PutAccount x) = FitsAccount x
 FitsColumns (PutAuthorization x) = FitsAuthorization x × EachOf FitsChallenge (owned_by x.number x.challenges)
 FitsColumns (PutOrder x) = FitsOrder x × EachOf FitsListed (owned_by x.number x.listed)
+
+-- and each of an upgrade
+pub record FitsUpgrade (meta : Meta) (keys : List AnswerKey) : Type 0 where
+  pub meta_row : FitsMeta meta
+  pub each : EachOf FitsKey keys
 
 -- the fault is not that a number is too large
 abbrev pub IsNotTooLarge : SaveFault → Type 0

@@ -1,5 +1,6 @@
 //! The rows that belong to another, put one after the other.
 ghost use Rattle.std.specs.Prelude.{◌≡◌, filter_map, OnOk, IfErr, IfOk};
+ghost use Rattle.std.specs.List.{flat_map};
 ghost use Rattle.sqlite.specs.State.{Survives};
 ghost use Rattle.sqlite.specs.Held.{state};
 ghost use Rattle.desk_columns.specs.Flat.{answer_key, owned_by};
@@ -7,6 +8,8 @@ ghost use Rattle.desk_model.specs.Kept.{EachOf};
 ghost use Rattle.desk_schema.specs.Advances.{Advances, KeepsLast};
 ghost use Rattle.desk_saving.specs.Makes.{PlacesAll, PutsAll, PutsChallenges};
 ghost use Rattle.desk_saving.specs.Numbers.{IsNotTooLarge};
+ghost use Rattle.desk_saving.specs.Refusals.{Ran};
+ghost use Rattle.desk_saving.specs.Statements.{puts_challenge, puts_challenges, puts_key, puts_listed};
 ghost use Rattle.desk_tables.specs.Layouts.{challenge_layout, key_layout};
 ghost use Rattle.written_rows.specs.Fits.{FitsChallenge, FitsKey, FitsListed};
 
@@ -30,6 +33,7 @@ fn put_bare_challenges<S: Alter>(
         (PutsAll challenge_layout (owned_by authorization rows.now))) }
     ensures kept { KeepsLast (state S.Store tx.old.conn.now) (state S.Store tx.new.conn.now) }
     ensures survives { Survives (state S.Store tx.old.conn.now) (state S.Store tx.new.conn.now) (λ _. ⊥) }
+    ensures told { Ran S.Store (flat_map (puts_challenge authorization) rows.now) tx.old.conn.now tx.new.conn.now result }
     ensures fits { EachOf FitsChallenge (owned_by authorization rows.now) → IfErr result IsNotTooLarge }
 {
     for row in rows {
@@ -71,6 +75,7 @@ pub(crate) fn put_keys<S: Alter>(
     ensures ok { OnOk result (Advances (state S.Store tx.old.conn.now) (state S.Store tx.new.conn.now) (PutsAll key_layout rows.now)) }
     ensures kept { KeepsLast (state S.Store tx.old.conn.now) (state S.Store tx.new.conn.now) }
     ensures survives { Survives (state S.Store tx.old.conn.now) (state S.Store tx.new.conn.now) (λ _. ⊥) }
+    ensures told { Ran S.Store (flat_map puts_key rows.now) tx.old.conn.now tx.new.conn.now result }
     ensures fits { EachOf FitsKey rows.now → IfErr result IsNotTooLarge }
 {
     for row in rows {
@@ -89,6 +94,7 @@ fn put_answers<S: Alter>(
     ensures ok { OnOk result (Advances (state S.Store tx.old.conn.now) (state S.Store tx.new.conn.now) (PutsAll key_layout (filter_map answer_key rows.now))) }
     ensures kept { KeepsLast (state S.Store tx.old.conn.now) (state S.Store tx.new.conn.now) }
     ensures survives { Survives (state S.Store tx.old.conn.now) (state S.Store tx.new.conn.now) (λ _. ⊥) }
+    ensures told { Ran S.Store (flat_map puts_key (filter_map answer_key rows.now)) tx.old.conn.now tx.new.conn.now result }
     ensures fits { EachOf FitsKey (filter_map answer_key rows.now) → IfErr result IsNotTooLarge }
 {
     let keys = answer_keys(alloc, rows).map_err(|_refused| WriteFault::Memory)?;
@@ -108,6 +114,7 @@ pub(crate) fn put_challenges<S: Alter>(
     ensures ok { OnOk result (Advances (state S.Store tx.old.conn.now) (state S.Store tx.new.conn.now) (PutsChallenges authorization rows.now)) }
     ensures kept { KeepsLast (state S.Store tx.old.conn.now) (state S.Store tx.new.conn.now) }
     ensures survives { Survives (state S.Store tx.old.conn.now) (state S.Store tx.new.conn.now) (λ _. ⊥) }
+    ensures told { Ran S.Store (puts_challenges authorization rows.now) tx.old.conn.now tx.new.conn.now result }
     ensures fits { EachOf FitsChallenge (owned_by authorization rows.now) → IfErr result IsNotTooLarge }
 {
     put_bare_challenges(alloc, tx, authorization, rows)?;
@@ -124,6 +131,7 @@ pub(crate) fn put_all_listed<S: Alter>(
     ensures ok { OnOk result (Advances (state S.Store tx.old.conn.now) (state S.Store tx.new.conn.now) (PlacesAll (owned_by order rows.now))) }
     ensures kept { KeepsLast (state S.Store tx.old.conn.now) (state S.Store tx.new.conn.now) }
     ensures survives { Survives (state S.Store tx.old.conn.now) (state S.Store tx.new.conn.now) (λ _. ⊥) }
+    ensures told { Ran S.Store (flat_map (puts_listed order) rows.now) tx.old.conn.now tx.new.conn.now result }
     ensures fits { EachOf FitsListed (owned_by order rows.now) → IfErr result IsNotTooLarge }
 {
     for row in rows {

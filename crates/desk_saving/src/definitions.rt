@@ -6,10 +6,12 @@ ghost use Rattle.desk_schema.specs.Advances.{Advances, KeepsLast};
 ghost use Rattle.desk_schema.specs.Defined.{AddsKeyTable, Defines};
 ghost use Rattle.desk_schema.specs.Definitions.{definition_at};
 ghost use Rattle.desk_saving.specs.Numbers.{IsNotTooLarge};
+ghost use Rattle.desk_saving.specs.Refusals.{Ran};
+ghost use Rattle.desk_saving.specs.Statements.{defines, defines_before};
 
 use crate::fault::SaveFault;
 use crate::statements::perform;
-use sqlite::{Alter, Error, Transaction};
+use sqlite::{Alter, Transaction};
 
 // How many statements there are.
 const DEFINITIONS: usize = 16;
@@ -51,12 +53,14 @@ fn definition(step: usize) -> &'static str
 ///
 /// # Errors
 ///
-/// The error of the statement that failed; the transaction then holds the objects made before it, or is over.
-pub(crate) fn define_all<S: Alter>(tx: &mut Transaction<'_, S>) -> Result<(), Error>
+/// `Statement` with the error of the one that failed; the transaction then holds the objects made before it, or is over.
+pub(crate) fn define_all<S: Alter>(tx: &mut Transaction<'_, S>) -> Result<(), SaveFault>
     ensures same_reference { tx.new.conn.ghost_name ≡ tx.old.conn.ghost_name }
     ensures ok { OnOk result (Advances (state S.Store tx.old.conn.now) (state S.Store tx.new.conn.now) (Defines 16)) }
     ensures kept { KeepsLast (state S.Store tx.old.conn.now) (state S.Store tx.new.conn.now) }
     ensures survives { Survives (state S.Store tx.old.conn.now) (state S.Store tx.new.conn.now) (λ _. ⊥) }
+    ensures fits { IfErr result IsNotTooLarge }
+    ensures told { Ran S.Store (defines_before 16) tx.old.conn.now tx.new.conn.now result }
 {
     for step in 0..DEFINITIONS {
         perform(tx, definition(step), &[])?;
@@ -74,6 +78,7 @@ pub(crate) fn define_key_table<S: Alter>(tx: &mut Transaction<'_, S>) -> Result<
     ensures ok { OnOk result (Advances (state S.Store tx.old.conn.now) (state S.Store tx.new.conn.now) AddsKeyTable) }
     ensures kept { KeepsLast (state S.Store tx.old.conn.now) (state S.Store tx.new.conn.now) }
     ensures survives { Survives (state S.Store tx.old.conn.now) (state S.Store tx.new.conn.now) (λ _. ⊥) }
+    ensures told { Ran S.Store (defines 15) tx.old.conn.now tx.new.conn.now result }
     ensures fits { IfErr result IsNotTooLarge }
 {
     perform(tx, definition(DEFINITIONS - 1), &[])

@@ -1,9 +1,10 @@
 //! The end of a transaction.
-ghost use Rattle.std.specs.Prelude.{◌≡◌, false, IsOk, OnOk, OnErr, IfErr, IsTrue};
+ghost use Rattle.std.specs.Prelude.{◌≡◌, ◌⊎◌, false, Err, IsOk, OnOk, OnErr, IfErr, IsTrue};
 ghost use Rattle.sqlite.specs.State.{HasCleanDisk, IsRolledBack, Survives};
 ghost use Rattle.sqlite.specs.Held.{state};
 ghost use Rattle.desk_saving.specs.Committing.{HasCommitted, IsBeforeCommit};
 ghost use Rattle.desk_saving.specs.Numbers.{IsNotTooLarge};
+ghost use Rattle.desk_saving.specs.Refusals.{FailedCommit};
 
 use crate::fault::SaveFault;
 use sqlite::{Alter, Transaction};
@@ -23,6 +24,7 @@ pub(crate) fn end<S: Alter>(
     ensures before { IfErr result (λ why. IsBeforeCommit why → Survives (state S.Store tx.entry.conn.now) (state S.Store tx.exit.0.now) (λ _. ⊥)) }
     ensures left { Survives (state S.Store tx.entry.conn.now) (state S.Store tx.exit.0.now) (λ db. IsOk done
         × (db ≡ (state S.Store tx.entry.conn.now).now.trees)) }
+    ensures cause { IfErr result (λ why. (done ≡ Err why) ⊎ (IsOk done × FailedCommit S.Store tx.entry.conn.now tx.exit.0.now why)) }
     ensures fits { IfErr done IsNotTooLarge → IfErr result IsNotTooLarge }
 {
     done?;

@@ -6,6 +6,8 @@ ghost use Rattle.desk_schema.specs.Advances.{Advances, KeepsLast};
 ghost use Rattle.desk_saving.specs.Committing.{GoesBack, HasCommitted, IsBeforeCommit, IsLeft};
 ghost use Rattle.desk_saving.specs.Making.{MakesDesk};
 ghost use Rattle.desk_saving.specs.Numbers.{IsNotTooLarge};
+ghost use Rattle.desk_saving.specs.Refusals.{IsCause, Ran};
+ghost use Rattle.desk_saving.specs.Statements.{make_statements};
 ghost use Rattle.written_rows.specs.Fits.{FitsMeta};
 
 use crate::definitions::define_all;
@@ -26,6 +28,7 @@ fn define_desk<S: Alter>(
     ensures ok { OnOk result (Advances (state S.Store tx.old.conn.now) (state S.Store tx.new.conn.now) (MakesDesk meta.now)) }
     ensures kept { KeepsLast (state S.Store tx.old.conn.now) (state S.Store tx.new.conn.now) }
     ensures survives { Survives (state S.Store tx.old.conn.now) (state S.Store tx.new.conn.now) (λ _. ⊥) }
+    ensures told { Ran S.Store (make_statements meta.now) tx.old.conn.now tx.new.conn.now result }
     ensures fits { FitsMeta meta.now → IfErr result IsNotTooLarge }
 {
     define_all(tx)?;
@@ -50,6 +53,7 @@ pub fn make_tables<S: Alter>(
     ensures before { IfErr result (λ why. IsBeforeCommit why → Survives (state S.Store conn.old) (state S.Store conn.new) (λ _. ⊥)) }
     ensures left { Survives (state S.Store conn.old) (state S.Store conn.new) (IsLeft (MakesDesk meta.now (state S.Store conn.old).now)) }
     ensures fits { FitsMeta meta.now → IfErr result IsNotTooLarge }
+    ensures cause { IfErr result (IsCause S.Store (FitsMeta meta.now) (make_statements meta.now) conn.old conn.new) }
 {
     let mut tx = conn.transaction();
     let defined = define_desk(alloc, &mut tx, meta);

@@ -6,15 +6,19 @@ ghost use Rattle.desk_model.specs.Kept.{EachOf};
 ghost use Rattle.desk_saving.specs.Committing.{GoesBack, HasCommitted, IsBeforeCommit, IsLeft};
 ghost use Rattle.desk_saving.specs.Fitting.{Saves};
 ghost use Rattle.desk_saving.specs.Numbers.{FitsColumns, IsNotTooLarge};
+ghost use Rattle.desk_saving.specs.Refusals.{IsCause};
+ghost use Rattle.desk_saving.specs.Statements.{save_statements};
 
 use crate::changes::put_changes;
 use crate::ending::end;
 use crate::fault::SaveFault;
-use desk_model::Change;
+use desk_book::Table;
+use desk_model::{Change, OrderRow};
 use sqlite::{Alter, Connection};
 use std::alloc::Global;
 
-/// Makes the changes in one transaction: all of them, or none.
+/// Makes the changes in one transaction: all of them, or none. Of the orders that are known to be there, what they list is not
+/// written: an order keeps it. A nonce whose serial is above the last that was given is new, and inserted.
 ///
 /// # Errors
 ///
@@ -24,17 +28,21 @@ use std::alloc::Global;
 pub fn save_all<S: Alter>(
     alloc: Global,
     conn: &mut Connection<S>,
+    known: &Table<OrderRow>,
+    last: u64,
     changes: &[Change],
 ) -> Result<(), SaveFault>
     requires idle { conn.old.in_transaction ≡ false }
     ensures idle { conn.new.in_transaction ≡ false }
-    ensures ok { HasCleanDisk (state S.Store conn.new) → OnOk result (HasCommitted (state S.Store conn.old) (state S.Store conn.new) (Saves changes.now)) }
+    ensures ok { HasCleanDisk (state S.Store conn.new)
+        → OnOk result (HasCommitted (state S.Store conn.old) (state S.Store conn.new) (Saves known.now changes.now)) }
     ensures err { HasCleanDisk (state S.Store conn.new) → OnErr result (GoesBack (state S.Store conn.old) (state S.Store conn.new)) }
     ensures before { IfErr result (λ why. IsBeforeCommit why → Survives (state S.Store conn.old) (state S.Store conn.new) (λ _. ⊥)) }
-    ensures left { Survives (state S.Store conn.old) (state S.Store conn.new) (IsLeft (Saves changes.now (state S.Store conn.old).now)) }
+    ensures left { Survives (state S.Store conn.old) (state S.Store conn.new) (IsLeft (Saves known.now changes.now (state S.Store conn.old).now)) }
     ensures fits { EachOf FitsColumns changes.now → IfErr result IsNotTooLarge }
+    ensures cause { IfErr result (IsCause S.Store (EachOf FitsColumns changes.now) (save_statements known.now last changes.now) conn.old conn.new) }
 {
     let mut tx = conn.transaction();
-    let put = put_changes(alloc, &mut tx, changes);
+    let put = put_changes(alloc, &mut tx, known, last, changes);
     end(tx, put)
 }

@@ -3,6 +3,7 @@ ghost use Rattle.std.specs.Prelude.{◌≡◌, OnErr};
 ghost use Rattle.sqlite.specs.State.{Survives};
 ghost use Rattle.sqlite.specs.Values.{bound};
 ghost use Rattle.sqlite.specs.Held.{state};
+ghost use Rattle.desk_saving.specs.Refusals.{Runs};
 ghost use Rattle.desk_schema.specs.Advances.{Declines, KeepsLast, Performs};
 
 use sqlite::types::ValueRef;
@@ -24,6 +25,7 @@ pub(crate) fn perform<S: Alter>(
     ensures err { OnErr result (Declines (state S.Store tx.old.conn.now) (state S.Store tx.new.conn.now)) }
     ensures kept { KeepsLast (state S.Store tx.old.conn.now) (state S.Store tx.new.conn.now) }
     ensures survives { Survives (state S.Store tx.old.conn.now) (state S.Store tx.new.conn.now) (λ _. ⊥) }
+    ensures told { Runs S.Store (record { text = text.now; params = bound params.now }) tx.old.conn.now tx.new.conn.now result }
 {
     tx.execute(text, params)
 }

@@ -1,11 +1,14 @@
 //! A database of format 1 becomes one of format 2.
-ghost use Rattle.std.specs.Prelude.{◌≡◌, false, OnOk, OnErr, IfErr};
+ghost use Rattle.std.specs.Prelude.{◌≡◌, ◌++◌, false, OnOk, OnErr, IfErr};
+ghost use Rattle.std.specs.List.{flat_map};
 ghost use Rattle.sqlite.specs.State.{HasCleanDisk, Survives};
 ghost use Rattle.sqlite.specs.Held.{state};
 ghost use Rattle.desk_model.specs.Kept.{EachOf};
 ghost use Rattle.desk_schema.specs.Advances.{Advances, KeepsLast};
 ghost use Rattle.desk_saving.specs.Committing.{GoesBack, HasCommitted, IsBeforeCommit, IsLeft};
-ghost use Rattle.desk_saving.specs.Numbers.{IsNotTooLarge};
+ghost use Rattle.desk_saving.specs.Numbers.{FitsUpgrade, IsNotTooLarge};
+ghost use Rattle.desk_saving.specs.Refusals.{IsCause, Ran};
+ghost use Rattle.desk_saving.specs.Statements.{puts_key, puts_meta, upgrade_statements};
 ghost use Rattle.desk_saving.specs.Upgrading.{Fills, Upgrades};
 ghost use Rattle.written_rows.specs.Fits.{FitsKey, FitsMeta};
 
@@ -30,6 +33,7 @@ fn fill<S: Alter>(
     ensures ok { OnOk result (Advances (state S.Store tx.old.conn.now) (state S.Store tx.new.conn.now) (Fills meta.now keys.now)) }
     ensures kept { KeepsLast (state S.Store tx.old.conn.now) (state S.Store tx.new.conn.now) }
     ensures survives { Survives (state S.Store tx.old.conn.now) (state S.Store tx.new.conn.now) (λ _. ⊥) }
+    ensures told { Ran S.Store (flat_map puts_key keys.now ++ puts_meta meta.now) tx.old.conn.now tx.new.conn.now result }
     ensures fits { FitsMeta meta.now → EachOf FitsKey keys.now → IfErr result IsNotTooLarge }
 {
     put_keys(alloc, tx, keys)?;
@@ -47,6 +51,7 @@ fn widen<S: Alter>(
     ensures ok { OnOk result (Advances (state S.Store tx.old.conn.now) (state S.Store tx.new.conn.now) (Upgrades meta.now keys.now)) }
     ensures kept { KeepsLast (state S.Store tx.old.conn.now) (state S.Store tx.new.conn.now) }
     ensures survives { Survives (state S.Store tx.old.conn.now) (state S.Store tx.new.conn.now) (λ _. ⊥) }
+    ensures told { Ran S.Store (upgrade_statements meta.now keys.now) tx.old.conn.now tx.new.conn.now result }
     ensures fits { FitsMeta meta.now → EachOf FitsKey keys.now → IfErr result IsNotTooLarge }
 {
     define_key_table(tx)?;
@@ -73,6 +78,7 @@ pub fn upgrade_tables<S: Alter>(
     ensures before { IfErr result (λ why. IsBeforeCommit why → Survives (state S.Store conn.old) (state S.Store conn.new) (λ _. ⊥)) }
     ensures left { Survives (state S.Store conn.old) (state S.Store conn.new) (IsLeft (Upgrades meta.now keys.now (state S.Store conn.old).now)) }
     ensures fits { FitsMeta meta.now → EachOf FitsKey keys.now → IfErr result IsNotTooLarge }
+    ensures cause { IfErr result (IsCause S.Store (FitsUpgrade meta.now keys.now) (upgrade_statements meta.now keys.now) conn.old conn.new) }
 {
     let mut tx = conn.transaction();
     let widened = widen(alloc, &mut tx, meta, keys);

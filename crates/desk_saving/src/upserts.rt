@@ -6,7 +6,10 @@ ghost use Rattle.sqlite.specs.Held.{state};
 ghost use Rattle.desk_columns.specs.Columns.{account_columns, authorization_columns, challenge_columns, key_columns, nonce_columns, order_columns};
 ghost use Rattle.desk_columns.specs.Flat.{bare_row};
 ghost use Rattle.desk_schema.specs.Advances.{Advances, KeepsLast};
-ghost use Rattle.desk_tables.specs.Effects.{PlacesColumns, PutsColumns};
+ghost use Rattle.desk_saving.specs.Refusals.{Runs};
+ghost use Rattle.desk_saving.specs.Statements.{Sql, account_sql, authorization_sql, challenge_sql, key_sql, listed_sql, meta_sql, new_nonce_sql};
+ghost use Rattle.desk_saving.specs.Statements.{nonce_sql, order_sql, renewed_meta_sql, renewed_order_sql};
+ghost use Rattle.desk_tables.specs.Effects.{PlacesColumns, PutsColumns, RenewsColumns};
 ghost use Rattle.desk_tables.specs.Images.{formatted_columns};
 ghost use Rattle.desk_tables.specs.Layouts.{account_layout, authorization_layout, challenge_layout, formatted_layout, key_layout, nonce_layout, order_layout};
 
@@ -26,16 +29,22 @@ pub(crate) trait Upsert: Drop {
     // What the statement makes of the database.
     ghost Does: { Self → Database → Database → Type 0 };
 
+    // The statement.
+    ghost sql: { Self → Sql };
+
     /// Runs the statement, and answers how many rows it wrote.
     fn upsert<S: Alter>(&self, tx: &mut Transaction<'_, S>) -> Result<usize, Error>
         ensures same_reference { tx.new.conn.ghost_name ≡ tx.old.conn.ghost_name }
         ensures ok { OnOk result (Advances (state S.Store tx.old.conn.now) (state S.Store tx.new.conn.now) (Does self.now)) }
         ensures kept { KeepsLast (state S.Store tx.old.conn.now) (state S.Store tx.new.conn.now) }
-        ensures survives { Survives (state S.Store tx.old.conn.now) (state S.Store tx.new.conn.now) (λ _. ⊥) };
+        ensures survives { Survives (state S.Store tx.old.conn.now) (state S.Store tx.new.conn.now) (λ _. ⊥) }
+        ensures told { Runs S.Store (sql self.now) tx.old.conn.now tx.new.conn.now result };
 }
 
 impl Upsert for MetaColumns {
     ghost Does = { PutsColumns formatted_layout formatted_columns };
+
+    ghost sql = { meta_sql };
 
     fn upsert<S: Alter>(&self, tx: &mut Transaction<'_, S>) -> Result<usize, Error> {
         let values = meta_values(self);
@@ -47,8 +56,32 @@ impl Upsert for MetaColumns {
     }
 }
 
+/// Columns of the row of `meta`, which is there.
+#[derive(Drop)]
+pub(crate) struct RenewedMeta {
+    /// The columns.
+    pub columns: MetaColumns,
+}
+
+impl Upsert for RenewedMeta {
+    ghost Does = { λ renewed. RenewsColumns formatted_layout formatted_columns renewed.columns };
+
+    ghost sql = { λ renewed. renewed_meta_sql renewed.columns };
+
+    fn upsert<S: Alter>(&self, tx: &mut Transaction<'_, S>) -> Result<usize, Error> {
+        let values = meta_values(&self.columns);
+        perform(
+            tx,
+            "UPDATE meta SET format = ?2, base = ?3, nonce_life = ?4, order_life = ?5, authz_life = ?6, clock = ?7, nonces = ?8, accounts = ?9, orders = ?10, authzs = ?11, challs = ?12 WHERE id = ?1",
+            &values,
+        )
+    }
+}
+
 impl Upsert for NonceColumns {
     ghost Does = { PutsColumns nonce_layout nonce_columns };
+
+    ghost sql = { nonce_sql };
 
     fn upsert<S: Alter>(&self, tx: &mut Transaction<'_, S>) -> Result<usize, Error> {
         let values = nonce_values(self);
@@ -60,8 +93,32 @@ impl Upsert for NonceColumns {
     }
 }
 
+/// Columns of a nonce that is new, so that none has its serial.
+#[derive(Drop)]
+pub(crate) struct NewNonce {
+    /// The columns.
+    pub columns: NonceColumns,
+}
+
+impl Upsert for NewNonce {
+    ghost Does = { λ new. PutsColumns nonce_layout nonce_columns new.columns };
+
+    ghost sql = { λ new. new_nonce_sql new.columns };
+
+    fn upsert<S: Alter>(&self, tx: &mut Transaction<'_, S>) -> Result<usize, Error> {
+        let values = nonce_values(&self.columns);
+        perform(
+            tx,
+            "INSERT INTO nonce (serial, random, issued) VALUES (?1, ?2, ?3)",
+            &values,
+        )
+    }
+}
+
 impl Upsert for AccountColumns {
     ghost Does = { PutsColumns account_layout account_columns };
+
+    ghost sql = { account_sql };
 
     fn upsert<S: Alter>(&self, tx: &mut Transaction<'_, S>) -> Result<usize, Error> {
         let values = account_values(self);
@@ -76,6 +133,8 @@ impl Upsert for AccountColumns {
 impl Upsert for OrderColumns {
     ghost Does = { PutsColumns order_layout order_columns };
 
+    ghost sql = { order_sql };
+
     fn upsert<S: Alter>(&self, tx: &mut Transaction<'_, S>) -> Result<usize, Error> {
         let values = order_values(self);
         perform(
@@ -86,8 +145,32 @@ impl Upsert for OrderColumns {
     }
 }
 
+/// Columns of an order that is there.
+#[derive(Drop)]
+pub(crate) struct RenewedOrder {
+    /// The columns.
+    pub columns: OrderColumns,
+}
+
+impl Upsert for RenewedOrder {
+    ghost Does = { λ renewed. RenewsColumns order_layout order_columns renewed.columns };
+
+    ghost sql = { λ renewed. renewed_order_sql renewed.columns };
+
+    fn upsert<S: Alter>(&self, tx: &mut Transaction<'_, S>) -> Result<usize, Error> {
+        let values = order_values(&self.columns);
+        perform(
+            tx,
+            "UPDATE ord SET account = ?2, made = ?3, expires = ?4, finalized = ?5, csr = ?6, certified = ?7, cert = ?8, failed = ?9, problem = ?10, status = ?11 WHERE num = ?1",
+            &values,
+        )
+    }
+}
+
 impl Upsert for AuthzColumns {
     ghost Does = { PutsColumns authorization_layout authorization_columns };
+
+    ghost sql = { authorization_sql };
 
     fn upsert<S: Alter>(&self, tx: &mut Transaction<'_, S>) -> Result<usize, Error> {
         let values = authorization_values(self);
@@ -102,6 +185,8 @@ impl Upsert for AuthzColumns {
 impl Upsert for OrderAuthzColumns {
     ghost Does = { PlacesColumns };
 
+    ghost sql = { listed_sql };
+
     fn upsert<S: Alter>(&self, tx: &mut Transaction<'_, S>) -> Result<usize, Error> {
         let values = listed_values(self);
         perform(
@@ -115,6 +200,8 @@ impl Upsert for OrderAuthzColumns {
 impl Upsert for ChallColumns {
     ghost Does = { PutsColumns challenge_layout (λ row. challenge_columns (bare_row row)) };
 
+    ghost sql = { challenge_sql };
+
     fn upsert<S: Alter>(&self, tx: &mut Transaction<'_, S>) -> Result<usize, Error> {
         let values = challenge_values(self);
         perform(
@@ -127,6 +214,8 @@ impl Upsert for ChallColumns {
 
 impl Upsert for ChallKeyColumns {
     ghost Does = { PutsColumns key_layout key_columns };
+
+    ghost sql = { key_sql };
 
     fn upsert<S: Alter>(&self, tx: &mut Transaction<'_, S>) -> Result<usize, Error> {
         let values = key_values(self);

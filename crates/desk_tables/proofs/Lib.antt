@@ -19,4 +19,6 @@ pub mod OrderUpsert
 pub mod Removal
 pub mod Sorting
 pub mod Upsert
+pub mod InsertStatement
+pub mod UpdateStatement
 pub mod UpsertStatement

@@ -8,9 +8,10 @@ use Rattle.desk_columns.specs.Columns.{nonce_columns}
 use Rattle.desk_schema.specs.Schema.{nonce_table}
 use Rattle.desk_tables.specs.Images.{nonce_image, nonce_params}
 use Rattle.desk_tables.specs.Layouts.{nonce_layout}
-use Rattle.desk_tables.specs.Texts.{upsert_nonce}
+use Rattle.desk_tables.specs.Texts.{insert_nonce, upsert_nonce}
 use Rattle.desk_tables.proofs.Casts.{cast_int, cast_null, row_kept}
 use Rattle.desk_tables.proofs.Clashes.{clash_by_key}
+use Rattle.desk_tables.proofs.InsertStatement.{IsInsert}
 use Rattle.desk_tables.proofs.UpsertStatement.{IsUpsert}
 
 -- what the text means, and what its table is
@@ -34,3 +35,8 @@ nonce_upsert = record {
   sets = λ x y same. ap (λ k. Int (pos (nonce_layout.key y)) ∷ Int (pos k) ∷ drop 1 (nonce_image x)) same;
   source = λ _. refl;
 }
+
+-- the text that inserts one
+pub nonce_insert : IsInsert nonce_layout (λ row. nonce_params (nonce_columns row)) upsert_nonce nonce_upsert insert_nonce
+unfolding understood everything nonce_upsert
+nonce_insert = record { command = refl; plain = (refl, refl) }

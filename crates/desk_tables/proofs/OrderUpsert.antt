@@ -8,9 +8,10 @@ use Rattle.desk_columns.specs.Columns.{order_columns}
 use Rattle.desk_schema.specs.Schema.{ord_table}
 use Rattle.desk_tables.specs.Images.{order_image, order_params}
 use Rattle.desk_tables.specs.Layouts.{order_layout}
-use Rattle.desk_tables.specs.Texts.{upsert_order}
+use Rattle.desk_tables.specs.Texts.{update_order, upsert_order}
 use Rattle.desk_tables.proofs.Casts.{cast_int, cast_int_or_null, cast_null, cast_text_or_null, row_kept}
 use Rattle.desk_tables.proofs.Clashes.{clash_by_key}
+use Rattle.desk_tables.proofs.UpdateStatement.{IsUpdate}
 use Rattle.desk_tables.proofs.UpsertStatement.{IsUpsert}
 
 -- what the text means, and what its table is
@@ -39,4 +40,16 @@ order_upsert = record {
   given = λ _. refl;
   sets = λ x y same. ap (λ k. Int (pos (order_layout.key y)) ∷ Int (pos k) ∷ drop 1 (order_image x)) same;
   source = λ _. refl;
+}
+
+-- the text that renews one
+pub order_update : IsUpdate order_layout (λ row. order_params (order_columns row)) upsert_order order_upsert update_order
+unfolding understood everything order_upsert
+order_update = record {
+  at = 0;
+  project = col 1 0 ∷ col 1 0 ∷ lit Null ∷ col 0 1 ∷ col 0 2 ∷ col 0 3 ∷ col 0 4 ∷ col 0 5 ∷ col 0 6 ∷ col 0 7 ∷ col 0 8 ∷ col 0 9 ∷ col 0 10 ∷ [];
+  command = refl;
+  plain = (refl, refl);
+  given = λ _. refl;
+  sets = λ x y same. ap (λ k. Int (pos (order_layout.key y)) ∷ Int (pos k) ∷ drop 1 (order_image x)) same;
 }

@@ -43,7 +43,7 @@ abbrev pub IsPut : {X : Type 0} → (X → ℕ) → (X → Row) → Task → Tre
 IsPut key row task db xs x next = (next task.table.tree ≡ map row (put key x xs)) × ((t : ℕ) → t ≢ task.table.tree → IsNoIndex task.schema t → next t ≡ db t)
 
 -- a row with a number keeps it
-keeps_id : (rowids : Rowids) (rows : List Row) (r : Row) (n : ℤ) → rowid r ≡ Int n → with_rowid rowids rows r ≡ r
+pub keeps_id : (rowids : Rowids) (rows : List Row) (r : Row) (n : ℤ) → rowid r ≡ Int n → with_rowid rowids rows r ≡ r
 keeps_id Chosen rows r n is = rw is refl
 keeps_id (Above last) rows r n is = rw is refl
 keeps_id Given rows r n is = refl

@@ -2,6 +2,7 @@
 use Rattle.std.specs.Prelude.{◌≡◌, ◌≢◌, ◌&&◌, ◌==◌, ℕ, ℤ, pos, Bool, List}
 use Rattle.sqlite.specs.Effect.{Database, IsDatabase}
 use Rattle.sqlite_rules.specs.Edit.{IsNoIndex}
+use Rattle.sqlite_rules.specs.Lists.{Has}
 use Rattle.desk_columns.specs.Columns.{listed_columns}
 use Rattle.desk_columns.specs.declared.columns.OrderAuthzColumns.{OrderAuthzColumns}
 use Rattle.desk_columns.specs.declared.flat_rows.Owned.{Owned}
@@ -29,6 +30,11 @@ Becomes {X} L change old new = (rows : List X) → HasRows L old rows → Become
 abbrev pub Puts : {X : Type 0} → Layout X → X → Database → Database → Type 0
 Puts L row = Becomes L (put L.key row)
 
+-- the row stands in the place of the one with its key, where there is one
+abbrev pub Renews : {X : Type 0} → Layout X → X → Database → Database → Type 0
+Renews {X} L row old new =
+    (rows : List X) → HasRows L old rows → (there : X) → Has rows there → L.key there ≡ L.key row → BecomesRows L (put L.key row rows) old new
+
 -- the row of this key is gone
 abbrev pub Removes : {X : Type 0} → Layout X → ℕ → Database → Database → Type 0
 Removes L key = Becomes L (remove L.key key)
@@ -36,6 +42,10 @@ Removes L key = Becomes L (remove L.key key)
 -- a row of these columns is put
 abbrev pub PutsColumns : {X C : Type 0} → Layout X → (X → C) → C → Database → Database → Type 0
 PutsColumns {X} L columns_of columns old new = (row : X) → columns_of row ≡ columns → Puts L row old new
+
+-- a row of these columns is renewed
+abbrev pub RenewsColumns : {X C : Type 0} → Layout X → (X → C) → C → Database → Database → Type 0
+RenewsColumns {X} L columns_of columns old new = (row : X) → columns_of row ≡ columns → Renews L row old new
 
 -- the row of this key, as SQL has numbers, is gone
 abbrev pub RemovesNumbered : {X : Type 0} → Layout X → ℤ → Database → Database → Type 0

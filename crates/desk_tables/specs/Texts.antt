@@ -6,10 +6,19 @@ abbrev pub upsert_meta : List ℕ
 upsert_meta =
     codes "INSERT INTO meta (id, format, base, nonce_life, order_life, authz_life, clock, nonces, accounts, orders, authzs, challs) VALUES (?1, ?2, ?3, ?4, ?5, ?6, ?7, ?8, ?9, ?10, ?11, ?12) ON CONFLICT (id) DO UPDATE SET format = excluded.format, base = excluded.base, nonce_life = excluded.nonce_life, order_life = excluded.order_life, authz_life = excluded.authz_life, clock = excluded.clock, nonces = excluded.nonces, accounts = excluded.accounts, orders = excluded.orders, authzs = excluded.authzs, challs = excluded.challs"
 
+-- renews the row of `meta`
+abbrev pub update_meta : List ℕ
+update_meta =
+    codes "UPDATE meta SET format = ?2, base = ?3, nonce_life = ?4, order_life = ?5, authz_life = ?6, clock = ?7, nonces = ?8, accounts = ?9, orders = ?10, authzs = ?11, challs = ?12 WHERE id = ?1"
+
 -- puts a nonce
 abbrev pub upsert_nonce : List ℕ
 upsert_nonce =
     codes "INSERT INTO nonce (serial, random, issued) VALUES (?1, ?2, ?3) ON CONFLICT (serial) DO UPDATE SET random = excluded.random, issued = excluded.issued"
+
+-- inserts a nonce
+abbrev pub insert_nonce : List ℕ
+insert_nonce = codes "INSERT INTO nonce (serial, random, issued) VALUES (?1, ?2, ?3)"
 
 -- puts an account
 abbrev pub upsert_account : List ℕ
@@ -20,6 +29,11 @@ upsert_account =
 abbrev pub upsert_order : List ℕ
 upsert_order =
     codes "INSERT INTO ord (num, account, made, expires, finalized, csr, certified, cert, failed, problem, status) VALUES (?1, ?2, ?3, ?4, ?5, ?6, ?7, ?8, ?9, ?10, ?11) ON CONFLICT (num) DO UPDATE SET account = excluded.account, made = excluded.made, expires = excluded.expires, finalized = excluded.finalized, csr = excluded.csr, certified = excluded.certified, cert = excluded.cert, failed = excluded.failed, problem = excluded.problem, status = excluded.status"
+
+-- renews an order
+abbrev pub update_order : List ℕ
+update_order =
+    codes "UPDATE ord SET account = ?2, made = ?3, expires = ?4, finalized = ?5, csr = ?6, certified = ?7, cert = ?8, failed = ?9, problem = ?10, status = ?11 WHERE num = ?1"
 
 -- puts an authorization, without its challenges
 abbrev pub upsert_authorization : List ℕ

@@ -3,7 +3,11 @@ ghost use Rattle.std.specs.Prelude.{◌≡◌, false, OnOk, OnErr, IfErr};
 ghost use Rattle.sqlite.specs.State.{HasCleanDisk, Survives};
 ghost use Rattle.sqlite.specs.Held.{state};
 ghost use Rattle.desk_saving.specs.Committing.{GoesBack, HasCommitted, IsBeforeCommit, IsLeft};
+ghost use Rattle.desk_saving.specs.Numbers.{FitsUpgrade};
+ghost use Rattle.desk_saving.specs.Refusals.{IsCause};
+ghost use Rattle.desk_saving.specs.Statements.{upgrade_statements};
 ghost use Rattle.desk_upgrading.specs.FirstDesks.{BringsDesk, UpgradesDesk};
+ghost use Rattle.desk_upgrading.specs.FirstKeys.{first_keys};
 
 use crate::first_keys::first_keys;
 use desk_book::Book;
@@ -32,6 +36,8 @@ pub fn upgrade<S: Alter>(
         → OnErr result (GoesBack (state S.Store conn.old) (state S.Store conn.new)) }
     ensures before { IfErr result (λ why. IsBeforeCommit why → Survives (state S.Store conn.old) (state S.Store conn.new) (λ _. ⊥)) }
     ensures left { Survives (state S.Store conn.old) (state S.Store conn.new) (IsLeft (UpgradesDesk book.now (state S.Store conn.old).now)) }
+    ensures cause { IfErr result (IsCause S.Store (FitsUpgrade book.now.meta (first_keys book.now))
+        (upgrade_statements book.now.meta (first_keys book.now)) conn.old conn.new) }
 {
     let keys = match first_keys(alloc, book) {
         Ok(keys) => keys,

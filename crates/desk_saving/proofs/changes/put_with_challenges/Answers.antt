@@ -6,6 +6,10 @@ use Rattle.desk_schema.specs.Advances.{Advances}
 use Rattle.desk_saving.specs.Makes.{Makes, PutsChallenges}
 use Rattle.desk_saving.proofs.MadeChanges.{makes_authorization}
 use Rattle.desk_saving.proofs.Exits.{advances_both, kept_behind, survives_both}
+use Rattle.desk_saving.specs.Refusals.{Ran}
+use Rattle.desk_saving.specs.Statements.{puts_authorization, puts_challenges}
+use Rattle.desk_saving.proofs.Told.{ran_behind, stops_some}
+use Rattle.std.proofs.Common.{rules, subst}
 use Rattle.desk_saving.proofs.changes.put_with_challenges.Goals as goal
 use Rattle.desk_tables.specs.Effects.{Puts}
 use Rattle.desk_tables.specs.Layouts.{authorization_layout}
@@ -35,3 +39,19 @@ returns-clause-survives g c =
     survives_both (state g.S.Store c.args.tx.now.conn.now) (state g.S.Store c.put_authorization.new.tx.conn.now)
     (state g.S.Store c.put_challenges.new.tx.conn.now)
     c.in_ok-put_authorization.ensures.survives c.put_challenges.ensures.survives
+
+pub returns-clause-told : goal.returns-clause-told
+returns-clause-told g c =
+    let row = c.args.row.now in
+    let r = c.put_challenges.result in
+    let mid = c.put_authorization.new.tx.conn.now in
+    let last = subst (λ rows. Ran g.S.Store (puts_challenges row.number rows) mid c.put_challenges.new.tx.conn.now r) c.as_slice.ensures
+    c.put_challenges.ensures.told in
+    ran_behind g.S.Store (puts_authorization row) (puts_challenges c.args.row.now.number c.args.row.now.challenges) c.args.tx.now.conn.now mid
+    c.put_challenges.new.tx.conn.now r c.in_ok-put_authorization.ensures.told last
+
+pub returns-in_err-put_authorization-clause-told : goal.returns-in_err-put_authorization-clause-told
+returns-in_err-put_authorization-clause-told g c =
+    let stops = stops_some g.S.Store (puts_authorization c.args.row.now) (puts_challenges c.args.row.now.number c.args.row.now.challenges) _ _ _
+    c.in_err-put_authorization.ensures.told in
+    search (rules, stops)

@@ -7,6 +7,11 @@ use Rattle.desk_schema.specs.Advances.{Advances}
 use Rattle.desk_saving.specs.Makes.{Makes, PlacesAll}
 use Rattle.desk_saving.proofs.MadeChanges.{makes_order}
 use Rattle.desk_saving.proofs.Exits.{advances_both, kept_behind, survives_both}
+use Rattle.std.specs.List.{flat_map}
+use Rattle.desk_saving.specs.Refusals.{Ran}
+use Rattle.desk_saving.specs.Statements.{puts_listed, puts_order}
+use Rattle.desk_saving.proofs.Told.{ran_behind, stops_some}
+use Rattle.std.proofs.Common.{rules, subst}
 use Rattle.desk_saving.proofs.changes.put_with_listed.Goals as goal
 use Rattle.desk_tables.specs.Effects.{Puts}
 use Rattle.desk_tables.specs.Layouts.{order_layout}
@@ -34,3 +39,19 @@ pub returns-clause-survives : goal.returns-clause-survives
 returns-clause-survives g c =
     survives_both (state g.S.Store c.args.tx.now.conn.now) (state g.S.Store c.put_order.new.tx.conn.now) (state g.S.Store c.put_all_listed.new.tx.conn.now)
     c.in_ok-put_order.ensures.survives c.put_all_listed.ensures.survives
+
+pub returns-clause-told : goal.returns-clause-told
+returns-clause-told g c =
+    let row = c.args.row.now in
+    let r = c.put_all_listed.result in
+    let mid = c.put_order.new.tx.conn.now in
+    let last = subst (λ rows. Ran g.S.Store (flat_map (puts_listed row.number) rows) mid c.put_all_listed.new.tx.conn.now r) c.as_slice.ensures
+    c.put_all_listed.ensures.told in
+    ran_behind g.S.Store (puts_order row) (flat_map (puts_listed c.args.row.now.number) c.args.row.now.listed) c.args.tx.now.conn.now mid
+    c.put_all_listed.new.tx.conn.now r c.in_ok-put_order.ensures.told last
+
+pub returns-in_err-put_order-clause-told : goal.returns-in_err-put_order-clause-told
+returns-in_err-put_order-clause-told g c =
+    let stops = stops_some g.S.Store (puts_order c.args.row.now) (flat_map (puts_listed c.args.row.now.number) c.args.row.now.listed) _ _ _
+    c.in_err-put_order.ensures.told in
+    search (rules, stops)

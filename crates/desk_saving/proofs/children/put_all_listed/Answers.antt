@@ -6,6 +6,11 @@ use Rattle.desk_schema.specs.Advances.{Advances}
 use Rattle.desk_saving.specs.Makes.{PlacesAll}
 use Rattle.desk_saving.proofs.Exits.{kept_behind, survives_both}
 use Rattle.desk_saving.proofs.RowsInTurn.{advances_placed, each_owned}
+use Rattle.std.specs.List.{flat_map}
+use Rattle.std.proofs.Common.{subst, take_all, rules, arith}
+use Rattle.desk_saving.specs.Refusals.{HaveRun}
+use Rattle.desk_saving.specs.Statements.{puts_listed}
+use Rattle.desk_saving.proofs.Told.{run_more, stops_at}
 use Rattle.desk_saving.proofs.children.put_all_listed.Goals as goal
 use Rattle.written_rows.specs.Fits.{FitsListed}
 
@@ -20,6 +25,7 @@ loop-row-preserved g c =
       advances = advances_placed c.args.order first old new c.args.rows.now c.loop-row.row-index _ (search rules) after.survives
           c.loop-row.invariant.advances
           after.ok;
+      told = run_more g.S.Store (puts_listed c.args.order) c.args.rows.now c.loop-row.row-index _ _ _ _ (search rules) c.loop-row.invariant.told after.told;
       survives = survives_then first old new _ _ (λ _. ⊥) (λ _ db none. none) (λ _ db none. none) c.loop-row.invariant.survives after.survives;
     }
 
@@ -45,3 +51,14 @@ pub returns-in_err-put_listed-clause-survives : goal.returns-in_err-put_listed-c
 returns-in_err-put_listed-clause-survives g c =
     survives_both (state g.S.Store c.args.tx.now.conn.now) (state g.S.Store c.loop-row.tx.conn.now) (state g.S.Store c.put_listed.new.tx.conn.now)
     c.loop-row.invariant.survives c.put_listed.ensures.survives
+
+pub returns-clause-told : goal.returns-clause-told
+returns-clause-told g c =
+    let whole = take_all c.loop-row.row-index c.args.rows.now (omega arith) in
+    subst (λ xs. HaveRun g.S.Store (flat_map (puts_listed c.args.order) xs) c.args.tx.now.conn.now c.loop-row.tx.conn.now) whole c.loop-row.invariant.told
+
+pub returns-in_err-put_listed-clause-told : goal.returns-in_err-put_listed-clause-told
+returns-in_err-put_listed-clause-told g c =
+    let stops = stops_at g.S.Store (puts_listed c.args.order) c.args.rows.now c.loop-row.row-index _ _ _ _ _ (search rules) c.loop-row.invariant.told
+    c.in_err-put_listed.ensures.told in
+    search (rules, stops)

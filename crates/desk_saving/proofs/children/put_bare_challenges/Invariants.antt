@@ -1,10 +1,13 @@
 use Rattle.std.proofs.Common.{◌≡◌, take}
+use Rattle.std.specs.List.{flat_map}
 use Rattle.sqlite.specs.State.{Survives}
 use Rattle.sqlite.specs.Held.{state}
 use Rattle.desk_columns.specs.Flat.{owned_by}
 use Rattle.desk_schema.specs.Advances.{Advances}
 use Rattle.desk_saving.specs.Makes.{PutsAll}
 use Rattle.desk_tables.specs.Layouts.{challenge_layout}
+use Rattle.desk_saving.specs.Refusals.{HaveRun}
+use Rattle.desk_saving.specs.Statements.{puts_challenge}
 use Rattle.desk_saving.proofs.children.put_bare_challenges.Given as goal
 
 abbrev pub invariant-loop-row : goal.invariant-loop-row
@@ -13,4 +16,5 @@ invariant-loop-row g l = record {
   advances : Advances (state g.S.Store l.fn.tx.conn.now) (state g.S.Store l.tx.conn.now)
       (PutsAll challenge_layout (owned_by l.fn.authorization (take l.row-index l.rows)));
   survives : Survives (state g.S.Store l.fn.tx.conn.now) (state g.S.Store l.tx.conn.now) (λ _. ⊥);
+  told : HaveRun g.S.Store (flat_map (puts_challenge l.fn.authorization) (take l.row-index l.rows)) l.fn.tx.conn.now l.tx.conn.now;
 }

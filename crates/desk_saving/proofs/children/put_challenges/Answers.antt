@@ -7,6 +7,12 @@ use Rattle.desk_schema.specs.Advances.{Advances}
 use Rattle.desk_saving.specs.Makes.{PutsAll, PutsChallenges}
 use Rattle.desk_saving.proofs.Exits.{advances_both, kept_behind, survives_both}
 use Rattle.desk_saving.proofs.KeyRows.{keys_fit, keys_of_owned}
+use Rattle.desk_saving.specs.Statements.{puts_challenge, puts_key}
+use Rattle.std.specs.List.{flat_map}
+use Rattle.std.specs.Prelude.{filter_map}
+use Rattle.desk_columns.specs.Flat.{answer_key}
+use Rattle.desk_saving.proofs.Told.{ran_behind, stops_some}
+use Rattle.std.proofs.Common.{rules}
 use Rattle.desk_saving.proofs.children.put_challenges.Goals as goal
 use Rattle.desk_tables.specs.Layouts.{challenge_layout, key_layout}
 
@@ -39,3 +45,15 @@ returns-clause-survives g c =
 
 pub returns-clause-fits : goal.returns-clause-fits
 returns-clause-fits g c all = c.put_answers.ensures.fits (keys_fit c.args.authorization c.args.rows.now all)
+
+pub returns-clause-told : goal.returns-clause-told
+returns-clause-told g c =
+    ran_behind g.S.Store (flat_map (puts_challenge c.args.authorization) c.args.rows.now) (flat_map puts_key (filter_map answer_key c.args.rows.now)) _ _ _
+    c.put_answers.result c.in_ok-put_bare_challenges.ensures.told c.put_answers.ensures.told
+
+pub returns-in_err-put_bare_challenges-clause-told : goal.returns-in_err-put_bare_challenges-clause-told
+returns-in_err-put_bare_challenges-clause-told g c =
+    let stops = stops_some g.S.Store (flat_map (puts_challenge c.args.authorization) c.args.rows.now)
+    (flat_map puts_key (filter_map answer_key c.args.rows.now))
+    _ _ _ c.in_err-put_bare_challenges.ensures.told in
+    search (rules, stops)

@@ -5,6 +5,11 @@ use Rattle.desk_schema.specs.Advances.{Advances}
 use Rattle.desk_saving.specs.Makes.{PutsAll}
 use Rattle.desk_saving.proofs.Exits.{kept_behind, survives_both}
 use Rattle.desk_saving.proofs.RowsInTurn.{advances_put_row, each_at}
+use Rattle.std.specs.List.{flat_map}
+use Rattle.std.proofs.Common.{subst, take_all, rules, arith}
+use Rattle.desk_saving.specs.Refusals.{HaveRun}
+use Rattle.desk_saving.specs.Statements.{puts_key}
+use Rattle.desk_saving.proofs.Told.{run_more, stops_at}
 use Rattle.desk_saving.proofs.children.put_keys.Goals as goal
 use Rattle.desk_tables.specs.Layouts.{key_layout}
 use Rattle.written_rows.specs.Fits.{FitsKey}
@@ -20,6 +25,7 @@ loop-row-preserved g c =
       advances = advances_put_row key_layout first old new c.args.rows.now c.loop-row.row-index _ (search rules) after.survives
           c.loop-row.invariant.advances
           after.ok;
+      told = run_more g.S.Store puts_key c.args.rows.now c.loop-row.row-index _ _ _ _ (search rules) c.loop-row.invariant.told after.told;
       survives = survives_then first old new _ _ (λ _. ⊥) (λ _ db none. none) (λ _ db none. none) c.loop-row.invariant.survives after.survives;
     }
 
@@ -45,3 +51,14 @@ returns-in_err-put_key-clause-fits g c all =
     let at = each_at FitsKey c.args.rows.now c.loop-row.row-index _ (search rules) all in
     let fits = c.in_err-put_key.ensures.fits at in
     search (rules, fits)
+
+pub returns-clause-told : goal.returns-clause-told
+returns-clause-told g c =
+    let whole = take_all c.loop-row.row-index c.args.rows.now (omega arith) in
+    subst (λ xs. HaveRun g.S.Store (flat_map puts_key xs) c.args.tx.now.conn.now c.loop-row.tx.conn.now) whole c.loop-row.invariant.told
+
+pub returns-in_err-put_key-clause-told : goal.returns-in_err-put_key-clause-told
+returns-in_err-put_key-clause-told g c =
+    let stops = stops_at g.S.Store puts_key c.args.rows.now c.loop-row.row-index _ _ _ _ _ (search rules) c.loop-row.invariant.told
+    c.in_err-put_key.ensures.told in
+    search (rules, stops)

@@ -1,4 +1,5 @@
 use Rattle.std.proofs.lemmas.Result.{IfOk-from_err}
+use Rattle.desk_saving.proofs.Told.{commit_told}
 use Rattle.desk_saving.proofs.ending.end.Goals as goal
 
 pub returns-in_err-done-clause-done : goal.returns-in_err-done-clause-done
@@ -12,3 +13,8 @@ returns-in_err-done-clause-ended g c = c.drop-tx.ensures.ended
 
 pub returns-clause-ended : goal.returns-clause-ended
 returns-clause-ended g c = c.commit.ensures.ended
+
+pub returns-clause-cause : goal.returns-clause-cause
+returns-clause-cause g c =
+    commit_told g.S.Store c.args.tx.conn.now c.commit.new.self.0 c.args.done _ c.in_ok-done.was c.commit.result c.map_err.result c.map_err.ensures.cases
+    c.commit.ensures.err

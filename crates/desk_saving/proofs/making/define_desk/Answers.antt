@@ -3,6 +3,9 @@ use Rattle.sqlite.specs.Held.{state}
 use Rattle.desk_schema.specs.Defined.{Defines}
 use Rattle.desk_saving.specs.Making.{MakesDesk}
 use Rattle.desk_saving.proofs.Exits.{advances_both, kept_behind, survives_both}
+use Rattle.std.proofs.Common.{rules}
+use Rattle.desk_saving.proofs.Told.{ran_behind, stops_some}
+use Rattle.desk_saving.specs.Statements.{defines_before, make_statements, puts_meta}
 use Rattle.desk_saving.proofs.making.define_desk.Goals as goal
 use Rattle.desk_tables.specs.Effects.{Puts}
 use Rattle.desk_tables.specs.Layouts.{formatted_layout}
@@ -32,3 +35,14 @@ pub returns-clause-survives : goal.returns-clause-survives
 returns-clause-survives g c =
     survives_both (state g.S.Store c.args.tx.now.conn.now) (state g.S.Store c.define_all.new.tx.conn.now) (state g.S.Store c.put_meta.new.tx.conn.now)
     c.in_ok-define_all.ensures.survives c.put_meta.ensures.survives
+
+pub returns-clause-told : goal.returns-clause-told
+unfolding make_statements
+returns-clause-told g c =
+    ran_behind g.S.Store (defines_before 16) (puts_meta c.args.meta.now) _ _ _ c.put_meta.result c.in_ok-define_all.ensures.told c.put_meta.ensures.told
+
+pub returns-in_err-define_all-clause-told : goal.returns-in_err-define_all-clause-told
+unfolding make_statements
+returns-in_err-define_all-clause-told g c =
+    let stops = stops_some g.S.Store (defines_before 16) (puts_meta c.args.meta.now) _ _ _ c.in_err-define_all.ensures.told in
+    search (rules, stops)

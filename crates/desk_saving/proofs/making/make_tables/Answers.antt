@@ -1,6 +1,9 @@
 use Rattle.std.proofs.Common.{rules}
 use Rattle.desk_saving.specs.Making.{MakesDesk}
 use Rattle.desk_saving.proofs.Leaving.{committed_by, left_by, spared_by, undone_by}
+use Rattle.desk_saving.proofs.Told.{caused}
+use Rattle.desk_saving.specs.Statements.{make_statements}
+use Rattle.written_rows.specs.Fits.{FitsMeta}
 use Rattle.desk_saving.proofs.making.make_tables.Goals as goal
 
 pub returns-clause-ok : goal.returns-clause-ok
@@ -35,4 +38,11 @@ returns-clause-left g c =
     let Does = MakesDesk c.args.meta.now in
     let whole = left_by g.S.Store old c.transaction-tx.result.conn.now last c.end.new.tx.0 c.transaction-tx.ensures.begun c.define_desk-defined.result
     Does Does (λ did. did) c.define_desk-defined.ensures.survives c.define_desk-defined.ensures.ok c.end.ensures.left in
+    search (rules, whole)
+
+pub returns-clause-cause : goal.returns-clause-cause
+returns-clause-cause g c =
+    let whole = caused g.S.Store (FitsMeta c.args.meta.now) (make_statements c.args.meta.now) c.args.conn.now c.transaction-tx.result.conn.now
+    c.define_desk-defined.new.tx.conn.now c.end.new.tx.0 c.transaction-tx.ensures.begun c.define_desk-defined.result c.end.result
+    c.define_desk-defined.ensures.told c.end.ensures.cause c.end.ensures.before (λ all. c.end.ensures.fits (c.define_desk-defined.ensures.fits all)) in
     search (rules, whole)

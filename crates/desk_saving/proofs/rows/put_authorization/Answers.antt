@@ -1,6 +1,8 @@
 use Rattle.sqlite.specs.Held.{state}
 use Rattle.desk_columns.specs.Columns.{authorization_columns}
 use Rattle.desk_saving.proofs.RowsInTurn.{puts_written}
+use Rattle.desk_saving.proofs.Told.{asks_written}
+use Rattle.desk_saving.specs.Statements.{authorization_sql}
 use Rattle.desk_saving.proofs.rows.put_authorization.Goals as goal
 use Rattle.desk_tables.specs.Layouts.{authorization_layout}
 
@@ -9,3 +11,6 @@ returns-clause-ok g c =
     puts_written authorization_layout authorization_columns c.args.row.now
     (state g.S.Store c.args.tx.now.conn.now) (state g.S.Store c.put_columns.new.tx.conn.now)
     c.authorization_columns.result c.put_columns.result c.authorization_columns.ensures.columns c.put_columns.ensures.ok
+
+pub returns-clause-told : goal.returns-clause-told
+returns-clause-told g c = c.put_columns.ensures.told _ (asks_written authorization_sql _ c.authorization_columns.result c.authorization_columns.ensures.columns)

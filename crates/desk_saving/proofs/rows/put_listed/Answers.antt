@@ -2,6 +2,8 @@ use Rattle.sqlite.specs.Held.{state}
 use Rattle.desk_columns.specs.declared.flat_rows.Owned.{Owned}
 use Rattle.desk_model.specs.declared.rows.Listed.{Listed}
 use Rattle.desk_saving.proofs.RowsInTurn.{places_written, written_whole}
+use Rattle.desk_saving.proofs.Told.{asks_written}
+use Rattle.desk_saving.specs.Statements.{listed_sql}
 use Rattle.desk_saving.proofs.rows.put_listed.Goals as goal
 
 pub returns-clause-ok : goal.returns-clause-ok
@@ -12,3 +14,6 @@ returns-clause-ok g c =
 
 pub returns-clause-fits : goal.returns-clause-fits
 returns-clause-fits g c fits = c.put_columns.ensures.fits (written_whole c.listed_columns.result _ (c.listed_columns.ensures.fits fits))
+
+pub returns-clause-told : goal.returns-clause-told
+returns-clause-told g c = c.put_columns.ensures.told _ (asks_written listed_sql _ c.listed_columns.result c.listed_columns.ensures.columns)

@@ -4,6 +4,10 @@ use Rattle.desk_columns.specs.Columns.{known_format}
 use Rattle.desk_saving.specs.Makes.{PutsAll}
 use Rattle.desk_saving.specs.Upgrading.{Fills}
 use Rattle.desk_saving.proofs.Exits.{advances_both, kept_behind, survives_both}
+use Rattle.std.proofs.Common.{rules}
+use Rattle.std.specs.List.{flat_map}
+use Rattle.desk_saving.proofs.Told.{ran_behind, stops_some}
+use Rattle.desk_saving.specs.Statements.{puts_key, puts_meta}
 use Rattle.desk_saving.proofs.upgrading.fill.Goals as goal
 use Rattle.desk_tables.specs.Effects.{Puts}
 use Rattle.desk_tables.specs.Layouts.{formatted_layout, key_layout}
@@ -30,3 +34,16 @@ pub returns-clause-survives : goal.returns-clause-survives
 returns-clause-survives g c =
     survives_both (state g.S.Store c.args.tx.now.conn.now) (state g.S.Store c.put_keys.new.tx.conn.now) (state g.S.Store c.put_meta.new.tx.conn.now)
     c.in_ok-put_keys.ensures.survives c.put_meta.ensures.survives
+
+pub returns-clause-told : goal.returns-clause-told
+returns-clause-told g c =
+    ran_behind g.S.Store (flat_map puts_key c.args.keys.now) (puts_meta c.args.meta.now) _ _ _ c.put_meta.result c.in_ok-put_keys.ensures.told
+    c.put_meta.ensures.told
+
+pub returns-in_err-put_keys-clause-told : goal.returns-in_err-put_keys-clause-told
+returns-in_err-put_keys-clause-told g c =
+    let stops = stops_some g.S.Store (flat_map puts_key c.args.keys.now) (puts_meta c.args.meta.now) _ _ _ c.in_err-put_keys.ensures.told in
+    search (rules, stops)
+
+pub returns-clause-fits : goal.returns-clause-fits
+returns-clause-fits g c meta keys = c.put_meta.ensures.fits meta

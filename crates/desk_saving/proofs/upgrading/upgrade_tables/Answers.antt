@@ -1,6 +1,9 @@
 use Rattle.std.proofs.Common.{rules}
 use Rattle.desk_saving.specs.Upgrading.{Upgrades}
 use Rattle.desk_saving.proofs.Leaving.{committed_by, left_by, spared_by, undone_by}
+use Rattle.desk_saving.proofs.Told.{caused}
+use Rattle.desk_saving.specs.Statements.{upgrade_statements}
+use Rattle.desk_saving.specs.Numbers.{FitsUpgrade}
 use Rattle.desk_saving.proofs.upgrading.upgrade_tables.Goals as goal
 
 pub returns-clause-ok : goal.returns-clause-ok
@@ -35,4 +38,12 @@ returns-clause-left g c =
     let Does = Upgrades c.args.meta.now c.args.keys.now in
     let whole = left_by g.S.Store old c.transaction-tx.result.conn.now last c.end.new.tx.0 c.transaction-tx.ensures.begun c.widen-widened.result
     Does Does (λ did. did) c.widen-widened.ensures.survives c.widen-widened.ensures.ok c.end.ensures.left in
+    search (rules, whole)
+
+pub returns-clause-cause : goal.returns-clause-cause
+returns-clause-cause g c =
+    let whole = caused g.S.Store (FitsUpgrade c.args.meta.now c.args.keys.now) (upgrade_statements c.args.meta.now c.args.keys.now) c.args.conn.now
+    c.transaction-tx.result.conn.now
+    c.widen-widened.new.tx.conn.now c.end.new.tx.0 c.transaction-tx.ensures.begun c.widen-widened.result c.end.result
+    c.widen-widened.ensures.told c.end.ensures.cause c.end.ensures.before (λ all. c.end.ensures.fits (c.widen-widened.ensures.fits all.meta_row all.each)) in
     search (rules, whole)

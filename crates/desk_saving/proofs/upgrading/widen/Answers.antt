@@ -4,6 +4,10 @@ use Rattle.desk_schema.specs.Defined.{AddsKeyTable}
 use Rattle.desk_saving.specs.Upgrading.{Fills, Upgrades}
 use Rattle.desk_saving.proofs.Exits.{advances_both, kept_behind, survives_both}
 use Rattle.desk_saving.proofs.Upgraded.{upgrades}
+use Rattle.std.proofs.Common.{◌++◌, rules}
+use Rattle.std.specs.List.{flat_map}
+use Rattle.desk_saving.proofs.Told.{ran_behind, stops_some}
+use Rattle.desk_saving.specs.Statements.{defines, puts_key, puts_meta, upgrade_statements}
 use Rattle.desk_saving.proofs.upgrading.widen.Goals as goal
 
 pub returns-clause-ok : goal.returns-clause-ok
@@ -28,3 +32,16 @@ pub returns-clause-survives : goal.returns-clause-survives
 returns-clause-survives g c =
     survives_both (state g.S.Store c.args.tx.now.conn.now) (state g.S.Store c.define_key_table.new.tx.conn.now) (state g.S.Store c.fill.new.tx.conn.now)
     c.in_ok-define_key_table.ensures.survives c.fill.ensures.survives
+
+pub returns-clause-told : goal.returns-clause-told
+unfolding upgrade_statements
+returns-clause-told g c =
+    ran_behind g.S.Store (defines 15) (flat_map puts_key c.args.keys.now ++ puts_meta c.args.meta.now) _ _ _ c.fill.result
+    c.in_ok-define_key_table.ensures.told c.fill.ensures.told
+
+pub returns-in_err-define_key_table-clause-told : goal.returns-in_err-define_key_table-clause-told
+unfolding upgrade_statements
+returns-in_err-define_key_table-clause-told g c =
+    let stops = stops_some g.S.Store (defines 15) (flat_map puts_key c.args.keys.now ++ puts_meta c.args.meta.now) _ _ _
+    c.in_err-define_key_table.ensures.told in
+    search (rules, stops)

@@ -3,10 +3,15 @@ use Rattle.sqlite.specs.Held.{state}
 use Rattle.sqlite.proofs.StateLemmas.{survives_weaker}
 use Rattle.desk_columns.specs.declared.flat_rows.AnswerKey.{AnswerKey}
 use Rattle.desk_model.specs.declared.rows.Meta.{Meta}
+use Rattle.std.proofs.Common.{IfErr}
+use Rattle.desk_saving.specs.Refusals.{IsCause}
+use Rattle.desk_saving.specs.Statements.{upgrade_statements}
+use Rattle.desk_saving.specs.Numbers.{FitsUpgrade}
 use Rattle.desk_saving.specs.Upgrading.{Upgrades}
 use Rattle.desk_upgrading.specs.FirstDesks.{UpgradesDesk}
 use Rattle.desk_upgrading.specs.FirstKeys.{first_keys}
 use Rattle.desk_upgrading.proofs.FirstDesksKept.{committed_as, desk_brought, desks_upgrade, left_as}
+use Rattle.desk_saving.proofs.Told.{nothing_begun}
 use Rattle.desk_upgrading.proofs.upgrading.upgrade.Goals as goal
 
 pub returns-clause-ok : goal.returns-clause-ok
@@ -40,3 +45,19 @@ pub returns-clause-desk : goal.returns-clause-desk
 returns-clause-desk g c clean =
     desk_brought c.upgrade_tables-upgraded.result c.args.book.now (state g.S.Store c.args.conn.now) (state g.S.Store c.upgrade_tables-upgraded.new.conn)
     c.upgrade_tables-upgraded.ensures.idle c.upgrade_tables-upgraded.ensures.left.limit (returns-clause-ok g c clean)
+
+pub returns-clause-cause : goal.returns-clause-cause
+returns-clause-cause g c =
+    let old = c.args.conn.now in
+    let new = c.upgrade_tables-upgraded.new.conn in
+    let book = c.args.book.now in
+    let keys = c.as_slice.result.now in
+    let are : keys ≡ first_keys book = c.as_slice.ensures.value ∙ c.in-Ok.ensures in
+    let r = c.upgrade_tables-upgraded.result in
+    let by_keys =
+    subst (λ (ks : List AnswerKey). IfErr r (IsCause g.S.Store (FitsUpgrade c.meta.result.now ks) (upgrade_statements c.meta.result.now ks) old new)) are
+    c.upgrade_tables-upgraded.ensures.cause in
+    subst (λ (m : Meta). IfErr r (IsCause g.S.Store (FitsUpgrade m (first_keys book)) (upgrade_statements m (first_keys book)) old new)) c.meta.ensures by_keys
+
+pub returns-in-Err-clause-cause : goal.returns-in-Err-clause-cause
+returns-in-Err-clause-cause g c = nothing_begun g.S.Store _ _ c.args.conn.now

@@ -1,4 +1,5 @@
 use Rattle.desk_saving.proofs.Exits.{where_run}
+use Rattle.desk_saving.proofs.Told.{runs_with}
 use Rattle.desk_saving.proofs.upserts.MetaColumnsUpsert.upsert.Goals as goal
 use Rattle.desk_tables.specs.Images.{formatted_columns, meta_params}
 use Rattle.desk_tables.specs.Layouts.{formatted_layout}
@@ -10,3 +11,6 @@ pub returns-clause-ok : goal.returns-clause-ok
 returns-clause-ok g c =
     where_run _ _ _ _ c.perform.result c.perform.ensures.runs
     (advances_by formatted_layout formatted_columns meta_params upsert_meta meta_upsert _ _ c.args.self.now _ c.meta_values-values.ensures)
+
+pub returns-clause-told : goal.returns-clause-told
+returns-clause-told g c = runs_with g.S.Store _ _ _ c.perform.result _ _ c.meta_values-values.ensures c.perform.ensures.told

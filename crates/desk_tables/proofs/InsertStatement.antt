@@ -1,0 +1,92 @@
+-- What a text that inserts a row does, beside the one that puts it, from what the texts mean.
+use Rattle.std.proofs.Common.{◌≡◌, ℕ, pos, List, [], ◌∷◌, map, length, ◌/◌, false, None, Ok, sym, ap, subst, ◌∙◌, arith}
+use Rattle.sqlite.specs.declared.types.Value.TheVariants.{Int}
+use Rattle.sqlite_value.specs.Order.{Row}
+use Rattle.sqlite_trees.specs.Tree.{Trees, put_row, rowid}
+use Rattle.sqlite_sql.specs.Term.{Term}
+use Rattle.sqlite_schema.specs.declared.command.Command.TheVariants.{Insert}
+use Rattle.sqlite_schema.specs.declared.command.Source.TheVariants.{Values}
+use Rattle.sqlite_schema.specs.declared.schema.Keys.TheVariants.{Enforced}
+use Rattle.sqlite_rules.specs.Cast.{cast_row}
+use Rattle.sqlite_rules.specs.Edit.{edit_of, edited, taken_by, with_rowid}
+use Rattle.sqlite.specs.Does.{Does}
+use Rattle.sqlite.specs.Effect.{Database, value_rows}
+use Rattle.sqlite.specs.Listing.{understood}
+use Rattle.sqlite.specs.Rows.{Inserts, Task, Written, count_of, rowids_for, stamped}
+use Rattle.sqlite.specs.State.{State, mode_of, Executes}
+use Rattle.sqlite.proofs.Callers.{IsPlain, command_of, one_step, runs_as, statement_of}
+use Rattle.desk_schema.proofs.AdvanceLemmas.{performs_advances}
+use Rattle.desk_schema.proofs.Making.{same_value, went}
+use Rattle.desk_schema.specs.Advances.{Advances, Performs}
+use Rattle.desk_schema.specs.Schema.{desk_schema}
+use Rattle.desk_tables.specs.Effects.{Puts, PutsColumns}
+use Rattle.desk_tables.specs.Layouts.{Layout}
+use Rattle.desk_tables.proofs.Inserts.{NoWorks, concluded, no_works}
+use Rattle.desk_tables.proofs.Keyed.{put_ascends, put_row_as}
+use Rattle.desk_tables.proofs.Upsert.{IsPut, keeps_id, uncounts}
+use Rattle.desk_tables.proofs.UpsertStatement.{IsUpsert}
+
+-- the text inserts the row that the other text puts
+pub record IsInsert {X : Type 0} (L : Layout X) (params : X → Row) (upsert : List ℕ) (is : IsUpsert L params upsert) (text : List ℕ) : Type 0 where
+  pub command : command_of (understood desk_schema text) ≡ Insert is.place (Values is.terms is.width)
+  pub plain : IsPlain (understood desk_schema text)
+
+-- a row that was inserted stands in its place: no row had its key
+inserts_row : {X : Type 0} (key : X → ℕ) (row : X → Row) → ((x : X) → rowid (row x) ≡ Int (pos (key x))) → (task : Task) → NoWorks task
+    → ((x : X) → cast_row task.table (row x) ≡ row x)
+    → (db : Trees) (xs : List X) (x : X) (terms : List Term) (width : ℕ) (done : Written) → task.table.is_counted ≡ false → db task.table.tree ≡ map row xs
+    → value_rows (stamped task.table task.params) width (length terms / width) terms ≡ row x ∷ []
+    → Inserts task (Values terms width) db (Ok done) → IsPut key row task db xs x done.trees
+inserts_row key row first task calm casts db xs x terms width done uncounted has source h =
+    let rows = went h in
+    let counter = went rows.2 in
+    let mid = went counter.2 in
+    let counts = went mid.2 in
+    let top = rowids_for task.table (count_of counter.0) in
+    let edit = edit_of db task.table [] top 0 rows.0 in
+    let a = one_step task.schema task.keys db mid.0 edit (calm (taken_by db edit) edit.news) mid.1 in
+    let is_new : with_rowid top (db task.table.tree) (cast_row task.table (row x)) ≡ row x =
+    ap (with_rowid top (db task.table.tree)) (casts x) ∙ keeps_id top (db task.table.tree) (row x) (pos (key x)) (first x) in
+    let now : edited db edit ≡ put_row (row x) (db task.table.tree) =
+    ap (λ rs. edited db (edit_of db task.table [] top 0 rs)) (rows.1.1 ∙ source) ∙ ap (λ r. put_row r (db task.table.tree)) is_new in
+    let last : done.trees ≡ counts.0 = ap (λ (it : Written). it.trees) (same_value counts.2) in
+    let after : counts.0 ≡ mid.0 = uncounts task mid.0 counter.0 _ counts.0 uncounted counts.1 in
+    subst (IsPut key row task db xs x) (sym (last ∙ after)) (
+      a.rows ∙ now ∙ rw (has) (put_row_as key row first x xs),
+      a.others,
+    )
+
+-- so the text puts the row
+pub inserts_by : {X : Type 0} (L : Layout X) (params : X → Row) (upsert : List ℕ) (is : IsUpsert L params upsert) (text : List ℕ)
+    → IsInsert L params upsert is text → (old new : State) (x : X) (count : ℕ) → Executes text (params x) old new (Ok count) → Puts L x old.now new.now
+inserts_by L params upsert is text it old new x count h xs has =
+    let task : Task = record { limit = old.step_limit; keys = Enforced; schema = desk_schema; table = L.table; params = params x } in
+    let command = Insert is.place (Values is.terms is.width) in
+    let statement = statement_of text (understood desk_schema text) in
+    let w = runs_as text (params x) old new desk_schema has.schema command it.command it.plain count h in
+    let did =
+    subst (λ s. Does old.step_limit (mode_of old) (params x) (record old.now { schema = s }) statement None command
+    (Ok (w.tally, new.now))) has.schema w.changed in
+    let done = went (rw (is.found) at did) in
+    let now = concluded task (mode_of old) done.0 (w.tally, new.now) done.2 in
+    let put = inserts_row L.key L.image is.first task (no_works L.table.tree) is.casts old.now.trees xs x is.terms is.width done.0 is.uncounted has.rows_are
+    (is.source x) done.1 in
+    record {
+      sound = w.sound;
+      has = record {
+        schema = ap (λ (d : Database). d.schema) now;
+        rows_are = ap (λ (d : Database). d.trees L.table.tree) now ∙ put.0;
+        rising = put_ascends L.key 0 x xs (omega arith) has.rising;
+      };
+      others = λ t other none. ap (λ (d : Database). d.trees t) now ∙ put.1 t other none;
+    }
+
+-- and so of each row that has the columns, whose parameters are these values
+pub advances_inserted : {X C : Type 0} (L : Layout X) (columns_of : X → C) (params_of : C → Row) (upsert : List ℕ)
+    (is : IsUpsert L (λ x. params_of (columns_of x)) upsert) (text : List ℕ) → IsInsert L (λ x. params_of (columns_of x)) upsert is text
+    → (old new : State) (columns : C) (values : Row) → values ≡ params_of columns → (count : ℕ) → Performs text values old new (Ok count)
+    → Advances old new (PutsColumns L columns_of columns)
+advances_inserted L columns_of params_of upsert is text it old new columns values are count ran =
+    performs_advances text values old new count (PutsColumns L columns_of columns) (λ executes x has.
+    inserts_by L (λ x. params_of (columns_of x)) upsert is text it old new x count
+    (subst (λ row. Executes text row old new (Ok count)) (are ∙ ap params_of (sym has)) executes)) ran
