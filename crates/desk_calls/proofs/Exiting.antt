@@ -1,5 +1,5 @@
 -- The exits of a call over an open store.
-use Rattle.std.proofs.Common.{◌≡◌, List, [], ◌∷◌, refl, sym, ap, subst, ◌∙◌, Result, Ok, Err, inl, inr, arith, true, false}
+use Rattle.std.proofs.Common.{◌≡◌, List, [], ◌∷◌, Option, refl, sym, ap, subst, ◌∙◌, Result, Ok, Err, inl, inr, arith, true, false}
 use Rattle.std.proofs.lemmas.Bool.{eqb-true}
 use Rattle.std.specs.Prelude.{nat_eq, length, IfErr, IsErrAnd}
 use Rattle.desk_model.specs.Entry.{History}
@@ -18,7 +18,7 @@ use Rattle.desk_decisions.specs.Decided.{IsDecision, IsFaultOf}
 use Rattle.desk_rules.specs.declared.fault.CoreFault.{CoreFault}
 use Rattle.desk_rules.specs.declared.fault.CoreFault.TheVariants as core
 use Rattle.desk_storage.specs.Sight.{Sight, Keeps, Stands}
-use Rattle.desk_storage.specs.Storing.{Fit, Loads, Saves}
+use Rattle.desk_storage.specs.Storing.{Causes, Fit, IsCutFrom, Loads, Saving, SavesFrom}
 use Rattle.desk_storage.specs.declared.fault.StorageFault.{StorageFault}
 use Rattle.desk_storage.specs.declared.fault.StorageFault.TheVariants as storagefault
 use Rattle.desk_calls.specs.Causes.{IsCaused}
@@ -88,11 +88,11 @@ module _ {S C : Type 0} (v : Sight S C) where
   loaded call old new book l = record { honest = l.reads.honest; left = l.reads.left; tables = l.reads.tables }
 
   -- changes that were not saved, out of memory
-  unwritten : (R : Type 0) (old new : S) (changes : List Change) (cause : StorageFault) → Saves v changes old new (failed R cause) →
+  unwritten : (R : Type 0) (old new : S) (part : Tables) (changes : List Change) (cause : StorageFault) → SavesFrom v part changes old new (failed R cause) →
       closes (storage_fault cause) ≡ false → Stands v old new
-  unwritten R old new changes storagefault.Memory s going = s.without_memory refl
-  unwritten R old new changes storagefault.Device s going = absurd (cc going)
-  unwritten R old new changes storagefault.Reopen s going = absurd (cc going)
+  unwritten R old new part changes storagefault.Memory s going = s.without_memory refl
+  unwritten R old new part changes storagefault.Device s going = absurd (cc going)
+  unwritten R old new part changes storagefault.Reopen s going = absurd (cc going)
 
   -- ---- exits, by a history
 
@@ -115,35 +115,38 @@ module _ {S C : Type 0} (v : Sight S C) where
       }
 
   -- the changes are saved
-  answers_saved : {R : Type 0} (F : History) (call : Call) (old new : S) (changes : List Change) (reply : Reply) (done : R) → v.is_honest new →
-      IsDecision F call changes reply → Keeps v old (picture F) → Saves v changes old new (Ok done) → IsAnswered v F call reply new
-  answers_saved F call old new changes reply done h d keeps s =
+  answers_saved : {R : Type 0} (F : History) (call : Call) (old new : S) (part : Tables) (changes : List Change) (reply : Reply) (done : R) → v.is_honest new →
+      IsCutFrom part (picture F) → IsDecision F call changes reply → Keeps v old (picture F) → SavesFrom v part changes old new (Ok done) →
+      IsAnswered v F call reply new
+  answers_saved F call old new part changes reply done h cut d keeps s =
       record {
         faultless = d.faultless;
         decided = d.replies;
         stays_legal = d.stays_legal;
-        keeps = subst (Keeps v new) d.makes (s.saved h (picture F) (fits F call changes reply d) keeps.tables);
+        keeps = subst (Keeps v new) d.makes (s.saved h (picture F) cut (fits F call changes reply d) keeps.tables);
       }
 
   -- a stop leaves all of them or none
-  either : {R : Type 0} (F : History) (call : Call) (old new : S) (changes : List Change) (reply : Reply) (result : Result R StorageFault) →
-      v.is_honest new → IsDecision F call changes reply → Keeps v old (picture F) → Saves v changes old new result → IsBroken v F call new
-  either F call old new changes reply result h d keeps s =
+  either : {R : Type 0} (F : History) (call : Call) (old new : S) (part : Tables) (changes : List Change) (reply : Reply) (result : Result R StorageFault) →
+      v.is_honest new → IsCutFrom part (picture F) → IsDecision F call changes reply → Keeps v old (picture F) → SavesFrom v part changes old new result →
+      IsBroken v F call new
+  either F call old new part changes reply result h cut d keeps s =
       λ c left. elim (s.left h c left) [
         | inl was ↦ inl (keeps.left c was)
-        | inr has ↦ inr (d.faultless, subst (v.has c) d.makes (has (picture F) (fits F call changes reply d) keeps.tables))
+        | inr has ↦ inr (d.faultless, subst (v.has c) d.makes (has (picture F) cut (fits F call changes reply d) keeps.tables))
       ]
 
   -- they are not saved
-  save_fails : (R : Type 0) (F : History) (call : Call) (old new : S) (changes : List Change) (reply : Reply) (cause : StorageFault) →
-      v.is_honest new → IsDecision F call changes reply → Keeps v old (picture F) → Saves v changes old new (failed R cause) →
+  save_fails : (R : Type 0) (F : History) (call : Call) (old new : S) (part : Tables) (changes : List Change) (reply : Reply) (cause : StorageFault) →
+      v.is_honest new → IsCutFrom part (picture F) → IsDecision F call changes reply → Keeps v old (picture F) → SavesFrom v part changes old new
+      (failed R cause) →
       ExitsBy v F call (storage_fault cause) new
-  save_fails R F call old new changes reply storagefault.Memory h d keeps s =
-      record { cause = tt; keeps = keeps_on old new (picture F) h (unwritten R old new changes storagefault.Memory s refl) keeps }
-  save_fails R F call old new changes reply storagefault.Device h d keeps s =
-      either F call old new changes reply (failed R storagefault.Device) h d keeps s
-  save_fails R F call old new changes reply storagefault.Reopen h d keeps s =
-      either F call old new changes reply (failed R storagefault.Reopen) h d keeps s
+  save_fails R F call old new part changes reply storagefault.Memory h cut d keeps s =
+      record { cause = tt; keeps = keeps_on old new (picture F) h (unwritten R old new part changes storagefault.Memory s refl) keeps }
+  save_fails R F call old new part changes reply storagefault.Device h cut d keeps s =
+      either F call old new part changes reply (failed R storagefault.Device) h cut d keeps s
+  save_fails R F call old new part changes reply storagefault.Reopen h cut d keeps s =
+      either F call old new part changes reply (failed R storagefault.Reopen) h cut d keeps s
 
   -- ---- the exits of the whole call
 
@@ -184,21 +187,23 @@ module _ {S C : Type 0} (v : Sight S C) where
 
   -- its changes are saved
   pub saved : {R : Type 0} (call : Call) (old mid new : S) (book : Tables) (changes : List Change) (reply : Reply) (done : R) → IsFormedCall call →
-      Loads v call old mid (Ok book) → Decides call book changes reply → Saves v changes mid new (Ok done) → Answers v call old new (Ok reply)
+      Loads v call old mid (Ok book) → Decides call book changes reply → SavesFrom v book changes mid new (Ok done) → Answers v call old new (Ok reply)
   saved {R} call old mid new book changes reply done formed l decides s =
       record {
         formed = formed;
         honest = λ h. l.reads.honest (s.honest h);
         unchanged = tt;
         exit =
-            λ h F legal keeps. answers_saved F call mid new changes reply done h (decides F legal (l.part (s.honest h) F legal keeps.tables))
+            λ h F legal keeps.
+            let enough = l.part (s.honest h) F legal keeps.tables in
+            answers_saved F call mid new book changes reply done h (enough.kept, enough.cut) (decides F legal enough)
             (keeps_on old mid (picture F) (s.honest h) (loaded call old mid book l) keeps) s;
       }
 
   -- they are not
   pub unsaved : (R : Type 0) (call : Call) (old mid new : S) (book : Tables) (changes : List Change) (reply : Reply) (cause : StorageFault)
       (result : Result Reply DeskFault) → IsFormedCall call → Loads v call old mid (Ok book) → Decides call book changes reply →
-      Saves v changes mid new (failed R cause) → Faults result (storage_fault cause) → Answers v call old new result
+      SavesFrom v book changes mid new (failed R cause) → Faults result (storage_fault cause) → Answers v call old new result
   unsaved R call old mid new book changes reply cause (Ok r) formed l decides s is = absurd is
   unsaved R call old mid new book changes reply cause (Err why) formed l decides s is =
       record {
@@ -206,16 +211,18 @@ module _ {S C : Type 0} (v : Sight S C) where
         honest = λ h. l.reads.honest (s.honest h);
         unchanged =
             subst (λ w. closes w ≡ false → Stands v old new) (sym is)
-            (λ going. stands_then old mid new (loaded call old mid book l) (unwritten R mid new changes cause s going));
+            (λ going. stands_then old mid new (loaded call old mid book l) (unwritten R mid new book changes cause s going));
         exit =
-            λ h F legal keeps. subst (λ w. ExitsBy v F call w new) (sym is)
-            (save_fails R F call mid new changes reply cause h (decides F legal (l.part (s.honest h) F legal keeps.tables))
+            λ h F legal keeps.
+            let enough = l.part (s.honest h) F legal keeps.tables in
+            subst (λ w. ExitsBy v F call w new) (sym is)
+            (save_fails R F call mid new book changes reply cause h (enough.kept, enough.cut) (decides F legal enough)
             (keeps_on old mid (picture F) (s.honest h) (loaded call old mid book l) keeps) s);
       }
 
   -- ---- what faults come from
 
-  module _ (causes : S → S → StorageFault → Type 0) where
+  module _ (causes : Causes S) where
     -- a fault of a decision comes of no store
     core_caused : (old new : S) (e : CoreFault) → IsCaused v causes old new (core_fault e)
     core_caused old new core.Memory = tt
@@ -224,10 +231,11 @@ module _ {S C : Type 0} (v : Sight S C) where
     core_caused old new core.Full = tt
 
     -- a fault of the store comes of it
-    storage_caused : (old mid new : S) (cause : StorageFault) → Stands v old mid → causes mid new cause → IsCaused v causes old new (storage_fault cause)
-    storage_caused old mid new storagefault.Memory stood is = tt
-    storage_caused old mid new storagefault.Device stood is = record { from = mid; stood = stood; cause = is }
-    storage_caused old mid new storagefault.Reopen stood is = record { from = mid; stood = stood; cause = is }
+    storage_caused : (old mid new : S) (saving : Option Saving) (cause : StorageFault) → Stands v old mid → causes saving mid new cause
+        → IsCaused v causes old new (storage_fault cause)
+    storage_caused old mid new saving storagefault.Memory stood is = tt
+    storage_caused old mid new saving storagefault.Device stood is = record { from = mid; stood = stood; saving = saving; cause = is }
+    storage_caused old mid new saving storagefault.Reopen stood is = record { from = mid; stood = stood; saving = saving; cause = is }
 
     -- and so of results
     pub core_result_caused : (old new : S) (e : CoreFault) (result : Result Reply DeskFault) → Faults result (core_fault e) →
@@ -235,8 +243,8 @@ module _ {S C : Type 0} (v : Sight S C) where
     core_result_caused old new e (Ok reply) is = absurd is
     core_result_caused old new e (Err why) is = subst (IsCaused v causes old new) (sym is) (core_caused old new e)
 
-    pub storage_result_caused : (old mid new : S) (cause : StorageFault) (result : Result Reply DeskFault) → Stands v old mid →
-        causes mid new cause → Faults result (storage_fault cause) → IfErr result (IsCaused v causes old new)
-    storage_result_caused old mid new cause (Ok reply) stood caused is = absurd is
-    storage_result_caused old mid new cause (Err why) stood caused is =
-        subst (IsCaused v causes old new) (sym is) (storage_caused old mid new cause stood caused)
+    pub storage_result_caused : (old mid new : S) (saving : Option Saving) (cause : StorageFault) (result : Result Reply DeskFault)
+        → Stands v old mid → causes saving mid new cause → Faults result (storage_fault cause) → IfErr result (IsCaused v causes old new)
+    storage_result_caused old mid new saving cause (Ok reply) stood caused is = absurd is
+    storage_result_caused old mid new saving cause (Err why) stood caused is =
+        subst (IsCaused v causes old new) (sym is) (storage_caused old mid new saving cause stood caused)

@@ -1,16 +1,19 @@
 -- What the faults of a call come from, over a store of which this is so before and after a call of its own that failed.
+use Rattle.std.specs.Prelude.{Option}
 use Rattle.desk_storage.specs.Sight.{Sight, Stands}
+use Rattle.desk_storage.specs.Storing.{Causes, Saving}
 use Rattle.desk_storage.specs.declared.fault.StorageFault.{StorageFault}
 use Rattle.desk_storage.specs.declared.fault.StorageFault.TheVariants as storagefault
 use Rattle.desk_calls.specs.declared.fault.DeskFault.{DeskFault}
 use Rattle.desk_calls.specs.declared.fault.DeskFault.TheVariants as deskfault
 
-module _ {S C : Type 0} (v : Sight S C) (causes : S → S → StorageFault → Type 0) where
-  -- the store failed by this fault, at once or behind look-ups that changed nothing
+module _ {S C : Type 0} (v : Sight S C) (causes : Causes S) where
+  -- the store failed by this fault, at once or behind look-ups that changed nothing: in a look-up, or in a saving
   pub record FailsBehind (old new : S) (why : StorageFault) : Type 0 where
     pub from : S
     pub stood : Stands v old from
-    pub cause : causes from new why
+    pub saving : Option Saving
+    pub cause : causes saving from new why
 
   -- a fault that closes the desk is one by which its store failed; that memory was refused may come of the decision alone
   abbrev pub IsCaused : S → S → DeskFault → Type 0

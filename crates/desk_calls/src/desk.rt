@@ -1,6 +1,7 @@
 //! One desk, which answers calls one after the other.
-ghost use Rattle.std.specs.Prelude.{◌≡◌, ◌<◌, ◌↔◌, IsTrue, true, false, Err, IfErr, IfOk, MatchResult, Some, []};
+ghost use Rattle.std.specs.Prelude.{◌≡◌, ◌<◌, ◌↔◌, IsTrue, true, false, Err, IfErr, IfOk, MatchResult, Ok, Some, []};
 ghost use Rattle.desk_storage.specs.Sight.{FailsToRead, ForTables, Stands};
+ghost use Rattle.desk_storage.specs.Storing.{Loads};
 ghost use Rattle.desk_calls.specs.declared.fault.DeskFault.TheVariants as fault;
 ghost use Rattle.desk_calls.specs.Answers.{Answers, is_closed_after};
 ghost use Rattle.desk_calls.specs.Causes.{IsCaused};
@@ -8,6 +9,7 @@ ghost use Rattle.desk_calls.specs.Runs.{Runs, RunsAs};
 ghost use Rattle.desk_model.specs.Limits.{last_moment};
 
 use crate::fault::DeskFault;
+use desk_book::Book;
 use desk_decisions::decide;
 use desk_model::{Call, LAST_MOMENT, Policy, Reply, keep_form};
 use desk_storage::{Storage, StorageFault};
@@ -39,6 +41,27 @@ impl<K: Storage + Drop> Model for Desk<K> {
     ghost view = { λ desk. record { store = desk.store; policy = desk.policy; is_closed = desk.is_closed } };
 }
 
+// The reply to a call, over an open store from which a part for it was loaded.
+fn attempt_by<K: Storage + Drop>(
+    alloc: Global,
+    store: &mut K,
+    part: &Book,
+    call: &Call,
+) -> Result<Reply, DeskFault>
+    ensures late { result ≡ Err fault.Moment → last_moment < call.now.at }
+    ensures caused { (was : K) → Stands K.Storage.sight was store.old → IfErr result (IsCaused K.Storage.sight K.Storage.causes was store.new) }
+    ensures exit { (was : K) → Loads K.Storage.sight call.now was store.old (Ok part.now) → Answers K.Storage.sight call.now was store.new result }
+{
+    keep_form(call);
+    let outcome = decide(alloc, part, call)?;
+    let changes = outcome.changes.as_slice();
+    if changes.is_empty() {
+        return Ok(outcome.reply);
+    }
+    store.save(alloc, part, outcome.changes)?;
+    Ok(outcome.reply)
+}
+
 // The reply to a call, over an open store.
 fn attempt<K: Storage + Drop>(alloc: Global, store: &mut K, call: &Call) -> Result<Reply, DeskFault>
     ensures late { result ≡ Err fault.Moment → last_moment < call.now.at }
@@ -46,16 +69,10 @@ fn attempt<K: Storage + Drop>(alloc: Global, store: &mut K, call: &Call) -> Resu
     ensures exit { Answers K.Storage.sight call.now store.old store.new result }
 {
     keep_form(call);
-    let book = store.load_part(alloc, call)?;
-    let decided = decide(alloc, &book, call);
-    drop(book);
-    let outcome = decided?;
-    let changes = outcome.changes.as_slice();
-    if changes.is_empty() {
-        return Ok(outcome.reply);
-    }
-    store.save(alloc, outcome.changes)?;
-    Ok(outcome.reply)
+    let part = store.load_part(alloc, call)?;
+    let attempted = attempt_by(alloc, store, &part, call);
+    drop(part);
+    attempted
 }
 
 impl<K: Storage + Drop> Desk<K> {
@@ -70,16 +87,25 @@ impl<K: Storage + Drop> Desk<K> {
             (λ un. FailsToRead K.Storage.sight store un.store un.fault) }
         ensures policy { IfOk result (λ desk. ForTables K.Storage.sight store desk.store (λ T. desk.policy ≡ T.meta.policy)) }
         ensures opened { IfOk result (λ desk. desk.is_closed ≡ false) }
-        ensures caused { IfErr result (λ un. K.Storage.causes store un.store un.fault) }
+        ensures caused { IfErr result (λ un. K.Storage.causes None store un.store un.fault) }
     {
         let mut store = store;
         match store.policy(alloc) {
-            Ok(policy) => Ok(Desk {
-                store,
-                policy,
-                is_closed: false,
-            }),
+            Ok(policy) => Ok(Desk::with_policy(store, policy)),
             Err(fault) => Err(Unadopted { fault, store }),
+        }
+    }
+
+    /// A desk over a store that is open, by the policy that the store told.
+    pub fn with_policy(store: K, policy: Policy) -> Desk<K>
+        ensures store { result.store ≡ store }
+        ensures policy { result.policy ≡ policy }
+        ensures opened { result.is_closed ≡ false }
+    {
+        Desk {
+            store,
+            policy,
+            is_closed: false,
         }
     }
 

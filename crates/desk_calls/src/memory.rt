@@ -61,7 +61,7 @@ impl Storage for Memory {
 
     ghost sight = { in_memory };
 
-    ghost causes = { λ old new why. why ≡ memory_fault };
+    ghost causes = { λ saving old new why. why ≡ memory_fault };
 
     fn policy(&mut self, alloc: Global) -> Result<Policy, StorageFault> {
         Ok(self.book.meta().policy.clone()?)
@@ -75,7 +75,12 @@ impl Storage for Memory {
         }
     }
 
-    fn save(&mut self, _alloc: Global, changes: Vec<Change>) -> Result<(), StorageFault> {
+    fn save(
+        &mut self,
+        _alloc: Global,
+        _part: &Book,
+        changes: Vec<Change>,
+    ) -> Result<(), StorageFault> {
         Ok(self.book.apply(changes)?)
     }
 }

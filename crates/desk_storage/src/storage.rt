@@ -1,8 +1,7 @@
 //! A store of the tables of a desk.
-ghost use Rattle.std.specs.Prelude.{◌≡◌, IfErr, IfOk};
-ghost use Rattle.desk_storage.specs.declared.fault.StorageFault.{StorageFault as Fault};
+ghost use Rattle.std.specs.Prelude.{◌≡◌, IfErr, IfOk, None, Some};
 ghost use Rattle.desk_storage.specs.Sight.{ForTables, Reads, Sight};
-ghost use Rattle.desk_storage.specs.Storing.{Loads, Saves};
+ghost use Rattle.desk_storage.specs.Storing.{Causes, Loads, SavesFrom};
 
 use crate::fault::StorageFault;
 use desk_book::Book;
@@ -17,8 +16,9 @@ pub trait Storage {
     // What may be said of the store.
     ghost sight: { Sight Self Content };
 
-    // What is so of the store before and after a call that failed with this fault: what the fault comes from.
-    ghost causes: { Self → Self → Fault → Type 0 };
+    // What is so of the store before and after a call that failed with this fault, a look-up or the saving of these changes: what
+    // the fault comes from.
+    ghost causes: { Causes Self };
 
     /// The policy that the desk was made with.
     ///
@@ -28,7 +28,7 @@ pub trait Storage {
     fn policy(&mut self, alloc: Global) -> Result<Policy, StorageFault>
         ensures reads { Reads sight self.old self.new result }
         ensures found { ForTables sight self.old self.new (λ T. IfOk result (λ policy. policy ≡ T.meta.policy)) }
-        ensures caused { IfErr result (causes self.old self.new) };
+        ensures caused { IfErr result (causes None self.old self.new) };
 
     /// A book of rows that are enough for the call: it answers as all rows do.
     ///
@@ -37,15 +37,16 @@ pub trait Storage {
     /// `Memory`: the store has what it had. `Device` or `Reopen`: it is to be opened again.
     fn load_part(&mut self, alloc: Global, call: &Call) -> Result<Book, StorageFault>
         ensures loads { Loads sight call.now self.old self.new result }
-        ensures caused { IfErr result (causes self.old self.new) };
+        ensures caused { IfErr result (causes None self.old self.new) };
 
-    /// Makes the changes in turn, all of them or none.
+    /// Makes the changes in turn, all of them or none. The part has rows of the tables as they are, and may tell which of those
+    /// that are put need not be written whole.
     ///
     /// # Errors
     ///
     /// `Memory`: the store has what it had. `Device` or `Reopen`: it is to be opened again, and then has all changes or
     /// none.
-    fn save(&mut self, alloc: Global, changes: Vec<Change>) -> Result<(), StorageFault>
-        ensures saves { Saves sight changes.items self.old self.new result }
-        ensures caused { IfErr result (causes self.old self.new) };
+    fn save(&mut self, alloc: Global, part: &Book, changes: Vec<Change>) -> Result<(), StorageFault>
+        ensures saves { SavesFrom sight part.now changes.items self.old self.new result }
+        ensures caused { IfErr result (causes (Some (record { part = part.now; changes = changes.items })) self.old self.new) };
 }

@@ -69,6 +69,13 @@ pub book_shown : {S E : Type 0} (g : Ghosts S) (conn : Held S) (stored : StoredR
 book_shown g conn stored (Ok book) is shown = record { stored = stored; shown = shown; is_book = is }
 book_shown g conn stored (Err why) is shown = tt
 
+-- that there is a book was so before a call that changed nothing
+pub shows_still : {S E : Type 0} (g : Ghosts S) (old mid : Held S) (result : Result (Unit {0}) E) → (state g mid).now ≡ (state g old).now
+    → OnOk result ((book : Tables) × ShowsBook g mid book) → OnOk result ((book : Tables) × ShowsBook g old book)
+shows_still g old mid (Ok done) same (book, it) =
+    (book, record { stored = it.stored; shown = shown_before g old mid it.stored same it.shown; is_book = it.is_book })
+shows_still g old mid (Err why) same it = tt
+
 -- and so it was before calls that changed nothing
 pub whole_still : {S : Type 0} (g : Ghosts S) (old mid : Held S) → (state g mid).now ≡ (state g old).now → IsWhole g mid → IsWhole g old
 whole_still g old mid same whole = record {

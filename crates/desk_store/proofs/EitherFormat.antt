@@ -18,6 +18,7 @@ use Rattle.desk_schema.specs.Schema.{desk_schema, first_schema}
 use Rattle.desk_schema.specs.Stays.{Asks}
 use Rattle.desk_storage.specs.Sight.{Keeps}
 use Rattle.desk_store.specs.Desks.{IsDesk, store_sight}
+use Rattle.desk_store.specs.Known.{IsKnownOf}
 use Rattle.desk_store.specs.Making.{IsOfStorage}
 use Rattle.desk_store.specs.Opening.{IsUpgraded, IsWhole, IsWholeFirst, ShowsBook, ShowsFirstBook}
 use Rattle.desk_store.specs.declared.open_fault.OpenFault.{OpenFault}
@@ -173,15 +174,18 @@ second_desk db old T has holds =
     record { holds = holds; book = has.desk.book }
 
 -- and a store over them keeps them
-pub keeps_second : {S : Type 0} (g : Ghosts S) (old : State) (store : Store S) (T : Tables) → HasFirst old T → HasSecond (state g store.conn) T
-    → Keeps (store_sight g) store T
-keeps_second g old store T has second = record {
+pub keeps_second : {S : Type 0} (g : Ghosts S) (old : State) (store : Store S) (T : Tables) → IsKnownOf store.known T → HasFirst old T
+    → HasSecond (state g store.conn) T → Keeps (store_sight g) store T
+keeps_second g old store T known has second = record {
   tables = record {
-    is_open = second.is_open;
-    idle = second.idle;
-    unlimited = second.unlimited;
-    settled = second.settled;
-    desk = second_desk _ old T has second.holds;
+    desk = record {
+      is_open = second.is_open;
+      idle = second.idle;
+      unlimited = second.unlimited;
+      settled = second.settled;
+      desk = second_desk _ old T has second.holds;
+    };
+    known = known;
   };
   left = λ trees may. let left = second.left trees may in (left.0, left.1, second_desk left.0 old T has left.2);
 }

@@ -1,19 +1,26 @@
 -- What a call that failed left.
-use Rattle.std.proofs.Common.{◌≡◌, Result, Ok, Err, inl, inr, subst, arith}
+use Rattle.std.proofs.Common.{◌≡◌, List, None, Result, Ok, Err, inl, inr, subst, arith}
 use Rattle.std.specs.Prelude.{◌⊎◌, IfErr, MatchResult}
-use Rattle.sqlite.specs.Held.{state}
+use Rattle.sqlite.specs.Held.{Held, state}
 use Rattle.sqlite.specs.State.{State, HasCleanDisk, IsUnchanged, Survives}
 use Rattle.sqlite.specs.Store.{Ghosts}
 use Rattle.sqlite.proofs.StateLemmas.{survives_then}
+use Rattle.desk_model.specs.Tables.{Tables}
 use Rattle.desk_saving.specs.Committing.{IsBeforeCommit}
+use Rattle.desk_saving.specs.Refusals.{IsCause}
+use Rattle.desk_saving.specs.Statements.{Sql}
 use Rattle.desk_saving.specs.declared.fault.SaveFault.{SaveFault}
+use Rattle.desk_saving.proofs.Exits.{survives_both}
+use Rattle.desk_saving.proofs.Told.{cause_then}
+use Rattle.desk_schema.proofs.StaysLemmas.{asks_then}
 use Rattle.desk_schema.specs.Stays.{Asks}
+use Rattle.desk_upgrading.specs.FirstDesks.{HasFirst}
 use Rattle.desk_storage.specs.Sight.{Reads}
 use Rattle.desk_storage.specs.declared.fault.StorageFault.{StorageFault}
 use Rattle.desk_store.specs.Causes.{Failed, FailedToSave, IsOfSave, LeavesNothing}
 use Rattle.desk_store.specs.Desks.{store_sight}
 use Rattle.desk_store.specs.Making.{IsOfStorage}
-use Rattle.desk_store.specs.Opening.{FailedToOpen, HasLaterFormat}
+use Rattle.desk_store.specs.Opening.{FailedToOpen, FailedToUpgrade}
 use Rattle.desk_store.specs.declared.open_fault.OpenFault.{OpenFault}
 use Rattle.desk_store.specs.declared.open_fault.OpenFault.TheVariants.{NewerFormat, NotADesk, Storage}
 use Rattle.desk_store.specs.declared.store.Store.{Store}
@@ -37,20 +44,14 @@ nothing_then old mid new one next = record {
 -- ---- saving
 
 -- a save that failed, and the test whether the connection still answers
-pub failed_to_save : (old mid new : State) (refusal : SaveFault) (why : StorageFault) → IsOfSave refusal why
-    → (IsBeforeCommit refusal → Survives old mid (λ _. ⊥)) → Asks mid new → FailedToSave old new why
-failed_to_save old mid new refusal why fault early tested = record {
+pub failed_to_save : {S : Type 0} (g : Ghosts S) (Fits : Type 0) (all : List Sql) (old mid new : Held S) (refusal : SaveFault) (why : StorageFault)
+    → IsOfSave refusal why → IsCause g Fits all old mid refusal → (IsBeforeCommit refusal → Survives (state g old) (state g mid) (λ _. ⊥))
+    → Asks (state g mid) (state g new) → FailedToSave g Fits all old new why
+failed_to_save g Fits all old mid new refusal why fault cause early tested = record {
   refusal = refusal;
   fault = fault;
-  before = λ is. leaves_nothing old new (survives_then old mid new _ _ (λ _. ⊥) (λ _ _ none. none) (λ _ _ none. none) (early is) tested.survives);
-}
-
--- and one behind a call that only asked
-pub failed_behind : (old mid new : State) (why : StorageFault) → Asks old mid → FailedToSave mid new why → FailedToSave old new why
-failed_behind old mid new why asked save = record {
-  refusal = save.refusal;
-  fault = save.fault;
-  before = λ is. nothing_then old mid new (leaves_nothing old mid asked.survives) (save.before is);
+  cause = cause_then g Fits all old mid new refusal cause tested.survives;
+  before = λ is. leaves_nothing (state g old) (state g new) (survives_both (state g old) (state g mid) (state g new) (early is) tested.survives);
 }
 
 -- a reading of the store
@@ -60,31 +61,45 @@ reads_nothing g old new result reads = record { honest = reads.honest; left = re
 
 -- and one that failed
 pub read_failed : {S R : Type 0} (g : Ghosts S) (old new : Store S) (result : Result R StorageFault) → Reads (store_sight g) old new result
-    → IfErr result (Failed (state g old.conn) (state g new.conn))
+    → IfErr result (Failed g None old.conn new.conn)
 read_failed g old new (Ok read) reads = tt
-read_failed g old new (Err why) reads = inl (reads_nothing g old new (Err why) reads)
+read_failed g old new (Err why) reads = reads_nothing g old new (Err why) reads
 
 -- ---- opening
 
 -- an opening that only asked
-pub opened_nothing : (old new : State) (f : OpenFault) → LeavesNothing old new → FailedToOpen old new f
-opened_nothing old new (Storage why) left = inl left
-opened_nothing old new NotADesk left = left
-opened_nothing old new NewerFormat left = left
+pub opened_nothing : {S : Type 0} (g : Ghosts S) (old new : Held S) (f : OpenFault) → LeavesNothing (state g old) (state g new) → FailedToOpen g old new f
+opened_nothing g old new (Storage why) left = inl left
+opened_nothing g old new NotADesk left = left
+opened_nothing g old new NewerFormat left = left
 
 -- whatever it answers
-pub asked_to_open : {R : Type 0} (old new : State) (result : Result R OpenFault) → Asks old new → IfErr result (FailedToOpen old new)
-asked_to_open old new (Ok done) asked = tt
-asked_to_open old new (Err f) asked = opened_nothing old new f (leaves_nothing old new asked.survives)
+pub asked_to_open : {S R : Type 0} (g : Ghosts S) (old new : Held S) (result : Result R OpenFault) → Asks (state g old) (state g new)
+    → IfErr result (FailedToOpen g old new)
+asked_to_open g old new (Ok done) asked = tt
+asked_to_open g old new (Err f) asked = opened_nothing g old new f (leaves_nothing (state g old) (state g new) asked.survives)
 
--- one behind a call that only asked
-open_behind : (old mid new : State) (f : OpenFault) → Asks old mid → FailedToOpen mid new f → FailedToOpen old new f
-open_behind old mid new (Storage why) asked (inl left) = inl (nothing_then old mid new (leaves_nothing old mid asked.survives) left)
-open_behind old mid new (Storage why) asked (inr save) = inr (failed_behind old mid new why asked save)
-open_behind old mid new NotADesk asked left = nothing_then old mid new (leaves_nothing old mid asked.survives) left
-open_behind old mid new NewerFormat asked left = nothing_then old mid new (leaves_nothing old mid asked.survives) left
+-- ---- behind a call that only asked, and changed nothing
 
--- whatever it answers
-pub opened_behind : {R : Type 0} (old mid new : State) (result : Result R OpenFault) → Asks old mid → IfErr result (FailedToOpen mid new)
-    → IfErr result (FailedToOpen old new)
-opened_behind old mid new result asked = of_faults (FailedToOpen mid new) (FailedToOpen old new) result (λ f. open_behind old mid new f asked)
+module _ {S : Type 0} (g : Ghosts S) (old mid new : Held S) (asked : Asks (state g old) (state g mid))
+    (first : HasCleanDisk (state g mid) → (T : Tables) → HasFirst (state g old) T → HasFirst (state g mid) T) where
+  -- an upgrade
+  upgrade_behind : (why : StorageFault) → FailedToUpgrade g mid new why → FailedToUpgrade g old new why
+  upgrade_behind why it = record {
+    from = it.from;
+    asked = asks_then (state g old) (state g mid) (state g it.from) asked it.asked;
+    book = it.book;
+    rows = λ clean T has. it.rows clean T (first (let le = it.asked.survives.clean in omega (arith, clean, le)) T has);
+    save = it.save;
+  }
+
+  -- an opening
+  open_behind : (f : OpenFault) → FailedToOpen g mid new f → FailedToOpen g old new f
+  open_behind (Storage why) (inl left) = inl (nothing_then (state g old) (state g mid) (state g new) (leaves_nothing _ _ asked.survives) left)
+  open_behind (Storage why) (inr upgrade) = inr (upgrade_behind why upgrade)
+  open_behind NotADesk left = nothing_then (state g old) (state g mid) (state g new) (leaves_nothing _ _ asked.survives) left
+  open_behind NewerFormat left = nothing_then (state g old) (state g mid) (state g new) (leaves_nothing _ _ asked.survives) left
+
+  -- whatever it answers
+  pub opened_behind : {R : Type 0} (result : Result R OpenFault) → IfErr result (FailedToOpen g mid new) → IfErr result (FailedToOpen g old new)
+  opened_behind result = of_faults (FailedToOpen g mid new) (FailedToOpen g old new) result open_behind

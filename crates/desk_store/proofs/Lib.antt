@@ -2,6 +2,7 @@ pub mod Books
 pub mod EitherFormat
 pub mod Failing
 pub mod FirstBooks
+pub mod Knowing
 pub mod NewDesks
 pub mod OpeningFaults
 pub mod SavedDesks

@@ -1,7 +1,7 @@
 -- What a connection still holds after calls that change nothing.
 use Rattle.std.proofs.Common.{◌≡◌, Result, Ok, Err, inl, inr, sym, subst, ◌∙◌, arith}
 use Rattle.std.specs.Prelude.{IfOk, IsTrue, false}
-use Rattle.sqlite.specs.Held.{Held, state}
+use Rattle.sqlite.specs.Held.{state}
 use Rattle.sqlite.specs.State.{State, HasCleanDisk, IsUnchanged, Survives}
 use Rattle.sqlite.specs.Store.{Ghosts}
 use Rattle.sqlite.specs.Tree.{Trees}
@@ -14,7 +14,9 @@ use Rattle.desk_storage.specs.Sight.{Reads, Stands}
 use Rattle.desk_storage.specs.declared.fault.StorageFault.{StorageFault}
 use Rattle.desk_storage.specs.declared.fault.StorageFault.TheVariants as fault
 use Rattle.desk_schema.proofs.StaysLemmas.{asks_then}
-use Rattle.desk_store.specs.Desks.{HasDesk, IsDesk, sight_by}
+use Rattle.desk_store.specs.Desks.{HasDesk, HasTables, IsDesk, store_sight}
+use Rattle.desk_store.specs.Known.{IsKnownOf}
+use Rattle.desk_store.specs.declared.store.Store.{Store}
 
 -- ---- states
 
@@ -64,59 +66,85 @@ failed R why = Err why
 pub same_fault : {R E : Type 0} (a b : E) → failed R a ≡ failed R b → a ≡ b
 same_fault a b same = cc
 
--- ---- what owns a connection
+-- ---- a store
 
-module _ {S X : Type 0} (g : Ghosts S) (conn : X → Held S) where
+module _ {S : Type 0} (g : Ghosts S) where
   -- a stop leaves no more than it did
-  pub left_by : (old new : X) → Survives (state g (conn old)) (state g (conn new)) (λ _. ⊥) → HasCleanDisk (state g (conn new)) → (c : Trees)
-      → (state g (conn new)).may_leave c → (state g (conn old)).may_leave c
+  pub left_by : (old new : Store S) → Survives (state g old.conn) (state g new.conn) (λ _. ⊥) → HasCleanDisk (state g new.conn) → (c : Trees)
+      → (state g new.conn).may_leave c → (state g old.conn).may_leave c
   left_by old new survives clean c may = elim (survives.crash clean c may) [ inl was ↦ was | inr none ↦ absurd none ]
 
   -- the disk was honest before
-  pub honest_by : {P : Trees → Type 0} (old new : X) → Survives (state g (conn old)) (state g (conn new)) P → HasCleanDisk (state g (conn new))
-      → HasCleanDisk (state g (conn old))
-  honest_by old new survives clean = let le = survives.clean in omega arith
+  pub honest_by : {P : Trees → Type 0} (old new : Store S) → Survives (state g old.conn) (state g new.conn) P → HasCleanDisk (state g new.conn)
+      → HasCleanDisk (state g old.conn)
+  honest_by old new survives clean = let le = survives.clean in omega (arith, clean, le)
 
-  -- nothing changed
-  pub stands_by : (old new : X) → Survives (state g (conn old)) (state g (conn new)) (λ _. ⊥)
-      → (HasCleanDisk (state g (conn new)) → (T : Tables) → HasDesk (state g (conn old)) T → HasDesk (state g (conn new)) T)
-      → Stands (sight_by g conn) old new
-  stands_by old new survives has = record {
+  -- nothing changed, and nothing is known but what was so
+  pub stands_by : (old new : Store S) → Survives (state g old.conn) (state g new.conn) (λ _. ⊥)
+      → ((T : Tables) → IsKnownOf old.known T → IsKnownOf new.known T)
+      → (HasCleanDisk (state g new.conn) → (T : Tables) → HasDesk (state g old.conn) T → HasDesk (state g new.conn) T)
+      → Stands (store_sight g) old new
+  stands_by old new survives known has = record {
     honest = honest_by old new survives;
     left = left_by old new survives;
-    tables = has;
+    tables = λ clean T held. record { desk = has clean T held.desk; known = known T held.known };
   }
 
   -- a call that read what was asked for
-  pub reads_ok : {R : Type 0} (old new : X) (read : R) → Asks (state g (conn old)) (state g (conn new))
-      → (HasCleanDisk (state g (conn new)) → IsUnchanged (state g (conn old)) (state g (conn new))) → Reads (sight_by g conn) old new (Ok read)
-  reads_ok old new read asks same = record {
+  pub reads_ok : {R : Type 0} (old new : Store S) (read : R) → old.known ≡ new.known → Asks (state g old.conn) (state g new.conn)
+      → (HasCleanDisk (state g new.conn) → IsUnchanged (state g old.conn) (state g new.conn)) → Reads (store_sight g) old new (Ok read)
+  reads_ok old new read known asks same = record {
     honest = honest_by old new asks.survives;
     left = left_by old new asks.survives;
-    tables = λ clean T has. desk_unchanged (state g (conn old)) (state g (conn new)) T asks.survives.limit (same clean) has;
+    tables = λ clean T held. record {
+      desk = desk_unchanged (state g old.conn) (state g new.conn) T asks.survives.limit (same clean) held.desk;
+      known = subst (λ k. IsKnownOf k T) known held.known;
+    };
     without_memory = tt;
   }
 
   -- a call that failed; the connection of a store that goes on is open
-  pub reads_failed : {R : Type 0} (old new : X) (why : StorageFault) → Asks (state g (conn old)) (state g (conn new))
-      → (HasCleanDisk (state g (conn new)) → why ≡ fault.Memory → IsTrue (state g (conn new)).is_open) → Reads (sight_by g conn) old new (failed R why)
-  reads_failed old new why asks is_open = record {
+  pub reads_failed : {R : Type 0} (old new : Store S) (why : StorageFault) → old.known ≡ new.known → Asks (state g old.conn) (state g new.conn)
+      → (HasCleanDisk (state g new.conn) → why ≡ fault.Memory → IsTrue (state g new.conn).is_open) → Reads (store_sight g) old new (failed R why)
+  reads_failed old new why known asks is_open = record {
     honest = honest_by old new asks.survives;
     left = left_by old new asks.survives;
     tables = tt;
-    without_memory = λ memory clean T has. desk_stays (state g (conn old)) (state g (conn new)) T (is_open clean memory) asks clean has;
+    without_memory = λ memory clean T held. record {
+      desk = desk_stays (state g old.conn) (state g new.conn) T (is_open clean memory) asks clean held.desk;
+      known = subst (λ k. IsKnownOf k T) known held.known;
+    };
   }
 
   -- a call that failed; the connection of a store that goes on still answered
-  pub reads_err : {R : Type 0} (old new : X) (mid : State) (why : StorageFault) → Asks (state g (conn old)) mid → Asks mid (state g (conn new))
-      → (HasCleanDisk (state g (conn new)) → why ≡ fault.Memory → IsUnchanged mid (state g (conn new))) → Reads (sight_by g conn) old new (failed R why)
-  reads_err old new mid why asked tested same =
-      reads_failed old new why (asks_then (state g (conn old)) mid (state g (conn new)) asked tested) (λ clean memory. (same clean memory).0.is_open)
+  pub reads_err : {R : Type 0} (old new : Store S) (mid : State) (why : StorageFault) → old.known ≡ new.known → Asks (state g old.conn) mid
+      → Asks mid (state g new.conn)
+      → (HasCleanDisk (state g new.conn) → why ≡ fault.Memory → IsUnchanged mid (state g new.conn)) → Reads (store_sight g) old new (failed R why)
+  reads_err old new mid why known asked tested same =
+      reads_failed old new why known (asks_then (state g old.conn) mid (state g new.conn) asked tested) (λ clean memory. (same clean memory).0.is_open)
 
--- what a reading found is found by what hands it on
-pub hands_on : {R E : Type 0} (P : Tables → R → Type 0) (old mid new : State) (read : Result R E) (result : Result R StorageFault)
-    → ForHeld old mid (λ T. IsStoredBook T → IfOk read (P T)) → IfOk result (λ found. read ≡ Ok found) → (HasCleanDisk new → HasCleanDisk mid)
-    → HasCleanDisk new → (T : Tables) → HasDesk old T → IfOk result (P T)
-hands_on P old mid new read (Ok found) of same honest clean T has =
-    subst (λ r. IfOk r (P T)) same (of (honest clean) T has.desk.holds has.desk.book)
-hands_on P old mid new read (Err why) of same honest clean T has = tt
+  -- what a reading found is found by what hands it on
+  pub hands_on : {R E : Type 0} (P : Tables → R → Type 0) (old : Store S) (mid new : State) (read : Result R E) (result : Result R StorageFault)
+      → ForHeld (state g old.conn) mid (λ T. IsStoredBook T → IfOk read (P T)) → IfOk result (λ found. read ≡ Ok found)
+      → (HasCleanDisk new → HasCleanDisk mid) → HasCleanDisk new → (T : Tables) → HasTables g old T → IfOk result (P T)
+  hands_on P old mid new read (Ok found) of same honest clean T has =
+      subst (λ r. IfOk r (P T)) same (of (honest clean) T has.desk.desk.holds has.desk.desk.book)
+  hands_on P old mid new read (Err why) of same honest clean T has = tt
+
+  -- a store that knows more of what was read has what it had
+  pub reads_knowing : {A B : Type 0} (old mid new : Store S) (a : A) (b : B) → new.conn ≡ mid.conn → Reads (store_sight g) old mid (Ok a)
+      → (HasCleanDisk (state g mid.conn) → (T : Tables) → HasTables g old T → IsKnownOf mid.known T → IsKnownOf new.known T)
+      → Reads (store_sight g) old new (Ok b)
+  reads_knowing old mid new a b same read known =
+      let there : HasCleanDisk (state g new.conn) → HasCleanDisk (state g mid.conn) = λ clean. subst (λ c. HasCleanDisk (state g c)) same clean in
+      record {
+        honest = λ clean. read.honest (there clean);
+        left = λ clean c may. read.left (there clean) c (subst (λ conn. (state g conn).may_leave c) same may);
+        tables = λ clean T held.
+            let tables = read.tables (there clean) T held in
+            record {
+              desk = subst (λ conn. HasDesk (state g conn) T) (sym same) tables.desk;
+              known = known (there clean) T held tables.known;
+            };
+        without_memory = tt;
+      }

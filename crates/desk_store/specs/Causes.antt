@@ -1,15 +1,24 @@
 -- Which fault an error of the engine is.
-use Rattle.std.specs.Prelude.{◌≡◌, ◌⊎◌}
+use Rattle.std.specs.Prelude.{◌≡◌, ◌⊎◌, ℕ, List, false, Option, None, Some}
+use Rattle.sqlite.specs.Held.{Held, state}
 use Rattle.sqlite.specs.State.{State, HasCleanDisk}
+use Rattle.sqlite.specs.Store.{Ghosts}
 use Rattle.sqlite.specs.Tree.{Trees}
 use Rattle.sqlite.specs.declared.error.Error.{Error}
 use Rattle.sqlite.specs.declared.error.Error.TheVariants.{SqliteFailure}
 use Rattle.sqlite.specs.declared.error.ErrorCode.TheVariants as code
+use Rattle.desk_model.specs.Kept.{EachOf}
+use Rattle.desk_model.specs.declared.rows.Change.{Change}
+use Rattle.desk_model.specs.declared.rows.OrderRow.{OrderRow}
 use Rattle.desk_reading.specs.declared.fault.ReadFault.{ReadFault}
 use Rattle.desk_reading.specs.declared.fault.ReadFault.TheVariants.{Engine, NotARow}
 use Rattle.desk_saving.specs.Committing.{IsBeforeCommit}
+use Rattle.desk_saving.specs.Numbers.{FitsColumns}
+use Rattle.desk_saving.specs.Refusals.{IsCause}
+use Rattle.desk_saving.specs.Statements.{Sql, save_statements}
 use Rattle.desk_saving.specs.declared.fault.SaveFault.{SaveFault}
 use Rattle.desk_saving.specs.declared.fault.SaveFault.TheVariants.{Row, Statement, Commit}
+use Rattle.desk_storage.specs.Storing.{Saving}
 use Rattle.desk_storage.specs.declared.fault.StorageFault.{StorageFault}
 use Rattle.desk_storage.specs.declared.fault.StorageFault.TheVariants as fault
 use Rattle.desk_store.specs.declared.faults.Cause.{Cause}
@@ -61,15 +70,24 @@ pub record LeavesNothing (old new : State) : Type 0 where
   pub honest : HasCleanDisk new → HasCleanDisk old
   pub left : HasCleanDisk new → (trees : Trees) → new.may_leave trees → old.may_leave trees
 
--- a save failed by this refusal, of which the fault comes; only a commit may have written
-pub record FailedToSave (old new : State) (why : StorageFault) : Type 0 where
-  pub refusal : SaveFault
-  pub fault : IsOfSave refusal why
-  pub before : IsBeforeCommit refusal → LeavesNothing old new
+module _ {S : Type 0} (g : Ghosts S) where
+  -- a transaction of these statements failed by this refusal, which has a cause, and of which the fault comes; only a commit may
+  -- have written
+  pub record FailedToSave (Fits : Type 0) (all : List Sql) (old new : Held S) (why : StorageFault) : Type 0 where
+    pub refusal : SaveFault
+    pub fault : IsOfSave refusal why
+    pub cause : IsCause g Fits all old new refusal
+    pub before : IsBeforeCommit refusal → LeavesNothing (state g old) (state g new)
 
--- a call of the store failed: it wrote nothing, or it was to save
-abbrev pub Failed : State → State → StorageFault → Type 0
-Failed old new why = LeavesNothing old new ⊎ FailedToSave old new why
+  -- changes were not saved, where these orders are known, and this is the last serial of a nonce
+  abbrev pub FailedToChange : List OrderRow → ℕ → List Change → Held S → Held S → StorageFault → Type 0
+  FailedToChange known last changes = FailedToSave (EachOf FitsColumns changes) (save_statements known last changes)
+
+  -- a look-up failed, and wrote nothing; or a saving failed, of a store that was in no transaction
+  abbrev pub Failed : Option Saving → Held S → Held S → StorageFault → Type 0
+  Failed None old new why = LeavesNothing (state g old) (state g new)
+  Failed (Some saving) old new why =
+      old.in_transaction ≡ false → FailedToChange saving.part.orders saving.part.meta.counters.nonces saving.changes old new why
 
 -- the fault of a reading that failed in opening: of memory, the disk or a size it is the store's, else there is no desk
 abbrev pub IsOfOpening : Cause → OpenFault → Type 0

@@ -1,7 +1,7 @@
 -- When a connection holds a desk, and what a stop leaves of it.
 use Rattle.std.specs.Prelude.{◌≡◌, false, None, IsTrue}
 use Rattle.sqlite.specs.Effect.{Database}
-use Rattle.sqlite.specs.Held.{Held, state}
+use Rattle.sqlite.specs.Held.{state}
 use Rattle.sqlite.specs.State.{State, HasCleanDisk}
 use Rattle.sqlite.specs.Store.{Ghosts}
 use Rattle.sqlite.specs.Tree.{Trees}
@@ -9,6 +9,7 @@ use Rattle.desk_model.specs.Entry.{History}
 use Rattle.desk_model.specs.Legal.{Legal}
 use Rattle.desk_model.specs.Tables.{Tables, picture}
 use Rattle.desk_storage.specs.Sight.{Sight}
+use Rattle.desk_store.specs.Known.{IsKnownOf}
 use Rattle.desk_store.specs.declared.store.Store.{Store}
 use Rattle.desk_tables.specs.Holds.{Holds}
 use Rattle.stored_rows.specs.IsBook.{IsStoredBook}
@@ -34,15 +35,16 @@ pub record HasDesk (s : State) (T : Tables) : Type 0 where
 abbrev pub AreOfDesk : Trees → Tables → Type 0
 AreOfDesk trees T = (db : Database) × (trees ≡ db.trees) × IsDesk db T
 
--- what may be said of what owns a connection, which this gives
-abbrev pub sight_by : {S X : Type 0} → Ghosts S → (X → Held S) → Sight X Trees
-sight_by g conn = record {
-  is_honest = λ x. HasCleanDisk (state g (conn x));
-  holds = λ x T. HasDesk (state g (conn x)) T;
-  leaves = λ x trees. (state g (conn x)).may_leave trees;
-  has = AreOfDesk;
-}
+-- a store has these tables where its connection has them, and what it knows is so of them
+pub record HasTables {S : Type 0} (g : Ghosts S) (store : Store S) (T : Tables) : Type 0 where
+  pub desk : HasDesk (state g store.conn) T
+  pub known : IsKnownOf store.known T
 
 -- what may be said of a store
 abbrev pub store_sight : {S : Type 0} → Ghosts S → Sight (Store S) Trees
-store_sight g = sight_by g (λ store. store.conn)
+store_sight g = record {
+  is_honest = λ store. HasCleanDisk (state g store.conn);
+  holds = HasTables g;
+  leaves = λ store trees. (state g store.conn).may_leave trees;
+  has = AreOfDesk;
+}

@@ -1,4 +1,5 @@
 pub mod Causes
 pub mod Desks
+pub mod Known
 pub mod Making
 pub mod Opening

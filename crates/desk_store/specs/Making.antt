@@ -1,16 +1,21 @@
 -- What making a desk leaves.
 use Rattle.std.specs.Prelude.{◌≡◌, ℕ, None}
+use Rattle.sqlite.specs.Held.{Held}
 use Rattle.sqlite.specs.State.{State}
+use Rattle.sqlite.specs.Store.{Ghosts}
 use Rattle.sqlite.specs.Tree.{Trees}
 use Rattle.desk_model.specs.History.{first_history}
 use Rattle.desk_model.specs.Terms.{Terms}
 use Rattle.desk_model.specs.Tables.{picture}
+use Rattle.desk_model.specs.declared.rows.Meta.{Meta}
+use Rattle.desk_saving.specs.Statements.{make_statements}
 use Rattle.desk_schema.specs.Schema.{no_schema}
 use Rattle.desk_storage.specs.declared.fault.StorageFault.{StorageFault}
 use Rattle.desk_store.specs.Causes.{FailedToSave}
 use Rattle.desk_store.specs.Desks.{AreOfDesk, HasDesk}
 use Rattle.desk_store.specs.declared.open_fault.OpenFault.{OpenFault}
 use Rattle.desk_store.specs.declared.open_fault.OpenFault.TheVariants.{Storage}
+use Rattle.written_rows.specs.Fits.{FitsMeta}
 
 -- what a stop in the commit leaves, where there was nothing: the new desk
 abbrev pub IsNewDesk : Terms → ℕ → State → Trees → Type 0
@@ -21,13 +26,21 @@ pub record IsMade (policy : Terms) (at : ℕ) (new : State) : Type 0 where
   pub desk : HasDesk new (picture (first_history policy at))
   pub left : (trees : Trees) → new.may_leave trees → AreOfDesk trees (picture (first_history policy at))
 
+-- the row of `meta` of a new desk
+abbrev pub new_meta : Terms → ℕ → Meta
+new_meta policy at = (picture (first_history policy at)).meta
+
 -- where there was nothing and no limit on steps, there is the new desk
 abbrev pub Makes : Terms → ℕ → State → State → Type 0
 Makes policy at old new = old.now.schema ≡ no_schema → old.step_limit ≡ None → IsMade policy at new
 
--- a making failed: its one transaction was not saved
-abbrev pub FailedToMake : State → State → OpenFault → Type 0
-FailedToMake old new f = (why : StorageFault) × (f ≡ Storage why) × FailedToSave old new why
+-- the tables and indexes of a new desk, or its row of `meta`, were not saved
+abbrev pub FailedToDefine : {S : Type 0} → Ghosts S → Terms → ℕ → Held S → Held S → StorageFault → Type 0
+FailedToDefine g policy at = FailedToSave g (FitsMeta (new_meta policy at)) (make_statements (new_meta policy at))
+
+-- a making failed so
+abbrev pub FailedToMake : {S : Type 0} → Ghosts S → Terms → ℕ → Held S → Held S → OpenFault → Type 0
+FailedToMake g policy at old new f = (why : StorageFault) × (f ≡ Storage why) × FailedToDefine g policy at old new why
 
 -- the store failed
 abbrev pub IsOfStorage : OpenFault → Type 0

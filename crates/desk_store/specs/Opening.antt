@@ -1,7 +1,7 @@
 -- What an opening finds, and what it leaves.
-use Rattle.std.specs.Prelude.{◌≡◌, false, IsTrue}
+use Rattle.std.specs.Prelude.{◌≡◌, ◌⊎◌, false, IsTrue}
 use Rattle.sqlite.specs.Held.{Held, state}
-use Rattle.sqlite.specs.State.{State}
+use Rattle.sqlite.specs.State.{State, HasCleanDisk}
 use Rattle.sqlite.specs.Store.{Ghosts}
 use Rattle.sqlite.specs.Tree.{Trees}
 use Rattle.desk_columns.specs.declared.columns.StoredRows.{StoredRows}
@@ -10,12 +10,18 @@ use Rattle.desk_reading.specs.First.{AreFirstShown}
 use Rattle.desk_reading.specs.Failures.{MayRead}
 use Rattle.desk_reading.specs.Format.{IsNewer, IsOfLaterFormat, ShowsFormats}
 use Rattle.desk_reading.specs.Shown.{AreShown}
+use Rattle.desk_saving.specs.Numbers.{FitsUpgrade}
+use Rattle.desk_saving.specs.Statements.{upgrade_statements}
 use Rattle.desk_schema.specs.Names.{has_all_indexes, uses_key_table}
-use Rattle.desk_store.specs.Causes.{Failed, LeavesNothing}
+use Rattle.desk_schema.specs.Stays.{Asks}
+use Rattle.desk_storage.specs.declared.fault.StorageFault.{StorageFault}
+use Rattle.desk_store.specs.Causes.{FailedToSave, LeavesNothing}
 use Rattle.desk_store.specs.Desks.{AreOfDesk}
 use Rattle.desk_store.specs.declared.open_fault.OpenFault.{OpenFault}
 use Rattle.desk_store.specs.declared.open_fault.OpenFault.TheVariants.{NewerFormat, NotADesk, Storage}
 use Rattle.desk_upgrading.specs.FirstDesks.{HasFirst}
+use Rattle.desk_upgrading.specs.FirstKeys.{first_keys}
+use Rattle.stored_laws.specs.Blank.{blank}
 use Rattle.stored_rows.specs.IsBook.{IsBookOfStored}
 
 module _ {S : Type 0} (g : Ghosts S) where
@@ -56,11 +62,24 @@ pub record HasLaterFormat (s : State) : Type 0 where
   pub may_read : MayRead s
   pub later : IsOfLaterFormat s.now
 
--- an opening failed: the store failed, or it wrote nothing
-abbrev pub FailedToOpen : State → State → OpenFault → Type 0
-FailedToOpen old new (Storage why) = Failed old new why
-FailedToOpen old new NotADesk = LeavesNothing old new
-FailedToOpen old new NewerFormat = LeavesNothing old new
+module _ {S : Type 0} (g : Ghosts S) where
+  -- the transaction that makes today's format of format 1, by the book of the rows, was not saved
+  abbrev pub FailedToWiden : Tables → Held S → Held S → StorageFault → Type 0
+  FailedToWiden book = FailedToSave g (FitsUpgrade book.meta (first_keys book)) (upgrade_statements book.meta (first_keys book))
+
+  -- the same behind readings, by which the rows are those of whatever desk was there
+  pub record FailedToUpgrade (old new : Held S) (why : StorageFault) : Type 0 where
+    pub from : Held S
+    pub asked : Asks (state g old) (state g from)
+    pub book : Tables
+    pub rows : HasCleanDisk (state g from) → (T : Tables) → HasFirst (state g old) T → book ≡ blank T
+    pub save : FailedToWiden book from new why
+
+  -- an opening failed: it wrote nothing, or the store failed in the upgrade
+  abbrev pub FailedToOpen : Held S → Held S → OpenFault → Type 0
+  FailedToOpen old new (Storage why) = LeavesNothing (state g old) (state g new) ⊎ FailedToUpgrade old new why
+  FailedToOpen old new NotADesk = LeavesNothing (state g old) (state g new)
+  FailedToOpen old new NewerFormat = LeavesNothing (state g old) (state g new)
 
 -- of a database without the table of keys: whatever desk the connection had in format 1, the trees are those of the same desk in today's format
 pub record IsUpgraded (old : State) (trees : Trees) : Type 0 where

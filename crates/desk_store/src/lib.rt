@@ -1,7 +1,9 @@
 //! The tables of a desk over a connection of `sqlite`.
 #![tactic(auto)]
 
+mod ends;
 mod faults;
+mod known;
 mod laws;
 mod look_ups;
 mod making;

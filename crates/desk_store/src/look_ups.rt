@@ -1,4 +1,4 @@
-//! The store as a source of rows: one statement a look-up, and one more for the children of each row.
+//! The store as a source of rows: one statement a look-up, and one more for the children of each row; none for what it knows.
 use crate::store::Store;
 use desk_loading::LookUps;
 use desk_model::{
@@ -18,8 +18,10 @@ impl<S: Alter> LookUps for Store<S> {
     ghost sight = { store_sight S.Store };
 
     fn meta_row(&mut self, alloc: Global) -> Result<Meta, StorageFault> {
-        let read = rows::meta_row(alloc, &mut self.conn);
-        self.told(read)
+        match self.known.meta()? {
+            Some(meta) => Ok(meta),
+            None => self.read_meta(alloc),
+        }
     }
 
     fn all_nonces(&mut self, alloc: Global) -> Result<Vec<Nonce>, StorageFault> {
@@ -48,6 +50,9 @@ impl<S: Alter> LookUps for Store<S> {
     }
 
     fn nonces_before(&mut self, alloc: Global, moment: u64) -> Result<Vec<Nonce>, StorageFault> {
+        if self.has_no_nonce_before(moment)? {
+            return Ok(Vec::new(alloc));
+        }
         let read = rows::nonces_before(alloc, &mut self.conn, moment);
         self.told(read)
     }
@@ -90,6 +95,9 @@ impl<S: Alter> LookUps for Store<S> {
         status: OrderStatus,
         moment: u64,
     ) -> Result<Vec<OrderRow>, StorageFault> {
+        if self.has_no_order_past(status, moment)? {
+            return Ok(Vec::new(alloc));
+        }
         let read = rows::orders_past(alloc, &mut self.conn, status, moment);
         self.told(read)
     }
@@ -133,6 +141,9 @@ impl<S: Alter> LookUps for Store<S> {
         status: AuthzStatus,
         moment: u64,
     ) -> Result<Vec<AuthorizationRow>, StorageFault> {
+        if self.has_no_authorization_past(status, moment)? {
+            return Ok(Vec::new(alloc));
+        }
         let read = rows::authorizations_past(alloc, &mut self.conn, status, moment);
         self.told(read)
     }

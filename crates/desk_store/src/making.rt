@@ -6,8 +6,7 @@ ghost use Rattle.desk_model.specs.History.{first_history};
 ghost use Rattle.desk_model.specs.Tables.{picture};
 ghost use Rattle.desk_saving.specs.Committing.{GoesBack};
 ghost use Rattle.desk_storage.specs.declared.fault.StorageFault.TheVariants.{Memory as memory};
-ghost use Rattle.desk_store.specs.Causes.{FailedToSave};
-ghost use Rattle.desk_store.specs.Making.{IsNewDesk, Makes};
+ghost use Rattle.desk_store.specs.Making.{FailedToDefine, IsNewDesk, Makes};
 
 use crate::faults::saving_fault;
 use desk_book::Book;
@@ -33,7 +32,7 @@ pub(crate) fn make_desk<S: Alter>(
     ensures idle { conn.new.in_transaction ≡ false }
     ensures made { HasCleanDisk (state S.Store conn.new) → OnOk result (Makes policy at (state S.Store conn.old) (state S.Store conn.new)) }
     ensures back { HasCleanDisk (state S.Store conn.new) → OnErr result (GoesBack (state S.Store conn.old) (state S.Store conn.new)) }
-    ensures failed { IfErr result (FailedToSave (state S.Store conn.old) (state S.Store conn.new)) }
+    ensures failed { IfErr result (FailedToDefine S.Store policy at conn.old conn.new) }
     ensures answering { HasCleanDisk (state S.Store conn.new) → result ≡ Err memory → IsTrue (state S.Store conn.new).is_open }
     ensures left { Survives (state S.Store conn.old) (state S.Store conn.new) (IsNewDesk policy at (state S.Store conn.old)) }
 {

@@ -8,10 +8,11 @@ ghost use Rattle.desk_saving.specs.Committing.{GoesBack, IsLeft};
 ghost use Rattle.desk_schema.specs.Names.{uses_key_table};
 ghost use Rattle.desk_schema.specs.Stays.{Asks};
 ghost use Rattle.desk_storage.specs.declared.fault.StorageFault.TheVariants.{Memory as memory};
-ghost use Rattle.desk_store.specs.Causes.{FailedToSave, IsOfOpening, cause_of};
+ghost use Rattle.desk_store.specs.Causes.{IsOfOpening, cause_of};
 ghost use Rattle.desk_store.specs.Desks.{AreOfDesk, HasDesk};
 ghost use Rattle.desk_store.specs.Making.{IsOfStorage};
-ghost use Rattle.desk_store.specs.Opening.{FailedToOpen, HasLaterFormat, IsUpgraded, IsWhole, IsWholeFirst, ShowsBook, ShowsFirstBook, ShowsKnownFormat, ShowsNewerFormat};
+ghost use Rattle.desk_store.specs.Opening.{FailedToOpen, FailedToWiden, HasLaterFormat, IsUpgraded, IsWhole, IsWholeFirst, ShowsBook, ShowsFirstBook};
+ghost use Rattle.desk_store.specs.Opening.{ShowsKnownFormat, ShowsNewerFormat};
 ghost use Rattle.desk_store.specs.declared.open_fault.OpenFault.TheVariants.{NewerFormat as newer_format, NotADesk as not_a_desk, Storage as of_storage};
 ghost use Rattle.desk_upgrading.specs.FirstDesks.{BringsDesk, HasFirst, HasSecond, UpgradesDesk};
 ghost use Rattle.stored_laws.specs.Blank.{blank};
@@ -21,7 +22,7 @@ use crate::faults::{Cause, cause_of, memory_fault, saving_fault};
 use crate::open_fault::OpenFault;
 use desk_book::Book;
 use desk_columns::StoredRows;
-use desk_reading::{is_newer, load_first, load_stored};
+use desk_reading::{has_book_rows, is_newer, load_first, load_stored};
 use desk_schema::{has_indexes, uses_key_table};
 use desk_storage::StorageFault;
 use desk_upgrading::upgrade;
@@ -131,7 +132,7 @@ fn upgrade_book<S: Alter>(
     ensures brings { HasCleanDisk (state S.Store conn.new) → OnOk result (BringsDesk book (state S.Store conn.old) (state S.Store conn.new)) }
     ensures back { (state S.Store conn.old).now ≡ (state S.Store conn.old).committed → HasCleanDisk (state S.Store conn.new)
         → OnErr result (GoesBack (state S.Store conn.old) (state S.Store conn.new)) }
-    ensures failed { IfErr result (FailedToSave (state S.Store conn.old) (state S.Store conn.new)) }
+    ensures failed { IfErr result (FailedToWiden S.Store book conn.old conn.new) }
     ensures answering { HasCleanDisk (state S.Store conn.new) → result ≡ Err memory → IsTrue (state S.Store conn.new).is_open }
     ensures left { Survives (state S.Store conn.old) (state S.Store conn.new) (IsLeft (UpgradesDesk book (state S.Store conn.old).now)) }
     ensures spared { result ≡ Err memory → Survives (state S.Store conn.old) (state S.Store conn.new) (λ _. ⊥) }
@@ -160,7 +161,7 @@ fn upgrade_desk<S: Alter>(alloc: Global, conn: &mut Connection<S>) -> Result<(),
         → AreOfDesk trees T) }
     ensures spared { result ≡ Err (of_storage memory) → Survives (state S.Store conn.old) (state S.Store conn.new) (λ _. ⊥) }
     ensures desk { HasCleanDisk (state S.Store conn.new) → IfErr result (λ why. (T : Tables) → HasFirst (state S.Store conn.old) T → IsOfStorage why) }
-    ensures failed { IfErr result (FailedToOpen (state S.Store conn.old) (state S.Store conn.new)) }
+    ensures failed { IfErr result (FailedToOpen S.Store conn.old conn.new) }
     ensures answering { HasCleanDisk (state S.Store conn.new) → result ≡ Err (of_storage memory) → IsTrue (state S.Store conn.new).is_open }
 {
     match read_first(alloc, conn) {
@@ -172,8 +173,8 @@ fn upgrade_desk<S: Alter>(alloc: Global, conn: &mut Connection<S>) -> Result<(),
     }
 }
 
-// That the rows are a book's.
-fn check_rows<S: Alter>(alloc: Global, conn: &mut Connection<S>) -> Result<(), OpenFault>
+// That the rows are a book's: the book is made of them all.
+fn check_book<S: Alter>(alloc: Global, conn: &mut Connection<S>) -> Result<(), OpenFault>
     ensures shown { HasCleanDisk (state S.Store conn.new) → OnOk result ((book : Tables) × ShowsBook S.Store conn.old book) }
     ensures no_newer { result ≢ Err newer_format }
     ensures unchanged { HasCleanDisk (state S.Store conn.new) → OnOk result (IsUnchanged (state S.Store conn.old) (state S.Store conn.new)) }
@@ -187,6 +188,23 @@ fn check_rows<S: Alter>(alloc: Global, conn: &mut Connection<S>) -> Result<(), O
             Ok(())
         }
         Err(fault) => Err(fault),
+    }
+}
+
+// That the rows are a book's. They are read one after the other, so that no more than their numbers are held; where one does not
+// pass so, the book of them all tells.
+fn check_rows<S: Alter>(alloc: Global, conn: &mut Connection<S>) -> Result<(), OpenFault>
+    ensures shown { HasCleanDisk (state S.Store conn.new) → OnOk result ((book : Tables) × ShowsBook S.Store conn.old book) }
+    ensures no_newer { result ≢ Err newer_format }
+    ensures unchanged { HasCleanDisk (state S.Store conn.new) → OnOk result (IsUnchanged (state S.Store conn.old) (state S.Store conn.new)) }
+    ensures desk { HasCleanDisk (state S.Store conn.new) → IfErr result (λ why. (T : Tables) → HasDesk (state S.Store conn.old) T → IsOfStorage why) }
+    ensures answering { HasCleanDisk (state S.Store conn.new) → result ≡ Err (of_storage memory) → IsTrue (state S.Store conn.new).is_open }
+    ensures asks { Asks (state S.Store conn.old) (state S.Store conn.new) }
+{
+    match has_book_rows(alloc, conn) {
+        Ok(true) => Ok(()),
+        Ok(false) => check_book(alloc, conn),
+        Err(error) => Err(opening_fault(conn, error)),
     }
 }
 
@@ -211,7 +229,7 @@ fn open_known<S: Alter>(alloc: Global, conn: &mut Connection<S>) -> Result<(), O
         → OnOk result (uses_key_table (state S.Store conn.old).now.schema ≡ false → IsWholeFirst S.Store conn.old) }
     ensures desk { HasCleanDisk (state S.Store conn.new) → IfErr result (λ why. (T : Tables) → HasDesk (state S.Store conn.old) T → IsOfStorage why) }
     ensures first { HasCleanDisk (state S.Store conn.new) → IfErr result (λ why. (T : Tables) → HasFirst (state S.Store conn.old) T → IsOfStorage why) }
-    ensures failed { IfErr result (FailedToOpen (state S.Store conn.old) (state S.Store conn.new)) }
+    ensures failed { IfErr result (FailedToOpen S.Store conn.old conn.new) }
     ensures answering { HasCleanDisk (state S.Store conn.new) → result ≡ Err (of_storage memory) → IsTrue (state S.Store conn.new).is_open }
 {
     if !has_indexes(conn.schema()) {
@@ -254,7 +272,7 @@ pub(crate) fn open_desk<S: Alter>(alloc: Global, conn: &mut Connection<S>) -> Re
     ensures first { HasCleanDisk (state S.Store conn.new) → IfErr result (λ why. (T : Tables) → HasFirst (state S.Store conn.old) T → IsOfStorage why) }
     ensures later { HasCleanDisk (state S.Store conn.new) → HasLaterFormat (state S.Store conn.old)
         → MatchResult result (λ _. ⊥) (λ why. (why ≡ newer_format) ⊎ IsOfStorage why) }
-    ensures failed { IfErr result (FailedToOpen (state S.Store conn.old) (state S.Store conn.new)) }
+    ensures failed { IfErr result (FailedToOpen S.Store conn.old conn.new) }
     ensures answering { HasCleanDisk (state S.Store conn.new) → result ≡ Err (of_storage memory) → IsTrue (state S.Store conn.new).is_open }
 {
     match check_format(conn) {

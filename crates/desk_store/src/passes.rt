@@ -1,10 +1,9 @@
 //! Passes through the rows of a store, one object at a time.
 ghost use Rattle.std.specs.Prelude.{◌≡◌, None};
-ghost use Rattle.sqlite.specs.Held.{state};
 ghost use Rattle.desk_model.specs.Tables.{Tables};
 ghost use Rattle.desk_parts.specs.Above.{orders_above};
 ghost use Rattle.desk_passes.specs.Left.{faults_above, faults_of};
-ghost use Rattle.desk_store.specs.Desks.{HasDesk};
+ghost use Rattle.desk_store.specs.Desks.{HasTables};
 
 use crate::store::Store;
 use desk_passes::{FaultKind, Orders, StatusFaults};
@@ -17,7 +16,7 @@ impl<S: Alter> Store<S> {
         ensures same_store { result.source.ghost_name ≡ self.entry.ghost_name }
         ensures unread { result.source.now ≡ self.old }
         ensures unfailed { result.fault ≡ None }
-        ensures all { (T : Tables) → HasDesk (state S.Store self.old.conn) T → orders_above T result.above ≡ T.orders }
+        ensures all { (T : Tables) → HasTables S.Store self.old T → orders_above T result.above ≡ T.orders }
     {
         Orders::new(self)
     }
@@ -28,7 +27,7 @@ impl<S: Alter> Store<S> {
         ensures same_store { result.source.ghost_name ≡ self.entry.ghost_name }
         ensures unread { result.source.now ≡ self.old }
         ensures unfailed { result.fault ≡ None }
-        ensures all { (T : Tables) → HasDesk (state S.Store self.old.conn) T → moment ≡ T.meta.counters.clock
+        ensures all { (T : Tables) → HasTables S.Store self.old T → moment ≡ T.meta.counters.clock
             → faults_above T result.kind result.moment result.above ≡ faults_of T kind }
     {
         StatusFaults::new(self, kind, moment)

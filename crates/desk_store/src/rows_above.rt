@@ -40,5 +40,5 @@ impl<S: Alter> RowsAbove for Store<S> {
         self.told(read)
     }
 
-    ghost books = { λ store T has. has.desk.book.book };
+    ghost books = { λ store T has. has.desk.desk.book.book };
 }

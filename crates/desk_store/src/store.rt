@@ -1,30 +1,34 @@
 //! The store of a desk.
-ghost use Rattle.std.specs.Prelude.{◌≡◌, ◌⊎◌, false, Err, IfErr, IfOk, IsTrue, MatchResult, Ok, OnOk};
+ghost use Rattle.std.specs.Prelude.{◌≡◌, ◌⊎◌, ◌-◌, ◌^◌, [], false, Err, IfErr, IfOk, IsTrue, MatchResult, None, Ok, OnOk};
 ghost use Rattle.sqlite.specs.State.{HasCleanDisk, IsUnchanged, Survives};
 ghost use Rattle.sqlite.specs.Held.{state};
-ghost use Rattle.desk_model.specs.Tables.{Tables};
+ghost use Rattle.desk_model.specs.History.{first_history};
+ghost use Rattle.desk_model.specs.Tables.{Tables, picture};
 ghost use Rattle.desk_model.specs.Touched.{touched};
 ghost use Rattle.desk_saving.specs.Committing.{GoesBack};
+ghost use Rattle.desk_saving.specs.Fitting.{AreThere};
 ghost use Rattle.desk_schema.specs.Names.{uses_key_table, uses_names};
+ghost use Rattle.desk_schema.specs.Schema.{no_schema};
 ghost use Rattle.desk_schema.specs.Stays.{Asks};
 ghost use Rattle.desk_storage.specs.Sight.{ForTables, Keeps, Reads};
-ghost use Rattle.desk_storage.specs.Storing.{Loads, Saves};
-ghost use Rattle.desk_storage.specs.declared.fault.StorageFault.TheVariants.{Memory as memory};
-ghost use Rattle.desk_store.specs.Causes.{Failed, FailedToSave};
+ghost use Rattle.desk_storage.specs.Storing.{Loads, Saves, SavesOf};
+ghost use Rattle.desk_storage.specs.declared.fault.StorageFault.TheVariants.{Memory as memory, Reopen as reopen};
+ghost use Rattle.desk_store.specs.Causes.{Failed, FailedToChange};
 ghost use Rattle.desk_store.specs.Desks.{HasDesk, store_sight};
-ghost use Rattle.desk_store.specs.Making.{FailedToMake, IsNewDesk, IsOfStorage, Makes};
+ghost use Rattle.desk_store.specs.Making.{FailedToMake, IsNewDesk, IsOfStorage};
 ghost use Rattle.desk_store.specs.Opening.{FailedToOpen, HasLaterFormat, IsUpgraded, IsWhole, IsWholeFirst, ShowsKnownFormat, ShowsNewerFormat};
 ghost use Rattle.desk_store.specs.declared.open_fault.OpenFault.TheVariants.{NewerFormat as newer_format, NotADesk as not_a_desk, Storage as of_storage};
 ghost use Rattle.desk_upgrading.specs.FirstDesks.{HasFirst};
 
 use crate::faults::{reading_fault, saving_fault};
+use crate::known::Known;
 use crate::making::make_desk;
 use crate::open_fault::OpenFault;
 use crate::opening::{open_desk, read_book};
-use desk_book::Book;
+use desk_book::{Book, Table};
 use desk_loading::load_part;
-use desk_model::{Call, Change, Clock, Policy};
-use desk_reading::ReadFault;
+use desk_model::{Call, Change, Clock, OrderRow, Policy};
+use desk_reading::{ReadFault, meta_row};
 use desk_saving::save_all;
 use desk_schema::uses_names;
 use desk_storage::StorageFault;
@@ -35,6 +39,8 @@ use std::alloc::Global;
 #[derive(Drop)]
 pub struct Store<S: Alter> {
     pub(crate) conn: Connection<S>,
+    // What is so of these tables, as far as it is known.
+    pub(crate) known: Known,
 }
 
 /// Why there is no store, and the connection that was given.
@@ -63,8 +69,9 @@ impl<S: Alter> Store<S> {
         requires idle { conn.in_transaction ≡ false }
         ensures taken { IsTrue (uses_names (state S.Store conn).now.schema) → result ≡ Err (record { fault = not_a_desk; conn = conn }) }
         ensures idle { MatchResult result (λ store. store.conn.in_transaction ≡ false) (λ un. un.conn.in_transaction ≡ false) }
-        ensures made { IfOk result (λ store. HasCleanDisk (state S.Store store.conn) → Makes policy at (state S.Store conn) (state S.Store store.conn)) }
-        ensures failed { uses_names (state S.Store conn).now.schema ≡ false → IfErr result (λ un. FailedToMake (state S.Store conn) (state S.Store un.conn) un.fault) }
+        ensures made { IfOk result (λ store. HasCleanDisk (state S.Store store.conn) → (state S.Store conn).now.schema ≡ no_schema
+            → (state S.Store conn).step_limit ≡ None → Keeps (store_sight S.Store) store (picture (first_history policy at))) }
+        ensures failed { uses_names (state S.Store conn).now.schema ≡ false → IfErr result (λ un. FailedToMake S.Store policy at conn un.conn un.fault) }
         ensures back { uses_names (state S.Store conn).now.schema ≡ false
             → IfErr result (λ un. HasCleanDisk (state S.Store un.conn) → GoesBack (state S.Store conn) (state S.Store un.conn)) }
         ensures answering { IfErr result (λ un. HasCleanDisk (state S.Store un.conn) → un.fault ≡ of_storage memory → IsTrue (state S.Store un.conn).is_open) }
@@ -80,7 +87,10 @@ impl<S: Alter> Store<S> {
             });
         }
         match make_desk(alloc, &mut conn, policy, at) {
-            Ok(()) => Ok(Store { conn }),
+            Ok(()) => Ok(Store {
+                conn,
+                known: Known::nothing(),
+            }),
             Err(fault) => Err(Unopened {
                 fault: OpenFault::Storage(fault),
                 conn,
@@ -124,12 +134,15 @@ impl<S: Alter> Store<S> {
         ensures later { HasLaterFormat (state S.Store conn) → MatchResult result
             (λ store. HasCleanDisk (state S.Store store.conn) → ⊥)
             (λ un. HasCleanDisk (state S.Store un.conn) → (un.fault ≡ newer_format) ⊎ IsOfStorage un.fault) }
-        ensures failed { IfErr result (λ un. FailedToOpen (state S.Store conn) (state S.Store un.conn) un.fault) }
+        ensures failed { IfErr result (λ un. FailedToOpen S.Store conn un.conn un.fault) }
         ensures answering { IfErr result (λ un. HasCleanDisk (state S.Store un.conn) → un.fault ≡ of_storage memory → IsTrue (state S.Store un.conn).is_open) }
     {
         let mut conn = conn;
         match open_desk(alloc, &mut conn) {
-            Ok(()) => Ok(Store { conn }),
+            Ok(()) => Ok(Store {
+                conn,
+                known: Known::nothing(),
+            }),
             Err(fault) => Err(Unopened { fault, conn }),
         }
     }
@@ -147,6 +160,25 @@ impl<S: Alter> Store<S> {
             Ok(book) => Ok(book),
             Err(OpenFault::Storage(fault)) => Err(fault),
             Err(OpenFault::NotADesk | OpenFault::NewerFormat) => Err(StorageFault::Device),
+        }
+    }
+
+    /// The policy that the desk was made with.
+    ///
+    /// # Errors
+    ///
+    /// As of `load`.
+    pub fn policy(&mut self, alloc: Global) -> Result<Policy, StorageFault>
+        ensures reads { Reads (store_sight S.Store) self.old self.new result }
+        ensures found { ForTables (store_sight S.Store) self.old self.new (λ T. IfOk result (λ policy. policy ≡ T.meta.policy)) }
+        ensures asks { Asks (state S.Store self.old.conn) (state S.Store self.new.conn) }
+        ensures failed { IfErr result (Failed S.Store None self.old.conn self.new.conn) }
+        ensures answering { IfErr result (λ why. HasCleanDisk (state S.Store self.new.conn) → why ≡ memory → IsTrue (state S.Store self.new.conn).is_open) }
+    {
+        let read = meta_row(alloc, &mut self.conn);
+        match self.told(read) {
+            Ok(meta) => Ok(meta.policy),
+            Err(fault) => Err(fault),
         }
     }
 
@@ -172,26 +204,56 @@ impl<S: Alter> Store<S> {
     /// other refusal. After `Device` or `Reopen` the store is to be opened again, and then has all changes or none.
     pub fn save(&mut self, alloc: Global, changes: &[Change]) -> Result<(), StorageFault>
         ensures saves { Saves (store_sight S.Store) changes.now self.old self.new result }
-        ensures failed { self.old.conn.in_transaction ≡ false → IfErr result (FailedToSave (state S.Store self.old.conn) (state S.Store self.new.conn)) }
-        ensures closed { IfErr result (Failed (state S.Store self.old.conn) (state S.Store self.new.conn)) }
+        ensures failed { IfErr result (λ why. self.old.conn.in_transaction ≡ false
+            → FailedToChange S.Store [] (2 ^ 64 - 1) changes.now self.old.conn self.new.conn why) }
+        ensures closed { IsTrue self.old.conn.in_transaction → (result ≡ Err reopen) × (self.new ≡ self.old) }
+    {
+        let none = Table::new(alloc);
+        let saved = self.save_among(alloc, &none, u64::MAX, changes);
+        drop(none);
+        saved
+    }
+
+    // The same where these orders are there, so that what they list need not be written, and where nonces are new whose serial is
+    // above the last that was given.
+    pub(crate) fn save_among(
+        &mut self,
+        alloc: Global,
+        known: &Table<OrderRow>,
+        last: u64,
+        changes: &[Change],
+    ) -> Result<(), StorageFault>
+        ensures saves { SavesOf (store_sight S.Store) (AreThere known.now) changes.now self.old self.new result }
+        ensures failed { IfErr result (λ why. self.old.conn.in_transaction ≡ false
+            → FailedToChange S.Store known.now last changes.now self.old.conn self.new.conn why) }
+        ensures closed { IsTrue self.old.conn.in_transaction → (result ≡ Err reopen) × (self.new ≡ self.old) }
     {
         // No call leaves a transaction open; a store that had one would not know what it holds.
         if !self.conn.is_autocommit() {
             return Err(StorageFault::Reopen);
         }
-        match save_all(alloc, &mut self.conn, changes) {
-            Ok(()) => Ok(()),
-            Err(fault) => Err(saving_fault(&mut self.conn, fault)),
+        match save_all(alloc, &mut self.conn, known, last, changes) {
+            Ok(()) => {
+                self.known.follow(changes);
+                Ok(())
+            }
+            Err(fault) => {
+                self.known = Known::nothing();
+                Err(saving_fault(&mut self.conn, fault))
+            }
         }
     }
 
     // What a reading found, or the fault of the store where it failed.
     pub(crate) fn told<R>(&mut self, read: Result<R, ReadFault>) -> Result<R, StorageFault>
-        ensures reads { (was : Store S) → Asks (state S.Store was.conn) (state S.Store self.old.conn)
+        ensures reads { (was : Store S) → was.known ≡ self.old.known → Asks (state S.Store was.conn) (state S.Store self.old.conn)
             → (HasCleanDisk (state S.Store self.old.conn) → OnOk read (IsUnchanged (state S.Store was.conn) (state S.Store self.old.conn)))
             → Reads (store_sight S.Store) was self.new result }
+        ensures known { self.new.known ≡ self.old.known }
         ensures found { IfOk result (λ found. read ≡ Ok found) }
         ensures honest { HasCleanDisk (state S.Store self.new.conn) → HasCleanDisk (state S.Store self.old.conn) }
+        ensures asks { Asks (state S.Store self.old.conn) (state S.Store self.new.conn) }
+        ensures answering { IfErr result (λ why. HasCleanDisk (state S.Store self.new.conn) → why ≡ memory → IsTrue (state S.Store self.new.conn).is_open) }
     {
         match read {
             Ok(found) => Ok(found),
@@ -203,7 +265,6 @@ impl<S: Alter> Store<S> {
     pub fn close(self) -> Connection<S>
         ensures { result ≡ self.conn }
     {
-        let Store { conn } = self;
-        conn
+        self.conn
     }
 }

@@ -6,14 +6,15 @@ ghost use Rattle.desk_schema.specs.Names.{uses_key_table, uses_names};
 ghost use Rattle.desk_schema.specs.Schema.{no_schema};
 ghost use Rattle.desk_schema.specs.Stays.{Asks};
 ghost use Rattle.desk_storage.specs.Sight.{Keeps};
+ghost use Rattle.desk_storage.specs.declared.fault.StorageFault.TheVariants.{Memory as memory};
 ghost use Rattle.desk_store.specs.Desks.{HasDesk, store_sight};
 ghost use Rattle.desk_store.specs.Making.{IsNewDesk, IsOfStorage};
-ghost use Rattle.desk_store.specs.Opening.{HasLaterFormat, IsUpgraded, IsWhole, IsWholeFirst, ShowsNewerFormat};
-ghost use Rattle.desk_store.specs.declared.open_fault.OpenFault.TheVariants.{NewerFormat as newer_format, NotADesk as not_a_desk};
+ghost use Rattle.desk_store.specs.Opening.{HasLaterFormat, IsUpgraded, IsWhole, IsWholeFirst, ShowsKnownFormat, ShowsNewerFormat};
+ghost use Rattle.desk_store.specs.declared.open_fault.OpenFault.TheVariants.{NewerFormat as newer_format, NotADesk as not_a_desk, Storage as of_storage};
 ghost use Rattle.desk_upgrading.specs.FirstDesks.{HasFirst};
 ghost use Rattle.sqlite.specs.Held.{state};
 ghost use Rattle.sqlite.specs.State.{HasCleanDisk};
-ghost use Rattle.stored_desks.specs.StoredDesks.{IsDeskOf, Leaves, LeavesNoMore};
+ghost use Rattle.stored_desks.specs.StoredDesks.{FailedToAsk, FailedToMakeDesk, FailedToOpenDesk, GoesBackOrIsMade, IsDeskOf, Leaves};
 
 use desk_calls::Desk;
 use desk_model::{Clock, Policy};
@@ -35,6 +36,7 @@ pub fn make_desk<S: Alter + Drop>(
     requires idle { conn.in_transaction ≡ false }
     ensures taken { IsTrue (uses_names (state S.Store conn).now.schema) → result ≡ Err (record { fault = not_a_desk; conn = conn }) }
     ensures opened { IfOk result (λ desk. desk.is_closed ≡ false) }
+    ensures idle { MatchResult result (λ desk. desk.store.conn.in_transaction ≡ false) (λ un. un.conn.in_transaction ≡ false) }
     ensures made { IfOk result (λ desk. HasCleanDisk (state S.Store desk.store.conn)
         → (state S.Store conn).now.schema ≡ no_schema → (state S.Store conn).step_limit ≡ None
         → IsDeskOf S.Store (picture (first_history policy at)) desk) }
@@ -42,6 +44,11 @@ pub fn make_desk<S: Alter + Drop>(
     ensures left { uses_names (state S.Store conn).now.schema ≡ false → MatchResult result
         (λ desk. Leaves (state S.Store conn) (state S.Store desk.store.conn) (IsNewDesk policy at (state S.Store conn)))
         (λ un. Leaves (state S.Store conn) (state S.Store un.conn) (IsNewDesk policy at (state S.Store conn))) }
+    ensures back { uses_names (state S.Store conn).now.schema ≡ false
+        → IfErr result (λ un. HasCleanDisk (state S.Store un.conn) → GoesBackOrIsMade policy at (state S.Store conn) (state S.Store un.conn)) }
+    ensures failed { uses_names (state S.Store conn).now.schema ≡ false
+        → IfErr result (λ un. FailedToMakeDesk S.Store policy at conn un.conn un.fault) }
+    ensures answering { IfErr result (λ un. HasCleanDisk (state S.Store un.conn) → un.fault ≡ of_storage memory → IsTrue (state S.Store un.conn).is_open) }
 {
     match Store::make(alloc, conn, policy, at) {
         Ok(store) => adopt(alloc, store),
@@ -60,12 +67,17 @@ pub fn open_desk<S: Alter + Drop>(
 ) -> Result<Desk<Store<S>>, Unopened<S>>
     requires idle { conn.in_transaction ≡ false }
     ensures opened { IfOk result (λ desk. desk.is_closed ≡ false) }
+    ensures idle { MatchResult result (λ desk. desk.store.conn.in_transaction ≡ false) (λ un. un.conn.in_transaction ≡ false) }
+    ensures asks { IsTrue (uses_key_table (state S.Store conn).now.schema) → MatchResult result
+        (λ desk. Asks (state S.Store conn) (state S.Store desk.store.conn))
+        (λ un. Asks (state S.Store conn) (state S.Store un.conn)) }
     ensures kept { IfOk result (λ desk. HasCleanDisk (state S.Store desk.store.conn) → (T : Tables)
         → HasDesk (state S.Store conn) T → IsDeskOf S.Store T desk) }
     ensures upgraded { IfOk result (λ desk. HasCleanDisk (state S.Store desk.store.conn) → (T : Tables)
         → HasFirst (state S.Store conn) T → IsDeskOf S.Store T desk) }
     ensures desk { IfErr result (λ un. HasCleanDisk (state S.Store un.conn) → (T : Tables) → HasDesk (state S.Store conn) T → IsOfStorage un.fault) }
     ensures first { IfErr result (λ un. HasCleanDisk (state S.Store un.conn) → (T : Tables) → HasFirst (state S.Store conn) T → IsOfStorage un.fault) }
+    ensures known { IfOk result (λ desk. HasCleanDisk (state S.Store desk.store.conn) → ShowsKnownFormat S.Store conn) }
     ensures whole { IfOk result (λ desk. HasCleanDisk (state S.Store desk.store.conn) → IsTrue (uses_key_table (state S.Store conn).now.schema)
         → IsWhole S.Store conn) }
     ensures whole_first { IfOk result (λ desk. HasCleanDisk (state S.Store desk.store.conn) → uses_key_table (state S.Store conn).now.schema ≡ false
@@ -78,6 +90,8 @@ pub fn open_desk<S: Alter + Drop>(
     ensures left { MatchResult result
         (λ desk. Leaves (state S.Store conn) (state S.Store desk.store.conn) (IsUpgraded (state S.Store conn)))
         (λ un. Leaves (state S.Store conn) (state S.Store un.conn) (IsUpgraded (state S.Store conn))) }
+    ensures failed { IfErr result (λ un. FailedToOpenDesk S.Store conn un.conn un.fault) }
+    ensures answering { IfErr result (λ un. HasCleanDisk (state S.Store un.conn) → un.fault ≡ of_storage memory → IsTrue (state S.Store un.conn).is_open) }
 {
     match Store::open(alloc, conn) {
         Ok(store) => adopt(alloc, store),
@@ -95,18 +109,20 @@ pub fn close_desk<S: Alter + Drop>(desk: Desk<Store<S>>) -> Connection<S>
 // The desk of a store; or why there is none, with the connection of the store.
 fn adopt<S: Alter + Drop>(alloc: Global, store: Store<S>) -> Result<Desk<Store<S>>, Unopened<S>>
     ensures opened { IfOk result (λ desk. desk.is_closed ≡ false) }
+    ensures asks { MatchResult result
+        (λ desk. Asks (state S.Store store.conn) (state S.Store desk.store.conn))
+        (λ un. Asks (state S.Store store.conn) (state S.Store un.conn)) }
     ensures kept { IfOk result (λ desk. HasCleanDisk (state S.Store desk.store.conn) → (T : Tables)
         → (HasCleanDisk (state S.Store store.conn) → Keeps (store_sight S.Store) store T) → IsDeskOf S.Store T desk) }
-    ensures failed { IfErr result (λ un. IsOfStorage un.fault) }
-    ensures left { MatchResult result
-        (λ desk. LeavesNoMore (state S.Store store.conn) (state S.Store desk.store.conn))
-        (λ un. LeavesNoMore (state S.Store store.conn) (state S.Store un.conn)) }
+    ensures failed { IfErr result (λ un. FailedToAsk S.Store store.conn un.conn un.fault) }
+    ensures answering { IfErr result (λ un. HasCleanDisk (state S.Store un.conn) → un.fault ≡ of_storage memory → IsTrue (state S.Store un.conn).is_open) }
 {
-    match Desk::adopt(alloc, store) {
-        Ok(desk) => Ok(desk),
-        Err(unadopted) => Err(Unopened {
-            fault: OpenFault::Storage(unadopted.fault),
-            conn: unadopted.store.close(),
+    let mut store = store;
+    match store.policy(alloc) {
+        Ok(policy) => Ok(Desk::with_policy(store, policy)),
+        Err(fault) => Err(Unopened {
+            fault: OpenFault::Storage(fault),
+            conn: store.close(),
         }),
     }
 }

@@ -1,10 +1,15 @@
-use Rattle.std.proofs.Common.{subst, arith}
+use Rattle.std.proofs.Common.{◌≡◌, ◌∙◌, ap, subst, arith}
 use Rattle.sqlite.specs.Held.{state}
 use Rattle.sqlite.specs.State.{HasCleanDisk}
 use Rattle.sqlite.proofs.StateLemmas.{survives_then, survives_weaker}
 use Rattle.desk_model.specs.declared.rows.Meta.{Meta}
 use Rattle.desk_saving.specs.Committing.{HasCommitted, IsLeft}
 use Rattle.desk_saving.specs.Making.{MakesDesk}
+use Rattle.desk_saving.specs.Refusals.{IsCause}
+use Rattle.desk_saving.specs.Statements.{make_statements}
+use Rattle.desk_model.specs.Tables.{Tables}
+use Rattle.desk_store.specs.Making.{new_meta}
+use Rattle.written_rows.specs.Fits.{FitsMeta}
 use Rattle.desk_store.proofs.NewDesks.{desk_left, desk_made}
 use Rattle.desk_store.proofs.Standing.{back_then, same_fault}
 use Rattle.desk_store.proofs.Failing.{failed_to_save}
@@ -44,5 +49,9 @@ returns-in-Err-clause-left g c =
 
 pub returns-in-Err-clause-failed : goal.returns-in-Err-clause-failed
 returns-in-Err-clause-failed g c =
-    failed_to_save (state g.S.Store c.args.conn.now) (state g.S.Store c.make_tables-made.new.conn) (state g.S.Store c.saving_fault.new.conn)
-    c.in-Err.fault c.saving_fault.result c.saving_fault.ensures.fault c.in-Err.ensures.before c.saving_fault.ensures.asks
+    let is : c.meta.result.now ≡ new_meta c.args.policy c.args.at = c.meta.ensures ∙ ap (λ (T : Tables). T.meta) c.new-book.ensures.picture in
+    let cause =
+    subst (λ (meta : Meta). IsCause g.S.Store (FitsMeta meta) (make_statements meta) c.args.conn.now c.make_tables-made.new.conn c.in-Err.fault) is
+    c.in-Err.ensures.cause in
+    failed_to_save g.S.Store _ _ c.args.conn.now c.make_tables-made.new.conn c.saving_fault.new.conn
+    c.in-Err.fault c.saving_fault.result c.saving_fault.ensures.fault cause c.in-Err.ensures.before c.saving_fault.ensures.asks

@@ -142,8 +142,9 @@ returns-in-Err-clause-spared g c memory = c.check_format.ensures.asks.survives
 
 pub returns-in-Ok-clause-failed : goal.returns-in-Ok-clause-failed
 returns-in-Ok-clause-failed g c =
-    opened_behind (state g.S.Store c.args.conn.now) (state g.S.Store c.check_format.new.conn) (state g.S.Store c.open_known.new.conn) c.open_known.result
-    c.check_format.ensures.asks c.open_known.ensures.failed
+    opened_behind g.S.Store c.args.conn.now c.check_format.new.conn c.open_known.new.conn c.check_format.ensures.asks
+    (λ clean T has. first_unchanged _ _ T c.check_format.ensures.asks.survives.limit (c.in-Ok.ensures.unchanged clean) has) c.open_known.result
+    c.open_known.ensures.failed
 
 pub returns-in-Ok-clause-later : goal.returns-in-Ok-clause-later
 returns-in-Ok-clause-later g c clean later =
@@ -153,6 +154,4 @@ returns-in-Ok-clause-later g c clean later =
 
 pub returns-in-Err-clause-failed : goal.returns-in-Err-clause-failed
 returns-in-Err-clause-failed g c =
-    let old = state g.S.Store c.args.conn.now in
-    let new = state g.S.Store c.check_format.new.conn in
-    opened_nothing old new c.in-Err.fault (leaves_nothing old new c.check_format.ensures.asks.survives)
+    opened_nothing g.S.Store c.args.conn.now c.check_format.new.conn c.in-Err.fault (leaves_nothing _ _ c.check_format.ensures.asks.survives)

@@ -28,5 +28,5 @@ returns-in-Err-clause-spared g c memory =
 
 pub returns-in-Err-clause-failed : goal.returns-in-Err-clause-failed
 returns-in-Err-clause-failed g c =
-    failed_to_save (state g.S.Store c.args.conn.now) (state g.S.Store c.upgrade-upgraded.new.conn) (state g.S.Store c.saving_fault.new.conn)
-    c.in-Err.fault c.saving_fault.result c.saving_fault.ensures.fault c.in-Err.ensures.before c.saving_fault.ensures.asks
+    failed_to_save g.S.Store _ _ c.args.conn.now c.upgrade-upgraded.new.conn c.saving_fault.new.conn
+    c.in-Err.fault c.saving_fault.result c.saving_fault.ensures.fault c.in-Err.ensures.cause c.in-Err.ensures.before c.saving_fault.ensures.asks

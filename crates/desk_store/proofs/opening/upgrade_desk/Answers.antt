@@ -5,7 +5,7 @@ use Rattle.sqlite.specs.State.{HasCleanDisk}
 use Rattle.desk_store.proofs.OpeningFaults.{same_storage}
 use Rattle.desk_store.proofs.Standing.{failed, same_fault}
 use Rattle.desk_store.proofs.Upgrading.{desk_left_by, first_unchanged, same_blank}
-use Rattle.desk_store.proofs.Failing.{failed_behind, leaves_nothing, opened_nothing}
+use Rattle.desk_store.proofs.Failing.{leaves_nothing, opened_nothing}
 use Rattle.desk_store.proofs.opening.upgrade_desk.Goals as goal
 
 pub upgrade_book-requires : goal.upgrade_book-requires
@@ -65,11 +65,14 @@ returns-in-Err-clause-spared g c memory = c.read_first.ensures.asks.survives
 
 pub returns-in-Err-upgrade_book-clause-failed : goal.returns-in-Err-upgrade_book-clause-failed
 returns-in-Err-upgrade_book-clause-failed g c =
-    inr (failed_behind (state g.S.Store c.args.conn.now) (state g.S.Store c.read_first.new.conn) (state g.S.Store c.upgrade_book.new.conn)
-    c.in-Err-upgrade_book.fault c.read_first.ensures.asks c.in-Err-upgrade_book.ensures.failed)
+    inr (record {
+      from = c.read_first.new.conn;
+      asked = c.read_first.ensures.asks;
+      book = c.in-Ok.book;
+      rows = c.in-Ok.ensures.book;
+      save = c.in-Err-upgrade_book.ensures.failed;
+    })
 
 pub returns-in-Err-clause-failed : goal.returns-in-Err-clause-failed
 returns-in-Err-clause-failed g c =
-    let old = state g.S.Store c.args.conn.now in
-    let new = state g.S.Store c.read_first.new.conn in
-    opened_nothing old new c.in-Err.fault (leaves_nothing old new c.read_first.ensures.asks.survives)
+    opened_nothing g.S.Store c.args.conn.now c.read_first.new.conn c.in-Err.fault (leaves_nothing _ _ c.read_first.ensures.asks.survives)

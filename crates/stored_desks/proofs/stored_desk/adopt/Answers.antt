@@ -1,17 +1,19 @@
-use Rattle.stored_desks.proofs.Adopting.{failed_left, stands_keeps, stands_left}
+use Rattle.std.proofs.Common.{sym, subst, ◌∙◌}
+use Rattle.desk_storage.specs.Sight.{Keeps}
+use Rattle.desk_store.specs.Desks.{store_sight}
+use Rattle.sqlite.specs.Held.{state}
+use Rattle.sqlite.specs.State.{HasCleanDisk}
+use Rattle.stored_desks.proofs.Adopting.{reads_keeps}
 use Rattle.stored_desks.proofs.stored_desk.adopt.Goals as goal
 
 pub returns-in-Ok-clause-kept : goal.returns-in-Ok-clause-kept
 returns-in-Ok-clause-kept g c clean T kept =
-    let keeps = kept (c.in-Ok.ensures.reads.honest clean) in
+    let same = c.with_policy.ensures.store in
+    let honest = subst (λ store. HasCleanDisk (state g.S.Store store.conn)) same clean in
+    let keeps = kept (c.in-Ok.ensures.reads.honest honest) in
     record {
-      keeps = stands_keeps g.S.Store c.args.store c.in-Ok.desk.store T clean c.in-Ok.ensures.reads keeps;
-      policy = c.in-Ok.ensures.policy clean T keeps.tables;
+      keeps =
+          subst (λ store. Keeps (store_sight g.S.Store) store T) (sym same)
+          (reads_keeps g.S.Store c.args.store c.policy.new.self c.in-Ok.policy T honest c.in-Ok.ensures.reads keeps);
+      policy = c.with_policy.ensures.policy ∙ c.in-Ok.ensures.found honest T keeps.tables;
     }
-
-pub returns-in-Ok-clause-left : goal.returns-in-Ok-clause-left
-returns-in-Ok-clause-left g c = stands_left g.S.Store c.args.store c.in-Ok.desk.store c.in-Ok.ensures.reads
-
-pub returns-in-Err-clause-left : goal.returns-in-Err-clause-left
-returns-in-Err-clause-left g c =
-    rw c.close.ensures (failed_left g.S.Store c.args.store c.in-Err.unadopted.store c.in-Err.unadopted.fault c.in-Err.ensures.reads)

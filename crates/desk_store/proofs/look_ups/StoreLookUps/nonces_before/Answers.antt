@@ -1,11 +1,16 @@
+use Rattle.std.proofs.Common.{refl}
 use Rattle.sqlite.specs.Held.{state}
+use Rattle.desk_loading.proofs.Readings.{reads_then, stands_read}
 use Rattle.desk_store.proofs.Standing.{hands_on}
 use Rattle.desk_store.proofs.look_ups.StoreLookUps.nonces_before.Goals as goal
 
 pub returns-clause-reads : goal.returns-clause-reads
-returns-clause-reads g c = c.told.ensures.reads c.args.self.now c.nonces_before-read.ensures.asks c.nonces_before-read.ensures.unchanged
+returns-clause-reads g c =
+    reads_then c.told.result (stands_read c.in_ok-has_no_nonce_before.ensures.reads)
+    (c.told.ensures.reads c.has_no_nonce_before.new.self refl c.nonces_before-read.ensures.asks c.nonces_before-read.ensures.unchanged)
 
 pub returns-clause-found : goal.returns-clause-found
-returns-clause-found g c =
-    hands_on _ (state g.S.Store c.args.self.now.conn) (state g.S.Store c.nonces_before-read.new.conn) (state g.S.Store c.told.new.self.conn) _ c.told.result
-    c.nonces_before-read.ensures.found c.told.ensures.found c.told.ensures.honest
+returns-clause-found g c clean T has =
+    let before = (c.told.ensures.reads c.has_no_nonce_before.new.self refl c.nonces_before-read.ensures.asks c.nonces_before-read.ensures.unchanged).honest clean in
+    hands_on g.S.Store _ c.has_no_nonce_before.new.self (state g.S.Store c.nonces_before-read.new.conn) (state g.S.Store c.told.new.self.conn) _ c.told.result
+    c.nonces_before-read.ensures.found c.told.ensures.found c.told.ensures.honest clean T (c.in_ok-has_no_nonce_before.ensures.reads.tables before T has)

@@ -1,12 +1,13 @@
+use Rattle.std.proofs.Common.{refl}
 use Rattle.desk_store.proofs.Standing.{reads_failed, reads_ok}
 use Rattle.desk_store.proofs.store.Store.load.Goals as goal
 
 pub returns-in-Ok-clause-reads : goal.returns-in-Ok-clause-reads
 returns-in-Ok-clause-reads g c =
-    reads_ok g.S.Store (λ store. store.conn) c.args.self.now (record { conn = c.read_book.new.conn }) c.in-Ok.book c.read_book.ensures.asks
+    reads_ok g.S.Store c.args.self.now (record c.args.self.now { conn = c.read_book.new.conn }) c.in-Ok.book refl c.read_book.ensures.asks
     c.in-Ok.ensures.unchanged
 
 pub returns-in-Err-Storage-clause-reads : goal.returns-in-Err-Storage-clause-reads
 returns-in-Err-Storage-clause-reads g c =
-    reads_failed g.S.Store (λ store. store.conn) c.args.self.now (record { conn = c.read_book.new.conn }) c.in-Err-Storage.fault c.read_book.ensures.asks
+    reads_failed g.S.Store c.args.self.now (record c.args.self.now { conn = c.read_book.new.conn }) c.in-Err-Storage.fault refl c.read_book.ensures.asks
     (λ clean memory. c.read_book.ensures.answering clean (let e = memory in cc))

@@ -1,5 +1,9 @@
-use Rattle.std.proofs.Common.{ap, refl}
+use Rattle.std.proofs.Common.{ap, refl, subst, sym}
 use Rattle.sqlite.specs.Held.{state}
+use Rattle.desk_model.specs.History.{first_history}
+use Rattle.desk_model.specs.Tables.{picture}
+use Rattle.desk_store.specs.Known.{IsKnownOf}
+use Rattle.desk_store.proofs.Knowing.{nothing_known}
 use Rattle.desk_store.proofs.OpeningFaults.{not_free, same_storage}
 use Rattle.desk_store.proofs.Standing.{failed}
 use Rattle.desk_store.proofs.store.Store.make.Goals as goal
@@ -10,7 +14,13 @@ returns-then-uses_names-clause-left g c free =
     c.if-uses_names.true free)
 
 pub returns-in-Ok-clause-made : goal.returns-in-Ok-clause-made
-returns-in-Ok-clause-made g c = c.in-Ok.ensures.made
+returns-in-Ok-clause-made g c clean none unlimited =
+    let it = c.in-Ok.ensures.made clean none unlimited in
+    let T = picture (first_history c.args.policy c.args.at) in
+    record {
+      tables = record { desk = it.desk; known = subst (λ k. IsKnownOf k T) (sym c.nothing.ensures) (nothing_known T) };
+      left = it.left;
+    }
 
 pub returns-in-Ok-clause-left : goal.returns-in-Ok-clause-left
 returns-in-Ok-clause-left g c free = c.make_desk.ensures.left

@@ -1,8 +1,10 @@
-use Rattle.std.proofs.Common.{ap, subst}
+use Rattle.std.proofs.Common.{ap, subst, sym}
 use Rattle.sqlite.specs.Effect.{Database}
 use Rattle.sqlite.specs.Held.{state}
 use Rattle.desk_store.specs.Desks.{IsDesk}
+use Rattle.desk_store.specs.Known.{IsKnownOf}
 use Rattle.desk_store.proofs.EitherFormat.{keeps_second, uses_keys}
+use Rattle.desk_store.proofs.Knowing.{nothing_known}
 use Rattle.desk_store.proofs.Standing.{desk_unchanged, failed}
 use Rattle.desk_store.proofs.store.Store.open.Goals as goal
 
@@ -19,7 +21,7 @@ returns-in-Ok-clause-kept g c clean T has =
     let uses = uses_keys old.now.schema has.desk.holds.schema in
     let desk = desk_unchanged old new T c.open_desk.ensures.left.limit (c.in-Ok.ensures.unchanged uses clean) has in
     record {
-      tables = desk;
+      tables = record { desk = desk; known = subst (λ k. IsKnownOf k T) (sym c.nothing.ensures) (nothing_known T) };
       left = λ trees may. (
         new.committed,
         g.met.S.Store.settled c.open_desk.new.conn.store trees desk.is_open may,
@@ -30,7 +32,8 @@ returns-in-Ok-clause-kept g c clean T has =
 
 pub returns-in-Ok-clause-upgraded : goal.returns-in-Ok-clause-upgraded
 returns-in-Ok-clause-upgraded g c clean T has =
-    keeps_second g.S.Store (state g.S.Store c.args.conn) (record { conn = c.open_desk.new.conn }) T has (c.in-Ok.ensures.upgraded clean T has)
+    keeps_second g.S.Store (state g.S.Store c.args.conn) (record { conn = c.open_desk.new.conn; known = c.nothing.result }) T
+    (subst (λ k. IsKnownOf k T) (sym c.nothing.ensures) (nothing_known T)) has (c.in-Ok.ensures.upgraded clean T has)
 
 pub returns-in-Ok-clause-left : goal.returns-in-Ok-clause-left
 returns-in-Ok-clause-left g c = c.open_desk.ensures.left

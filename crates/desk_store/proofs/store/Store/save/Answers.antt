@@ -1,29 +1,19 @@
-use Rattle.std.proofs.Common.{inr}
-use Rattle.sqlite.specs.Held.{state}
-use Rattle.desk_store.proofs.Failing.{failed_to_save}
-use Rattle.desk_store.proofs.SavedDesks.{saves_err, saves_ok}
+use Rattle.std.proofs.Common.{◌≡◌, ◌-◌, ◌^◌, List, false, subst}
+use Rattle.std.specs.Prelude.{IfErr}
+use Rattle.desk_model.specs.declared.rows.OrderRow.{OrderRow}
+use Rattle.desk_saving.specs.Fitting.{AreThere}
+use Rattle.desk_storage.specs.Storing.{SavesOf}
+use Rattle.desk_store.specs.Causes.{FailedToChange}
+use Rattle.desk_store.specs.Desks.{store_sight}
 use Rattle.desk_store.proofs.store.Store.save.Goals as goal
 
-pub returns-in-Ok-clause-saves : goal.returns-in-Ok-clause-saves
-returns-in-Ok-clause-saves g c =
-    saves_ok g.S.Store (λ store. store.conn) c.args.changes.now c.args.self.now (record { conn = c.save_all.new.conn }) c.save_all.ensures.idle
-    c.save_all.ensures.left c.in-Ok.ensures.ok
+pub returns-clause-saves : goal.returns-clause-saves
+returns-clause-saves g c =
+    subst (λ (known : List OrderRow). SavesOf (store_sight g.S.Store) (AreThere known) c.args.changes.now c.args.self.now c.save_among-saved.new.self
+    c.save_among-saved.result) c.new-none.ensures c.save_among-saved.ensures.saves
 
-pub returns-in-Err-clause-saves : goal.returns-in-Err-clause-saves
-returns-in-Err-clause-saves g c =
-    saves_err g.S.Store (λ store. store.conn) c.args.changes.now c.args.self.now (record { conn = c.saving_fault.new.conn })
-    (state g.S.Store c.save_all.new.conn)
-    c.saving_fault.result c.in-Err.fault
-    c.save_all.ensures.idle
-    c.save_all.ensures.left c.in-Err.ensures.err c.in-Err.ensures.before
-    c.saving_fault.ensures.asks c.saving_fault.ensures.unchanged c.saving_fault.ensures.early
-
-pub returns-in-Err-clause-failed : goal.returns-in-Err-clause-failed
-returns-in-Err-clause-failed g c idle =
-    failed_to_save (state g.S.Store c.args.self.now.conn) (state g.S.Store c.save_all.new.conn) (state g.S.Store c.saving_fault.new.conn)
-    c.in-Err.fault c.saving_fault.result c.saving_fault.ensures.fault c.in-Err.ensures.before c.saving_fault.ensures.asks
-
-pub returns-in-Err-clause-closed : goal.returns-in-Err-clause-closed
-returns-in-Err-clause-closed g c =
-    inr (failed_to_save (state g.S.Store c.args.self.now.conn) (state g.S.Store c.save_all.new.conn) (state g.S.Store c.saving_fault.new.conn)
-    c.in-Err.fault c.saving_fault.result c.saving_fault.ensures.fault c.in-Err.ensures.before c.saving_fault.ensures.asks)
+pub returns-clause-failed : goal.returns-clause-failed
+returns-clause-failed g c =
+    subst (λ (known : List OrderRow). IfErr c.save_among-saved.result (λ why. c.args.self.now.conn.in_transaction ≡ false
+    → FailedToChange g.S.Store known (2 ^ 64 - 1) c.args.changes.now c.args.self.now.conn c.save_among-saved.new.self.conn why)) c.new-none.ensures
+    c.save_among-saved.ensures.failed

@@ -6,11 +6,11 @@ use Rattle.desk_store.proofs.Standing.{reads_err, reads_ok}
 use Rattle.desk_store.proofs.store.Store.told.Goals as goal
 
 pub returns-in-Ok-clause-reads : goal.returns-in-Ok-clause-reads
-returns-in-Ok-clause-reads g c was asked same =
-    reads_ok g.S.Store (λ store. store.conn) was c.args.self.now c.in-Ok.found asked
+returns-in-Ok-clause-reads g c was known asked same =
+    reads_ok g.S.Store was c.args.self.now c.in-Ok.found known asked
     (λ clean. subst (λ r. OnOk r (IsUnchanged (state g.S.Store was.conn) (state g.S.Store c.args.self.now.conn))) c.in-Ok.is (same clean))
 
 pub returns-in-Err-clause-reads : goal.returns-in-Err-clause-reads
-returns-in-Err-clause-reads g c was asked same =
-    reads_err g.S.Store (λ store. store.conn) was (record { conn = c.reading_fault.new.conn }) (state g.S.Store c.args.self.now.conn)
-    c.reading_fault.result asked c.reading_fault.ensures.asks c.reading_fault.ensures.unchanged
+returns-in-Err-clause-reads g c was known asked same =
+    reads_err g.S.Store was (record c.args.self.now { conn = c.reading_fault.new.conn }) (state g.S.Store c.args.self.now.conn)
+    c.reading_fault.result known asked c.reading_fault.ensures.asks c.reading_fault.ensures.unchanged

@@ -1,0 +1,34 @@
+-- What a store knows of its tables without asking for it.
+use Rattle.std.specs.Prelude.{ℕ, ◌≡◌, ◌≤◌, List, Option, None, Some, IfSome, nat_le, replicate, slice_index, slice_set, if◌then◌else◌}
+use Rattle.desk_model.specs.Derived.{authz_code, order_code}
+use Rattle.desk_model.specs.Kept.{EachOf}
+use Rattle.desk_model.specs.Tables.{Tables}
+use Rattle.desk_store.specs.declared.known.Known.{Known}
+
+-- no more than that no moment is before 0
+abbrev pub nothing : Known
+nothing = record { meta = None; first_issue = 0; order_ends = replicate 5 0; authorization_ends = replicate 6 0 }
+
+-- each row has its end at the moment that stands under the code of its status, or later
+abbrev pub EndFrom : {X : Type 0} → (code end : X → ℕ) → List ℕ → List X → Type 0
+EndFrom code end ends rows = EachOf (λ x. slice_index ends (code x) ≤ end x) rows
+
+-- what is known is so of these tables
+pub record IsKnownOf (known : Known) (T : Tables) : Type 0 where
+  pub meta : IfSome known.meta (λ meta. meta ≡ T.meta)
+  pub issues : EachOf (λ n. known.first_issue ≤ n.issued) T.nonces
+  pub orders : EndFrom (λ o. order_code o.status) (λ o. o.expires) known.order_ends T.orders
+  pub authorizations : EndFrom (λ r. authz_code r.status) (λ r. r.expires) known.authorization_ends T.authorizations
+
+-- the moment from which rows are there, where the earliest of them is found; with none, no moment is too late
+abbrev pub bound_of : Option ℕ → ℕ
+bound_of None = 18446744073709551615
+bound_of (Some m) = m
+
+-- the earlier of two moments
+abbrev pub earlier : ℕ → ℕ → ℕ
+earlier m n = if nat_le m n then m else n
+
+-- the moments with the one in this place no later than this end
+abbrev pub lowered : List ℕ → ℕ → ℕ → List ℕ
+lowered ends place end = slice_set ends place (earlier (slice_index ends place) end)

@@ -1,0 +1,108 @@
+//! Whether rows of a store are past, by what it knows; it asks for the earliest of them where it knows too little.
+ghost use Rattle.std.specs.Prelude.{◌≡◌, [], IfOk, IsTrue};
+ghost use Rattle.desk_parts.specs.LookUps.{authorizations_past, nonces_before, orders_past};
+ghost use Rattle.desk_storage.specs.Sight.{ForTables, Reads};
+ghost use Rattle.desk_store.specs.Desks.{store_sight};
+
+use crate::store::Store;
+use desk_model::{AuthzStatus, Meta, OrderStatus};
+use desk_reading as rows;
+use desk_storage::StorageFault;
+use sqlite::Alter;
+use std::alloc::Global;
+
+impl<S: Alter> Store<S> {
+    /// The desk's own row, read and kept.
+    ///
+    /// # Errors
+    ///
+    /// As of a look-up.
+    pub(crate) fn read_meta(&mut self, alloc: Global) -> Result<Meta, StorageFault>
+        ensures reads { Reads (store_sight S.Store) self.old self.new result }
+        ensures found { ForTables (store_sight S.Store) self.old self.new (λ T. IfOk result (λ meta. meta ≡ T.meta)) }
+    {
+        let read = rows::meta_row(alloc, &mut self.conn);
+        match self.told(read) {
+            Ok(meta) => {
+                self.known.note_meta(&meta);
+                Ok(meta)
+            }
+            Err(fault) => Err(fault),
+        }
+    }
+
+    /// Whether no nonce was issued before a moment, in seconds since 1970; where it answers `false`, some may be.
+    ///
+    /// # Errors
+    ///
+    /// As of a look-up.
+    pub(crate) fn has_no_nonce_before(&mut self, moment: u64) -> Result<bool, StorageFault>
+        ensures reads { Reads (store_sight S.Store) self.old self.new result }
+        ensures found { ForTables (store_sight S.Store) self.old self.new (λ T. IfOk result (λ none. IsTrue none → nonces_before T moment ≡ [])) }
+    {
+        if self.known.first_issue() >= moment {
+            return Ok(true);
+        }
+        let read = rows::earliest_issue(&mut self.conn);
+        match self.told(read) {
+            Ok(earliest) => {
+                self.known.note_issue(earliest);
+                Ok(self.known.first_issue() >= moment)
+            }
+            Err(fault) => Err(fault),
+        }
+    }
+
+    /// Whether no order of a status ends before a moment; where it answers `false`, some may.
+    ///
+    /// # Errors
+    ///
+    /// As of a look-up.
+    pub(crate) fn has_no_order_past(
+        &mut self,
+        status: OrderStatus,
+        moment: u64,
+    ) -> Result<bool, StorageFault>
+        ensures reads { Reads (store_sight S.Store) self.old self.new result }
+        ensures found { ForTables (store_sight S.Store) self.old self.new (λ T. IfOk result (λ none. IsTrue none → orders_past T status moment ≡ [])) }
+    {
+        if self.known.order_end(status) >= moment {
+            return Ok(true);
+        }
+        let read = rows::earliest_order_end(&mut self.conn, status);
+        match self.told(read) {
+            Ok(earliest) => {
+                self.known.note_order_end(status, earliest);
+                Ok(self.known.order_end(status) >= moment)
+            }
+            Err(fault) => Err(fault),
+        }
+    }
+
+    /// Whether no authorization of a status ends before a moment; where it answers `false`, some may.
+    ///
+    /// # Errors
+    ///
+    /// As of a look-up.
+    pub(crate) fn has_no_authorization_past(
+        &mut self,
+        status: AuthzStatus,
+        moment: u64,
+    ) -> Result<bool, StorageFault>
+        ensures reads { Reads (store_sight S.Store) self.old self.new result }
+        ensures found { ForTables (store_sight S.Store) self.old self.new (λ T.
+            IfOk result (λ none. IsTrue none → authorizations_past T status moment ≡ [])) }
+    {
+        if self.known.authorization_end(status) >= moment {
+            return Ok(true);
+        }
+        let read = rows::earliest_authorization_end(&mut self.conn, status);
+        match self.told(read) {
+            Ok(earliest) => {
+                self.known.note_authorization_end(status, earliest);
+                Ok(self.known.authorization_end(status) >= moment)
+            }
+            Err(fault) => Err(fault),
+        }
+    }
+}

@@ -1,0 +1,183 @@
+//! What a store knows of its tables from one call to the next: nobody else writes them, so what was read of them and saved since is
+//! so of them.
+ghost use Rattle.std.specs.Prelude.{◌≡◌, ◌<◌, IfOk, IfSome, slice_index, slice_set};
+ghost use Rattle.desk_model.specs.Change.{applied, applied_one};
+ghost use Rattle.desk_model.specs.Derived.{authz_code, order_code};
+ghost use Rattle.desk_model.specs.Tables.{Tables};
+ghost use Rattle.desk_store.specs.Known.{IsKnownOf, bound_of, earlier, lowered, nothing};
+
+use desk_model::{AuthzStatus, Change, Meta, OrderStatus};
+use std::alloc::AllocError;
+
+/// What is known of the tables of a store without asking for it.
+#[derive(Drop)]
+pub(crate) struct Known {
+    // The desk's own row, where it was read or saved.
+    meta: Option<Meta>,
+    // A moment, in seconds since 1970, before which no nonce was issued that is there.
+    first_issue: u64,
+    // For each status of an order, a moment, in seconds since 1970, before which no order of that status ends.
+    order_ends: [u64; 5],
+    // For each status of an authorization, a moment before which none of that status ends.
+    authorization_ends: [u64; 6],
+}
+
+// The place of a status among the ends.
+fn order_place(status: OrderStatus) -> usize
+    ensures code { result ≡ order_code status }
+    ensures in_range { result < 5 }
+{
+    match status {
+        OrderStatus::Pending => 0,
+        OrderStatus::Ready => 1,
+        OrderStatus::Processing => 2,
+        OrderStatus::Valid => 3,
+        OrderStatus::Invalid => 4,
+    }
+}
+
+// The place of a status among the ends.
+fn authorization_place(status: AuthzStatus) -> usize
+    ensures code { result ≡ authz_code status }
+    ensures in_range { result < 6 }
+{
+    match status {
+        AuthzStatus::Pending => 0,
+        AuthzStatus::Valid => 1,
+        AuthzStatus::Invalid => 2,
+        AuthzStatus::Deactivated => 3,
+        AuthzStatus::Expired => 4,
+        AuthzStatus::Revoked => 5,
+    }
+}
+
+// The moment from which rows are there, where the earliest of them is found.
+fn bound_of(earliest: Option<u64>) -> u64
+    ensures { result ≡ bound_of earliest }
+{
+    earliest.unwrap_or(u64::MAX)
+}
+
+// The earlier of two moments.
+fn earlier(m: u64, n: u64) -> u64
+    ensures { result ≡ earlier m n }
+{
+    if m <= n { m } else { n }
+}
+
+// Lowers the moment in a place to an end.
+fn lower<const N: usize>(ends: &mut [u64; N], place: usize, end: u64)
+    requires { place < N }
+    ensures { ends.new ≡ lowered ends.old place end }
+{
+    ends[place] = earlier(ends[place], end);
+}
+
+impl Known {
+    /// Nothing is known.
+    pub(crate) fn nothing() -> Known
+        ensures { result ≡ nothing }
+    {
+        Known {
+            meta: None,
+            first_issue: 0,
+            order_ends: [0; 5],
+            authorization_ends: [0; 6],
+        }
+    }
+
+    /// A copy of the desk's own row, or `None` where it is not known.
+    ///
+    /// # Errors
+    ///
+    /// Where there is no memory for it.
+    pub(crate) fn meta(&self) -> Result<Option<Meta>, AllocError>
+        ensures { IfOk result (λ copy. copy ≡ self.now.meta) }
+    {
+        match &self.meta {
+            Some(meta) => Ok(Some(meta.clone()?)),
+            None => Ok(None),
+        }
+    }
+
+    /// A moment, in seconds since 1970, before which no nonce was issued that is there.
+    pub(crate) fn first_issue(&self) -> u64
+        ensures { result ≡ self.now.first_issue }
+    {
+        self.first_issue
+    }
+
+    /// A moment, in seconds since 1970, before which no order of a status ends.
+    pub(crate) fn order_end(&self, status: OrderStatus) -> u64
+        ensures { result ≡ slice_index self.now.order_ends (order_code status) }
+    {
+        self.order_ends[order_place(status)]
+    }
+
+    /// A moment, in seconds since 1970, before which no authorization of a status ends.
+    pub(crate) fn authorization_end(&self, status: AuthzStatus) -> u64
+        ensures { result ≡ slice_index self.now.authorization_ends (authz_code status) }
+    {
+        self.authorization_ends[authorization_place(status)]
+    }
+
+    /// Keeps a copy of the desk's own row, if there is memory for it.
+    pub(crate) fn note_meta(&mut self, meta: &Meta)
+        ensures meta { IfSome self.new.meta (λ copy. copy ≡ meta.now) }
+        ensures rest { self.new ≡ record self.old { meta = self.new.meta } }
+    {
+        self.meta = meta.clone().ok();
+    }
+
+    /// Keeps when the earliest nonce was issued.
+    pub(crate) fn note_issue(&mut self, earliest: Option<u64>)
+        ensures { self.new ≡ record self.old { first_issue = bound_of earliest } }
+    {
+        self.first_issue = bound_of(earliest);
+    }
+
+    /// Keeps when the earliest order of a status ends.
+    pub(crate) fn note_order_end(&mut self, status: OrderStatus, earliest: Option<u64>)
+        ensures { self.new ≡ record self.old { order_ends = slice_set self.old.order_ends (order_code status) (bound_of earliest) } }
+    {
+        self.order_ends[order_place(status)] = bound_of(earliest);
+    }
+
+    /// Keeps when the earliest authorization of a status ends.
+    pub(crate) fn note_authorization_end(&mut self, status: AuthzStatus, earliest: Option<u64>)
+        ensures { self.new ≡ record self.old { authorization_ends = slice_set self.old.authorization_ends (authz_code status) (bound_of earliest) } }
+    {
+        self.authorization_ends[authorization_place(status)] = bound_of(earliest);
+    }
+
+    // What is known after a change.
+    fn follow_one(&mut self, change: &Change)
+        ensures { (T : Tables) → IsKnownOf self.old T → IsKnownOf self.new (applied_one change.now T) }
+    {
+        match change {
+            Change::PutMeta(meta) => self.note_meta(meta),
+            Change::PutNonce(nonce) => self.first_issue = earlier(self.first_issue, nonce.issued),
+            Change::PutAuthorization(row) => lower(
+                &mut self.authorization_ends,
+                authorization_place(row.status),
+                row.expires,
+            ),
+            Change::PutOrder(row) => lower(
+                &mut self.order_ends,
+                order_place(row.status),
+                row.expires,
+            ),
+            Change::RemoveNonce(_) => {}
+            Change::PutAccount(_) => {}
+        }
+    }
+
+    /// Knows of the tables after these changes what was known of those before them, but for the moments that the changes lower.
+    pub(crate) fn follow(&mut self, changes: &[Change])
+        ensures { (T : Tables) → IsKnownOf self.old T → IsKnownOf self.new (applied changes.now T) }
+    {
+        for change in changes {
+            self.follow_one(change);
+        }
+    }
+}
