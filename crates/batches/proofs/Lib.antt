@@ -1,2 +1,3 @@
 pub mod Acting
 pub mod Asking
+pub mod Turning

@@ -1,2 +1,3 @@
+pub mod InTurn
 pub mod LineRequests
 pub mod Said

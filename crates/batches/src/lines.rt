@@ -1,5 +1,8 @@
 //! Batches: a call a line in, a reply a line out.
-ghost use Rattle.std.specs.Prelude.{◌≡◌, ◌≤◌, MatchResult};
+ghost use Rattle.std.specs.Prelude.{◌≡◌, ◌≢◌, ◌≤◌, ◌++◌, [], ◌∷◌, false, true, IfErr, IfOk, IfSome, IsErr, MatchResult, Ok, OnOk};
+ghost use Rattle.std.specs.Io.BufRead.{DropsThrough, first_piece, strip_last};
+ghost use Rattle.std.specs.Io.KnownBytes.{Appends, IsAtEnd};
+ghost use Rattle.batches.specs.InTurn.{AnswersFirst, AnswersLine, AnswersLines, StopsBehind};
 ghost use Rattle.batches.specs.LineRequests.{call_of};
 ghost use Rattle.desk_calls.specs.Meets.{ActsOnce};
 ghost use Rattle.desk_calls.specs.SeenDesks.{IsSeenOn};
@@ -126,8 +129,8 @@ fn call_of(line: Line, ask: Ask) -> Call
     }
 }
 
-/// Answers the lines of a reader on a writer, each before the next is read, and gives the exit status: 0, or 1
-/// after a line on `errors` that says why the rest is not answered.
+/// Answers the lines of a reader on a writer, each before the next is read, and gives the exit status: 0 where all are
+/// answered, or 1 after a line on `errors` that says why the rest is not.
 pub fn batch<K: Storage + Drop, R: Read + Drop, W: Write, E: Write>(
     alloc: Global,
     reader: R,
@@ -136,6 +139,10 @@ pub fn batch<K: Storage + Drop, R: Read + Drop, W: Write, E: Write>(
     desk: &mut Desk<K>,
 ) -> u8
     ensures status { result ≤ 1 }
+    ensures answered { result ≡ 0
+        → AnswersFirst K.Storage.sight (R.remaining reader) (W.contents writer.old) [] (W.contents writer.new) desk.old desk.new }
+    ensures stopped { result ≡ 1
+        → StopsBehind K.Storage.sight (R.remaining reader) (W.contents writer.old) (W.contents writer.new) desk.old desk.new }
     ensures seen { IsSeenOn K.Storage.sight desk.old desk.new }
     ensures policy { desk.new.policy ≡ desk.old.policy }
 {
@@ -155,6 +162,7 @@ fn answer_lines<K: Storage + Drop, R: Read + Drop, W: Write>(
     writer: &mut W,
     desk: &mut Desk<K>,
 ) -> Result<(), BatchFault>
+    ensures answered { AnswersLines K.Storage.sight (R.remaining reader) (W.contents writer.old) (W.contents writer.new) desk.old desk.new result }
     ensures seen { IsSeenOn K.Storage.sight desk.old desk.new }
     ensures policy { desk.new.policy ≡ desk.old.policy }
 {
@@ -169,18 +177,21 @@ fn answer_lines<K: Storage + Drop, R: Read + Drop, W: Write>(
         }
         answer_line(alloc, &mut routes, desk, number, line.as_slice(), writer)?;
     }
-    Ok(())
+    // No reader gives so many lines.
+    Err(BatchFault::Input)
 }
 
 // Reads the next line, without its end, and tells whether there was one.
-fn next_line<R: BufRead>(reader: &mut R, line: &mut Vec<u8>) -> Result<bool, BatchFault> {
+fn next_line<R: BufRead>(reader: &mut R, line: &mut Vec<u8>) -> Result<bool, BatchFault>
+    ensures none { result ≡ Ok false → IsAtEnd (R.Read.remaining reader.old) }
+    ensures line { result ≡ Ok true → IfSome (R.Read.remaining reader.old) (λ xs. (xs ≢ []) × (line.new.items ≡ first_piece 10 xs)) }
+    ensures rest { result ≡ Ok true → DropsThrough (R.Read.remaining reader.old) (R.Read.remaining reader.new) 10 }
+{
     line.clear();
     match reader.read_until(b'\n', line) {
         Ok(0) => Ok(false),
         Ok(_) => {
-            if line.last() == Some(&b'\n') {
-                line.pop();
-            }
+            strip_end(line);
             Ok(true)
         }
         Err(error) => Err(if error.kind() == ErrorKind::OutOfMemory {
@@ -188,6 +199,15 @@ fn next_line<R: BufRead>(reader: &mut R, line: &mut Vec<u8>) -> Result<bool, Bat
         } else {
             BatchFault::Input
         }),
+    }
+}
+
+// Takes its end from a line, where it has one.
+fn strip_end(line: &mut Vec<u8>)
+    ensures { line.new.items ≡ strip_last 10 line.old.items }
+{
+    if line.last() == Some(&b'\n') {
+        line.pop();
     }
 }
 
@@ -200,7 +220,8 @@ fn answer_line<K: Storage + Drop, W: Write>(
     line: &[u8],
     writer: &mut W,
 ) -> Result<(), BatchFault>
-    ensures { ActsOnce K.Storage.sight desk.old desk.new }
+    ensures answered { AnswersLine K.Storage.sight line.now (W.contents writer.old) (W.contents writer.new) desk.old desk.new result }
+    ensures acts { ActsOnce K.Storage.sight desk.old desk.new }
 {
     let answered = batch_line_by(alloc, routes, desk, line);
     put_answer(number, answered, writer)
@@ -211,7 +232,10 @@ fn put_answer<W: Write>(
     number: u64,
     answered: Result<Vec<u8>, AnswerFault>,
     writer: &mut W,
-) -> Result<(), BatchFault> {
+) -> Result<(), BatchFault>
+    ensures written { IfOk answered (λ said. OnOk result (Appends (W.contents writer.old) (W.contents writer.new) (said.items ++ 10 ∷ []))) }
+    ensures silent { IfErr answered (λ why. IsErr result × (W.contents writer.new ≡ W.contents writer.old)) }
+{
     match answered {
         Ok(said) => write_line(writer, said),
         Err(AnswerFault::NotACall) => Err(BatchFault::NotACall(number)),
@@ -221,7 +245,9 @@ fn put_answer<W: Write>(
 }
 
 // Writes a line with its end, in one piece.
-fn write_line<W: Write>(writer: &mut W, line: Vec<u8>) -> Result<(), BatchFault> {
+fn write_line<W: Write>(writer: &mut W, line: Vec<u8>) -> Result<(), BatchFault>
+    ensures { OnOk result (Appends (W.contents writer.old) (W.contents writer.new) (line.items ++ 10 ∷ [])) }
+{
     let mut line = line;
     if line.push(b'\n').is_err() {
         return Err(BatchFault::Desk(DeskFault::Memory));
@@ -233,7 +259,9 @@ fn write_line<W: Write>(writer: &mut W, line: Vec<u8>) -> Result<(), BatchFault>
 }
 
 // Writes a line that has its end, and hands it on.
-fn put_line<W: Write>(writer: &mut W, line: &[u8]) -> io::Result<()> {
+fn put_line<W: Write>(writer: &mut W, line: &[u8]) -> io::Result<()>
+    ensures { OnOk result (Appends (W.contents writer.old) (W.contents writer.new) line.now) }
+{
     writer.write_all(line)?;
     writer.flush()
 }
