@@ -1,2 +1,3 @@
+mod Ending
 mod Seeing
 mod Turns

@@ -1,21 +1,29 @@
 -- What serving connections one after the other does may be seen.
-use Rattle.std.proofs.Common.{ℕ, zero, suc, Err, subst, sym, Option, Some, None}
+use Rattle.std.proofs.Common.{ℕ, zero, suc, Err, subst, sym, inl, Option, Some, None, Result}
 use Rattle.desk_storage.specs.Sight.{Sight}
-use Rattle.desk_storage.specs.declared.fault.StorageFault.{StorageFault}
+use Rattle.desk_storage.specs.Storing.{Causes}
 use Rattle.desk_calls.specs.SeenDesks.{IsSeenOn}
 use Rattle.desk_calls.specs.State.{DeskState}
 use Rattle.desk_calls.specs.declared.fault.DeskFault.{DeskFault}
 use Rattle.desk_calls.proofs.SeeingDesks.{seen_once_more, seen_untouched}
+use Rattle.desk_calls.specs.Meets.{ActsOnce}
 use Rattle.desk_http.proofs.Acting.{once_acts}
-use Rattle.connections.specs.InTurn.{ServesMany, ServesNext, ServesOne}
+use Rattle.desk_http.specs.declared.sending.IoFault.{IoFault}
+use Rattle.desk_http.specs.declared.serving.Served.{Served}
+use Rattle.connections.specs.InTurn.{ServesClient, ServesMany, ServesNext, ServesOne, heard, unread}
 use Rattle.connections.specs.declared.fault.ServeFault.{ServeFault}
 use Rattle.connections.specs.declared.fault.ServeFault.TheVariants as servefault
 
-module _ {S C : Type 0} (v : Sight S C) (causes : S → S → StorageFault → Type 0) where
+module _ {S C : Type 0} (v : Sight S C) (causes : Causes S) where
+  -- a connection does nothing to a desk, or what an answer to one call does
+  client_acts : (served : Result Served IoFault) (old new : DeskState S) → ServesClient v causes old new served → ActsOnce v old new
+  client_acts served old new (unread same failed) = inl same
+  client_acts served old new (heard s) = once_acts v causes s.at s.random new.policy.base old new served (s.does None tt)
+
   -- after what was seen of an open desk, one connection more
   seen_next_one : (why : Option DeskFault) (old mid new : DeskState S) → IsSeenOn v old mid → ServesOne v causes why mid new → IsSeenOn v old new
   seen_next_one why old mid new before one =
-      seen_once_more v old mid new before (once_acts v causes one.1.at one.1.random new.policy.base mid new one.0 one.1.does)
+      seen_once_more v old mid new before (client_acts one.0 mid new one.1)
 
   -- and so many
   pub seen_many : (n : ℕ) (old new : DeskState S) → ServesMany v causes n old new → IsSeenOn v old new

@@ -1,13 +1,13 @@
 -- Connections that are served one after the other.
 use Rattle.std.proofs.Common.{◌<◌, Err, ℕ, ◌+◌, None, add-one}
 use Rattle.desk_storage.specs.Sight.{Sight}
-use Rattle.desk_storage.specs.declared.fault.StorageFault.{StorageFault}
+use Rattle.desk_storage.specs.Storing.{Causes}
 use Rattle.desk_calls.specs.State.{DeskState}
 use Rattle.connections.specs.InTurn.{ServesAll, ServesMany, ServesNext, ServesOne}
 use Rattle.connections.specs.declared.fault.ServeFault.{ServeFault}
 use Rattle.connections.specs.declared.fault.ServeFault.TheVariants as servefault
 
-module _ {S C : Type 0} (v : Sight S C) (causes : S → S → StorageFault → Type 0) where
+module _ {S C : Type 0} (v : Sight S C) (causes : Causes S) where
   -- one more connection is served
   pub serves_more : (n : ℕ) (old mid new : DeskState S) → ServesMany v causes n old mid → ServesOne v causes None mid new
       → ServesMany v causes (n + 1) old new

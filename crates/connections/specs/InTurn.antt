@@ -1,15 +1,24 @@
 -- What serving connections one after the other does to a desk.
 use Rattle.std.specs.Prelude.{◌≡◌, ◌<◌, ℕ, length, List, zero, suc, Bool, true, false, Option, Some, None, Result, Ok, Err, MatchResult}
 use Rattle.desk_storage.specs.Sight.{Sight}
-use Rattle.desk_storage.specs.declared.fault.StorageFault.{StorageFault}
+use Rattle.desk_storage.specs.Storing.{Causes}
 use Rattle.desk_calls.specs.Faults.{closes}
 use Rattle.desk_calls.specs.State.{DeskState}
 use Rattle.desk_calls.specs.declared.fault.DeskFault.{DeskFault}
 use Rattle.desk_calls.specs.declared.fault.DeskFault.TheVariants as deskfault
-use Rattle.desk_http.specs.Serving.{Breaks, Serves}
+use Rattle.std.specs.declared.alloc.AllocError.{AllocError}
+use Rattle.desk_model.specs.declared.call.Ask.{Ask}
+use Rattle.desk_model.specs.declared.call.Ask.TheVariants as ask
+use Rattle.desk_model.specs.declared.call.Target.{Target}
+use Rattle.desk_model.specs.declared.call.Target.TheVariants as to
+use Rattle.requests.specs.declared.request.Request.{Request}
+use Rattle.requests.specs.declared.request.Request.TheVariants as request
+use Rattle.http_requests.specs.declared.call.Heard.{Heard}
+use Rattle.desk_http.specs.Serving.{Breaks, IsHeardOf, Serves}
 use Rattle.desk_http.specs.declared.saying.Cause.{Cause}
 use Rattle.desk_http.specs.declared.saying.Cause.TheVariants as cause
 use Rattle.desk_http.specs.declared.sending.IoFault.{IoFault}
+use Rattle.desk_http.specs.declared.sending.IoFault.TheVariants as iofault
 use Rattle.desk_http.specs.declared.serving.Served.{Served}
 use Rattle.connections.specs.declared.fault.ServeFault.{ServeFault}
 use Rattle.connections.specs.declared.fault.ServeFault.TheVariants as servefault
@@ -29,15 +38,39 @@ abbrev pub fault_after : Result Served IoFault → Bool → Option DeskFault
 fault_after (Ok served) is_closed = fault_of served.cause
 fault_after (Err why) is_closed = if_closes deskfault.Reopen is_closed
 
-module _ {S C : Type 0} (v : Sight S C) (causes : S → S → StorageFault → Type 0) where
-  -- how a connection was served, or that it failed; the call had some moment and 1616 random bytes, which are enough for any.
-  -- A socket does not tell its bytes, so what they spell is not known
-  pub record ServesClient (old new : DeskState S) (served : Result Served IoFault) : Type 0 where
+-- ---- random bytes
+
+-- how many a request with this target may take: those of a fresh nonce, and for a new order two tokens' for each of a hundred names
+abbrev pub random_for_target : Target → ℕ
+random_for_target to.NewOrder = 1616
+random_for_target _ = 16
+
+abbrev pub random_for_ask : Ask → ℕ
+random_for_ask (ask.NewNonce head) = 16
+random_for_ask (ask.Signed s) = random_for_target s.target
+random_for_ask (ask.Office a) = 0
+
+-- and what was read of it; a refusal takes none
+abbrev pub random_for : Result Request AllocError → ℕ
+random_for (Ok (request.Asks what)) = random_for_ask what
+random_for _ = 0
+
+module _ {S C : Type 0} (v : Sight S C) (causes : Causes S) where
+  -- how a request that was read was served, or that its connection failed; its call had some moment, and the random bytes that
+  -- it may take. A socket does not tell its bytes, so what they spell is not known
+  pub record ServesHeard (old new : DeskState S) (served : Result Served IoFault) : Type 0 where
+    pub heard : Heard
     pub at : ℕ
     pub random : List ℕ
-    pub enough : length random ≡ 1616
+    pub enough : length random ≡ random_for heard.request
     pub does :
-        MatchResult served (Serves v causes at random new.policy.base None None None old new) (Breaks v causes at random None None None old new)
+        (known : Option (List ℕ)) → IsHeardOf known heard
+        → MatchResult served (Serves v causes at random new.policy.base known None None old new) (Breaks v causes at random known None None old new)
+
+  -- a connection whose request could not be read, or was served
+  pub data ServesClient (old new : DeskState S) (served : Result Served IoFault) : Type 0 where
+    unread : new ≡ old → served ≡ Err iofault.Read → ServesClient old new served
+    heard : ServesHeard old new served → ServesClient old new served
 
   -- one connection, and the fault by which the desk is closed after it, if it is
   abbrev pub ServesOne : Option DeskFault → DeskState S → DeskState S → Type 0

@@ -1,14 +1,14 @@
 //! Clients, one after the other.
-ghost use Rattle.std.specs.Prelude.{◌≡◌, false, IfErr, unwrap_or};
+ghost use Rattle.std.specs.Prelude.{◌≡◌, false, IfErr, IfOk, unwrap_or};
 ghost use Rattle.connections.specs.declared.fault.ServeFault.TheVariants as fault;
-ghost use Rattle.connections.specs.InTurn.{Ends, ServesAll, ServesNext, fault_after};
+ghost use Rattle.connections.specs.InTurn.{Ends, ServesAll, ServesClient, ServesHeard, ServesNext, fault_after, random_for};
 ghost use Rattle.desk_calls.specs.SeenDesks.{IsSeenOn};
 
 use crate::client::{Patient, end};
 use crate::fault::ServeFault;
 use desk_calls::{Desk, DeskFault};
-use desk_http::{Cause, IoFault, Routes, Served, serve_one_by};
-use desk_model::MOST_NAMES;
+use desk_http::{Cause, Heard, IoFault, Request, Routes, Served, read_call_by, serve_heard};
+use desk_model::{Ask, MOST_NAMES, Target};
 use desk_storage::Storage;
 use rand::TryRng;
 use rand::rngs::SysRng;
@@ -18,8 +18,11 @@ use std::net::{Ipv4Addr, Net, SocketAddr, TcpListener, TcpStream};
 use std::random::RandomSource;
 use std::time::{Clock, SystemTime, UNIX_EPOCH};
 
-// The random bytes of a call: enough for one with the most names, a nonce and two tokens for each name.
-const RANDOM: usize = 16 * (1 + 2 * MOST_NAMES);
+// The random bytes of a nonce.
+const NONCE_RANDOM: usize = 16;
+
+// Those of a call with the most names: a nonce's, and two tokens' for each name.
+const MOST_RANDOM: usize = NONCE_RANDOM * (1 + 2 * MOST_NAMES);
 
 /// Takes a port of 127.0.0.1, 0 for one that the machine chooses, and tells the address.
 ///
@@ -88,11 +91,7 @@ fn serve_client<M: Clock + RandomSource, K: Storage + Drop, E: Write>(
     ensures ends { desk.old.is_closed ≡ false → Ends result desk.new }
 {
     let at = moment(machine)?;
-    let mut random = [0u8; RANDOM];
-    draw(machine, &mut random)?;
-    let mut reader = Patient::new(stream, machine);
-    let mut writer = Patient::new(stream, machine);
-    let served = serve_one_by(alloc, routes, &mut reader, &mut writer, desk, at, &random);
+    let served = serve_request(alloc, machine, routes, stream, desk, at)?;
     match served {
         Ok(_) => end(stream, machine),
         Err(_) => {
@@ -102,6 +101,60 @@ fn serve_client<M: Clock + RandomSource, K: Storage + Drop, E: Write>(
     match closing_fault(desk, served) {
         Some(fault) => Err(ServeFault::Desk(fault)),
         None => Ok(()),
+    }
+}
+
+// Reads a request and serves it.
+fn serve_request<M: Clock + RandomSource, K: Storage + Drop>(
+    alloc: Global,
+    machine: &M,
+    routes: &mut Routes,
+    stream: &TcpStream,
+    desk: &mut Desk<K>,
+    at: u64,
+) -> Result<Result<Served, IoFault>, ServeFault>
+    ensures policy { desk.new.policy ≡ desk.old.policy }
+    ensures served { IfOk result (ServesClient K.Storage.sight K.Storage.causes desk.old desk.new) }
+    ensures failed { IfErr result (λ e. (e ≡ fault.Random) × (desk.new ≡ desk.old)) }
+{
+    let mut reader = Patient::new(stream, machine);
+    match read_call_by(alloc, routes, &mut reader) {
+        Ok(heard) => serve_read(alloc, machine, stream, desk, at, heard),
+        Err(_) => Ok(Err(IoFault::Read)),
+    }
+}
+
+// Serves a request that was read, with as many random bytes as its call may take.
+fn serve_read<M: Clock + RandomSource, K: Storage + Drop>(
+    alloc: Global,
+    machine: &M,
+    stream: &TcpStream,
+    desk: &mut Desk<K>,
+    at: u64,
+    heard: Heard,
+) -> Result<Result<Served, IoFault>, ServeFault>
+    ensures policy { desk.new.policy ≡ desk.old.policy }
+    ensures served { IfOk result (ServesHeard K.Storage.sight K.Storage.causes desk.old desk.new) }
+    ensures failed { IfErr result (λ e. (e ≡ fault.Random) × (desk.new ≡ desk.old)) }
+{
+    let mut random = [0u8; MOST_RANDOM];
+    let random = &mut random[..random_for(&heard)];
+    draw(machine, random)?;
+    let mut writer = Patient::new(stream, machine);
+    Ok(serve_heard(alloc, &mut writer, desk, at, random, heard))
+}
+
+// How many random bytes the call of a request may take: a nonce's, and for a new order as many tokens as one may need.
+fn random_for(heard: &Heard) -> usize
+    ensures { result ≡ random_for heard.now.request }
+{
+    match &heard.request {
+        Ok(Request::Asks(Ask::NewNonce { .. })) => NONCE_RANDOM,
+        Ok(Request::Asks(Ask::Signed(request))) => match request.target {
+            Target::NewOrder => MOST_RANDOM,
+            _ => NONCE_RANDOM,
+        },
+        _ => 0,
     }
 }
 

@@ -4,7 +4,7 @@ use Rattle.std.specs.Prelude.{MatchResult}
 use Rattle.desk_model.specs.declared.call.Call.{Call}
 use Rattle.desk_model.specs.declared.reply.Reply.{Reply}
 use Rattle.desk_storage.specs.Sight.{Sight}
-use Rattle.desk_storage.specs.declared.fault.StorageFault.{StorageFault}
+use Rattle.desk_storage.specs.Storing.{Causes}
 use Rattle.desk_calls.specs.Meets.{ActsOnce, Meets}
 use Rattle.desk_calls.specs.State.{DeskState}
 use Rattle.desk_calls.specs.declared.fault.DeskFault.{DeskFault}
@@ -18,7 +18,7 @@ use Rattle.desk_http.specs.declared.sending.IoFault.{IoFault}
 use Rattle.desk_http.specs.declared.sending.IoFault.TheVariants as iofault
 use Rattle.desk_http.specs.declared.serving.Served.{Served}
 
-module _ {S C : Type 0} (v : Sight S C) (causes : S → S → StorageFault → Type 0) where
+module _ {S C : Type 0} (v : Sight S C) (causes : Causes S) where
   -- as a desk answers a call
   meets : (call : Call) (old new : DeskState S) (result : Result Reply DeskFault) → IsAnswer v causes call old new result → Meets v call old new result
   meets call old new result a =

@@ -4,51 +4,50 @@ use Rattle.std.specs.Prelude.{IfSome}
 use Rattle.std.specs.declared.alloc.AllocError.{AllocError}
 use Rattle.desk_model.specs.declared.reply.Reply.{Reply}
 use Rattle.desk_storage.specs.Sight.{Sight}
-use Rattle.desk_storage.specs.declared.fault.StorageFault.{StorageFault}
+use Rattle.desk_storage.specs.Storing.{Causes}
 use Rattle.desk_calls.specs.State.{DeskState}
 use Rattle.desk_calls.specs.declared.fault.DeskFault.{DeskFault}
 use Rattle.requests.specs.declared.request.Request.{Request}
-use Rattle.http_requests.specs.Heard.{Hears}
 use Rattle.http_requests.specs.Spelled.{IsManner, Spells}
 use Rattle.http_requests.specs.declared.call.Heard.{Heard}
-use Rattle.desk_http.specs.Serving.{Fails, HasAnswer, IsLeft, LacksReply, LacksText, ReadAnswer}
+use Rattle.desk_http.specs.Serving.{Fails, HasAnswer, IsHeardOf, IsLeft, LacksReply, LacksText, ReadAnswer}
 use Rattle.desk_http.specs.declared.saying.Cause.{Cause}
 use Rattle.desk_http.specs.declared.saying.Cause.TheVariants as cause
 
 -- the request that was read is the input's
-spelled : (known : Option (List ℕ)) (h : Heard) (q : Request) → IfSome known (λ input. Hears input h) → h.request ≡ Ok q
+spelled : (known : Option (List ℕ)) (h : Heard) (q : Request) → IsHeardOf known h → h.request ≡ Ok q
     → IfSome known (λ input. Spells input q)
 spelled None h q is e = tt
 spelled (Some input) h q is e = rw e at is.request
 
 -- and so is how its reply is written
-pub manner_heard : (known : Option (List ℕ)) (h : Heard) → IfSome known (λ input. Hears input h) → IfSome known (λ input. IsManner input h.manner)
+pub manner_heard : (known : Option (List ℕ)) (h : Heard) → IsHeardOf known h → IfSome known (λ input. IsManner input h.manner)
 manner_heard None h is = tt
 manner_heard (Some input) h is = is.manner
 
 -- why a request that was read has no reply is why it has no text
-pub no_text : {S C : Type 0} (v : Sight S C) (causes : S → S → StorageFault → Type 0) (at : ℕ) (random : List ℕ) (read : Result Request AllocError)
+pub no_text : {S C : Type 0} (v : Sight S C) (causes : Causes S) (at : ℕ) (random : List ℕ) (read : Result Request AllocError)
     (q : Request) (old new : DeskState S) (why : Cause) → read ≡ Ok q → LacksReply v causes at random q why old new
     → LacksText v causes at random read why old new
 no_text v causes at random read q old new (cause.Desk fault) e l = record { request = q; is_read = e; responds = l }
 no_text v causes at random read q old new cause.Reading e l = l
 no_text v causes at random read q old new cause.Text e l = absurd l
 
-module _ {S C : Type 0} (v : Sight S C) (causes : S → S → StorageFault → Type 0) (at : ℕ) (random : List ℕ) (known : Option (List ℕ)) (h : Heard) where
+module _ {S C : Type 0} (v : Sight S C) (causes : Causes S) (at : ℕ) (random : List ℕ) (known : Option (List ℕ)) (h : Heard) where
   -- the answer to what was read is the answer to the input
-  pub answered : (old new : DeskState S) (result : Result Reply DeskFault) → IfSome known (λ input. Hears input h)
+  pub answered : (old new : DeskState S) (result : Result Reply DeskFault) → IsHeardOf known h
       → ReadAnswer v causes at random h.request old new result → HasAnswer v causes at random known old new result
   answered old new result is a = record { request = a.request; spelled = spelled known h a.request is a.is_read; responds = a.responds }
 
   -- why what was read did not have its reply is why the input did not
-  pub fails : (old new : DeskState S) (why : Cause) → IfSome known (λ input. Hears input h)
+  pub fails : (old new : DeskState S) (why : Cause) → IsHeardOf known h
       → LacksText v causes at random h.request why old new → Fails v causes at random known old new why
   fails old new (cause.Desk fault) is l = answered old new _ is l
   fails old new cause.Reading is l = l
   fails old new cause.Text is l = (l.0, answered old new _ is l.1)
 
   -- and then the desk is as it was, or as the answer to the input left it
-  pub leaves : (old new : DeskState S) (why : Cause) → IfSome known (λ input. Hears input h)
+  pub leaves : (old new : DeskState S) (why : Cause) → IsHeardOf known h
       → LacksText v causes at random h.request why old new → IsLeft v causes at random known old new
   leaves old new (cause.Desk fault) is l = inr (Err fault, answered old new (Err fault) is l)
   leaves old new cause.Reading is l = inl l

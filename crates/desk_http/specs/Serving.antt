@@ -8,7 +8,7 @@ use Rattle.desk_model.specs.declared.refusal.Refusal.TheVariants as refusal
 use Rattle.desk_model.specs.declared.reply.Allow.TheVariants as allow
 use Rattle.desk_model.specs.declared.reply.Reply.{Reply}
 use Rattle.desk_storage.specs.Sight.{Sight}
-use Rattle.desk_storage.specs.declared.fault.StorageFault.{StorageFault}
+use Rattle.desk_storage.specs.Storing.{Causes}
 use Rattle.desk_calls.specs.Answers.{Answers, is_closed_after}
 use Rattle.desk_calls.specs.Causes.{IsCaused}
 use Rattle.desk_calls.specs.State.{DeskState}
@@ -18,7 +18,9 @@ use Rattle.requests.specs.Request.{refused_request}
 use Rattle.requests.specs.declared.request.Request.{Request}
 use Rattle.requests.specs.declared.request.Request.TheVariants as request
 use Rattle.http_replies.specs.Replies.{reply_bytes}
+use Rattle.http_requests.specs.Heard.{Hears}
 use Rattle.http_requests.specs.Spelled.{IsManner, Spells}
+use Rattle.http_requests.specs.declared.call.Heard.{Heard}
 use Rattle.http_requests.specs.declared.call.Manner.{Manner}
 use Rattle.desk_http.specs.declared.saying.Cause.{Cause}
 use Rattle.desk_http.specs.declared.saying.Cause.TheVariants as cause
@@ -35,6 +37,10 @@ call_of at random what = record { at = at; random = random; ask = what }
 abbrev pub Spelled : Option (List ℕ) → Request → Type 0
 Spelled known q = IfSome known (λ input. Spells input q)
 
+-- this was read of the input, where it is known
+abbrev pub IsHeardOf : Option (List ℕ) → Heard → Type 0
+IsHeardOf known heard = IfSome known (λ input. Hears input heard)
+
 -- ---- what is written in place of a reply: that the desk could not act, or nothing where memory for it was refused
 
 -- whether it has the link to the directory: by the path, which is not known where memory was refused in reading the call
@@ -50,7 +56,7 @@ Tells base index head_only before after false = Keeps before after
 
 -- ---- the desk
 
-module _ {S C : Type 0} (v : Sight S C) (causes : S → S → StorageFault → Type 0) where
+module _ {S C : Type 0} (v : Sight S C) (causes : Causes S) where
   -- what a desk promises of a call (`desk_calls::Desk::answer`)
   pub record IsAnswer (call : Call) (old new : DeskState S) (result : Result Reply DeskFault) : Type 0 where
     pub closed : IsTrue old.is_closed → (result ≡ Err deskfault.Reopen) × (new ≡ old)

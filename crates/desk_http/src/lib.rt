@@ -24,9 +24,9 @@ mod worked_reports;
 mod worked_run;
 
 pub use http_replies::reply_text;
-pub use http_requests::{Heard, Manner, ReadFailed, read_call};
+pub use http_requests::{Heard, Manner, ReadFailed, read_call, read_call_by};
 pub use refusals::problem_document;
-pub use requests::Routes;
+pub use requests::{Request, Routes};
 pub use saying::Cause;
 pub use sending::IoFault;
-pub use serving::{Served, serve_one, serve_one_by};
+pub use serving::{Served, serve_heard, serve_one, serve_one_by};

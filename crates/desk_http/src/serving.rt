@@ -1,14 +1,14 @@
 //! One request from a reader, and its reply to a writer.
-ghost use Rattle.std.specs.Prelude.{◌≡◌, ◌+◌, IfOk, IfErr};
+ghost use Rattle.std.specs.Prelude.{◌≡◌, ◌+◌, ℕ, List, Option, IfOk, IfErr};
 ghost use Rattle.desk_model.specs.Limits.{longest_body, longest_head};
 ghost use Rattle.http_requests.specs.Head.{TakesAtMost};
-ghost use Rattle.desk_http.specs.Serving.{Breaks, Serves, index_for};
+ghost use Rattle.desk_http.specs.Serving.{Breaks, IsHeardOf, Serves, index_for};
 
 use crate::saying::{Cause, say};
 use crate::sending::{IoFault, send, tell};
 use desk_calls::Desk;
 use desk_storage::Storage;
-use http_requests::{Manner, read_call_by};
+use http_requests::{Heard, Manner, read_call_by};
 use requests::Routes;
 use std::alloc::Global;
 use std::io::{Read, Write};
@@ -74,9 +74,33 @@ pub fn serve_one_by<R: Read, W: Write, K: Storage + Drop>(
         (R.remaining reader.old) (W.contents writer.old) (W.contents writer.new) desk.old desk.new e) }
     ensures taken { TakesAtMost (R.remaining reader.old) (R.remaining reader.new) (longest_head + longest_body) }
 {
-    let Ok(heard) = read_call_by(alloc, routes, reader) else {
-        return Err(IoFault::Read);
-    };
+    match read_call_by(alloc, routes, reader) {
+        Ok(heard) => serve_heard(alloc, writer, desk, at, random, heard),
+        Err(_) => Err(IoFault::Read),
+    }
+}
+
+/// Serves a request that was read, as `serve_one` does.
+///
+/// # Errors
+///
+/// `Write` where the writer fails.
+pub fn serve_heard<W: Write, K: Storage + Drop>(
+    alloc: Global,
+    writer: &mut W,
+    desk: &mut Desk<K>,
+    at: u64,
+    random: &[u8],
+    heard: Heard,
+) -> Result<Served, IoFault>
+    ensures policy { desk.new.policy ≡ desk.old.policy }
+    ensures served { (known : Option (List ℕ)) → IsHeardOf known heard → IfOk result (λ s.
+        Serves K.Storage.sight K.Storage.causes at random.now desk.new.policy.base
+        known (W.contents writer.old) (W.contents writer.new) desk.old desk.new s) }
+    ensures failed { (known : Option (List ℕ)) → IsHeardOf known heard → IfErr result (λ e.
+        Breaks K.Storage.sight K.Storage.causes at random.now
+        known (W.contents writer.old) (W.contents writer.new) desk.old desk.new e) }
+{
     let manner = heard.manner;
     match say(alloc, desk, at, random, heard.request, manner.head_only) {
         Ok(text) => match send(writer, text.as_slice()) {

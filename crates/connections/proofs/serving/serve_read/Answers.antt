@@ -1,0 +1,12 @@
+use Rattle.std.proofs.Common.{rules}
+use Rattle.connections.proofs.Ending.{match_of}
+use Rattle.connections.proofs.serving.serve_read.Goals as goal
+
+pub returns-clause-served : goal.returns-clause-served
+returns-clause-served g c = record {
+  heard = c.args.heard;
+  at = c.args.at;
+  random = c.draw.new.bytes;
+  enough = search rules;
+  does = λ known is. match_of _ _ c.serve_heard.result (c.serve_heard.ensures.served known is) (c.serve_heard.ensures.failed known is);
+}

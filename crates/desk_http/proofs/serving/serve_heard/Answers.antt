@@ -1,0 +1,42 @@
+use Rattle.std.proofs.Common.{Ok, inr, refl, ◌∙◌}
+use Rattle.desk_http.proofs.Hearing.{answered, fails, leaves, manner_heard}
+use Rattle.desk_http.proofs.serving.serve_heard.Goals as goal
+
+pub returns-in-Ok-send-clause-served : goal.returns-in-Ok-send-clause-served
+returns-in-Ok-send-clause-served g c known is =
+    let said = c.in-Ok.ensures.said in (
+      c.args.heard.manner,
+      manner_heard known c.args.heard is,
+      (
+        said.0,
+        answered g.K.Storage.sight g.K.Storage.causes c.args.at c.args.random.now known c.args.heard c.args.desk.now c.say.new.desk (Ok said.0) is said.1,
+        rw (c.as_slice.ensures.value ∙ said.2) at c.in-Ok-send.ensures.took,
+        refl,
+      ),
+    )
+
+pub returns-in-Ok-clause-failed : goal.returns-in-Ok-clause-failed
+returns-in-Ok-clause-failed g c known is =
+    let said = c.in-Ok.ensures.said in
+    rw (c.in-Err-send.ensures.failed)
+    (inr (
+      Ok said.0,
+      answered g.K.Storage.sight g.K.Storage.causes c.args.at c.args.random.now known c.args.heard c.args.desk.now c.say.new.desk (Ok said.0) is said.1,
+    ))
+
+pub returns-in-Ok-tell-clause-served : goal.returns-in-Ok-tell-clause-served
+returns-in-Ok-tell-clause-served g c known is = (
+  c.args.heard.manner,
+  manner_heard known c.args.heard is,
+  (
+    fails g.K.Storage.sight g.K.Storage.causes c.args.at c.args.random.now known c.args.heard c.args.desk.now c.say.new.desk c.in-Err.cause is
+        c.in-Err.ensures.said,
+    rw (c.index_for-index.ensures, c.base.ensures) at c.in-Ok-tell.ensures.told,
+  ),
+)
+
+pub returns-clause-failed : goal.returns-clause-failed
+returns-clause-failed g c known is =
+    rw (c.in-Err-tell.ensures.failed)
+    (leaves g.K.Storage.sight g.K.Storage.causes c.args.at c.args.random.now known c.args.heard c.args.desk.now c.say.new.desk c.in-Err.cause is
+    c.in-Err.ensures.said)
