@@ -20,9 +20,7 @@ returns-in-Err-clause-honest g c =
     subst (λ conn. doubt old.is_clean ≤ doubt (state g.A.Store conn).is_clean) (sym same) (le_refl _)) (λ is. (c.in-Err.ensures.left is).clean)
 
 pub returns-in-Ok-clause-made : goal.returns-in-Ok-clause-made
-returns-in-Ok-clause-made g c clean none unlimited =
-    let it = c.in-Ok.ensures.made clean none unlimited in
-    record { tables = it.desk; left = it.left }
+returns-in-Ok-clause-made g c = c.in-Ok.ensures.made
 
 pub returns-in-Err-clause-unmade : goal.returns-in-Err-clause-unmade
 returns-in-Err-clause-unmade g c clean none is_open =
