@@ -14,7 +14,7 @@ import subprocess
 
 from model import LIVES, Desk
 from model_texts import canonical
-from trying import (BASE, KEY, NOT_A_DESK, ROOT, TABLES, begin, bytes_of, change, copy, example, finish, fresh, need, run, see, small_files,
+from trying import (BASE, KEY, NOT_A_DESK, ROOT, TABLES, begin, bytes_of, change, checked, copy, example, finish, fresh, need, run, see, small_files,
                     stored, tables_of, terms_of, workspace)
 from upgrades import cut_upgrades, later_calls, strange_upgrades, upgrades, without_room
 
@@ -140,6 +140,40 @@ def missing_columns(program, folder):
     see("columns that were dropped", dropped > 20, True)
 
 
+def reversed_tables(path, to):
+    """A file with the rows of another, whose tables were made in the opposite order, each before the ones that it names."""
+    with sqlite3.connect(path) as found, sqlite3.connect(to) as made:
+        made.execute("PRAGMA journal_mode = WAL")
+        made.execute("PRAGMA foreign_keys = OFF")
+        texts = [text for kind in ("table", "index") for (text,) in found.execute(
+            "SELECT sql FROM sqlite_schema WHERE type = ? AND sql IS NOT NULL ORDER BY rootpage DESC", (kind,))]
+        for text in texts:
+            made.execute(text)
+        for table in TABLES:
+            for row in found.execute(f"SELECT * FROM {table}"):
+                made.execute(f"INSERT INTO {table} VALUES ({','.join('?' * len(row))})", row)
+    found.close()
+    made.close()
+    return to
+
+
+def other_schemas(program, folder):
+    """Desks whose tables were made in another order, or beside a table, an index and a view of somebody else, are opened and answer on."""
+    calls, wanted = example("order")
+    whole = fresh(program, folder, "schema")
+    first = run(program, "batch", "--file", whole, given=b"".join(calls[:7]))
+    foreign = f"{folder}/foreign.db"
+    copy(whole, foreign)
+    change(foreign, "CREATE TABLE other (a, b)", "INSERT INTO other VALUES (1, 2)", "CREATE INDEX by_b ON other (b)",
+           "CREATE VIEW names AS SELECT name FROM authz")
+    for said, path in (("tables in the opposite order", reversed_tables(whole, f"{folder}/reversed.db")), ("a table of somebody else", foreign)):
+        rows = tables_of(path, folder)
+        see(f"{said}: opened", checked(program, path), (0, b"no fault\n", b""))
+        see(f"{said}: its rows", tables_of(path, folder), rows)
+        then = run(program, "batch", "--file", path, given=b"".join(calls[7:]))
+        see(f"{said}: the calls", (first[1] + then[1], then[::2]), (wanted, (0, b"")))
+
+
 def as_often(program, folder):
     """The replies to a batch, and the tables then, are the same however often a commit syncs."""
     calls, wanted = example("order")
@@ -261,7 +295,7 @@ def broken_input(program, _):
 
 def main(program):
     with workspace("files") as folder:
-        for tries in (batches, as_often, first_rows, ends, strange, missing_columns, used_up, cut_short, upgrades, strange_upgrades, cut_upgrades,
+        for tries in (batches, as_often, first_rows, ends, strange, missing_columns, other_schemas, used_up, cut_short, upgrades, strange_upgrades, cut_upgrades,
                       without_room, later_calls, full_output, broken_input, together, shell):
             tries(program, folder)
     return finish("Files")
