@@ -1,16 +1,18 @@
 -- The upsert into `account`.
-use Rattle.std.proofs.Common.{pos, [], ◌∷◌, drop, refl, ap}
+use Rattle.std.proofs.Common.{pos, [], ◌∷◌, ◌++◌, drop, take, refl, ap}
 use Rattle.sqlite.specs.declared.types.Value.TheVariants.{Int, Null}
 use Rattle.sqlite_sql.specs.Term.{lit, col}
 use Rattle.sqlite_tied.specs.Compute.{everything}
 use Rattle.sqlite.specs.Listing.{understood}
 use Rattle.desk_columns.specs.Columns.{account_columns}
 use Rattle.desk_schema.specs.Schema.{account_table}
-use Rattle.desk_tables.specs.Images.{account_image, account_params}
+use Rattle.desk_tables.specs.Images.{account_image, account_kept, account_moved, account_params}
 use Rattle.desk_tables.specs.Layouts.{account_layout}
-use Rattle.desk_tables.specs.Texts.{upsert_account}
+use Rattle.desk_tables.specs.Texts.{insert_account, update_account, upsert_account}
 use Rattle.desk_tables.proofs.Casts.{cast_int, cast_int_or_null, cast_null, cast_text_or_null, row_kept}
 use Rattle.desk_tables.proofs.Clashes.{clash_by_key}
+use Rattle.desk_tables.proofs.InsertStatement.{IsInsert}
+use Rattle.desk_tables.proofs.UpdateStatement.{IsUpdate}
 use Rattle.desk_tables.proofs.UpsertStatement.{IsUpsert}
 
 -- what the text means, and what its table is
@@ -34,3 +36,23 @@ account_upsert = record {
   sets = λ x y same. ap (λ k. Int (pos (account_layout.key y)) ∷ Int (pos k) ∷ drop 1 (account_image x)) same;
   source = λ _. refl;
 }
+
+-- the text that renews one, in the columns that calls move
+pub account_update : IsUpdate account_layout (λ row. account_params (account_columns row)) upsert_account account_upsert
+    (λ row. account_moved (account_columns row)) (λ row. account_kept (account_columns row)) update_account
+unfolding understood everything account_upsert
+account_update = record {
+  at = 0;
+  project = col 1 0 ∷ col 1 0 ∷ lit Null ∷ col 0 1 ∷ col 0 2 ∷ col 1 4 ∷ col 0 3 ∷ col 0 4 ∷ col 0 5 ∷ [];
+  command = refl;
+  plain = (refl, refl);
+  given = λ _. refl;
+  sets = λ x y same keeps i.
+      Int (pos (account_layout.key y)) ∷ Int (pos (same i)) ∷ Null ∷ (take 2 (drop 1 (account_moved (account_columns x)))
+      ++ (keeps i ++ drop 3 (account_moved (account_columns x))));
+}
+
+-- the text that inserts one
+pub account_insert : IsInsert account_layout (λ row. account_params (account_columns row)) upsert_account account_upsert insert_account
+unfolding understood everything account_upsert
+account_insert = record { command = refl; plain = (refl, refl) }

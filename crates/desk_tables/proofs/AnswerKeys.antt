@@ -1,8 +1,8 @@
 -- The keys of answers differ in number where the challenges do.
 use Rattle.std.specs.Prelude.{option_map}
 use Rattle.std.specs.List.{cons_option}
-use Rattle.std.proofs.Common.{◌≡◌, ◌≢◌, ℕ, List, [], ◌∷◌, Option, Some, None}
-use Rattle.desk_columns.specs.Flat.{answer_key, key_rows}
+use Rattle.std.proofs.Common.{◌≢◌, ℕ, List, [], ◌∷◌, Option, Some, None}
+use Rattle.desk_columns.specs.Flat.{key_rows}
 use Rattle.desk_columns.specs.declared.flat_rows.AnswerKey.{AnswerKey}
 use Rattle.desk_columns.specs.declared.flat_rows.Owned.{Owned}
 use Rattle.desk_laws.specs.Distinct.{Distinct}

@@ -1,16 +1,18 @@
 -- The upsert into `authz`.
-use Rattle.std.proofs.Common.{pos, [], ◌∷◌, drop, refl, ap}
+use Rattle.std.proofs.Common.{pos, [], ◌∷◌, ◌++◌, drop, refl, ap}
 use Rattle.sqlite.specs.declared.types.Value.TheVariants.{Int, Null}
 use Rattle.sqlite_sql.specs.Term.{lit, col}
 use Rattle.sqlite_tied.specs.Compute.{everything}
 use Rattle.sqlite.specs.Listing.{understood}
 use Rattle.desk_columns.specs.Columns.{authorization_columns}
 use Rattle.desk_schema.specs.Schema.{authz_table}
-use Rattle.desk_tables.specs.Images.{authorization_image, authorization_params}
+use Rattle.desk_tables.specs.Images.{authorization_image, authorization_kept, authorization_moved, authorization_params}
 use Rattle.desk_tables.specs.Layouts.{authorization_layout}
-use Rattle.desk_tables.specs.Texts.{upsert_authorization}
+use Rattle.desk_tables.specs.Texts.{insert_authorization, update_authorization, upsert_authorization}
 use Rattle.desk_tables.proofs.Casts.{cast_int, cast_int_or_null, cast_null, cast_text_or_null, row_kept}
 use Rattle.desk_tables.proofs.Clashes.{clash_by_key}
+use Rattle.desk_tables.proofs.InsertStatement.{IsInsert}
+use Rattle.desk_tables.proofs.UpdateStatement.{IsUpdate}
 use Rattle.desk_tables.proofs.UpsertStatement.{IsUpsert}
 
 -- what the text means, and what its table is
@@ -35,3 +37,23 @@ authorization_upsert = record {
   sets = λ x y same. ap (λ k. Int (pos (authorization_layout.key y)) ∷ Int (pos k) ∷ drop 1 (authorization_image x)) same;
   source = λ _. refl;
 }
+
+-- the text that renews one, in the columns that calls move
+pub authorization_update : IsUpdate authorization_layout (λ row. authorization_params (authorization_columns row)) upsert_authorization authorization_upsert
+    (λ row. authorization_moved (authorization_columns row)) (λ row. authorization_kept (authorization_columns row)) update_authorization
+unfolding understood everything authorization_upsert
+authorization_update = record {
+  at = 0;
+  project = col 1 0 ∷ col 1 0 ∷ lit Null ∷ col 1 2 ∷ col 1 3 ∷ col 1 4 ∷ col 1 5 ∷ col 1 6 ∷ col 0 1 ∷ col 0 2 ∷ col 0 3 ∷ [];
+  command = refl;
+  plain = (refl, refl);
+  given = λ _. refl;
+  sets = λ x y same keeps i.
+      Int (pos (authorization_layout.key y)) ∷ Int (pos (same i)) ∷ Null ∷ (keeps i ++ drop 1 (authorization_moved (authorization_columns x)));
+}
+
+-- the text that inserts one
+pub authorization_insert : IsInsert authorization_layout (λ row. authorization_params (authorization_columns row)) upsert_authorization
+    authorization_upsert insert_authorization
+unfolding understood everything authorization_upsert
+authorization_insert = record { command = refl; plain = (refl, refl) }

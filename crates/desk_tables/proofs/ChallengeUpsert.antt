@@ -1,5 +1,5 @@
 -- The upsert into `chall`.
-use Rattle.std.proofs.Common.{pos, [], ◌∷◌, drop, refl, ap}
+use Rattle.std.proofs.Common.{pos, [], ◌∷◌, ◌++◌, drop, refl, ap}
 use Rattle.sqlite.specs.declared.types.Value.TheVariants.{Int, Null}
 use Rattle.sqlite_sql.specs.Term.{lit, col}
 use Rattle.sqlite_tied.specs.Compute.{everything}
@@ -7,11 +7,13 @@ use Rattle.sqlite.specs.Listing.{understood}
 use Rattle.desk_columns.specs.Columns.{challenge_columns}
 use Rattle.desk_columns.specs.Flat.{bare_row}
 use Rattle.desk_schema.specs.Schema.{chall_table}
-use Rattle.desk_tables.specs.Images.{challenge_image, challenge_params}
+use Rattle.desk_tables.specs.Images.{challenge_image, challenge_kept, challenge_moved, challenge_params}
 use Rattle.desk_tables.specs.Layouts.{challenge_layout}
-use Rattle.desk_tables.specs.Texts.{upsert_challenge}
+use Rattle.desk_tables.specs.Texts.{insert_challenge, update_challenge, upsert_challenge}
 use Rattle.desk_tables.proofs.Casts.{cast_int, cast_int_or_null, cast_null, cast_text_or_null, row_kept}
 use Rattle.desk_tables.proofs.Clashes.{clash_by_key}
+use Rattle.desk_tables.proofs.InsertStatement.{IsInsert}
+use Rattle.desk_tables.proofs.UpdateStatement.{IsUpdate}
 use Rattle.desk_tables.proofs.UpsertStatement.{IsUpsert}
 
 -- what the text means, and what its table is
@@ -36,3 +38,22 @@ challenge_upsert = record {
   sets = λ x y same. ap (λ k. Int (pos (challenge_layout.key y)) ∷ Int (pos k) ∷ drop 1 (challenge_image x)) same;
   source = λ _. refl;
 }
+
+-- the text that renews one, in the columns that calls move
+pub challenge_update : IsUpdate challenge_layout (λ row. challenge_params (challenge_columns (bare_row row))) upsert_challenge challenge_upsert
+    (λ row. challenge_moved (challenge_columns (bare_row row))) (λ row. challenge_kept (challenge_columns (bare_row row))) update_challenge
+unfolding understood everything challenge_upsert
+challenge_update = record {
+  at = 0;
+  project = col 1 0 ∷ col 1 0 ∷ lit Null ∷ col 1 2 ∷ col 1 3 ∷ col 1 4 ∷ col 0 1 ∷ col 0 2 ∷ col 0 3 ∷ col 0 4 ∷ [];
+  command = refl;
+  plain = (refl, refl);
+  given = λ _. refl;
+  sets = λ x y same keeps i.
+      Int (pos (challenge_layout.key y)) ∷ Int (pos (same i)) ∷ Null ∷ (keeps i ++ drop 1 (challenge_moved (challenge_columns (bare_row x))));
+}
+
+-- the text that inserts one
+pub challenge_insert : IsInsert challenge_layout (λ row. challenge_params (challenge_columns (bare_row row))) upsert_challenge challenge_upsert insert_challenge
+unfolding understood everything challenge_upsert
+challenge_insert = record { command = refl; plain = (refl, refl) }

@@ -47,6 +47,15 @@ next_from : {X : Type 0} (cells : X → Row) (n : ℕ) (ts : List (ℕ × X))
 next_from cells n [] = refl
 next_from cells n (t ∷ ts) = next_from cells (t.0 + 1) ts
 
+-- so a row without a number gets the next one of the list
+pub numbered_next : {X : Type 0} (cells : X → Row) (task : Task) (top : ℤ) (rows : List Row) (ts : List (ℕ × X)) (x : X) → task.table.is_counted ≡ false
+    → rows ≡ map (hidden cells) ts → cast_row task.table (Null ∷ cells x) ≡ Null ∷ cells x
+    → with_rowid (rowids_for task.table top) rows (cast_row task.table (Null ∷ cells x)) ≡ hidden cells (next ts, x)
+numbered_next cells task top rows ts x uncounted has cast_new =
+    ap (with_rowid (rowids_for task.table top) rows) cast_new
+    ∙ chosen_of task top rows (cells x) uncounted
+    ∙ ap (λ i. Int i ∷ cells x) (ap next_rowid has ∙ next_from cells 1 ts)
+
 -- the row that has a number is in the list
 with_has : {X : Type 0} (ts : List (ℕ × X)) (k : ℕ) (t : ℕ × X) → with_key number k ts ≡ t ∷ [] → Has ts t
 with_has [] k t e = let bad = e in cc
@@ -157,9 +166,7 @@ module _ {X : Type 0} (cells : X → Row) (same : X → X → Bool) (places : Li
       (rows.1.1 ∙ source) all.1) in
       let top = count_of counter.0 in
       let is_new : with_rowid (rowids_for task.table top) (db task.table.tree) (cast_row task.table (Null ∷ cells x)) ≡ hidden cells (next ts, x) =
-      ap (with_rowid (rowids_for task.table top) (db task.table.tree)) cast_new
-      ∙ chosen_of task top (db task.table.tree) (cells x) uncounted
-      ∙ ap (λ i. Int i ∷ cells x) (ap next_rowid has ∙ next_from cells 1 ts) in
+      numbered_next cells task top (db task.table.tree) ts x uncounted has cast_new in
       let met = subst (λ new. Upserts task Abort new db (clause_on places task.table.tree at project ∷ []) (Ok one.0)) is_new
       (tried task (clause_on places task.table.tree at project ∷ []) _ db one.0 one.1) in
       let is_put = upserts_hidden db ts x one.0 has up clash given sets met in

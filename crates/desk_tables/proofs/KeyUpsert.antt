@@ -8,9 +8,10 @@ use Rattle.desk_columns.specs.Columns.{key_columns}
 use Rattle.desk_schema.specs.Schema.{chall_key_table}
 use Rattle.desk_tables.specs.Images.{key_image, key_params}
 use Rattle.desk_tables.specs.Layouts.{key_layout}
-use Rattle.desk_tables.specs.Texts.{upsert_key}
+use Rattle.desk_tables.specs.Texts.{insert_key, upsert_key}
 use Rattle.desk_tables.proofs.Casts.{cast_null, row_kept}
 use Rattle.desk_tables.proofs.Clashes.{clash_by_key}
+use Rattle.desk_tables.proofs.InsertStatement.{IsInsert}
 use Rattle.desk_tables.proofs.UpsertStatement.{IsUpsert}
 
 -- what the text means, and what its table is
@@ -34,3 +35,8 @@ key_upsert = record {
   sets = λ x y same. ap (λ k. Int (pos (key_layout.key y)) ∷ Int (pos k) ∷ drop 1 (key_image x)) same;
   source = λ _. refl;
 }
+
+-- the text that inserts one
+pub key_insert : IsInsert key_layout (λ row. key_params (key_columns row)) upsert_key key_upsert insert_key
+unfolding understood everything key_upsert
+key_insert = record { command = refl; plain = (refl, refl) }

@@ -1,7 +1,7 @@
 -- Rows in the order of a number, their key.
 use Rattle.std.proofs.Common.{◌≡◌, ◌⊎◌, inl, inr, ℕ, pos, ◌+◌, ◌<◌, ◌≤◌, List, [], ◌∷◌, map, filter, not, Bool, true, false, refl}
-use Rattle.std.proofs.Common.{sym, ap, subst, ◌∙◌, arith, cond, Ordering, Less, Equal, Greater, int_cmp, nat_cmp}
-use Rattle.std.specs.Prelude.{◌==◌, nat_lt}
+use Rattle.std.proofs.Common.{sym, ap, subst, ◌∙◌, arith, cond, None, Ordering, Less, Equal, Greater, int_cmp, nat_cmp}
+use Rattle.std.specs.Prelude.{◌==◌, find, nat_lt}
 use Rattle.std.specs.Ordering.{is_eq, MatchOrdering}
 use Rattle.std.proofs.lemmas.Cmp.{ranked as nat_ranked}
 use Rattle.std.proofs.lemmas.Bool.Decides.{nat_tests}
@@ -10,6 +10,7 @@ use Rattle.sqlite.specs.declared.types.Value.TheVariants.{Int}
 use Rattle.sqlite_value.specs.Order.{Row, value_cmp}
 use Rattle.sqlite_value.proofs.OrderLemmas.{value_cmp-Int}
 use Rattle.sqlite_trees.specs.Tree.{rowid, put_row, without_rowid, has_rowid}
+use Rattle.sqlite_rules.specs.Edit.{is_taken}
 use Rattle.sqlite_rules.specs.Lists.{Has}
 use Rattle.desk_laws.specs.Ordered.{Ascends}
 use Rattle.desk_laws.proofs.RowLists.{ascends_above, ascends_from, put_first, put_instead, put_past, remove_none}
@@ -149,6 +150,17 @@ module _ {X : Type 0} (key : X → ℕ) where
       | inr (inl tied) ↦ rw (tied.ranks, tied.tied) refl
       | inr (inr more) ↦ rw (more.ranks, more.apart, more.under) refl
     ])
+
+    -- a row whose number is not taken has a key that no row has
+    pub untaken : (x : X) (xs : List X) → is_taken (map row xs) (row x) ≡ false → find (λ r. key r == key x) xs ≡ None
+    untaken x [] free = refl
+    untaken x (y ∷ ys) free =
+        let test = rw (ranked_as y x) at free in
+        elim (ranked (key y) (key x)) [
+          | inl less ↦ rw (less_differs (key y) (key x) less.low) (untaken x ys (rw (less.ranks) at test))
+          | inr (inl tied) ↦ absurd (let e = rw (tied.ranks) at test in cc)
+          | inr (inr more) ↦ rw (more_differs (key y) (key x) more.high) (untaken x ys (rw (more.ranks) at test))
+        ]
 
     -- a row has a number where it has the key
     has_as : (n : ℕ) (x : X) → has_rowid (pos n) (row x) ≡ (n == key x)

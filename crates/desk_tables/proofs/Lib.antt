@@ -10,6 +10,7 @@ pub mod Holding
 pub mod Inserts
 pub mod KeyUpsert
 pub mod Keyed
+pub mod ListedInsert
 pub mod ListedUpsert
 pub mod MetaUpsert
 pub mod NoIndexes
@@ -18,6 +19,7 @@ pub mod NonceUpsert
 pub mod OrderUpsert
 pub mod Removal
 pub mod Sorting
+pub mod Unmoved
 pub mod Upsert
 pub mod InsertStatement
 pub mod UpdateStatement

@@ -39,7 +39,7 @@ use Rattle.desk_schema.proofs.Making.{went}
 use Rattle.std.proofs.lemmas.Bool.{and_parts}
 
 -- the row that is inserted, in terms of the parameters
-abbrev terms : List Term
+abbrev pub terms : List Term
 terms = lit Null ∷ col 0 0 ∷ col 0 1 ∷ col 0 2 ∷ []
 
 -- the hidden number of the row that is there, then the row with the new authorization

@@ -1,5 +1,5 @@
 -- The upsert into `meta`.
-use Rattle.std.proofs.Common.{pos, inl, List, [], ◌∷◌, drop, refl, ap, arith}
+use Rattle.std.proofs.Common.{pos, List, [], ◌∷◌, ◌++◌, drop, refl, ap, arith}
 use Rattle.sqlite.specs.Effect.{Database}
 use Rattle.sqlite.specs.declared.types.Value.TheVariants.{Int, Null}
 use Rattle.sqlite_sql.specs.Term.{lit, col}
@@ -9,8 +9,8 @@ use Rattle.desk_columns.specs.Columns.{known_format}
 use Rattle.desk_schema.specs.Schema.{meta_table}
 use Rattle.desk_model.specs.Change.{put}
 use Rattle.desk_model.specs.declared.rows.Meta.{Meta}
-use Rattle.desk_tables.specs.Effects.{BecomesRows, Puts, Renews}
-use Rattle.desk_tables.specs.Images.{formatted_columns, formatted_image, meta_params}
+use Rattle.desk_tables.specs.Effects.{BecomesRows, Puts}
+use Rattle.desk_tables.specs.Images.{formatted_columns, formatted_image, meta_kept, meta_moved, meta_params}
 use Rattle.desk_tables.specs.Layouts.{HasRows, formatted_layout, meta_layout}
 use Rattle.desk_tables.specs.Texts.{update_meta, upsert_meta}
 use Rattle.desk_tables.proofs.Casts.{cast_int, cast_null, row_kept}
@@ -60,22 +60,16 @@ puts_known x old new puts rows has = go rows has
         record { sound = p.sound; has = record { schema = p.has.schema; rows_are = p.has.rows_are; rising = (omega arith, tt) }; others = p.others }
     go (y ∷ z ∷ zs) has = absurd (omega (arith, has.rising.1.0))
 
--- the text that renews it
-pub meta_update : IsUpdate formatted_layout (λ row. meta_params (formatted_columns row)) upsert_meta meta_upsert update_meta
+-- the text that renews it, in the columns that calls move
+pub meta_update : IsUpdate formatted_layout (λ row. meta_params (formatted_columns row)) upsert_meta meta_upsert (λ row. meta_moved (formatted_columns row))
+    (λ row. meta_kept (formatted_columns row)) update_meta
 unfolding understood everything meta_upsert
 meta_update = record {
   at = 0;
-  project = col 1 0 ∷ col 1 0 ∷ lit Null ∷ col 0 1 ∷ col 0 2 ∷ col 0 3 ∷ col 0 4 ∷ col 0 5 ∷ col 0 6 ∷ col 0 7 ∷ col 0 8 ∷ col 0 9 ∷ col 0 10 ∷ col 0 11 ∷ [];
+  project = col 1 0 ∷ col 1 0 ∷ lit Null ∷ col 1 2 ∷ col 1 3 ∷ col 1 4 ∷ col 1 5 ∷ col 1 6 ∷ col 0 1 ∷ col 0 2 ∷ col 0 3 ∷ col 0 4 ∷ col 0 5 ∷ col 0 6 ∷ [];
   command = refl;
   plain = (refl, refl);
   given = λ _. refl;
-  sets = λ x y same. ap (λ k. Int (pos (formatted_layout.key y)) ∷ Int (pos k) ∷ drop 1 (formatted_image x)) same;
+  sets = λ x y same keeps i.
+      Int (pos (formatted_layout.key y)) ∷ Int (pos (same i)) ∷ Null ∷ (keeps i ++ drop 1 (meta_moved (formatted_columns x)));
 }
-
--- the row of a desk, renewed
-pub renews_known : (x y : Meta) (old new : Database) → Renews formatted_layout (known_format, x) old new → HasRows meta_layout old (y ∷ [])
-    → BecomesRows meta_layout (put meta_layout.key x (y ∷ [])) old new
-renews_known x y old new renews has =
-    let p = renews ((known_format, y) ∷ []) (record { schema = has.schema; rows_are = has.rows_are; rising = (omega arith, tt) }) (known_format, y) (inl refl)
-    refl in
-    record { sound = p.sound; has = record { schema = p.has.schema; rows_are = p.has.rows_are; rising = (omega arith, tt) }; others = p.others }

@@ -1,16 +1,17 @@
 -- The upsert into `ord`.
-use Rattle.std.proofs.Common.{pos, [], ◌∷◌, drop, refl, ap}
+use Rattle.std.proofs.Common.{pos, [], ◌∷◌, ◌++◌, drop, refl, ap}
 use Rattle.sqlite.specs.declared.types.Value.TheVariants.{Int, Null}
 use Rattle.sqlite_sql.specs.Term.{lit, col}
 use Rattle.sqlite_tied.specs.Compute.{everything}
 use Rattle.sqlite.specs.Listing.{understood}
 use Rattle.desk_columns.specs.Columns.{order_columns}
 use Rattle.desk_schema.specs.Schema.{ord_table}
-use Rattle.desk_tables.specs.Images.{order_image, order_params}
+use Rattle.desk_tables.specs.Images.{order_image, order_kept, order_moved, order_params}
 use Rattle.desk_tables.specs.Layouts.{order_layout}
-use Rattle.desk_tables.specs.Texts.{update_order, upsert_order}
+use Rattle.desk_tables.specs.Texts.{insert_order, update_order, upsert_order}
 use Rattle.desk_tables.proofs.Casts.{cast_int, cast_int_or_null, cast_null, cast_text_or_null, row_kept}
 use Rattle.desk_tables.proofs.Clashes.{clash_by_key}
+use Rattle.desk_tables.proofs.InsertStatement.{IsInsert}
 use Rattle.desk_tables.proofs.UpdateStatement.{IsUpdate}
 use Rattle.desk_tables.proofs.UpsertStatement.{IsUpsert}
 
@@ -42,14 +43,21 @@ order_upsert = record {
   source = λ _. refl;
 }
 
--- the text that renews one
-pub order_update : IsUpdate order_layout (λ row. order_params (order_columns row)) upsert_order order_upsert update_order
+-- the text that renews one, in the columns that calls move
+pub order_update : IsUpdate order_layout (λ row. order_params (order_columns row)) upsert_order order_upsert (λ row. order_moved (order_columns row))
+    (λ row. order_kept (order_columns row)) update_order
 unfolding understood everything order_upsert
 order_update = record {
   at = 0;
-  project = col 1 0 ∷ col 1 0 ∷ lit Null ∷ col 0 1 ∷ col 0 2 ∷ col 0 3 ∷ col 0 4 ∷ col 0 5 ∷ col 0 6 ∷ col 0 7 ∷ col 0 8 ∷ col 0 9 ∷ col 0 10 ∷ [];
+  project = col 1 0 ∷ col 1 0 ∷ lit Null ∷ col 1 2 ∷ col 1 3 ∷ col 1 4 ∷ col 0 1 ∷ col 0 2 ∷ col 0 3 ∷ col 0 4 ∷ col 0 5 ∷ col 0 6 ∷ col 0 7 ∷ [];
   command = refl;
   plain = (refl, refl);
   given = λ _. refl;
-  sets = λ x y same. ap (λ k. Int (pos (order_layout.key y)) ∷ Int (pos k) ∷ drop 1 (order_image x)) same;
+  sets = λ x y same keeps i.
+      Int (pos (order_layout.key y)) ∷ Int (pos (same i)) ∷ Null ∷ (keeps i ++ drop 1 (order_moved (order_columns x)));
 }
+
+-- the text that inserts one
+pub order_insert : IsInsert order_layout (λ row. order_params (order_columns row)) upsert_order order_upsert insert_order
+unfolding understood everything order_upsert
+order_insert = record { command = refl; plain = (refl, refl) }

@@ -31,53 +31,54 @@ use Rattle.desk_tables.proofs.Keyed.{one_with, put_ascends}
 use Rattle.desk_tables.proofs.Upsert.{IsPut, edited_as}
 use Rattle.desk_tables.proofs.UpsertStatement.{IsUpsert}
 
--- the text renews the row that the other text puts
-pub record IsUpdate {X : Type 0} (L : Layout X) (params : X → Row) (upsert : List ℕ) (is : IsUpsert L params upsert) (text : List ℕ) : Type 0 where
+-- the text renews the row that the other text puts, and keeps some of its columns
+pub record IsUpdate {X : Type 0} (L : Layout X) (params : X → Row) (upsert : List ℕ) (is : IsUpsert L params upsert) (moved kept : X → Row)
+    (text : List ℕ) : Type 0 where
   -- the place of the key among the parameters, and the row that the update makes
   pub at : ℕ
   pub project : List Term
   pub command : command_of (understood desk_schema text) ≡ Update is.place (record { lets = []; body = by_key L.table.tree at project })
   pub plain : IsPlain (understood desk_schema text)
-  pub given : (x : X) → column (params x) at ≡ Int (pos (L.key x))
-  pub sets : (x y : X) → L.key y ≡ L.key x → eval_all project (params x ∷ L.image y ∷ []) ≡ Int (pos (L.key y)) ∷ L.image x
+  pub given : (x : X) → column (moved x) at ≡ Int (pos (L.key x))
+  pub sets : (x y : X) → L.key y ≡ L.key x → kept y ≡ kept x → eval_all project (moved x ∷ L.image y ∷ []) ≡ Int (pos (L.key y)) ∷ L.image x
 
 -- a row that is there is taken out, and the new one is put
 updates_row : {X : Type 0} (key : X → ℕ) (row : X → Row) (first : (x : X) → rowid (row x) ≡ Int (pos (key x))) (task : Task) (calm : NoWorks task)
     (casts : (x : X) → cast_row task.table (row x) ≡ row x) (low : (db : Trees) → overlay db [] task.table.tree ≡ db task.table.tree)
     (at : ℕ) (project : List Term) (db : Trees) (xs : List X) (x y : X) (w : Written) → db task.table.tree ≡ map row xs → IsRising key xs → Has xs y
-    → key y ≡ key x → column task.params at ≡ Int (pos (key x))
-    → ((z : X) → key z ≡ key x → eval_all project (task.params ∷ row z ∷ []) ≡ Int (pos (key z)) ∷ row x)
+    → key y ≡ key x → column task.params at ≡ Int (pos (key x)) → eval_all project (task.params ∷ row y ∷ []) ≡ Int (pos (key y)) ∷ row x
     → Updates task (record { lets = []; body = by_key task.table.tree at project }) task.params db (Ok w) → IsPut key row task db xs x w.trees
 updates_row key row first task calm casts low at project db xs x y w has up there same given sets h =
     let on = went h in
     let tree = low db ∙ has in
     let one = one_with key row first (key x) 0 xs up (row y) (has_map row xs y there) (first y ∙ ap (λ k. Int (pos k)) same) in
-    let rows : on.0 ≡ (Int (pos (key one.0)) ∷ row x) ∷ [] =
+    let rows : on.0 ≡ (Int (pos (key y)) ∷ row x) ∷ [] =
     answered key row first (overlay db []) task.params task.table.tree at (key x) project xs on.0 given tree one.0 one.2 (on.1.answer Null)
-    ∙ ap (λ r. r ∷ []) (sets one.0 one.1) in
+    ∙ ap (λ r. eval_all project (task.params ∷ r ∷ []) ∷ []) (sym one.3)
+    ∙ ap (λ r. r ∷ []) sets in
     let did = went on.2 in
     let edit = edit_of db task.table (ids_of on.0) Given 1 on.0 in
     let a = one_step task.schema task.keys db did.0 edit (calm (taken_by db edit) edit.news) did.1 in
     let same_trees : did.0 ≡ w.trees = sym (ap (λ (it : Written). it.trees) (same_value did.2)) in
     let b = subst (Applies task.schema task.keys db edit) same_trees a in
-    (b.rows ∙ edited_as key row first task calm casts low at project db xs x (key one.0) on.0 one.1 has up rows, b.others)
+    (b.rows ∙ edited_as key row first task calm casts low at project db xs x (key y) on.0 same has up rows, b.others)
 
 -- so the text renews the row
-pub renews_by : {X : Type 0} (L : Layout X) (params : X → Row) (upsert : List ℕ) (is : IsUpsert L params upsert) (text : List ℕ)
-    → IsUpdate L params upsert is text → (old new : State) (x : X) (count : ℕ) → Executes text (params x) old new (Ok count)
-    → Renews L x old.now new.now
-renews_by L params upsert is text it old new x count h xs has y there same =
-    let task : Task = record { limit = old.step_limit; keys = Enforced; schema = desk_schema; table = L.table; params = params x } in
+pub renews_by : {X : Type 0} (L : Layout X) (params : X → Row) (upsert : List ℕ) (is : IsUpsert L params upsert) (moved kept : X → Row) (text : List ℕ)
+    → IsUpdate L params upsert is moved kept text → (old new : State) (x : X) (count : ℕ) → Executes text (moved x) old new (Ok count)
+    → Renews L kept x old.now new.now
+renews_by L params upsert is moved kept text it old new x count h xs has y there same keeps =
+    let task : Task = record { limit = old.step_limit; keys = Enforced; schema = desk_schema; table = L.table; params = moved x } in
     let command = Update is.place (record { lets = []; body = by_key L.table.tree it.at it.project }) in
     let statement = statement_of text (understood desk_schema text) in
-    let w = runs_as text (params x) old new desk_schema has.schema command it.command it.plain count h in
+    let w = runs_as text (moved x) old new desk_schema has.schema command it.command it.plain count h in
     let did =
-    subst (λ s. Does old.step_limit (mode_of old) (params x) (record old.now { schema = s }) statement None command
+    subst (λ s. Does old.step_limit (mode_of old) (moved x) (record old.now { schema = s }) statement None command
     (Ok (w.tally, new.now))) has.schema w.changed in
     let done = went (rw (is.found) at did) in
     let now = concluded task (mode_of old) done.0 (w.tally, new.now) done.2 in
     let put = updates_row L.key L.image is.first task (no_works L.table.tree) is.casts is.low it.at it.project old.now.trees xs x y done.0
-    has.rows_are has.rising there same (it.given x) (it.sets x) done.1 in
+    has.rows_are has.rising there same (it.given x) (it.sets x y same keeps) done.1 in
     record {
       sound = w.sound;
       has = record {
@@ -89,11 +90,12 @@ renews_by L params upsert is text it old new x count h xs has y there same =
     }
 
 -- and so of each row that has the columns, whose parameters are these values
-pub advances_renewed : {X C : Type 0} (L : Layout X) (columns_of : X → C) (params_of : C → Row) (upsert : List ℕ)
-    (is : IsUpsert L (λ x. params_of (columns_of x)) upsert) (text : List ℕ) → IsUpdate L (λ x. params_of (columns_of x)) upsert is text
-    → (old new : State) (columns : C) (values : Row) → values ≡ params_of columns → (count : ℕ) → Performs text values old new (Ok count)
-    → Advances old new (RenewsColumns L columns_of columns)
-advances_renewed L columns_of params_of upsert is text it old new columns values are count ran =
-    performs_advances text values old new count (RenewsColumns L columns_of columns) (λ executes x has.
-    renews_by L (λ x. params_of (columns_of x)) upsert is text it old new x count
-    (subst (λ row. Executes text row old new (Ok count)) (are ∙ ap params_of (sym has)) executes)) ran
+pub advances_renewed : {X C : Type 0} (L : Layout X) (columns_of : X → C) (params_of moved_of kept_of : C → Row) (upsert : List ℕ)
+    (is : IsUpsert L (λ x. params_of (columns_of x)) upsert) (text : List ℕ)
+    → IsUpdate L (λ x. params_of (columns_of x)) upsert is (λ x. moved_of (columns_of x)) (λ x. kept_of (columns_of x)) text
+    → (old new : State) (columns : C) (values : Row) → values ≡ moved_of columns → (count : ℕ) → Performs text values old new (Ok count)
+    → Advances old new (RenewsColumns L kept_of columns_of columns)
+advances_renewed L columns_of params_of moved_of kept_of upsert is text it old new columns values are count ran =
+    performs_advances text values old new count (RenewsColumns L kept_of columns_of columns) (λ executes x has.
+    renews_by L (λ x. params_of (columns_of x)) upsert is (λ x. moved_of (columns_of x)) (λ x. kept_of (columns_of x)) text it old new x count
+    (subst (λ row. Executes text row old new (Ok count)) (are ∙ ap moved_of (sym has)) executes)) ran

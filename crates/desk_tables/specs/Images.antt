@@ -62,6 +62,14 @@ meta_params c =
     ∷ Int c.challs
     ∷ []
 
+-- those that no call moves
+abbrev pub meta_kept : MetaColumns → Row
+meta_kept c = Int c.format ∷ Text c.base ∷ Int c.nonce_life ∷ Int c.order_life ∷ Int c.authz_life ∷ []
+
+-- the key, and those that calls move
+abbrev pub meta_moved : MetaColumns → Row
+meta_moved c = Int c.id ∷ Int c.clock ∷ Int c.nonces ∷ Int c.accounts ∷ Int c.orders ∷ Int c.authzs ∷ Int c.challs ∷ []
+
 abbrev pub meta_image : Meta → Row
 meta_image row = keyed (meta_params (meta_columns row))
 
@@ -87,6 +95,14 @@ abbrev pub account_params : AccountColumns → Row
 account_params c =
     Int c.num ∷ Text c.jwk ∷ Text c.contacts ∷ Int c.opened ∷ int_or_null c.ended ∷ text_or_null c.end_kind ∷ Text c.status ∷ []
 
+-- that which no call moves
+abbrev pub account_kept : AccountColumns → Row
+account_kept c = Int c.opened ∷ []
+
+-- the key, and those that calls move
+abbrev pub account_moved : AccountColumns → Row
+account_moved c = Int c.num ∷ Text c.jwk ∷ Text c.contacts ∷ int_or_null c.ended ∷ text_or_null c.end_kind ∷ Text c.status ∷ []
+
 abbrev pub account_image : AccountRow → Row
 account_image row = keyed (account_params (account_columns row))
 
@@ -98,6 +114,23 @@ order_params c =
     ∷ Int c.account
     ∷ Int c.made
     ∷ Int c.expires
+    ∷ int_or_null c.finalized
+    ∷ blob_or_null c.csr
+    ∷ int_or_null c.certified
+    ∷ blob_or_null c.cert
+    ∷ int_or_null c.failed
+    ∷ text_or_null c.problem
+    ∷ Text c.status
+    ∷ []
+
+-- those that no call moves
+abbrev pub order_kept : OrderColumns → Row
+order_kept c = Int c.account ∷ Int c.made ∷ Int c.expires ∷ []
+
+-- the key, and those that calls move
+abbrev pub order_moved : OrderColumns → Row
+order_moved c =
+    Int c.num
     ∷ int_or_null c.finalized
     ∷ blob_or_null c.csr
     ∷ int_or_null c.certified
@@ -125,6 +158,14 @@ authorization_params c =
     ∷ Text c.status
     ∷ []
 
+-- those that no call moves
+abbrev pub authorization_kept : AuthzColumns → Row
+authorization_kept c = Int c.account ∷ Text c.name ∷ Int c.wildcard ∷ Int c.made ∷ Int c.expires ∷ []
+
+-- the key, and those that calls move
+abbrev pub authorization_moved : AuthzColumns → Row
+authorization_moved c = Int c.num ∷ int_or_null c.ended ∷ text_or_null c.end_kind ∷ Text c.status ∷ []
+
 abbrev pub authorization_image : AuthorizationRow → Row
 authorization_image row = keyed (authorization_params (authorization_columns row))
 
@@ -150,6 +191,14 @@ challenge_params c =
     ∷ text_or_null c.outcome
     ∷ Text c.status
     ∷ []
+
+-- those that no call moves
+abbrev pub challenge_kept : ChallColumns → Row
+challenge_kept c = Int c.authz ∷ Text c.kind ∷ Blob c.token ∷ []
+
+-- the key, and those that calls move
+abbrev pub challenge_moved : ChallColumns → Row
+challenge_moved c = Int c.num ∷ int_or_null c.answered ∷ int_or_null c.reported ∷ text_or_null c.outcome ∷ Text c.status ∷ []
 
 abbrev pub challenge_image : Owned ChallengeRow → Row
 challenge_image row = keyed (challenge_params (challenge_columns (bare_row row)))
