@@ -1,2 +1,4 @@
 pub mod EachIn
 pub mod PlainLists
+mod PlainTexts
+mod ShortTexts

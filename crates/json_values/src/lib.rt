@@ -3,8 +3,10 @@
 
 mod lists;
 mod problems;
+mod short_lists;
 mod values;
 
 pub use lists::{text_list, texts_in};
 pub use problems::order_problem;
+pub use short_lists::{lone_text, written_list};
 pub use values::{text_of, value_of};

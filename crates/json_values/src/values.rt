@@ -4,7 +4,8 @@ ghost use Rattle.serde_json.specs.Read.{read};
 ghost use Rattle.serde_json.specs.View.{view};
 ghost use Rattle.desk_model.specs.Keys.{text_member};
 
-use serde_json::Value;
+use desk_model::is_same_text;
+use serde_json::{Map, Value};
 use std::alloc::{AllocError, Global};
 
 /// The value that a text is, or `None` where it is no JSON.
@@ -13,6 +14,20 @@ use std::alloc::{AllocError, Global};
 ///
 /// Where there is no memory for it.
 pub fn value_of(alloc: Global, text: &str) -> Result<Option<Value>, AllocError>
+    ensures { IfOk result (λ o. option_map view o ≡ read text.now) }
+{
+    // The shortest payloads are told without a reader, which clears room for itself whatever it reads.
+    if is_same_text(text, "") {
+        return Ok(None);
+    }
+    if is_same_text(text, "{}") {
+        return Ok(Some(Value::Object(Map::new(alloc))));
+    }
+    read_value(alloc, text)
+}
+
+// The value that is read in a text.
+fn read_value(alloc: Global, text: &str) -> Result<Option<Value>, AllocError>
     ensures { IfOk result (λ o. option_map view o ≡ read text.now) }
 {
     match Value::from_str(alloc, text) {

@@ -2,7 +2,7 @@ use Rattle.std.proofs.Common.{sym, ap, ◌∙◌}
 use Rattle.std.specs.Prelude.{option_map}
 use Rattle.serde_json.specs.View.{view}
 use Rattle.desk_columns.proofs.ContactTexts.{none_of_no_value}
-use Rattle.desk_columns.proofs.contacts.read_contacts.Goals as goal
+use Rattle.desk_columns.proofs.contacts.listed_contacts.Goals as goal
 
 pub returns-in-None : goal.returns-in-None
 returns-in-None c =
