@@ -1,5 +1,5 @@
 -- Calls inside a transaction, and what they leave behind a first one.
-use Rattle.std.proofs.Common.{◌≡◌, arith, ◌∙◌, ℕ, List, Result, Ok, Err, OnOk, ap}
+use Rattle.std.proofs.Common.{◌≡◌, ◌⊎◌, inl, inr, arith, ◌∙◌, ℕ, List, Result, Ok, Err, OnOk, ap, subst, sym}
 use Rattle.std.specs.Prelude.{is_ok}
 use Rattle.std.specs.Result.{result_and}
 use Rattle.sqlite.specs.Order.{Row}
@@ -9,6 +9,7 @@ use Rattle.sqlite.specs.Effect.{Database}
 use Rattle.sqlite.specs.State.{State, Survives}
 use Rattle.desk_schema.proofs.AdvanceLemmas.{advances_then}
 use Rattle.desk_schema.specs.Advances.{Advances, KeepsLast, Performs}
+use Rattle.desk_saving.specs.declared.manner.Manner.{Manner}
 
 -- the last commit is as it was before a call that advanced the transaction
 pub kept_behind : (a b c : State) (Does : Database → Database → Type 0) → Advances a b Does → Survives b c (λ _. ⊥) → KeepsLast b c → KeepsLast a c
@@ -45,3 +46,8 @@ pub answered_as : {A B E F : Type 0} (r : Result A E) (u : B) (s : Result B E) (
     → is_ok q ≡ is_ok r
 answered_as (Ok x) u s q is same = same ∙ ap is_ok is
 answered_as (Err e) u s q is same = same ∙ ap is_ok is
+
+-- what holds of a manner of writing that is one of two
+pub in_either : (P : Manner → Type 0) (m a b : Manner) → (m ≡ a) ⊎ (m ≡ b) → P a → P b → P m
+in_either P m a b (inl is) first second = subst P (sym is) first
+in_either P m a b (inr is) first second = subst P (sym is) second

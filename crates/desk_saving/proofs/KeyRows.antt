@@ -1,13 +1,12 @@
 -- The keys of answers, beside the challenges that they belong to.
 use Rattle.std.specs.Prelude.{filter_map, is_some, option_map, IsTrue}
 use Rattle.std.specs.List.{cons_option, flat_map}
-use Rattle.std.proofs.Common.{◌≡◌, inl, ℕ, ◌++◌, List, [], ◌∷◌, map, Option, Some, None, refl, ap, ◌∙◌}
+use Rattle.std.proofs.Common.{◌≡◌, inl, ℕ, ◌++◌, List, [], ◌∷◌, map, Option, Some, None, refl, ap, subst, ◌∙◌}
 use Rattle.std.proofs.lemmas.List.Elements.{filter_map-append}
 use Rattle.desk_columns.specs.Flat.{answer_key, challenge_rows, key_rows, owned_by}
 use Rattle.desk_columns.specs.declared.flat_rows.AnswerKey.{AnswerKey}
 use Rattle.desk_columns.specs.declared.flat_rows.Owned.{Owned}
 use Rattle.desk_laws.specs.News.{KeepChallenges}
-use Rattle.desk_model.specs.Kept.{EachOf}
 use Rattle.desk_model.specs.declared.objects.Answer.{Answer}
 use Rattle.desk_model.specs.declared.rows.AuthorizationRow.{AuthorizationRow}
 use Rattle.desk_model.specs.declared.rows.ChallengeRow.{ChallengeRow}
@@ -54,11 +53,10 @@ keys_within n m (c ∷ cs) (d ∷ ds) kept =
     by (Some a) None stays rest = absurd (cc (stays refl))
     by (Some a) (Some b) stays rest = inl (first, rest)
 
--- their columns take their numbers where those of the challenges do
-pub keys_fit : (n : ℕ) (cs : List ChallengeRow) → EachOf FitsChallenge (owned_by n cs) → EachOf FitsKey (filter_map answer_key cs)
-keys_fit n [] all = tt
-keys_fit n (c ∷ cs) all = by c.answered (keys_fit n cs all.1)
+-- its columns take its number where those of the challenge do
+pub key_of_answer : (n : ℕ) (c : ChallengeRow) (k : AnswerKey) → answer_key c ≡ Some k → FitsChallenge (record { owner = n; row = c }) → FitsKey k
+key_of_answer n c k is fits = by c.answered is
   where
-    by : (a : Option Answer) → EachOf FitsKey (filter_map answer_key cs) → EachOf FitsKey (cons_option (key_of c.number a) (filter_map answer_key cs))
-    by None rest = rest
-    by (Some a) rest = (all.0.number, rest)
+    by : (a : Option Answer) → key_of c.number a ≡ Some k → FitsKey k
+    by None is = absurd (cc is)
+    by (Some a) is = let same : record { challenge = c.number; thumb = a.thumb } ≡ k = cc is in subst FitsKey same fits.number

@@ -1,15 +1,19 @@
 pub mod ChallengeNumbers
+pub mod ChildrenStanding
+pub mod Differing
 pub mod Numbered
 pub mod NestedRows
+pub mod Over
 pub mod PlacedRows
 pub mod KeyRows
 mod ListedAfter
-pub mod KnownOrders
 pub mod RowsInTurn
 pub mod MadeChanges
 pub mod BackFits
 pub mod OrderedFit
 pub mod Leaving
 pub mod Exits
+pub mod KnownRows
 pub mod Told
+pub mod Written
 mod Upgraded

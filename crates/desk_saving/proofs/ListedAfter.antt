@@ -88,7 +88,7 @@ owned_are : (n : ℕ) (ls : List Listed) (l : Owned Listed) → Has (owned_by n 
 owned_are n ls l h = let at = image_of _ ls l h in ap (λ (k : Owned Listed). k.owner) at.2
 
 -- its rows are added
-added : (x : OrderRow) (os : List OrderRow) → order_at x.number os ≡ None
+pub added : (x : OrderRow) (os : List OrderRow) → order_at x.number os ≡ None
     → IsPermutation (listed_rows os ++ owned_by x.number x.listed) (listed_rows (put number_of x os))
 added x [] none =
     subst (IsPermutation (owned_by x.number x.listed)) (sym (append-nil (owned_by x.number x.listed))) (IsPermutation-refl (owned_by x.number x.listed))

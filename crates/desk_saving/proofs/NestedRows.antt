@@ -35,7 +35,7 @@ module _ {P C : Type 0} (parent : P → ℕ) (children : P → List C) (key : C 
   ]
 
   -- children that differ: so do those of the row that was put
-  own_apart : (x : P) (ps : List P) → Distinct key (of_all (put parent x ps)) → Distinct key (children x)
+  pub own_apart : (x : P) (ps : List P) → Distinct key (of_all (put parent x ps)) → Distinct key (children x)
   own_apart x [] apart = (distinct_parts key (children x) [] apart).0
   own_apart x (p ∷ ps) apart = elim (ranked (parent p) (parent x)) [
     | inl less ↦

@@ -16,7 +16,7 @@ use Rattle.desk_laws.specs.Ordered.{Ascends, Below}
 use Rattle.desk_model.specs.Change.{put}
 use Rattle.desk_model.specs.Kept.{EachOf}
 use Rattle.desk_model.specs.declared.rows.Listed.{Listed}
-use Rattle.desk_saving.specs.Makes.{ArePlaced}
+use Rattle.desk_saving.specs.Makes.{ArePlaced, appended}
 use Rattle.desk_tables.specs.Effects.{is_same_place}
 use Rattle.desk_tables.specs.Hidden.{IsPlaced, next, number, row_of}
 use Rattle.desk_tables.specs.Holds.{AreApart}
@@ -178,3 +178,12 @@ new_rows (l ∷ ls) ts after up apart none placed = elim (placed.1) [
       (subst (λ mid. ArePlaced ls mid after) is placed.2) in
       more ∙ ap (λ us. us ++ ls) (map-append row_of ts ((next ts, l) ∷ [])) ∙ append_assoc (map row_of ts) (l ∷ []) ls
 ]
+
+-- rows that are appended come last
+pub appended_rows : (ls : List (Owned Listed)) (ts : List (ℕ × Owned Listed)) → IsRising number ts → map row_of (appended ls ts) ≡ map row_of ts ++ ls
+appended_rows [] ts up = sym (append-nil (map row_of ts))
+appended_rows (l ∷ ls) ts up =
+    appended_rows ls (put number (next ts, l) ts) (put_ascends number 0 (next ts, l) ts (omega arith) up)
+    ∙ ap (λ us. map row_of us ++ ls) (put_next l ts up)
+    ∙ ap (λ us. us ++ ls) (map-append row_of ts ((next ts, l) ∷ []))
+    ∙ append_assoc (map row_of ts) (l ∷ []) ls

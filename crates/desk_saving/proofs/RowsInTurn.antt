@@ -1,75 +1,77 @@
 -- Rows of one table, and changes, made one after the other inside a transaction.
-use Rattle.std.proofs.Common.{zero, suc, arith, ◌≡◌, Result, Ok, Err, OnOk, ℕ, ◌+◌, ◌<◌, ◌++◌, List, [], ◌∷◌, take, get_or}
-use Rattle.std.proofs.Common.{length, refl, sym, ap, subst, ◌∙◌, add-one}
-use Rattle.std.specs.Prelude.{ℤ, IfErr, IfOk, IsOk, pos}
+use Rattle.std.proofs.Common.{zero, suc, arith, ◌≡◌, ◌≢◌, Result, Ok, Err, ℕ, ◌+◌, ◌<◌, ◌++◌, List, [], ◌∷◌, Option, Some, None, take, drop, get_or}
+use Rattle.std.proofs.Common.{length, refl, sym, ap, subst, ◌∙◌, add-one, append-nil}
+use Rattle.std.specs.List.{cons_option}
+use Rattle.std.specs.Prelude.{ℤ, IfErr, IsOk, option_map, option_to_list, pos}
 use Rattle.std.proofs.Math.Seq.{take-suc}
-use Rattle.std.proofs.lemmas.List.{map-append}
+use Rattle.std.proofs.lemmas.List.{append_assoc, map-append, take-append-drop}
+use Rattle.std.proofs.lemmas.List.Elements.{filter_map-append}
 use Rattle.sqlite.specs.Effect.{Database}
-use Rattle.sqlite.specs.State.{State, Survives}
-use Rattle.desk_columns.specs.Columns.{listed_columns}
-use Rattle.desk_columns.specs.Flat.{owned_by}
-use Rattle.desk_columns.specs.declared.columns.OrderAuthzColumns.{OrderAuthzColumns}
+use Rattle.sqlite.specs.Order.{Row}
+use Rattle.sqlite.specs.State.{State}
+use Rattle.desk_columns.specs.Columns.{known_format, listed_columns}
+use Rattle.desk_columns.specs.Flat.{answer_key, key_rows, owned_by}
+use Rattle.desk_columns.specs.declared.flat_rows.AnswerKey.{AnswerKey}
 use Rattle.desk_columns.specs.declared.flat_rows.Owned.{Owned}
-use Rattle.desk_model.specs.Change.{applied, applied_one}
+use Rattle.desk_model.specs.Change.{applied, applied_one, put}
 use Rattle.desk_model.specs.Kept.{EachOf}
 use Rattle.desk_model.specs.Tables.{Tables}
+use Rattle.desk_model.specs.declared.rows.ChallengeRow.{ChallengeRow}
 use Rattle.desk_model.specs.declared.rows.Change.{Change}
+use Rattle.desk_model.specs.declared.rows.Counters.{Counters}
 use Rattle.desk_model.specs.declared.rows.Listed.{Listed}
-use Rattle.desk_model.specs.declared.rows.OrderRow.{OrderRow}
-use Rattle.desk_schema.proofs.AdvanceLemmas.{advances_as, advances_then}
+use Rattle.desk_model.specs.declared.rows.Meta.{Meta}
+use Rattle.desk_schema.proofs.AdvanceLemmas.{advances_as}
 use Rattle.desk_schema.specs.Advances.{Advances}
 use Rattle.desk_saving.specs.Fitting.{AreFit, IsFit}
 use Rattle.desk_laws.specs.Placing.{puts}
-use Rattle.desk_saving.specs.Makes.{ArePlaced, Makes, MakesAll, MakesAmong, PlacesAll, PutsAll}
+use Rattle.desk_saving.specs.Makes.{AddsOrPuts, AppendsAll, AppendsOrPlaces, ArePlaced, Makes, MakesAll, PlacesAll, PutsAll, PutsAllOver, PutsOver}
+use Rattle.desk_saving.specs.Makes.{RenewsOrPuts, Writes, WritesColumns, WritesListed, appended}
+use Rattle.desk_saving.specs.Standing.{known_after, last_given}
+use Rattle.desk_saving.specs.Statements.{save_statements, statements_from, statements_of}
+use Rattle.desk_saving.specs.declared.manner.Manner.{Manner}
+use Rattle.desk_saving.specs.declared.manner.Manner.TheVariants.{Put, Insert, Renew}
 use Rattle.desk_saving.proofs.Numbered.{puts_snoc}
-use Rattle.desk_saving.proofs.KnownOrders.{there_after}
-use Rattle.desk_tables.specs.Effects.{Places, PlacesColumns, Puts, PutsColumns, Removes, RemovesNumbered, Renews, RenewsColumns, is_same_place}
-use Rattle.desk_tables.specs.Hidden.{IsPlaced}
+use Rattle.desk_saving.proofs.Over.{over_both, over_one}
+use Rattle.desk_saving.proofs.KnownRows.{known_first, known_next, known_stands}
+use Rattle.desk_tables.specs.Effects.{Appends, Places, Puts, Removes, RemovesNumbered, is_same_place}
+use Rattle.desk_tables.specs.Hidden.{IsPlaced, next, number}
 use Rattle.desk_tables.specs.Holds.{Holds}
-use Rattle.desk_tables.specs.Layouts.{HasRows, Layout, nonce_layout}
+use Rattle.desk_tables.specs.Images.{formatted_columns, meta_kept}
+use Rattle.desk_tables.specs.Layouts.{HasRows, Layout, formatted_layout, key_layout, listed_layout, nonce_layout}
+use Rattle.desk_tables.proofs.InsertStatement.{added_puts}
 use Rattle.desk_laws.proofs.Recorded.{applied-append}
 
 -- ---- one row
 
--- a row, by the columns that were written of it, where their statement was run
-pub puts_written : {X C B E F : Type 0} (L : Layout X) (columns_of : X → C) (row : X) (old new : State) (written : Result C E) (q : Result B F)
-    → IfOk written (λ columns. columns ≡ columns_of row)
-    → OnOk q ((put : C) × (written ≡ Ok put) × Advances old new (PutsColumns L columns_of put))
-    → OnOk q (Advances old new (Puts L row))
-puts_written L columns_of row old new written (Ok done) are it =
-    let same = subst (λ w. IfOk w (λ columns. columns ≡ columns_of row)) it.1 are in
-    advances_as old new (PutsColumns L columns_of it.0) (Puts L row) (λ does. does row (sym same)) it.2
-puts_written L columns_of row old new written (Err why) are it = tt
+-- a row, by its columns
+pub writes_row : {X C : Type 0} (L : Layout X) (kept : C → Row) (columns_of : X → C) (row : X) (manner : Manner) (a b : Database)
+    → WritesColumns L kept columns_of manner (columns_of row) a b → Writes L (λ x. kept (columns_of x)) manner row a b
+writes_row L kept columns_of row Put a b does = does row refl
+writes_row L kept columns_of row Insert a b does = does row refl
+writes_row L kept columns_of row Renew a b does = does row refl
 
--- the same of columns that another value has
-pub puts_held : {X C D B E F : Type 0} (L : Layout X) (columns_of : X → C) (row : X) (old new : State) (of : D → C) (written : Result D E) (q : Result B F)
-    → IfOk written (λ d. of d ≡ columns_of row)
-    → OnOk q ((put : D) × (written ≡ Ok put) × Advances old new (PutsColumns L columns_of (of put)))
-    → OnOk q (Advances old new (Puts L row))
-puts_held L columns_of row old new of written (Ok done) are it =
-    let same = subst (λ w. IfOk w (λ d. of d ≡ columns_of row)) it.1 are in
-    advances_as old new (PutsColumns L columns_of (of it.0)) (Puts L row) (λ does. does row (sym same)) it.2
-puts_held L columns_of row old new of written (Err why) are it = tt
+-- one that may be added is put
+pub puts_added : {X C : Type 0} (L : Layout X) (columns_of : X → C) (row : X) (manner : Manner) (a b : Database)
+    → AddsOrPuts L columns_of manner (columns_of row) a b → Puts L row a b
+puts_added L columns_of row Insert a b does = added_puts L row a b (does row refl)
+puts_added L columns_of row Put a b does = does row refl
+puts_added L columns_of row Renew a b does = does row refl
 
--- and of a row that is renewed
-pub renews_held : {X C D B E F : Type 0} (L : Layout X) (columns_of : X → C) (row : X) (old new : State) (of : D → C) (written : Result D E) (q : Result B F)
-    → IfOk written (λ d. of d ≡ columns_of row)
-    → OnOk q ((put : D) × (written ≡ Ok put) × Advances old new (RenewsColumns L columns_of (of put)))
-    → OnOk q (Advances old new (Renews L row))
-renews_held L columns_of row old new of written (Ok done) are it =
-    let same = subst (λ w. IfOk w (λ d. of d ≡ columns_of row)) it.1 are in
-    advances_as old new (RenewsColumns L columns_of (of it.0)) (Renews L row) (λ does. does row (sym same)) it.2
-renews_held L columns_of row old new of written (Err why) are it = tt
+-- which keeps nothing where it is renewed
+pub writes_added : {X C : Type 0} (L : Layout X) (columns_of : X → C) (row : X) (manner : Manner) (a b : Database)
+    → AddsOrPuts L columns_of manner (columns_of row) a b → Writes L (λ _. []) manner row a b
+writes_added L columns_of row Insert a b does = does row refl
+writes_added L columns_of row Put a b does = does row refl
+writes_added L columns_of row Renew a b does = λ rows has there in_it same kept. does row refl rows has
 
--- what an order lists, by the columns that were written of it
-pub places_written : {B E F : Type 0} (row : Owned Listed) (old new : State) (written : Result OrderAuthzColumns E) (q : Result B F)
-    → IfOk written (λ columns. columns ≡ listed_columns row)
-    → OnOk q ((put : OrderAuthzColumns) × (written ≡ Ok put) × Advances old new (PlacesColumns put))
-    → OnOk q (Advances old new (Places row))
-places_written row old new written (Ok done) are it =
-    let same = subst (λ w. IfOk w (λ columns. columns ≡ listed_columns row)) it.1 are in
-    advances_as old new (PlacesColumns it.0) (Places row) (λ does. does row (sym same)) it.2
-places_written row old new written (Err why) are it = tt
+-- the row of `meta`
+pub writes_meta_row : (row : Meta) (manner : Manner) (a b : Database) → manner ≢ Insert
+    → RenewsOrPuts formatted_layout meta_kept formatted_columns manner (formatted_columns (known_format, row)) a b
+    → Writes formatted_layout (λ x. meta_kept (formatted_columns x)) manner (known_format, row) a b
+writes_meta_row row Put a b old does = does (known_format, row) refl
+writes_meta_row row Renew a b old does = does (known_format, row) refl
+writes_meta_row row Insert a b old does = absurd (old refl)
 
 -- columns that were written have no fault
 pub written_whole : {A E : Type 0} (written : Result A E) (P : E → Type 0) → IsOk written → IfErr written P
@@ -108,27 +110,47 @@ each_owned P n [] i d low all = absurd (omega (arith, low))
 each_owned P n (x ∷ xs) zero d low all = all.0
 each_owned P n (x ∷ xs) (suc i) d low all = each_owned P n xs i d (omega (arith, low)) all.1
 
--- one more row of an owner
-pub advances_put : {T : Type 0} (L : Layout (Owned T)) (n : ℕ) (first old new : State) (xs : List T) (i : ℕ) (d : T) → i < length xs
-    → Survives old new (λ _. ⊥)
-    → Advances first old (PutsAll L (owned_by n (take i xs))) → Advances old new (Puts L (record { owner = n; row = get_or xs i d }))
-    → Advances first new (PutsAll L (owned_by n (take (i + 1) xs)))
-advances_put {T} L n first old new xs i d low survives before last =
-    let row : Owned T = record { owner = n; row = get_or xs i d } in
-    let more = one_more_put L (owned_by n (take i xs)) row first.now old.now new.now in
-    subst (λ ys. Advances first new (PutsAll L ys)) (sym (owned_snoc n xs i d low))
-    (advances_then first old new (PutsAll L (owned_by n (take i xs))) (Puts L row) (PutsAll L (owned_by n (take i xs) ++ row ∷ [])) more survives before last)
+-- none
+pub put_none : {X : Type 0} (L : Layout X) (a : Database) → PutsAll L [] a a
+put_none L a = λ sound rows has. record { sound = sound; has = has; others = λ t other none. refl }
 
 -- one more row
-pub advances_put_row : {X : Type 0} (L : Layout X) (first old new : State) (xs : List X) (i : ℕ) (d : X) → i < length xs
-    → Survives old new (λ _. ⊥)
-    → Advances first old (PutsAll L (take i xs)) → Advances old new (Puts L (get_or xs i d))
-    → Advances first new (PutsAll L (take (i + 1) xs))
-advances_put_row {X} L first old new xs i d low survives before last =
-    let row : X = get_or xs i d in
-    let more = one_more_put L (take i xs) row first.now old.now new.now in
-    subst (λ ys. Advances first new (PutsAll L ys)) (sym (ap (λ k. take k xs) (add-one i) ∙ take-suc xs i d low))
-    (advances_then first old new (PutsAll L (take i xs)) (Puts L row) (PutsAll L (take i xs ++ row ∷ [])) more survives before last)
+pub put_more : {X : Type 0} (L : Layout X) (xs : List X) (i : ℕ) (d : X) (a b c : Database) → i < length xs → PutsAll L (take i xs) a b
+    → Puts L (get_or xs i d) b c → PutsAll L (take (i + 1) xs) a c
+put_more L xs i d a b c low before last =
+    subst (λ ys. PutsAll L ys a c) (sym (ap (λ k. take k xs) (add-one i) ∙ take-suc xs i d low)) (one_more_put L (take i xs) (get_or xs i d) a b c before last)
+
+-- one more row of an owner, over those that are known
+pub over_more : {T : Type 0} (L : Layout (Owned T)) (known : Owned T → Option (Owned T)) (n : ℕ) (xs : List T) (i : ℕ) (d : T) (a b c : Database)
+    → i < length xs → PutsAllOver L known (owned_by n (take i xs)) a b
+    → PutsOver L (known (record { owner = n; row = get_or xs i d })) (record { owner = n; row = get_or xs i d }) b c
+    → PutsAllOver L known (owned_by n (take (i + 1) xs)) a c
+over_more {T} L known n xs i d a b c low before last =
+    let row : Owned T = record { owner = n; row = get_or xs i d } in
+    subst (λ ys. PutsAllOver L known ys a c) (sym (owned_snoc n xs i d low))
+    (over_both L known (owned_by n (take i xs)) (row ∷ []) a b c before (over_one L known row b c last))
+
+-- the keys of one more
+keys_snoc : (n : ℕ) (xs : List ChallengeRow) (i : ℕ) (d : ChallengeRow) → i < length xs
+    → key_rows (owned_by n (take (i + 1) xs)) ≡ key_rows (owned_by n (take i xs)) ++ option_to_list (answer_key (get_or xs i d))
+keys_snoc n xs i d low =
+    let row : Owned ChallengeRow = record { owner = n; row = get_or xs i d } in
+    ap key_rows (owned_snoc n xs i d low)
+    ∙ filter_map-append (λ (c : Owned ChallengeRow). answer_key c.row) (owned_by n (take i xs)) (row ∷ [])
+    ∙ ap (λ ks. key_rows (owned_by n (take i xs)) ++ ks) (alone (answer_key (get_or xs i d)))
+  where
+    alone : (o : Option AnswerKey) → cons_option o [] ≡ option_to_list o
+    alone None = refl
+    alone (Some k) = refl
+
+-- the key of one more challenge, over those that are known
+pub keys_more : (known : AnswerKey → Option AnswerKey) (n : ℕ) (xs : List ChallengeRow) (i : ℕ) (d : ChallengeRow) (a b c : Database)
+    → i < length xs → PutsAllOver key_layout known (key_rows (owned_by n (take i xs))) a b
+    → PutsAllOver key_layout known (option_to_list (answer_key (get_or xs i d))) b c
+    → PutsAllOver key_layout known (key_rows (owned_by n (take (i + 1) xs))) a c
+keys_more known n xs i d a b c low before last =
+    subst (λ ys. PutsAllOver key_layout known ys a c) (sym (keys_snoc n xs i d low))
+    (over_both key_layout known (key_rows (owned_by n (take i xs))) (option_to_list (answer_key (get_or xs i d))) a b c before last)
 
 -- what holds of all rows holds of the one at a place
 pub each_at : {X : Type 0} (P : X → Type 0) (xs : List X) (i : ℕ) (d : X) → i < length xs → EachOf P xs → P (get_or xs i d)
@@ -155,15 +177,44 @@ one_more_placed ls l a b c first last sound before has =
       record { sound = two.2.sound; has = two.2.has; others = λ t other none. two.2.others t other none ∙ one.2.others t other none },
     )
 
+-- rows that are appended, and one more
+appended_snoc : (ls : List (Owned Listed)) (l : Owned Listed) (before : List (ℕ × Owned Listed))
+    → appended (ls ++ l ∷ []) before ≡ put number (next (appended ls before), l) (appended ls before)
+appended_snoc [] l before = refl
+appended_snoc (k ∷ ks) l before = appended_snoc ks l (put number (next before, k) before)
+
+-- one more
+one_more_appended : (ls : List (Owned Listed)) (l : Owned Listed) (a b c : Database) → AppendsAll ls a b → Appends l b c → AppendsAll (ls ++ l ∷ []) a c
+one_more_appended ls l a b c first last sound before has =
+    let one = first sound before has in
+    let two = last (appended ls before) one.has in
+    record {
+      sound = two.sound;
+      has = subst (HasRows listed_layout c) (sym (appended_snoc ls l before)) two.has;
+      others = λ t other none. two.others t other none ∙ one.others t other none;
+    }
+
+-- none
+pub listed_none : (manner : Manner) (a : Database) → WritesListed manner [] a a
+listed_none Insert a = λ sound before has. record { sound = sound; has = has; others = λ t other none. refl }
+listed_none Put a = λ sound before has. (before, refl, record { sound = sound; has = has; others = λ t other none. refl })
+listed_none Renew a = λ sound before has. (before, refl, record { sound = sound; has = has; others = λ t other none. refl })
+
 -- one more row of an order
-pub advances_placed : (n : ℕ) (first old new : State) (xs : List Listed) (i : ℕ) (d : Listed) → i < length xs → Survives old new (λ _. ⊥)
-    → Advances first old (PlacesAll (owned_by n (take i xs))) → Advances old new (Places (record { owner = n; row = get_or xs i d }))
-    → Advances first new (PlacesAll (owned_by n (take (i + 1) xs)))
-advances_placed n first old new xs i d low survives before last =
-    let row : Owned Listed = record { owner = n; row = get_or xs i d } in
-    let more = one_more_placed (owned_by n (take i xs)) row first.now old.now new.now in
-    subst (λ ys. Advances first new (PlacesAll ys)) (sym (owned_snoc n xs i d low))
-    (advances_then first old new (PlacesAll (owned_by n (take i xs))) (Places row) (PlacesAll (owned_by n (take i xs) ++ row ∷ [])) more survives before last)
+pub listed_more : (manner : Manner) (n : ℕ) (xs : List Listed) (i : ℕ) (d : Listed) (a b c : Database) → i < length xs
+    → WritesListed manner (owned_by n (take i xs)) a b → AppendsOrPlaces manner (listed_columns (record { owner = n; row = get_or xs i d })) b c
+    → WritesListed manner (owned_by n (take (i + 1) xs)) a c
+listed_more manner n xs i d a b c low before last =
+    subst (λ ls. WritesListed manner ls a c) (sym (owned_snoc n xs i d low)) (go manner before last)
+  where
+    row : Owned Listed
+    row = record { owner = n; row = get_or xs i d }
+
+    go : (m : Manner) → WritesListed m (owned_by n (take i xs)) a b → AppendsOrPlaces m (listed_columns row) b c
+        → WritesListed m (owned_by n (take i xs) ++ row ∷ []) a c
+    go Insert before last = one_more_appended (owned_by n (take i xs)) row a b c before (last row refl)
+    go Put before last = one_more_placed (owned_by n (take i xs)) row a b c before (last row refl)
+    go Renew before last = one_more_placed (owned_by n (take i xs)) row a b c before (last row refl)
 
 -- ---- changes
 
@@ -173,34 +224,52 @@ fit_snoc [] c T h = (tt, h.0)
 fit_snoc (d ∷ ds) c T h = let rest = fit_snoc ds c (applied_one d T) h.1 in ((h.0, rest.0), rest.1)
 
 -- one more
-one_more_made : (known : List OrderRow) (cs : List Change) (c : Change) (a b d : Database) → MakesAll known cs a b → MakesAmong known c b d
+one_more_made : (known : Option Tables) (cs : List Change) (c : Change) (a b d : Database) → MakesAll known cs a b → Makes (known_after known cs) c b d
     → MakesAll known (cs ++ c ∷ []) a d
-one_more_made known cs c a b d before last T has there fits =
+one_more_made known cs c a b d before last T has stands fits =
     let parts = fit_snoc cs c T fits in
-    subst (Holds d) (sym (applied-append cs (c ∷ []) T)) (last (applied cs T) (before T has there parts.0) (there_after known cs T there) parts.1)
+    subst (Holds d) (sym (applied-append cs (c ∷ []) T)) (last (applied cs T) (before T has stands parts.0) (known_stands cs known T stands) parts.1)
 
 -- one more change
-pub advances_made : (known : List OrderRow) (first old new : State) (cs : List Change) (i : ℕ) (c : Change) → i < length cs → c ≡ get_or cs i c
-    → Survives old new (λ _. ⊥)
-    → Advances first old (MakesAll known (take i cs)) → Advances old new (MakesAmong known c)
-    → Advances first new (MakesAll known (take (i + 1) cs))
-advances_made known first old new cs i c low is survives before last =
-    let more = one_more_made known (take i cs) c first.now old.now new.now in
-    subst (λ ys. Advances first new (MakesAll known ys)) (sym (ap (λ k. take k cs) (add-one i) ∙ take-suc cs i c low ∙ ap (λ y. take i cs ++ y ∷ []) (sym is)))
-    (advances_then first old new (MakesAll known (take i cs)) (MakesAmong known c) (MakesAll known (take i cs ++ c ∷ [])) more survives before last)
+pub made_more : (known : Option Tables) (cs : List Change) (i : ℕ) (d : Change) (a b c : Database) → i < length cs → MakesAll known (take i cs) a b
+    → Makes (known_after known (take i cs)) (get_or cs i d) b c → MakesAll known (take (i + 1) cs) a c
+made_more known cs i d a b c low before last =
+    subst (λ all. MakesAll known all a c) (sym (ap (λ k. take k cs) (add-one i) ∙ take-suc cs i d low))
+    (one_more_made known (take i cs) (get_or cs i d) a b c before last)
 
--- the same of what makes the change where some orders are there
-pub among_on_ok : {A E : Type 0} (known : List OrderRow) (old new : State) (Does : Database → Database → Type 0) (c : Change)
-    → ((a b : Database) → Does a b → MakesAmong known c a b) → (r : Result A E) → OnOk r (Advances old new Does)
-    → OnOk r (Advances old new (MakesAmong known c))
-among_on_ok known old new Does c makes (Ok v) it = advances_as old new Does (MakesAmong known c) (makes old.now new.now) it
-among_on_ok known old new Does c makes (Err e) it = it
+-- ---- the statements of changes
 
--- what puts a row makes the change, where the call was answered
-pub makes_on_ok : {A E : Type 0} (known : List OrderRow) (old new : State) (Does : Database → Database → Type 0) (c d : Change) → d ≡ c
-    → ((a b : Database) → Does a b → Makes c a b) → (r : Result A E) → OnOk r (Advances old new Does)
-    → OnOk r (Advances old new (MakesAmong known d))
-makes_on_ok known old new Does c d is makes (Ok v) it =
-    subst (λ e. Advances old new (MakesAmong known e)) (sym is)
-    (advances_as old new Does (MakesAmong known c) (λ does T has there. makes old.now new.now does T has) it)
-makes_on_ok known old new Does c d is makes (Err e) it = it
+-- of some, and then of others
+from_append : (last : Counters) (xs ys : List Change) (known : Option Tables)
+    → statements_from last known (xs ++ ys) ≡ statements_from last known xs ++ statements_from last (known_after known xs) ys
+from_append last [] ys known = ap (λ k. statements_from last k ys) (sym (known_first known))
+from_append last (x ∷ xs) ys known =
+    ap (λ all. statements_of known last x ++ all)
+    (from_append last xs ys (option_map (applied_one x) known)
+    ∙ ap (λ k. statements_from last (option_map (applied_one x) known) xs ++ statements_from last k ys) (known_next x xs known))
+    ∙ sym (append_assoc (statements_of known last x) (statements_from last (option_map (applied_one x) known) xs)
+    (statements_from last (known_after known (x ∷ xs)) ys))
+
+-- of one more
+pub from_more : (last : Counters) (cs : List Change) (i : ℕ) (d : Change) (known : Option Tables) → i < length cs
+    → statements_from last known (take (i + 1) cs)
+    ≡ statements_from last known (take i cs) ++ statements_of (known_after known (take i cs)) last (get_or cs i d)
+from_more last cs i d known low =
+    let c = get_or cs i d in
+    ap (statements_from last known) (ap (λ k. take k cs) (add-one i) ∙ take-suc cs i d low)
+    ∙ from_append last (take i cs) (c ∷ []) known
+    ∙ ap (λ all. statements_from last known (take i cs) ++ all) (append-nil (statements_of (known_after known (take i cs)) last c))
+
+-- those of some, and of the next, begin those of all
+pub from_begins : (last : Counters) (cs : List Change) (i : ℕ) (d : Change) (known : Option Tables) → i < length cs
+    → (statements_from last known (take i cs) ++ statements_of (known_after known (take i cs)) last (get_or cs i d))
+    ++ statements_from last (known_after known (take (i + 1) cs)) (drop (i + 1) cs) ≡ statements_from last known cs
+from_begins last cs i d known low =
+    ap (λ all. all ++ statements_from last (known_after known (take (i + 1) cs)) (drop (i + 1) cs)) (sym (from_more last cs i d known low))
+    ∙ sym (from_append last (take (i + 1) cs) (drop (i + 1) cs) known)
+    ∙ ap (statements_from last known) (take-append-drop (i + 1) cs)
+
+-- by the last numbers that are known they are those of a save
+pub of_save : (known : Option Tables) (changes : List Change) → statements_from (last_given known) known changes ≡ save_statements known changes
+unfolding save_statements
+of_save known changes = refl

@@ -7,27 +7,26 @@ use Rattle.std.specs.Result.{result_and}
 use Rattle.std.proofs.Math.Seq.{take-suc}
 use Rattle.std.proofs.lemmas.Grind.{flat_map-append}
 use Rattle.std.proofs.lemmas.List.{append_assoc, take-append-drop}
+use Rattle.sqlite.specs.Effect.{Database}
 use Rattle.sqlite.specs.Held.{Held, state}
 use Rattle.sqlite.specs.Order.{Row}
 use Rattle.sqlite.specs.State.{HasCleanDisk, Survives}
 use Rattle.sqlite.specs.Steps.{FailsToCommit}
 use Rattle.sqlite.specs.Store.{Ghosts}
 use Rattle.sqlite.specs.declared.error.Error.{Error}
-use Rattle.desk_model.specs.declared.rows.Change.{Change}
-use Rattle.desk_model.specs.declared.rows.OrderRow.{OrderRow}
 use Rattle.desk_schema.specs.Definitions.{definition_at}
 use Rattle.desk_schema.proofs.StaysLemmas.{asks_nothing}
 use Rattle.desk_saving.proofs.Exits.{survives_both}
 use Rattle.desk_saving.specs.Refusals.{FailedCommit, HaveBegun, HaveRun, IsCause, Ran, Refuses, Runs, Stops, begun}
 use Rattle.desk_saving.specs.Committing.{IsBeforeCommit}
 use Rattle.desk_saving.specs.Numbers.{IsNotTooLarge}
-use Rattle.desk_saving.specs.Statements.{Sql, defines, defines_before, statements_of}
+use Rattle.desk_saving.specs.Statements.{Sql, defines, defines_before}
 use Rattle.desk_saving.specs.declared.fault.SaveFault.{SaveFault}
 use Rattle.desk_saving.specs.declared.fault.SaveFault.TheVariants as save
 use Rattle.written_rows.specs.declared.fault.WriteFault.TheVariants as write
 
 -- a result with a fault in the place of its error
-abbrev IsTold : Result (Unit {0}) SaveFault → Result (Unit {0}) Error → Type 0
+abbrev pub IsTold : Result (Unit {0}) SaveFault → Result (Unit {0}) Error → Type 0
 IsTold q s = MatchResult s (λ x. q ≡ Ok x) (λ e. IsErrAnd q (λ why. why ≡ save.Statement e))
 
 -- a result with a fault of the commit in the place of its error
@@ -35,7 +34,7 @@ abbrev IsCommitted : Result (Unit {0}) SaveFault → Result (Unit {0}) Error →
 IsCommitted q r = MatchResult r (λ x. q ≡ Ok x) (λ e. IsErrAnd q (λ why. why ≡ save.Commit e))
 
 -- the statements of one more row
-one_more : {X : Type 0} (of : X → List Sql) (rows : List X) (i : ℕ) (d : X) → i < length rows
+pub one_more : {X : Type 0} (of : X → List Sql) (rows : List X) (i : ℕ) (d : X) → i < length rows
     → flat_map of (take (i + 1) rows) ≡ flat_map of (take i rows) ++ of (get_or rows i d)
 one_more of rows i d low =
     ap (λ k. flat_map of (take k rows)) (add-one i) ∙ ap (flat_map of) (take-suc rows i d low) ∙ flat_map-append of (take i rows) (get_or rows i d ∷ [])
@@ -111,18 +110,7 @@ module _ {S : Type 0} (g : Ghosts S) where
   ran_behind xs ys a b c (Ok x) first last = run_both xs ys a b c first last
   ran_behind xs ys a b c (Err why) first last = stops_behind xs ys a b c why first last
 
-  -- of a change that is this one
-  pub ran_as : {X : Type 0} (known : List OrderRow) (last : ℕ) (d c : Change) (a b : Held S) (r : Result X SaveFault) → d ≡ c
-      → Ran g (statements_of known last c) a b r → Ran g (statements_of known last d) a b r
-  ran_as known last d c a b r is = subst (λ change. Ran g (statements_of known last change) a b r) (sym is)
-
   -- ---- the rows of a list
-
-  -- one more
-  pub run_more : {X : Type 0} (of : X → List Sql) (rows : List X) (i : ℕ) (d : X) (a b c : Held S) → i < length rows
-      → HaveRun g (flat_map of (take i rows)) a b → HaveRun g (of (get_or rows i d)) b c → HaveRun g (flat_map of (take (i + 1) rows)) a c
-  run_more of rows i d a b c low first last =
-      subst (λ all. HaveRun g all a c) (sym (one_more of rows i d low)) (run_both (flat_map of (take i rows)) (of (get_or rows i d)) a b c first last)
 
   -- the one that was refused
   pub stops_at : {X : Type 0} (of : X → List Sql) (rows : List X) (i : ℕ) (d : X) (a b c : Held S) (why : SaveFault) → i < length rows
@@ -174,11 +162,12 @@ pub asks_written : {C E : Type 0} (sql : C → Sql) (wanted : C) (written : Resu
 asks_written sql wanted (Ok put) same = ap (λ columns. sql columns ∷ []) (sym same)
 asks_written sql wanted (Err why) same = tt
 
--- and of those that another value has
-pub asks_held : {C D E : Type 0} (sql : C → Sql) (of : D → C) (wanted : C) (written : Result D E) → IfOk written (λ put. of put ≡ wanted)
-    → IfOk written (λ put. sql wanted ∷ [] ≡ sql (of put) ∷ [])
-asks_held sql of wanted (Ok put) same = ap (λ columns. sql columns ∷ []) (sym same)
-asks_held sql of wanted (Err why) same = tt
+-- what those columns did, these do
+pub does_written : {C E : Type 0} (Does : C → Database → Database → Type 0) (wanted : C) (written : Result C E) (a b : Database)
+    → IfOk written (λ put. put ≡ wanted) → (put : C) × (written ≡ Ok put) × Does put a b → Does wanted a b
+does_written Does wanted (Ok made) a b same it =
+    let is : made ≡ it.0 = cc (it.1) in subst (λ columns. Does columns a b) (sym is ∙ same) it.2
+does_written Does wanted (Err why) a b same it = absurd (cc (it.1))
 
 -- ---- the end of a transaction
 

@@ -1,5 +1,5 @@
 -- Which changes may be saved, and what a save does.
-use Rattle.std.specs.Prelude.{◌≡◌, ◌==◌, ℕ, Bool, List, [], ◌∷◌, Some, find, is_some}
+use Rattle.std.specs.Prelude.{List, [], ◌∷◌, Option}
 use Rattle.std.specs.List.{flat_map}
 use Rattle.sqlite.specs.Effect.{Database}
 use Rattle.desk_columns.specs.Flat.{challenge_rows, listed_rows}
@@ -10,7 +10,7 @@ use Rattle.desk_model.specs.Change.{applied, applied_one}
 use Rattle.desk_model.specs.Kept.{EachOf}
 use Rattle.desk_model.specs.Tables.{Tables}
 use Rattle.desk_model.specs.declared.rows.Change.{Change}
-use Rattle.desk_model.specs.declared.rows.OrderRow.{OrderRow}
+use Rattle.desk_saving.specs.Standing.{IsPartIn}
 use Rattle.desk_tables.specs.Holds.{AreApart, AreRising, Holds}
 use Rattle.desk_tables.specs.Layouts.{challenge_layout}
 
@@ -19,26 +19,14 @@ pub record InOrder (T : Tables) : Type 0 where
   pub challenges : Distinct challenge_layout.key (challenge_rows T.authorizations)
   pub listed : AreApart (listed_rows T.orders)
 
--- the tables have an order of this number
-abbrev pub HasOrder : List OrderRow → ℕ → Type 0
-HasOrder orders n = (o : OrderRow) × (find (λ r. r.number == n) orders ≡ Some o)
-
--- the tables have orders of the numbers of these
-abbrev pub AreThere : List OrderRow → Tables → Type 0
-AreThere known T = EachOf (λ k. HasOrder T.orders k.number) known
-
--- an order of this number is among those that are known
-abbrev pub is_known : List OrderRow → OrderRow → Bool
-is_known known row = is_some (find (λ r. r.number == row.number) known)
-
 -- each row in the place of another keeps its children, and no two children of the tables after all changes are one
 pub record FitAfter (T : Tables) (changes : List Change) : Type 0 where
   pub kept : AreKept T changes
   pub in_order : InOrder (applied changes T)
 
--- whatever tables the database holds, which have these orders, where the changes fit them it then holds them with the changes
-abbrev pub Saves : List OrderRow → List Change → Database → Database → Type 0
-Saves known changes old new = (T : Tables) → Holds old T → AreThere known T → FitAfter T changes → Holds new (applied changes T)
+-- whatever tables the database holds, in which what is known stands, where the changes fit them it then holds them with the changes
+abbrev pub Saves : Option Tables → List Change → Database → Database → Type 0
+Saves known changes old new = (T : Tables) → Holds old T → IsPartIn known T → FitAfter T changes → Holds new (applied changes T)
 
 -- orders stand by number, what each lists by place, and no number of a challenge stands twice
 pub record StandByNumber (T : Tables) : Type 0 where

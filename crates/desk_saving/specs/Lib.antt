@@ -1,8 +1,12 @@
-pub mod Fitting
-pub mod Makes
 pub mod Committing
+pub mod Differences
+pub mod Fitting
+pub mod Highest
+pub mod Makes
 pub mod Making
+pub mod Manner
 pub mod Numbers
 pub mod Refusals
+pub mod Standing
 pub mod Statements
 pub mod Upgrading

@@ -1,5 +1,6 @@
 -- What a transaction ran, and what it was refused.
-use Rattle.std.specs.Prelude.{◌≡◌, ℕ, true, List, [], ◌∷◌, ◌++◌, Result, Ok, Err, MatchResult}
+use Rattle.std.specs.Prelude.{◌≡◌, ℕ, true, List, [], ◌∷◌, ◌++◌, Result, Ok, Err, MatchResult, OnOk}
+use Rattle.sqlite.specs.Effect.{Database}
 use Rattle.sqlite.specs.Held.{Held, state}
 use Rattle.sqlite.specs.State.{HasCleanDisk, Survives}
 use Rattle.sqlite.specs.Steps.{FailsToCommit}
@@ -8,7 +9,7 @@ use Rattle.sqlite.specs.declared.error.Error.{Error}
 use Rattle.desk_saving.specs.Statements.{Sql}
 use Rattle.desk_saving.specs.declared.fault.SaveFault.{SaveFault}
 use Rattle.desk_saving.specs.declared.fault.SaveFault.TheVariants.{Row, Statement, Commit}
-use Rattle.desk_schema.specs.Advances.{Performs}
+use Rattle.desk_schema.specs.Advances.{Advances, KeepsLast, Performs}
 use Rattle.written_rows.specs.declared.fault.WriteFault.TheVariants.{TooLarge}
 
 -- the connection inside a transaction that was just begun
@@ -52,6 +53,13 @@ module _ {S : Type 0} (g : Ghosts S) where
   -- all of them were run, or this is why not
   abbrev pub Ran : {X : Type 0} → List Sql → Held S → Held S → Result X SaveFault → Type 0
   Ran all old new result = MatchResult result (λ _. HaveRun all old new) (Stops all old new)
+
+  -- a call inside a transaction ran these statements, and where all of them were run they made this of the database
+  pub record HasWritten {X : Type 0} (all : List Sql) (Does : Database → Database → Type 0) (old new : Held S) (result : Result X SaveFault) : Type 0 where
+    pub does : OnOk result (Advances (state g old) (state g new) Does)
+    pub kept : KeepsLast (state g old) (state g new)
+    pub survives : Survives (state g old) (state g new) (λ _. ⊥)
+    pub told : Ran all old new result
 
   -- a commit failed so
   pub record FailedCommit (old new : Held S) (why : SaveFault) : Type 0 where

@@ -1,156 +1,225 @@
 //! Changes, one after the other.
-ghost use Rattle.std.specs.Prelude.{◌≡◌, ◌++◌, OnOk, IfErr};
-ghost use Rattle.sqlite.specs.State.{Survives};
-ghost use Rattle.sqlite.specs.Held.{state};
+ghost use Rattle.std.specs.Prelude.{◌≡◌, ◌++◌, IfErr, option_copied};
 ghost use Rattle.desk_model.specs.Kept.{EachOf};
 ghost use Rattle.desk_model.specs.declared.rows.Change.TheVariants.{PutAuthorization, PutOrder};
-ghost use Rattle.desk_schema.specs.Advances.{Advances, KeepsLast};
-ghost use Rattle.desk_saving.specs.Fitting.{is_known};
-ghost use Rattle.desk_saving.specs.Makes.{Makes, MakesAll, MakesAmong};
+ghost use Rattle.desk_saving.specs.Highest.{IsAbove};
+ghost use Rattle.desk_saving.specs.Makes.{Makes, MakesAll, PutsOver, SetsAuthorization, SetsMeta, SetsOrder, WritesOrder};
 ghost use Rattle.desk_saving.specs.Numbers.{FitsColumns, IsNotTooLarge};
-ghost use Rattle.desk_saving.specs.Refusals.{Ran};
+ghost use Rattle.desk_saving.specs.Refusals.{HasWritten};
+ghost use Rattle.desk_saving.specs.Standing.{known_account, known_after, known_authorization, known_meta, known_order};
+ghost use Rattle.desk_saving.specs.Statements.{lists, sets_account, sets_authorization, sets_bare_authorization, sets_meta, sets_nonce, sets_order};
+ghost use Rattle.desk_saving.specs.Statements.{statements_from, statements_of, writes_order};
 ghost use Rattle.desk_tables.specs.Effects.{Puts};
-ghost use Rattle.desk_tables.specs.Layouts.{nonce_layout};
-ghost use Rattle.written_rows.specs.Fits.{FitsNonce};
-ghost use Rattle.desk_saving.specs.Statements.{adds_nonce, adds_order, puts_authorization, puts_challenges, puts_listing, save_statements, statements_of};
+ghost use Rattle.desk_tables.specs.Layouts.{account_layout, authorization_layout, nonce_layout};
+ghost use Rattle.written_rows.specs.Fits.{FitsAccount, FitsAuthorization, FitsMeta, FitsNonce};
 
-use crate::children::{put_all_listed, put_challenges};
-use crate::fault::SaveFault;
-use crate::rows::{
-    insert_nonce, put_account, put_authorization, put_nonce, put_order, remove_nonce, renew_meta,
-    renew_order,
+use crate::children::{set_challenges, write_all_listed};
+use crate::differences::{
+    account_difference, authorization_difference, meta_difference, order_difference,
 };
-use desk_book::Table;
-use desk_model::{AuthorizationRow, Change, Nonce, OrderRow};
+use crate::fault::SaveFault;
+use crate::manner::Manner;
+use crate::rows::{
+    remove_nonce, write_account, write_authorization, write_meta, write_nonce, write_order,
+};
+use crate::standing::{Highest, known_account, known_authorization, known_meta, known_order};
+use desk_book::Book;
+use desk_model::{AccountRow, AuthorizationRow, Change, Counters, Meta, Nonce, OrderRow};
 use sqlite::{Alter, Transaction};
 use std::alloc::Global;
 
-// Puts an authorization with its challenges.
-fn put_with_challenges<S: Alter>(
+// Sets the row of `meta`, of which this is known.
+fn set_meta<S: Alter>(
     alloc: Global,
     tx: &mut Transaction<'_, S>,
-    row: &AuthorizationRow,
+    known: Option<&Meta>,
+    row: &Meta,
 ) -> Result<(), SaveFault>
     ensures same_reference { tx.new.conn.ghost_name ≡ tx.old.conn.ghost_name }
-    ensures ok { OnOk result (Advances (state S.Store tx.old.conn.now) (state S.Store tx.new.conn.now) (Makes (PutAuthorization row.now))) }
-    ensures kept { KeepsLast (state S.Store tx.old.conn.now) (state S.Store tx.new.conn.now) }
-    ensures survives { Survives (state S.Store tx.old.conn.now) (state S.Store tx.new.conn.now) (λ _. ⊥) }
-    ensures told { Ran S.Store (puts_authorization row.now ++ puts_challenges row.now.number row.now.challenges) tx.old.conn.now tx.new.conn.now result }
-    ensures fits { FitsColumns (PutAuthorization row.now) → IfErr result IsNotTooLarge }
+    ensures writes { HasWritten S.Store (sets_meta (option_copied known.entry) row.now) (SetsMeta (option_copied known.entry) row.now)
+        tx.old.conn.now tx.new.conn.now result }
+    ensures fits { FitsMeta row.now → IfErr result IsNotTooLarge }
 {
-    put_authorization(alloc, tx, row)?;
-    put_challenges(alloc, tx, row.number, row.challenges.as_slice())
-}
-
-// Puts an order with what it lists.
-fn put_with_listed<S: Alter>(
-    alloc: Global,
-    tx: &mut Transaction<'_, S>,
-    row: &OrderRow,
-) -> Result<(), SaveFault>
-    ensures same_reference { tx.new.conn.ghost_name ≡ tx.old.conn.ghost_name }
-    ensures ok { OnOk result (Advances (state S.Store tx.old.conn.now) (state S.Store tx.new.conn.now) (Makes (PutOrder row.now))) }
-    ensures kept { KeepsLast (state S.Store tx.old.conn.now) (state S.Store tx.new.conn.now) }
-    ensures survives { Survives (state S.Store tx.old.conn.now) (state S.Store tx.new.conn.now) (λ _. ⊥) }
-    ensures told { Ran S.Store (puts_listing row.now) tx.old.conn.now tx.new.conn.now result }
-    ensures fits { FitsColumns (PutOrder row.now) → IfErr result IsNotTooLarge }
-{
-    put_order(alloc, tx, row)?;
-    put_all_listed(tx, row.number, row.listed.as_slice())
-}
-
-// Whether an order of this one's number is known to be there.
-fn is_known(known: &Table<OrderRow>, row: &OrderRow) -> bool
-    ensures { result ≡ is_known known.now row.now }
-{
-    match known.get(row.number) {
-        Some(_) => true,
-        None => false,
+    match Manner::of(meta_difference(known, row), false) {
+        Some(manner) => write_meta(alloc, tx, manner, row),
+        None => Ok(()),
     }
 }
 
-// Puts an order; one that is known to be there is renewed, and keeps what it lists.
-fn add_order<S: Alter>(
-    alloc: Global,
-    tx: &mut Transaction<'_, S>,
-    known: &Table<OrderRow>,
-    row: &OrderRow,
-) -> Result<(), SaveFault>
-    ensures same_reference { tx.new.conn.ghost_name ≡ tx.old.conn.ghost_name }
-    ensures ok { OnOk result (Advances (state S.Store tx.old.conn.now) (state S.Store tx.new.conn.now) (MakesAmong known.now (PutOrder row.now))) }
-    ensures kept { KeepsLast (state S.Store tx.old.conn.now) (state S.Store tx.new.conn.now) }
-    ensures survives { Survives (state S.Store tx.old.conn.now) (state S.Store tx.new.conn.now) (λ _. ⊥) }
-    ensures told { Ran S.Store (adds_order known.now row.now) tx.old.conn.now tx.new.conn.now result }
-    ensures fits { FitsColumns (PutOrder row.now) → IfErr result IsNotTooLarge }
-{
-    if is_known(known, row) {
-        return renew_order(alloc, tx, row);
-    }
-    put_with_listed(alloc, tx, row)
-}
-
-// Puts a nonce; one whose serial is above the last that was given is new, and inserted.
-fn add_nonce<S: Alter>(
+// Sets a nonce; one whose serial is above the last that was given is new.
+fn set_nonce<S: Alter>(
     alloc: Global,
     tx: &mut Transaction<'_, S>,
     last: u64,
     row: &Nonce,
 ) -> Result<(), SaveFault>
     ensures same_reference { tx.new.conn.ghost_name ≡ tx.old.conn.ghost_name }
-    ensures ok { OnOk result (Advances (state S.Store tx.old.conn.now) (state S.Store tx.new.conn.now) (Puts nonce_layout row.now)) }
-    ensures kept { KeepsLast (state S.Store tx.old.conn.now) (state S.Store tx.new.conn.now) }
-    ensures survives { Survives (state S.Store tx.old.conn.now) (state S.Store tx.new.conn.now) (λ _. ⊥) }
-    ensures told { Ran S.Store (adds_nonce last row.now) tx.old.conn.now tx.new.conn.now result }
+    ensures writes { HasWritten S.Store (sets_nonce last row.now) (Puts nonce_layout row.now) tx.old.conn.now tx.new.conn.now result }
     ensures fits { FitsNonce row.now → IfErr result IsNotTooLarge }
 {
-    if row.serial > last {
-        return insert_nonce(alloc, tx, row);
+    match Manner::of(None, row.serial > last) {
+        Some(manner) => write_nonce(alloc, tx, manner, row),
+        None => Ok(()),
     }
-    put_nonce(alloc, tx, row)
 }
 
-// Makes one change.
-fn put_change<S: Alter>(
+// Sets an account, of which this row is known.
+fn set_account<S: Alter>(
     alloc: Global,
     tx: &mut Transaction<'_, S>,
-    known: &Table<OrderRow>,
+    known: Option<&AccountRow>,
     last: u64,
-    change: &Change,
+    row: &AccountRow,
 ) -> Result<(), SaveFault>
     ensures same_reference { tx.new.conn.ghost_name ≡ tx.old.conn.ghost_name }
-    ensures ok { OnOk result (Advances (state S.Store tx.old.conn.now) (state S.Store tx.new.conn.now) (MakesAmong known.now change.now)) }
-    ensures kept { KeepsLast (state S.Store tx.old.conn.now) (state S.Store tx.new.conn.now) }
-    ensures survives { Survives (state S.Store tx.old.conn.now) (state S.Store tx.new.conn.now) (λ _. ⊥) }
-    ensures told { Ran S.Store (statements_of known.now last change.now) tx.old.conn.now tx.new.conn.now result }
+    ensures writes { HasWritten S.Store (sets_account (option_copied known.entry) last row.now) (PutsOver account_layout (option_copied known.entry) row.now)
+        tx.old.conn.now tx.new.conn.now result }
+    ensures fits { FitsAccount row.now → IfErr result IsNotTooLarge }
+{
+    match Manner::of(account_difference(known, row), row.number > last) {
+        Some(manner) => write_account(alloc, tx, manner, row),
+        None => Ok(()),
+    }
+}
+
+// Sets an authorization without its challenges, of which this row is known.
+fn set_bare_authorization<S: Alter>(
+    alloc: Global,
+    tx: &mut Transaction<'_, S>,
+    known: Option<&AuthorizationRow>,
+    last: u64,
+    row: &AuthorizationRow,
+) -> Result<(), SaveFault>
+    ensures same_reference { tx.new.conn.ghost_name ≡ tx.old.conn.ghost_name }
+    ensures writes { HasWritten S.Store (sets_bare_authorization (option_copied known.entry) last row.now)
+        (PutsOver authorization_layout (option_copied known.entry) row.now) tx.old.conn.now tx.new.conn.now result }
+    ensures fits { FitsAuthorization row.now → IfErr result IsNotTooLarge }
+{
+    match Manner::of(authorization_difference(known, row), row.number > last) {
+        Some(manner) => write_authorization(alloc, tx, manner, row),
+        None => Ok(()),
+    }
+}
+
+// Sets an authorization, of which this row is known, with its challenges.
+fn set_authorization<S: Alter>(
+    alloc: Global,
+    tx: &mut Transaction<'_, S>,
+    known: Option<&AuthorizationRow>,
+    last: &Counters,
+    row: &AuthorizationRow,
+) -> Result<(), SaveFault>
+    ensures same_reference { tx.new.conn.ghost_name ≡ tx.old.conn.ghost_name }
+    ensures writes { HasWritten S.Store (sets_authorization (option_copied known.entry) last.now row.now)
+        (SetsAuthorization (option_copied known.entry) row.now)
+        tx.old.conn.now tx.new.conn.now result }
+    ensures fits { FitsColumns (PutAuthorization row.now) → IfErr result IsNotTooLarge }
+{
+    set_bare_authorization(alloc, tx, known, last.authorizations, row)?;
+    set_challenges(
+        alloc,
+        tx,
+        known,
+        last.challenges,
+        row.number,
+        row.challenges.as_slice(),
+    )
+}
+
+// Writes an order with what it lists; one that is renewed keeps that.
+fn write_with_listed<S: Alter>(
+    alloc: Global,
+    tx: &mut Transaction<'_, S>,
+    manner: Manner,
+    row: &OrderRow,
+) -> Result<(), SaveFault>
+    ensures same_reference { tx.new.conn.ghost_name ≡ tx.old.conn.ghost_name }
+    ensures writes { HasWritten S.Store (writes_order manner row.now ++ lists manner row.now) (WritesOrder manner row.now)
+        tx.old.conn.now tx.new.conn.now result }
+    ensures fits { FitsColumns (PutOrder row.now) → IfErr result IsNotTooLarge }
+{
+    write_order(alloc, tx, manner, row)?;
+    match manner {
+        Manner::Put | Manner::Insert => {
+            write_all_listed(tx, manner, row.number, row.listed.as_slice())
+        }
+        Manner::Renew => Ok(()),
+    }
+}
+
+// Sets an order, of which this row is known.
+fn set_order<S: Alter>(
+    alloc: Global,
+    tx: &mut Transaction<'_, S>,
+    known: Option<&OrderRow>,
+    last: u64,
+    row: &OrderRow,
+) -> Result<(), SaveFault>
+    ensures same_reference { tx.new.conn.ghost_name ≡ tx.old.conn.ghost_name }
+    ensures writes { HasWritten S.Store (sets_order (option_copied known.entry) last row.now) (SetsOrder (option_copied known.entry) row.now)
+        tx.old.conn.now tx.new.conn.now result }
+    ensures fits { FitsColumns (PutOrder row.now) → IfErr result IsNotTooLarge }
+{
+    match Manner::of(order_difference(known, row), row.number > last) {
+        Some(manner) => write_with_listed(alloc, tx, manner, row),
+        None => Ok(()),
+    }
+}
+
+// Makes one change behind others, which put no row above the highest, by rows that were known before all of them and the last
+// number of each kind then.
+fn make_change<S: Alter>(
+    alloc: Global,
+    tx: &mut Transaction<'_, S>,
+    known: Option<&Book>,
+    before: &[Change],
+    highest: &Highest,
+    last: &Counters,
+    change: &Change,
+) -> Result<(), SaveFault>
+    requires above { IsAbove highest.now before.now }
+    ensures same_reference { tx.new.conn.ghost_name ≡ tx.old.conn.ghost_name }
+    ensures writes { HasWritten S.Store (statements_of (known_after (option_copied known.entry) before.now) last.now change.now)
+        (Makes (known_after (option_copied known.entry) before.now) change.now) tx.old.conn.now tx.new.conn.now result }
     ensures fits { FitsColumns change.now → IfErr result IsNotTooLarge }
 {
     match change {
-        Change::PutMeta(row) => renew_meta(alloc, tx, row),
-        Change::PutNonce(row) => add_nonce(alloc, tx, last, row),
+        Change::PutMeta(row) => set_meta(alloc, tx, known_meta(known, before), row),
+        Change::PutNonce(row) => set_nonce(alloc, tx, last.nonces, row),
         Change::RemoveNonce(serial) => remove_nonce(tx, *serial),
-        Change::PutAccount(row) => put_account(alloc, tx, row),
-        Change::PutAuthorization(row) => put_with_challenges(alloc, tx, row),
-        Change::PutOrder(row) => add_order(alloc, tx, known, row),
+        Change::PutAccount(row) => {
+            let known = known_account(known, before, highest.accounts, row.number);
+            set_account(alloc, tx, known, last.accounts, row)
+        }
+        Change::PutAuthorization(row) => {
+            let known = known_authorization(known, before, highest.authorizations, row.number);
+            set_authorization(alloc, tx, known, last, row)
+        }
+        Change::PutOrder(row) => {
+            let known = known_order(known, before, highest.orders, row.number);
+            set_order(alloc, tx, known, last.orders, row)
+        }
     }
 }
 
-/// Makes the changes, where the orders that are known are there, and no nonce has a serial above the last that was given.
-pub(crate) fn put_changes<S: Alter>(
+/// Makes the changes in turn, by rows that are known to stand in the tables and the last number of each kind.
+pub(crate) fn make_changes<S: Alter>(
     alloc: Global,
     tx: &mut Transaction<'_, S>,
-    known: &Table<OrderRow>,
-    last: u64,
+    known: Option<&Book>,
+    last: &Counters,
     changes: &[Change],
 ) -> Result<(), SaveFault>
     ensures same_reference { tx.new.conn.ghost_name ≡ tx.old.conn.ghost_name }
-    ensures ok { OnOk result (Advances (state S.Store tx.old.conn.now) (state S.Store tx.new.conn.now) (MakesAll known.now changes.now)) }
-    ensures kept { KeepsLast (state S.Store tx.old.conn.now) (state S.Store tx.new.conn.now) }
-    ensures survives { Survives (state S.Store tx.old.conn.now) (state S.Store tx.new.conn.now) (λ _. ⊥) }
-    ensures told { Ran S.Store (save_statements known.now last changes.now) tx.old.conn.now tx.new.conn.now result }
+    ensures writes { HasWritten S.Store (statements_from last.now (option_copied known.entry) changes.now) (MakesAll (option_copied known.entry) changes.now)
+        tx.old.conn.now tx.new.conn.now result }
     ensures fits { EachOf FitsColumns changes.now → IfErr result IsNotTooLarge }
 {
-    for change in changes {
-        put_change(alloc, tx, known, last, change)?;
+    let mut highest = Highest::none();
+    for place in 0..changes.len() {
+        let change = &changes[place];
+        make_change(alloc, tx, known, &changes[..place], &highest, last, change)?;
+        highest = highest.with(change);
     }
     Ok(())
 }

@@ -1,68 +1,176 @@
-//! The rows that belong to another, put one after the other.
-ghost use Rattle.std.specs.Prelude.{◌≡◌, filter_map, OnOk, IfErr, IfOk};
+//! The rows that belong to another, written one after the other.
+ghost use Rattle.std.specs.Prelude.{◌≡◌, ℕ, IfErr, option_copied, option_to_list};
 ghost use Rattle.std.specs.List.{flat_map};
-ghost use Rattle.sqlite.specs.State.{Survives};
-ghost use Rattle.sqlite.specs.Held.{state};
-ghost use Rattle.desk_columns.specs.Flat.{answer_key, owned_by};
+ghost use Rattle.desk_columns.specs.Flat.{answer_key, key_rows, owned_by};
 ghost use Rattle.desk_model.specs.Kept.{EachOf};
-ghost use Rattle.desk_schema.specs.Advances.{Advances, KeepsLast};
-ghost use Rattle.desk_saving.specs.Makes.{PlacesAll, PutsAll, PutsChallenges};
+ghost use Rattle.desk_saving.specs.Makes.{PutsAll, PutsAllOver, PutsChallenges, PutsOver, WritesListed, challenge_under, key_under};
 ghost use Rattle.desk_saving.specs.Numbers.{IsNotTooLarge};
-ghost use Rattle.desk_saving.specs.Refusals.{Ran};
-ghost use Rattle.desk_saving.specs.Statements.{puts_challenge, puts_challenges, puts_key, puts_listed};
+ghost use Rattle.desk_saving.specs.Refusals.{HasWritten};
+ghost use Rattle.desk_saving.specs.Standing.{known_key};
+ghost use Rattle.desk_saving.specs.Statements.{lacks_key, sets_answer, sets_challenge, sets_challenges, sets_key, writes_key, writes_listed};
+ghost use Rattle.desk_saving.specs.declared.manner.Manner.TheVariants.{Put};
 ghost use Rattle.desk_tables.specs.Layouts.{challenge_layout, key_layout};
 ghost use Rattle.written_rows.specs.Fits.{FitsChallenge, FitsKey, FitsListed};
 
+use crate::differences::{challenge_difference, key_difference};
 use crate::fault::SaveFault;
-use crate::rows::{put_challenge, put_key, put_listed};
+use crate::manner::Manner;
+use crate::rows::{write_challenge, write_key, write_listed};
+use crate::standing::known_challenge;
 use desk_columns::AnswerKey;
-use desk_model::{ChallengeRow, Listed};
+use desk_model::{AuthorizationRow, ChallengeRow, Listed};
 use sqlite::{Alter, Transaction};
-use std::alloc::{AllocError, Global};
-use written_rows::WriteFault;
+use std::alloc::Global;
 
-// Puts the challenges of an authorization, without the keys of their answers.
-fn put_bare_challenges<S: Alter>(
+// ---- challenges
+
+// Sets a challenge of an authorization, without the key of its answer.
+fn set_challenge<S: Alter>(
     alloc: Global,
     tx: &mut Transaction<'_, S>,
+    known: Option<&AuthorizationRow>,
+    last: u64,
+    authorization: u64,
+    row: &ChallengeRow,
+) -> Result<(), SaveFault>
+    ensures same_reference { tx.new.conn.ghost_name ≡ tx.old.conn.ghost_name }
+    ensures writes { HasWritten S.Store (sets_challenge (option_copied known.entry) last authorization row.now)
+        (PutsOver challenge_layout (challenge_under (option_copied known.entry) (record { owner = authorization; row = row.now }))
+        (record { owner = authorization; row = row.now })) tx.old.conn.now tx.new.conn.now result }
+    ensures fits { FitsChallenge (record { owner = authorization; row = row.now }) → IfErr result IsNotTooLarge }
+{
+    let difference = challenge_difference(known_challenge(known, row.number), row);
+    match Manner::of(difference, row.number > last) {
+        Some(manner) => write_challenge(alloc, tx, manner, authorization, row),
+        None => Ok(()),
+    }
+}
+
+// Sets the challenges of an authorization, without the keys of their answers.
+fn set_bare_challenges<S: Alter>(
+    alloc: Global,
+    tx: &mut Transaction<'_, S>,
+    known: Option<&AuthorizationRow>,
+    last: u64,
     authorization: u64,
     rows: &[ChallengeRow],
 ) -> Result<(), SaveFault>
     ensures same_reference { tx.new.conn.ghost_name ≡ tx.old.conn.ghost_name }
-    ensures ok { OnOk result (Advances (state S.Store tx.old.conn.now) (state S.Store tx.new.conn.now)
-        (PutsAll challenge_layout (owned_by authorization rows.now))) }
-    ensures kept { KeepsLast (state S.Store tx.old.conn.now) (state S.Store tx.new.conn.now) }
-    ensures survives { Survives (state S.Store tx.old.conn.now) (state S.Store tx.new.conn.now) (λ _. ⊥) }
-    ensures told { Ran S.Store (flat_map (puts_challenge authorization) rows.now) tx.old.conn.now tx.new.conn.now result }
+    ensures writes { HasWritten S.Store (flat_map (sets_challenge (option_copied known.entry) last authorization) rows.now)
+        (PutsAllOver challenge_layout (challenge_under (option_copied known.entry)) (owned_by authorization rows.now)) tx.old.conn.now tx.new.conn.now result }
     ensures fits { EachOf FitsChallenge (owned_by authorization rows.now) → IfErr result IsNotTooLarge }
 {
     for row in rows {
-        put_challenge(alloc, tx, authorization, row)?;
+        set_challenge(alloc, tx, known, last, authorization, row)?;
     }
     Ok(())
 }
+
+// ---- the keys of their answers
 
 // The key of a challenge's answer.
 fn answer_key(row: &ChallengeRow) -> Option<AnswerKey>
     ensures { result ≡ answer_key row.now }
 {
-    match row.answered {
-        Some(answer) => {
-            let thumb = answer.thumb;
-            Some(AnswerKey {
-                challenge: row.number,
-                thumb,
-            })
-        }
-        None => None,
+    let answer = row.answered?;
+    let thumb = answer.thumb;
+    Some(AnswerKey {
+        challenge: row.number,
+        thumb,
+    })
+}
+
+// The key of the answer of a challenge that is known.
+fn known_key(known: Option<&AuthorizationRow>, number: u64) -> Option<AnswerKey>
+    ensures { result ≡ known_key (option_copied known.entry) number }
+{
+    answer_key(known_challenge(known, number)?)
+}
+
+// Whether no key stands in the place of that of a challenge, where none is known: the challenge is known, or it is new.
+fn lacks_key(known: Option<&ChallengeRow>, last: u64, number: u64) -> bool
+    ensures { result ≡ lacks_key (option_copied known.entry) last number }
+{
+    known.is_some() || number > last
+}
+
+// Sets the key of an answer, over the one that is known.
+fn set_key<S: Alter>(
+    alloc: Global,
+    tx: &mut Transaction<'_, S>,
+    known: Option<&AuthorizationRow>,
+    last: u64,
+    key: &AnswerKey,
+) -> Result<(), SaveFault>
+    ensures same_reference { tx.new.conn.ghost_name ≡ tx.old.conn.ghost_name }
+    ensures writes { HasWritten S.Store (sets_key (option_copied known.entry) last key.now)
+        (PutsOver key_layout (key_under (option_copied known.entry) key.now) key.now)
+        tx.old.conn.now tx.new.conn.now result }
+    ensures fits { FitsKey key.now → IfErr result IsNotTooLarge }
+{
+    let difference = key_difference(known_key(known, key.challenge), key);
+    let is_new = lacks_key(known_challenge(known, key.challenge), last, key.challenge);
+    match Manner::of(difference, is_new) {
+        Some(manner) => write_key(alloc, tx, manner, key),
+        None => Ok(()),
     }
 }
 
-// The keys of the answers of challenges, in their order.
-fn answer_keys(alloc: Global, rows: &[ChallengeRow]) -> Result<Vec<AnswerKey>, AllocError>
-    ensures { IfOk result (λ keys. keys.items ≡ filter_map answer_key rows.now) }
+// Sets the key of a challenge's answer, if it has one.
+fn set_answer<S: Alter>(
+    alloc: Global,
+    tx: &mut Transaction<'_, S>,
+    known: Option<&AuthorizationRow>,
+    last: u64,
+    row: &ChallengeRow,
+) -> Result<(), SaveFault>
+    ensures same_reference { tx.new.conn.ghost_name ≡ tx.old.conn.ghost_name }
+    ensures writes { HasWritten S.Store (sets_answer (option_copied known.entry) last row.now)
+        (PutsAllOver key_layout (key_under (option_copied known.entry)) (option_to_list (answer_key row.now))) tx.old.conn.now tx.new.conn.now result }
+    ensures fits { (owner : ℕ) → FitsChallenge (record { owner = owner; row = row.now }) → IfErr result IsNotTooLarge }
 {
-    rows.iter().filter_map(|row| answer_key(row)).collect(alloc)
+    match answer_key(row) {
+        Some(key) => set_key(alloc, tx, known, last, &key),
+        None => Ok(()),
+    }
+}
+
+// Sets the keys of the answers of challenges.
+fn set_answers<S: Alter>(
+    alloc: Global,
+    tx: &mut Transaction<'_, S>,
+    known: Option<&AuthorizationRow>,
+    last: u64,
+    authorization: u64,
+    rows: &[ChallengeRow],
+) -> Result<(), SaveFault>
+    ensures same_reference { tx.new.conn.ghost_name ≡ tx.old.conn.ghost_name }
+    ensures writes { HasWritten S.Store (flat_map (sets_answer (option_copied known.entry) last) rows.now)
+        (PutsAllOver key_layout (key_under (option_copied known.entry)) (key_rows (owned_by authorization rows.now))) tx.old.conn.now tx.new.conn.now result }
+    ensures fits { EachOf FitsChallenge (owned_by authorization rows.now) → IfErr result IsNotTooLarge }
+{
+    for row in rows {
+        set_answer(alloc, tx, known, last, row)?;
+    }
+    Ok(())
+}
+
+/// Sets the challenges of an authorization, of which this row is known, and the keys of their answers.
+pub(crate) fn set_challenges<S: Alter>(
+    alloc: Global,
+    tx: &mut Transaction<'_, S>,
+    known: Option<&AuthorizationRow>,
+    last: u64,
+    authorization: u64,
+    rows: &[ChallengeRow],
+) -> Result<(), SaveFault>
+    ensures same_reference { tx.new.conn.ghost_name ≡ tx.old.conn.ghost_name }
+    ensures writes { HasWritten S.Store (sets_challenges (option_copied known.entry) last authorization rows.now)
+        (PutsChallenges (option_copied known.entry) authorization rows.now) tx.old.conn.now tx.new.conn.now result }
+    ensures fits { EachOf FitsChallenge (owned_by authorization rows.now) → IfErr result IsNotTooLarge }
+{
+    set_bare_challenges(alloc, tx, known, last, authorization, rows)?;
+    set_answers(alloc, tx, known, last, authorization, rows)
 }
 
 /// Puts the keys of answers.
@@ -72,70 +180,31 @@ pub(crate) fn put_keys<S: Alter>(
     rows: &[AnswerKey],
 ) -> Result<(), SaveFault>
     ensures same_reference { tx.new.conn.ghost_name ≡ tx.old.conn.ghost_name }
-    ensures ok { OnOk result (Advances (state S.Store tx.old.conn.now) (state S.Store tx.new.conn.now) (PutsAll key_layout rows.now)) }
-    ensures kept { KeepsLast (state S.Store tx.old.conn.now) (state S.Store tx.new.conn.now) }
-    ensures survives { Survives (state S.Store tx.old.conn.now) (state S.Store tx.new.conn.now) (λ _. ⊥) }
-    ensures told { Ran S.Store (flat_map puts_key rows.now) tx.old.conn.now tx.new.conn.now result }
+    ensures writes { HasWritten S.Store (flat_map (writes_key Put) rows.now) (PutsAll key_layout rows.now) tx.old.conn.now tx.new.conn.now result }
     ensures fits { EachOf FitsKey rows.now → IfErr result IsNotTooLarge }
 {
     for row in rows {
-        put_key(alloc, tx, row)?;
+        write_key(alloc, tx, Manner::Put, row)?;
     }
     Ok(())
 }
 
-// Puts the keys of the answers of challenges.
-fn put_answers<S: Alter>(
-    alloc: Global,
-    tx: &mut Transaction<'_, S>,
-    rows: &[ChallengeRow],
-) -> Result<(), SaveFault>
-    ensures same_reference { tx.new.conn.ghost_name ≡ tx.old.conn.ghost_name }
-    ensures ok { OnOk result (Advances (state S.Store tx.old.conn.now) (state S.Store tx.new.conn.now) (PutsAll key_layout (filter_map answer_key rows.now))) }
-    ensures kept { KeepsLast (state S.Store tx.old.conn.now) (state S.Store tx.new.conn.now) }
-    ensures survives { Survives (state S.Store tx.old.conn.now) (state S.Store tx.new.conn.now) (λ _. ⊥) }
-    ensures told { Ran S.Store (flat_map puts_key (filter_map answer_key rows.now)) tx.old.conn.now tx.new.conn.now result }
-    ensures fits { EachOf FitsKey (filter_map answer_key rows.now) → IfErr result IsNotTooLarge }
-{
-    let keys = answer_keys(alloc, rows).map_err(|_refused| WriteFault::Memory)?;
-    let put = put_keys(alloc, tx, keys.as_slice());
-    drop(keys);
-    put
-}
+// ---- what an order lists
 
-/// Puts the challenges of an authorization, and the keys of their answers.
-pub(crate) fn put_challenges<S: Alter>(
-    alloc: Global,
+/// Writes what an order lists, as the order is written.
+pub(crate) fn write_all_listed<S: Alter>(
     tx: &mut Transaction<'_, S>,
-    authorization: u64,
-    rows: &[ChallengeRow],
-) -> Result<(), SaveFault>
-    ensures same_reference { tx.new.conn.ghost_name ≡ tx.old.conn.ghost_name }
-    ensures ok { OnOk result (Advances (state S.Store tx.old.conn.now) (state S.Store tx.new.conn.now) (PutsChallenges authorization rows.now)) }
-    ensures kept { KeepsLast (state S.Store tx.old.conn.now) (state S.Store tx.new.conn.now) }
-    ensures survives { Survives (state S.Store tx.old.conn.now) (state S.Store tx.new.conn.now) (λ _. ⊥) }
-    ensures told { Ran S.Store (puts_challenges authorization rows.now) tx.old.conn.now tx.new.conn.now result }
-    ensures fits { EachOf FitsChallenge (owned_by authorization rows.now) → IfErr result IsNotTooLarge }
-{
-    put_bare_challenges(alloc, tx, authorization, rows)?;
-    put_answers(alloc, tx, rows)
-}
-
-/// Puts what an order lists.
-pub(crate) fn put_all_listed<S: Alter>(
-    tx: &mut Transaction<'_, S>,
+    manner: Manner,
     order: u64,
     rows: &[Listed],
 ) -> Result<(), SaveFault>
     ensures same_reference { tx.new.conn.ghost_name ≡ tx.old.conn.ghost_name }
-    ensures ok { OnOk result (Advances (state S.Store tx.old.conn.now) (state S.Store tx.new.conn.now) (PlacesAll (owned_by order rows.now))) }
-    ensures kept { KeepsLast (state S.Store tx.old.conn.now) (state S.Store tx.new.conn.now) }
-    ensures survives { Survives (state S.Store tx.old.conn.now) (state S.Store tx.new.conn.now) (λ _. ⊥) }
-    ensures told { Ran S.Store (flat_map (puts_listed order) rows.now) tx.old.conn.now tx.new.conn.now result }
+    ensures writes { HasWritten S.Store (flat_map (writes_listed manner order) rows.now) (WritesListed manner (owned_by order rows.now))
+        tx.old.conn.now tx.new.conn.now result }
     ensures fits { EachOf FitsListed (owned_by order rows.now) → IfErr result IsNotTooLarge }
 {
     for row in rows {
-        put_listed(tx, order, row)?;
+        write_listed(tx, manner, order, row)?;
     }
     Ok(())
 }

@@ -4,15 +4,18 @@
 mod changes;
 mod children;
 mod definitions;
+mod differences;
 mod ending;
 mod fault;
 mod laws;
 mod making;
+mod manner;
 mod rows;
 mod saving;
+mod standing;
 mod statements;
+mod tables;
 mod upgrading;
-mod upserts;
 mod values;
 
 pub use fault::SaveFault;

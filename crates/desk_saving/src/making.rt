@@ -13,7 +13,8 @@ ghost use Rattle.written_rows.specs.Fits.{FitsMeta};
 use crate::definitions::define_all;
 use crate::ending::end;
 use crate::fault::SaveFault;
-use crate::rows::put_meta;
+use crate::manner::Manner;
+use crate::rows::write_meta;
 use desk_model::Meta;
 use sqlite::{Alter, Connection, Transaction};
 use std::alloc::Global;
@@ -32,7 +33,7 @@ fn define_desk<S: Alter>(
     ensures fits { FitsMeta meta.now → IfErr result IsNotTooLarge }
 {
     define_all(tx)?;
-    put_meta(alloc, tx, meta)
+    write_meta(alloc, tx, Manner::Put, meta)
 }
 
 /// Makes the tables and indexes of a desk in a database that has no object, and puts its row of `meta`, in one transaction: all

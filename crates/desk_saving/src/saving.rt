@@ -1,5 +1,5 @@
 //! Changes, in one transaction.
-ghost use Rattle.std.specs.Prelude.{◌≡◌, false, OnOk, OnErr, IfErr};
+ghost use Rattle.std.specs.Prelude.{◌≡◌, false, OnOk, OnErr, IfErr, option_copied};
 ghost use Rattle.sqlite.specs.State.{HasCleanDisk, Survives};
 ghost use Rattle.sqlite.specs.Held.{state};
 ghost use Rattle.desk_model.specs.Kept.{EachOf};
@@ -9,16 +9,17 @@ ghost use Rattle.desk_saving.specs.Numbers.{FitsColumns, IsNotTooLarge};
 ghost use Rattle.desk_saving.specs.Refusals.{IsCause};
 ghost use Rattle.desk_saving.specs.Statements.{save_statements};
 
-use crate::changes::put_changes;
+use crate::changes::make_changes;
 use crate::ending::end;
 use crate::fault::SaveFault;
-use desk_book::Table;
-use desk_model::{Change, OrderRow};
+use crate::standing::last_given;
+use desk_book::Book;
+use desk_model::Change;
 use sqlite::{Alter, Connection};
 use std::alloc::Global;
 
-/// Makes the changes in one transaction: all of them, or none. Of the orders that are known to be there, what they list is not
-/// written: an order keeps it. A nonce whose serial is above the last that was given is new, and inserted.
+/// Makes the changes in one transaction: all of them, or none. Where a part of the tables is known, a row of it is written in the
+/// columns that calls move, and not at all where it is as it was; one with a number above the last that was given is inserted.
 ///
 /// # Errors
 ///
@@ -28,21 +29,23 @@ use std::alloc::Global;
 pub fn save_all<S: Alter>(
     alloc: Global,
     conn: &mut Connection<S>,
-    known: &Table<OrderRow>,
-    last: u64,
+    known: Option<&Book>,
     changes: &[Change],
 ) -> Result<(), SaveFault>
     requires idle { conn.old.in_transaction ≡ false }
     ensures idle { conn.new.in_transaction ≡ false }
     ensures ok { HasCleanDisk (state S.Store conn.new)
-        → OnOk result (HasCommitted (state S.Store conn.old) (state S.Store conn.new) (Saves known.now changes.now)) }
+        → OnOk result (HasCommitted (state S.Store conn.old) (state S.Store conn.new) (Saves (option_copied known.entry) changes.now)) }
     ensures err { HasCleanDisk (state S.Store conn.new) → OnErr result (GoesBack (state S.Store conn.old) (state S.Store conn.new)) }
     ensures before { IfErr result (λ why. IsBeforeCommit why → Survives (state S.Store conn.old) (state S.Store conn.new) (λ _. ⊥)) }
-    ensures left { Survives (state S.Store conn.old) (state S.Store conn.new) (IsLeft (Saves known.now changes.now (state S.Store conn.old).now)) }
+    ensures left { Survives (state S.Store conn.old) (state S.Store conn.new)
+        (IsLeft (Saves (option_copied known.entry) changes.now (state S.Store conn.old).now)) }
     ensures fits { EachOf FitsColumns changes.now → IfErr result IsNotTooLarge }
-    ensures cause { IfErr result (IsCause S.Store (EachOf FitsColumns changes.now) (save_statements known.now last changes.now) conn.old conn.new) }
+    ensures cause { IfErr result (IsCause S.Store (EachOf FitsColumns changes.now) (save_statements (option_copied known.entry) changes.now) conn.old
+        conn.new) }
 {
     let mut tx = conn.transaction();
-    let put = put_changes(alloc, &mut tx, known, last, changes);
-    end(tx, put)
+    let last = last_given(known);
+    let made = make_changes(alloc, &mut tx, known, &last, changes);
+    end(tx, made)
 }

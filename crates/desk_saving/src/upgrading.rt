@@ -8,15 +8,17 @@ ghost use Rattle.desk_schema.specs.Advances.{Advances, KeepsLast};
 ghost use Rattle.desk_saving.specs.Committing.{GoesBack, HasCommitted, IsBeforeCommit, IsLeft};
 ghost use Rattle.desk_saving.specs.Numbers.{FitsUpgrade, IsNotTooLarge};
 ghost use Rattle.desk_saving.specs.Refusals.{IsCause, Ran};
-ghost use Rattle.desk_saving.specs.Statements.{puts_key, puts_meta, upgrade_statements};
+ghost use Rattle.desk_saving.specs.Statements.{upgrade_statements, writes_key, writes_meta};
 ghost use Rattle.desk_saving.specs.Upgrading.{Fills, Upgrades};
+ghost use Rattle.desk_saving.specs.declared.manner.Manner.TheVariants.{Put};
 ghost use Rattle.written_rows.specs.Fits.{FitsKey, FitsMeta};
 
 use crate::children::put_keys;
 use crate::definitions::define_key_table;
 use crate::ending::end;
 use crate::fault::SaveFault;
-use crate::rows::put_meta;
+use crate::manner::Manner;
+use crate::rows::write_meta;
 use desk_columns::AnswerKey;
 use desk_model::Meta;
 use sqlite::{Alter, Connection, Transaction};
@@ -33,11 +35,11 @@ fn fill<S: Alter>(
     ensures ok { OnOk result (Advances (state S.Store tx.old.conn.now) (state S.Store tx.new.conn.now) (Fills meta.now keys.now)) }
     ensures kept { KeepsLast (state S.Store tx.old.conn.now) (state S.Store tx.new.conn.now) }
     ensures survives { Survives (state S.Store tx.old.conn.now) (state S.Store tx.new.conn.now) (λ _. ⊥) }
-    ensures told { Ran S.Store (flat_map puts_key keys.now ++ puts_meta meta.now) tx.old.conn.now tx.new.conn.now result }
+    ensures told { Ran S.Store (flat_map (writes_key Put) keys.now ++ writes_meta Put meta.now) tx.old.conn.now tx.new.conn.now result }
     ensures fits { FitsMeta meta.now → EachOf FitsKey keys.now → IfErr result IsNotTooLarge }
 {
     put_keys(alloc, tx, keys)?;
-    put_meta(alloc, tx, meta)
+    write_meta(alloc, tx, Manner::Put, meta)
 }
 
 // Makes the table that format 1 lacks, and fills it.

@@ -3,8 +3,9 @@ ghost use Rattle.std.specs.Prelude.{◌≡◌};
 ghost use Rattle.sqlite.specs.declared.types.Value.TheVariants.{Int, Text as SqlText, Blob};
 ghost use Rattle.sqlite.specs.Values.{bound, bound_value};
 ghost use Rattle.sqlite_value.specs.Value.{owned};
-ghost use Rattle.desk_tables.specs.Images.{account_params, authorization_params, blob_or_null, challenge_params, int_or_null, key_params};
-ghost use Rattle.desk_tables.specs.Images.{listed_params, meta_params, nonce_params, order_params, text_or_null};
+ghost use Rattle.desk_tables.specs.Images.{account_moved, account_params, authorization_moved, authorization_params, blob_or_null, challenge_moved};
+ghost use Rattle.desk_tables.specs.Images.{challenge_params, int_or_null, key_params, listed_params, meta_moved, meta_params, nonce_params};
+ghost use Rattle.desk_tables.specs.Images.{order_moved, order_params, text_or_null};
 
 use desk_columns::{
     AccountColumns, AuthzColumns, ChallColumns, ChallKeyColumns, MetaColumns, NonceColumns,
@@ -84,6 +85,21 @@ pub(crate) fn meta_values<'a>(columns: &'a MetaColumns) -> [ValueRef<'a>; 12]
     ]
 }
 
+/// The parameters that renew the row of `meta`.
+pub(crate) fn moved_meta<'a>(columns: &'a MetaColumns) -> [ValueRef<'a>; 7]
+    ensures { bound result ≡ meta_moved columns.now }
+{
+    [
+        int(&columns.id),
+        int(&columns.clock),
+        int(&columns.nonces),
+        int(&columns.accounts),
+        int(&columns.orders),
+        int(&columns.authzs),
+        int(&columns.challs),
+    ]
+}
+
 /// The parameters for a row of `nonce`.
 pub(crate) fn nonce_values<'a>(columns: &'a NonceColumns) -> [ValueRef<'a>; 3]
     ensures { bound result ≡ nonce_params columns.now }
@@ -110,6 +126,20 @@ pub(crate) fn account_values<'a>(columns: &'a AccountColumns) -> [ValueRef<'a>; 
     ]
 }
 
+/// The parameters that renew a row of `account`.
+pub(crate) fn moved_account<'a>(columns: &'a AccountColumns) -> [ValueRef<'a>; 6]
+    ensures { bound result ≡ account_moved columns.now }
+{
+    [
+        int(&columns.num),
+        text(&columns.jwk),
+        text(&columns.contacts),
+        int_or_null(&columns.ended),
+        text_or_null(&columns.end_kind),
+        text(&columns.status),
+    ]
+}
+
 /// The parameters for a row of `ord`.
 pub(crate) fn order_values<'a>(columns: &'a OrderColumns) -> [ValueRef<'a>; 11]
     ensures { bound result ≡ order_params columns.now }
@@ -119,6 +149,22 @@ pub(crate) fn order_values<'a>(columns: &'a OrderColumns) -> [ValueRef<'a>; 11]
         int(&columns.account),
         int(&columns.made),
         int(&columns.expires),
+        int_or_null(&columns.finalized),
+        blob_or_null(&columns.csr),
+        int_or_null(&columns.certified),
+        blob_or_null(&columns.cert),
+        int_or_null(&columns.failed),
+        text_or_null(&columns.problem),
+        text(&columns.status),
+    ]
+}
+
+/// The parameters that renew a row of `ord`.
+pub(crate) fn moved_order<'a>(columns: &'a OrderColumns) -> [ValueRef<'a>; 8]
+    ensures { bound result ≡ order_moved columns.now }
+{
+    [
+        int(&columns.num),
         int_or_null(&columns.finalized),
         blob_or_null(&columns.csr),
         int_or_null(&columns.certified),
@@ -146,6 +192,18 @@ pub(crate) fn authorization_values<'a>(columns: &'a AuthzColumns) -> [ValueRef<'
     ]
 }
 
+/// The parameters that renew a row of `authz`.
+pub(crate) fn moved_authorization<'a>(columns: &'a AuthzColumns) -> [ValueRef<'a>; 4]
+    ensures { bound result ≡ authorization_moved columns.now }
+{
+    [
+        int(&columns.num),
+        int_or_null(&columns.ended),
+        text_or_null(&columns.end_kind),
+        text(&columns.status),
+    ]
+}
+
 /// The parameters for a row of `ord_authz`.
 pub(crate) fn listed_values<'a>(columns: &'a OrderAuthzColumns) -> [ValueRef<'a>; 3]
     ensures { bound result ≡ listed_params columns.now }
@@ -162,6 +220,19 @@ pub(crate) fn challenge_values<'a>(columns: &'a ChallColumns) -> [ValueRef<'a>; 
         int(&columns.authz),
         text(&columns.kind),
         blob(&columns.token),
+        int_or_null(&columns.answered),
+        int_or_null(&columns.reported),
+        text_or_null(&columns.outcome),
+        text(&columns.status),
+    ]
+}
+
+/// The parameters that renew a row of `chall`.
+pub(crate) fn moved_challenge<'a>(columns: &'a ChallColumns) -> [ValueRef<'a>; 5]
+    ensures { bound result ≡ challenge_moved columns.now }
+{
+    [
+        int(&columns.num),
         int_or_null(&columns.answered),
         int_or_null(&columns.reported),
         text_or_null(&columns.outcome),

@@ -1,10 +1,9 @@
 -- What a call that failed left.
-use Rattle.std.proofs.Common.{◌≡◌, List, None, Result, Ok, Err, inl, inr, subst, arith}
-use Rattle.std.specs.Prelude.{◌⊎◌, IfErr, MatchResult}
+use Rattle.std.proofs.Common.{List, None, Result, Ok, Err, inl, inr, arith}
+use Rattle.std.specs.Prelude.{IfErr}
 use Rattle.sqlite.specs.Held.{Held, state}
-use Rattle.sqlite.specs.State.{State, HasCleanDisk, IsUnchanged, Survives}
+use Rattle.sqlite.specs.State.{State, HasCleanDisk, Survives}
 use Rattle.sqlite.specs.Store.{Ghosts}
-use Rattle.sqlite.proofs.StateLemmas.{survives_then}
 use Rattle.desk_model.specs.Tables.{Tables}
 use Rattle.desk_saving.specs.Committing.{IsBeforeCommit}
 use Rattle.desk_saving.specs.Refusals.{IsCause}
@@ -19,13 +18,11 @@ use Rattle.desk_storage.specs.Sight.{Reads}
 use Rattle.desk_storage.specs.declared.fault.StorageFault.{StorageFault}
 use Rattle.desk_store.specs.Causes.{Failed, FailedToSave, IsOfSave, LeavesNothing}
 use Rattle.desk_store.specs.Desks.{store_sight}
-use Rattle.desk_store.specs.Making.{IsOfStorage}
 use Rattle.desk_store.specs.Opening.{FailedToOpen, FailedToUpgrade}
 use Rattle.desk_store.specs.declared.open_fault.OpenFault.{OpenFault}
 use Rattle.desk_store.specs.declared.open_fault.OpenFault.TheVariants.{NewerFormat, NotADesk, Storage}
 use Rattle.desk_store.specs.declared.store.Store.{Store}
 use Rattle.desk_store.proofs.EitherFormat.{of_faults}
-use Rattle.desk_store.proofs.Standing.{failed}
 
 -- nothing is left that was not, where no commit survives
 pub leaves_nothing : (old new : State) → Survives old new (λ _. ⊥) → LeavesNothing old new

@@ -1,21 +1,28 @@
 -- Saving over a connection is what is asked of a store.
-use Rattle.std.proofs.Common.{◌≡◌, List, Result, Ok, Err, inl, inr, sym, subst, ◌∙◌, arith}
-use Rattle.std.specs.Prelude.{◌⊎◌, false}
+use Rattle.std.proofs.Common.{◌≡◌, ℕ, ◌+◌, List, [], ◌∷◌, Option, Some, None, Bool, true, false, Result, Ok, Err, inl, inr, refl, sym, subst, ◌∙◌, arith}
+use Rattle.std.proofs.lemmas.Bool.{eqb-true}
+use Rattle.std.specs.List.{filter}
+use Rattle.std.specs.Prelude.{◌⊎◌, ◌==◌, IfSome, cond, find}
 use Rattle.sqlite.specs.Effect.{Database}
 use Rattle.sqlite.specs.Held.{state}
 use Rattle.sqlite.specs.State.{State, HasCleanDisk, IsUnchanged, Survives}
 use Rattle.sqlite.specs.Store.{Ghosts}
 use Rattle.sqlite.specs.Tree.{Trees}
 use Rattle.sqlite.proofs.StateLemmas.{survives_then}
+use Rattle.desk_laws.proofs.RowLists.{Above, ascends_above}
+use Rattle.desk_laws.specs.Ordered.{Ascends}
 use Rattle.desk_model.specs.Change.{applied}
 use Rattle.desk_model.specs.Tables.{Tables}
+use Rattle.desk_model.specs.declared.rows.AccountRow.{AccountRow}
+use Rattle.desk_model.specs.declared.rows.AuthorizationRow.{AuthorizationRow}
 use Rattle.desk_model.specs.declared.rows.Change.{Change}
 use Rattle.desk_model.specs.declared.rows.OrderRow.{OrderRow}
 use Rattle.desk_saving.specs.Committing.{GoesBack, HasCommitted, IsBeforeCommit, IsLeft}
 use Rattle.desk_saving.specs.declared.fault.SaveFault.{SaveFault}
 use Rattle.desk_schema.specs.Stays.{Asks}
-use Rattle.desk_saving.specs.Fitting.{AreThere, FitAfter, Saves as Puts}
-use Rattle.desk_saving.proofs.KnownOrders.{chosen_are_there}
+use Rattle.desk_saving.specs.Fitting.{FitAfter, Saves as Puts}
+use Rattle.desk_saving.specs.Standing.{IsPartIn, Stand, StandsIn}
+use Rattle.desk_saving.proofs.Numbered.{find_none}
 use Rattle.desk_saving.proofs.OrderedFit.{ordered_fit}
 use Rattle.desk_storage.specs.Sight.{Sight}
 use Rattle.desk_storage.specs.Storing.{Fit, HasChanges, HasSaved, IsCutFrom, SavesOf}
@@ -25,6 +32,7 @@ use Rattle.desk_store.proofs.Standing.{desk_back, desk_unchanged, failed, honest
 use Rattle.desk_store.specs.Desks.{IsDesk, store_sight}
 use Rattle.desk_store.specs.Known.{IsKnownOf}
 use Rattle.desk_store.specs.declared.store.Store.{Store}
+use Rattle.desk_tables.specs.Holds.{AreRising}
 
 -- the changes may be saved
 may_save : (T : Tables) (changes : List Change) → Fit T changes → FitAfter T changes
@@ -34,28 +42,28 @@ may_save T changes fit = ordered_fit T changes fit.kept (record {
   challenges = fit.book.book.sound.distinct.challenges;
 })
 
--- a database with the changes is a desk with the tables after them, where the orders that are known are there
-desk_after : (known : List OrderRow) (T : Tables) (changes : List Change) (old new : Database) → AreThere known T → Fit T changes → IsDesk old T
+-- a database with the changes is a desk with the tables after them, where what is known stands in them
+desk_after : (known : Option Tables) (T : Tables) (changes : List Change) (old new : Database) → IsPartIn known T → Fit T changes → IsDesk old T
     → Puts known changes old new → IsDesk new (applied changes T)
-desk_after known T changes old new there fit was puts = record { holds = puts T was.holds there (may_save T changes fit); book = fit.book }
+desk_after known T changes old new stands fit was puts = record { holds = puts T was.holds stands (may_save T changes fit); book = fit.book }
 
 -- a call that was answered
 abbrev done : Result (Unit {0}) StorageFault
 done = Ok tt
 
-module _ {S : Type 0} (g : Ghosts S) (orders : List OrderRow) where
+module _ {S : Type 0} (g : Ghosts S) (part : Option Tables) where
   -- what a stop may leave of the commit has the changes
-  pub changes_left : (changes : List Change) (old : Store S) (c : Trees) → IsLeft (Puts orders changes (state g old.conn).now) c
-      → HasChanges (store_sight g) (AreThere orders) changes old c
-  changes_left changes old c left T there fit has = (left.0, left.1, desk_after orders T changes (state g old.conn).now left.0 there fit has.desk.desk left.2)
+  pub changes_left : (changes : List Change) (old : Store S) (c : Trees) → IsLeft (Puts part changes (state g old.conn).now) c
+      → HasChanges (store_sight g) (IsPartIn part) changes old c
+  changes_left changes old c left T there fit has = (left.0, left.1, desk_after part T changes (state g old.conn).now left.0 there fit has.desk.desk left.2)
 
   -- what was committed has the changes
   pub saved_by : (changes : List Change) (old new : Store S) → ((T : Tables) → IsKnownOf old.known T → IsKnownOf new.known (applied changes T))
       → (state g new.conn).in_transaction ≡ false
       → (state g new.conn).step_limit ≡ (state g old.conn).step_limit
-      → HasCommitted (state g old.conn) (state g new.conn) (Puts orders changes) → HasSaved (store_sight g) (AreThere orders) changes old new
+      → HasCommitted (state g old.conn) (state g new.conn) (Puts part changes) → HasSaved (store_sight g) (IsPartIn part) changes old new
   saved_by changes old new follows idle limit it T there fit has =
-      let desk = desk_after orders T changes (state g old.conn).now (state g new.conn).committed there fit has.desk.desk it.does in
+      let desk = desk_after part T changes (state g old.conn).now (state g new.conn).committed there fit has.desk.desk it.does in
       record {
         tables = record {
           desk = record {
@@ -71,18 +79,18 @@ module _ {S : Type 0} (g : Ghosts S) (orders : List OrderRow) where
       }
 
   -- what a stop may leave of a save
-  left_of : (changes : List Change) (old new : Store S) → Survives (state g old.conn) (state g new.conn) (IsLeft (Puts orders changes (state g old.conn).now))
+  left_of : (changes : List Change) (old new : Store S) → Survives (state g old.conn) (state g new.conn) (IsLeft (Puts part changes (state g old.conn).now))
       → HasCleanDisk (state g new.conn) → (c : Trees) → (state g new.conn).may_leave c
-      → (state g old.conn).may_leave c ⊎ HasChanges (store_sight g) (AreThere orders) changes old c
+      → (state g old.conn).may_leave c ⊎ HasChanges (store_sight g) (IsPartIn part) changes old c
   left_of changes old new survives clean c may =
       elim (survives.crash clean c may) [ inl was ↦ inl was | inr made ↦ inr (changes_left changes old c made) ]
 
   -- a save that was answered
   pub saves_ok : (changes : List Change) (old new : Store S) → ((T : Tables) → IsKnownOf old.known T → IsKnownOf new.known (applied changes T))
       → (state g new.conn).in_transaction ≡ false
-      → Survives (state g old.conn) (state g new.conn) (IsLeft (Puts orders changes (state g old.conn).now))
-      → (HasCleanDisk (state g new.conn) → HasCommitted (state g old.conn) (state g new.conn) (Puts orders changes))
-      → SavesOf (store_sight g) (AreThere orders) changes old new done
+      → Survives (state g old.conn) (state g new.conn) (IsLeft (Puts part changes (state g old.conn).now))
+      → (HasCleanDisk (state g new.conn) → HasCommitted (state g old.conn) (state g new.conn) (Puts part changes))
+      → SavesOf (store_sight g) (IsPartIn part) changes old new done
   saves_ok changes old new follows idle survives committed = record {
     honest = honest_by g old new survives;
     left = left_of changes old new survives;
@@ -93,12 +101,12 @@ module _ {S : Type 0} (g : Ghosts S) (orders : List OrderRow) where
   -- a save that failed, and the test whether the connection still answers
   pub saves_err : (changes : List Change) (old new : Store S) (mid : State) (why : StorageFault) (cause : SaveFault)
       → ((T : Tables) → IsKnownOf new.known T) → mid.in_transaction ≡ false
-      → Survives (state g old.conn) mid (IsLeft (Puts orders changes (state g old.conn).now)) → (HasCleanDisk mid → GoesBack (state g old.conn) mid)
+      → Survives (state g old.conn) mid (IsLeft (Puts part changes (state g old.conn).now)) → (HasCleanDisk mid → GoesBack (state g old.conn) mid)
       → (IsBeforeCommit cause → Survives (state g old.conn) mid (λ _. ⊥)) → Asks mid (state g new.conn)
       → (HasCleanDisk (state g new.conn) → why ≡ fault.Memory → IsUnchanged mid (state g new.conn)) → (why ≡ fault.Memory → IsBeforeCommit cause)
-      → SavesOf (store_sight g) (AreThere orders) changes old new (failed (Unit {0}) why)
+      → SavesOf (store_sight g) (IsPartIn part) changes old new (failed (Unit {0}) why)
   saves_err changes old new mid why cause known idle survives back early tested same before =
-      let whole = survives_then (state g old.conn) mid (state g new.conn) _ _ (IsLeft (Puts orders changes (state g old.conn).now))
+      let whole = survives_then (state g old.conn) mid (state g new.conn) _ _ (IsLeft (Puts part changes (state g old.conn).now))
       (λ _ _ left. left) (λ _ _ none. absurd none) survives tested.survives in
       record {
         honest = honest_by g old new whole;
@@ -119,21 +127,56 @@ module _ {S : Type 0} (g : Ghosts S) (orders : List OrderRow) where
 
 -- what is saved of some tables is saved of those that are among them
 pub saves_of : {S C R : Type 0} (v : Sight S C) (Of Those : Tables → Type 0) (changes : List Change) (old new : S) (result : Result R StorageFault)
-    → ((T : Tables) → Those T → Of T) → SavesOf v Of changes old new result → SavesOf v Those changes old new result
+    → ((T : Tables) → Those T → v.holds old T → Of T) → SavesOf v Of changes old new result → SavesOf v Those changes old new result
 saves_of v Of Those changes old new (Ok saved) are it = record {
   honest = it.honest;
-  left = λ h c l. elim (it.left h c l) [ inl was ↦ inl was | inr has ↦ inr (λ T those. has T (are T those)) ];
-  saved = λ h T those. it.saved h T (are T those);
+  left = λ h c l. elim (it.left h c l) [ inl was ↦ inl was | inr has ↦ inr (λ T those fit there. has T (are T those there) fit there) ];
+  saved = λ h T those fit there. it.saved h T (are T those there) fit there;
   without_memory = tt;
 }
 saves_of v Of Those changes old new (Err why) are it = record {
   honest = it.honest;
-  left = λ h c l. elim (it.left h c l) [ inl was ↦ inl was | inr has ↦ inr (λ T those. has T (are T those)) ];
+  left = λ h c l. elim (it.left h c l) [ inl was ↦ inl was | inr has ↦ inr (λ T those fit there. has T (are T those there) fit there) ];
   saved = λ h. tt;
   without_memory = it.without_memory;
 }
 
--- the orders of a part are there
-pub part_is_there : (part T : Tables) → IsCutFrom part T → AreThere part.orders T
-part_is_there part T cut =
-    subst (λ (P : Tables). AreThere P.orders T) (sym cut.1) (chosen_are_there (λ o. cut.0.orders o.number) T)
+-- rows that were chosen by number, of rows whose numbers rise, stand among these
+stand_chosen : {X : Type 0} (key : X → ℕ) (test : ℕ → Bool) (m : ℕ) (rows : List X) → Ascends key m rows
+    → Stand key (filter (λ r. test (key r)) rows) rows
+stand_chosen key test m [] up n = tt
+stand_chosen key test m (z ∷ zs) up n =
+    go (test (key z)) (key z == n) refl (find (λ r. key r == n) (filter (λ r. test (key r)) zs)) refl
+    (stand_chosen key test (key z + 1) zs up.1 n)
+  where
+    none : (key z == n) ≡ true → find (λ r. key r == n) zs ≡ None
+    none is = find_none key n zs
+        (subst (λ k. Above key k zs) (eqb-true (key z) n is) (ascends_above key (key z) (key z + 1) zs (omega arith) up.1))
+
+    go : (kept is : Bool) → (key z == n) ≡ is → (o : Option _) → find (λ r. key r == n) (filter (λ r. test (key r)) zs) ≡ o
+        → IfSome o (λ x. find (λ r. key r == n) zs ≡ Some x)
+        → IfSome (find (λ r. key r == n) (cond kept (z ∷ filter (λ r. test (key r)) zs) (filter (λ r. test (key r)) zs)))
+        (λ x. find (λ r. key r == n) (z ∷ zs) ≡ Some x)
+    go true true e o found h =
+        subst (λ b. IfSome (cond b (Some z) (find (λ r. key r == n) (filter (λ r. test (key r)) zs)))
+        (λ x. cond b (Some z) (find (λ r. key r == n) zs) ≡ Some x)) (sym e) refl
+    go true false e o found h =
+        subst (λ b. IfSome (cond b (Some z) (find (λ r. key r == n) (filter (λ r. test (key r)) zs)))
+        (λ x. cond b (Some z) (find (λ r. key r == n) zs) ≡ Some x)) (sym e)
+        (subst (λ f. IfSome f (λ x. find (λ r. key r == n) zs ≡ Some x)) (sym found) h)
+    go false false e o found h =
+        subst (λ b. IfSome (find (λ r. key r == n) (filter (λ r. test (key r)) zs)) (λ x. cond b (Some z) (find (λ r. key r == n) zs) ≡ Some x)) (sym e)
+        (subst (λ f. IfSome f (λ x. find (λ r. key r == n) zs ≡ Some x)) (sym found) h)
+    go false true e None found h =
+        subst (λ f. IfSome f (λ x. find (λ r. key r == n) (z ∷ zs) ≡ Some x)) (sym found) tt
+    go false true e (Some x) found h = absurd (let both : None ≡ Some x = sym (none e) ∙ h in cc)
+
+-- the rows of a part stand in the tables that it was cut from
+pub part_stands : (part T : Tables) → IsCutFrom part T → AreRising T → IsPartIn (Some part) T
+part_stands part T cut rising =
+    subst (λ (P : Tables). StandsIn P T) (sym cut.1) (record {
+      meta = refl;
+      accounts = stand_chosen (λ (a : AccountRow). a.number) cut.0.accounts 0 T.accounts rising.accounts;
+      authorizations = stand_chosen (λ (a : AuthorizationRow). a.number) cut.0.authorizations 0 T.authorizations rising.authorizations;
+      orders = stand_chosen (λ (o : OrderRow). o.number) cut.0.orders 0 T.orders rising.orders;
+    })

@@ -1,5 +1,5 @@
 -- Which fault an error of the engine is.
-use Rattle.std.specs.Prelude.{◌≡◌, ◌⊎◌, ℕ, List, false, Option, None, Some}
+use Rattle.std.specs.Prelude.{◌≡◌, ◌⊎◌, List, false, Option, None, Some}
 use Rattle.sqlite.specs.Held.{Held, state}
 use Rattle.sqlite.specs.State.{State, HasCleanDisk}
 use Rattle.sqlite.specs.Store.{Ghosts}
@@ -8,8 +8,8 @@ use Rattle.sqlite.specs.declared.error.Error.{Error}
 use Rattle.sqlite.specs.declared.error.Error.TheVariants.{SqliteFailure}
 use Rattle.sqlite.specs.declared.error.ErrorCode.TheVariants as code
 use Rattle.desk_model.specs.Kept.{EachOf}
+use Rattle.desk_model.specs.Tables.{Tables}
 use Rattle.desk_model.specs.declared.rows.Change.{Change}
-use Rattle.desk_model.specs.declared.rows.OrderRow.{OrderRow}
 use Rattle.desk_reading.specs.declared.fault.ReadFault.{ReadFault}
 use Rattle.desk_reading.specs.declared.fault.ReadFault.TheVariants.{Engine, NotARow}
 use Rattle.desk_saving.specs.Committing.{IsBeforeCommit}
@@ -79,15 +79,15 @@ module _ {S : Type 0} (g : Ghosts S) where
     pub cause : IsCause g Fits all old new refusal
     pub before : IsBeforeCommit refusal → LeavesNothing (state g old) (state g new)
 
-  -- changes were not saved, where these orders are known, and this is the last serial of a nonce
-  abbrev pub FailedToChange : List OrderRow → ℕ → List Change → Held S → Held S → StorageFault → Type 0
-  FailedToChange known last changes = FailedToSave (EachOf FitsColumns changes) (save_statements known last changes)
+  -- changes were not saved, where this part of the tables is known
+  abbrev pub FailedToChange : Option Tables → List Change → Held S → Held S → StorageFault → Type 0
+  FailedToChange known changes = FailedToSave (EachOf FitsColumns changes) (save_statements known changes)
 
   -- a look-up failed, and wrote nothing; or a saving failed, of a store that was in no transaction
   abbrev pub Failed : Option Saving → Held S → Held S → StorageFault → Type 0
   Failed None old new why = LeavesNothing (state g old) (state g new)
   Failed (Some saving) old new why =
-      old.in_transaction ≡ false → FailedToChange saving.part.orders saving.part.meta.counters.nonces saving.changes old new why
+      old.in_transaction ≡ false → FailedToChange (Some saving.part) saving.changes old new why
 
 -- the fault of a reading that failed in opening: of memory, the disk or a size it is the store's, else there is no desk
 abbrev pub IsOfOpening : Cause → OpenFault → Type 0

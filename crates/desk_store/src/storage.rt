@@ -32,7 +32,6 @@ impl<S: Alter> Storage for Store<S> {
         part: &Book,
         changes: Vec<Change>,
     ) -> Result<(), StorageFault> {
-        let last = part.meta().counters.nonces;
-        self.save_among(alloc, part.orders(), last, changes.as_slice())
+        self.save_known(alloc, Some(part), changes.as_slice())
     }
 }

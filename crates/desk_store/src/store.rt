@@ -1,12 +1,12 @@
 //! The store of a desk.
-ghost use Rattle.std.specs.Prelude.{◌≡◌, ◌⊎◌, ◌-◌, ◌^◌, [], false, Err, IfErr, IfOk, IsTrue, MatchResult, None, Ok, OnOk};
+ghost use Rattle.std.specs.Prelude.{◌≡◌, ◌⊎◌, false, Err, IfErr, IfOk, IsTrue, MatchResult, None, Ok, OnOk, option_copied};
 ghost use Rattle.sqlite.specs.State.{HasCleanDisk, IsUnchanged, Survives};
 ghost use Rattle.sqlite.specs.Held.{state};
 ghost use Rattle.desk_model.specs.History.{first_history};
 ghost use Rattle.desk_model.specs.Tables.{Tables, picture};
 ghost use Rattle.desk_model.specs.Touched.{touched};
 ghost use Rattle.desk_saving.specs.Committing.{GoesBack};
-ghost use Rattle.desk_saving.specs.Fitting.{AreThere};
+ghost use Rattle.desk_saving.specs.Standing.{IsPartIn};
 ghost use Rattle.desk_schema.specs.Names.{uses_key_table, uses_names};
 ghost use Rattle.desk_schema.specs.Schema.{no_schema};
 ghost use Rattle.desk_schema.specs.Stays.{Asks};
@@ -25,9 +25,9 @@ use crate::known::Known;
 use crate::making::make_desk;
 use crate::open_fault::OpenFault;
 use crate::opening::{open_desk, read_book};
-use desk_book::{Book, Table};
+use desk_book::Book;
 use desk_loading::load_part;
-use desk_model::{Call, Change, Clock, OrderRow, Policy};
+use desk_model::{Call, Change, Clock, Policy};
 use desk_reading::{ReadFault, meta_row};
 use desk_saving::save_all;
 use desk_schema::uses_names;
@@ -205,34 +205,29 @@ impl<S: Alter> Store<S> {
     pub fn save(&mut self, alloc: Global, changes: &[Change]) -> Result<(), StorageFault>
         ensures saves { Saves (store_sight S.Store) changes.now self.old self.new result }
         ensures failed { IfErr result (λ why. self.old.conn.in_transaction ≡ false
-            → FailedToChange S.Store [] (2 ^ 64 - 1) changes.now self.old.conn self.new.conn why) }
+            → FailedToChange S.Store None changes.now self.old.conn self.new.conn why) }
         ensures closed { IsTrue self.old.conn.in_transaction → (result ≡ Err reopen) × (self.new ≡ self.old) }
     {
-        let none = Table::new(alloc);
-        let saved = self.save_among(alloc, &none, u64::MAX, changes);
-        drop(none);
-        saved
+        self.save_known(alloc, None, changes)
     }
 
-    // The same where these orders are there, so that what they list need not be written, and where nonces are new whose serial is
-    // above the last that was given.
-    pub(crate) fn save_among(
+    // The same where a part of the tables is known, whose rows need not be written where they are as they were.
+    pub(crate) fn save_known(
         &mut self,
         alloc: Global,
-        known: &Table<OrderRow>,
-        last: u64,
+        known: Option<&Book>,
         changes: &[Change],
     ) -> Result<(), StorageFault>
-        ensures saves { SavesOf (store_sight S.Store) (AreThere known.now) changes.now self.old self.new result }
+        ensures saves { SavesOf (store_sight S.Store) (IsPartIn (option_copied known.entry)) changes.now self.old self.new result }
         ensures failed { IfErr result (λ why. self.old.conn.in_transaction ≡ false
-            → FailedToChange S.Store known.now last changes.now self.old.conn self.new.conn why) }
+            → FailedToChange S.Store (option_copied known.entry) changes.now self.old.conn self.new.conn why) }
         ensures closed { IsTrue self.old.conn.in_transaction → (result ≡ Err reopen) × (self.new ≡ self.old) }
     {
         // No call leaves a transaction open; a store that had one would not know what it holds.
         if !self.conn.is_autocommit() {
             return Err(StorageFault::Reopen);
         }
-        match save_all(alloc, &mut self.conn, known, last, changes) {
+        match save_all(alloc, &mut self.conn, known, changes) {
             Ok(()) => {
                 self.known.follow(changes);
                 Ok(())

@@ -1,64 +1,45 @@
-use Rattle.std.proofs.Common.{◌∙◌, rules, arith, subst, take_all}
-use Rattle.sqlite.specs.Held.{state}
-use Rattle.sqlite.proofs.StateLemmas.{survives_then}
-use Rattle.desk_schema.specs.Advances.{Advances}
-use Rattle.desk_saving.specs.Makes.{PutsAll}
-use Rattle.desk_saving.proofs.Exits.{kept_behind, survives_both}
-use Rattle.desk_saving.proofs.RowsInTurn.{advances_put_row, each_at}
+use Rattle.std.proofs.Common.{◌∙◌, ◌+◌, [], Ok, arith, refl, rules, subst, take, take_all}
 use Rattle.std.specs.List.{flat_map}
-use Rattle.std.proofs.Common.{subst, take_all, rules, arith}
-use Rattle.desk_saving.specs.Refusals.{HaveRun}
-use Rattle.desk_saving.specs.Statements.{puts_key}
-use Rattle.desk_saving.proofs.Told.{run_more, stops_at}
-use Rattle.desk_saving.proofs.children.put_keys.Goals as goal
+use Rattle.desk_saving.specs.Refusals.{HasWritten}
+use Rattle.desk_saving.proofs.Written.{nothing_written, written_more, written_until}
+use Rattle.desk_saving.specs.Makes.{PutsAll}
+use Rattle.desk_saving.specs.Statements.{writes_key}
+use Rattle.desk_saving.specs.declared.manner.Manner.TheVariants.{Put}
+use Rattle.desk_saving.proofs.RowsInTurn.{each_at, put_more, put_none}
 use Rattle.desk_tables.specs.Layouts.{key_layout}
 use Rattle.written_rows.specs.Fits.{FitsKey}
+use Rattle.desk_saving.proofs.children.put_keys.Goals as goal
+
+pub loop-row-init : goal.loop-row-init
+loop-row-init g c = record { same = refl; writes = nothing_written g.S.Store (PutsAll key_layout []) c.args.tx.now.conn.now tt (put_none key_layout _) }
 
 pub loop-row-preserved : goal.loop-row-preserved
 loop-row-preserved g c =
-    let first = state g.S.Store c.args.tx.now.conn.now in
-    let old = state g.S.Store c.loop-row.tx.conn.now in
-    let new = state g.S.Store c.put_key.new.tx.conn.now in
-    let after = c.in_ok-put_key.ensures in
+    let after = c.in_ok-write_key.ensures in
     record {
       same = after.same_reference ∙ c.loop-row.invariant.same;
-      advances = advances_put_row key_layout first old new c.args.rows.now c.loop-row.row-index _ (search rules) after.survives
-          c.loop-row.invariant.advances
-          after.ok;
-      told = run_more g.S.Store puts_key c.args.rows.now c.loop-row.row-index _ _ _ _ (search rules) c.loop-row.invariant.told after.told;
-      survives = survives_then first old new _ _ (λ _. ⊥) (λ _ db none. none) (λ _ db none. none) c.loop-row.invariant.survives after.survives;
+      writes = written_more g.S.Store (writes_key Put) c.args.rows.now c.loop-row.row-index _ _ _
+          (PutsAll key_layout (take (c.loop-row.row-index + 1) c.args.rows.now)) _ _ _ tt tt (search rules)
+          (λ first last. put_more key_layout c.args.rows.now c.loop-row.row-index _ _ _ _ (search rules) first (last _ refl)) c.loop-row.invariant.writes
+          after.writes;
     }
 
-pub returns-clause-ok : goal.returns-clause-ok
-returns-clause-ok g c =
-    let first = state g.S.Store c.args.tx.now.conn.now in
-    let new = state g.S.Store c.loop-row.tx.conn.now in
-    let whole = take_all c.loop-row.row-index c.args.rows.now (omega arith) in
-    subst (λ xs. Advances first new (PutsAll key_layout xs)) whole c.loop-row.invariant.advances
-
-pub returns-in_err-put_key-clause-kept : goal.returns-in_err-put_key-clause-kept
-returns-in_err-put_key-clause-kept g c =
-    kept_behind (state g.S.Store c.args.tx.now.conn.now) (state g.S.Store c.loop-row.tx.conn.now) (state g.S.Store c.put_key.new.tx.conn.now) _
-    c.loop-row.invariant.advances c.put_key.ensures.survives c.put_key.ensures.kept
-
-pub returns-in_err-put_key-clause-survives : goal.returns-in_err-put_key-clause-survives
-returns-in_err-put_key-clause-survives g c =
-    survives_both (state g.S.Store c.args.tx.now.conn.now) (state g.S.Store c.loop-row.tx.conn.now) (state g.S.Store c.put_key.new.tx.conn.now)
-    c.loop-row.invariant.survives c.put_key.ensures.survives
-
-pub returns-in_err-put_key-clause-fits : goal.returns-in_err-put_key-clause-fits
-returns-in_err-put_key-clause-fits g c all =
-    let at = each_at FitsKey c.args.rows.now c.loop-row.row-index _ (search rules) all in
-    let fits = c.in_err-put_key.ensures.fits at in
-    search (rules, fits)
-
-pub returns-clause-told : goal.returns-clause-told
-returns-clause-told g c =
-    let whole = take_all c.loop-row.row-index c.args.rows.now (omega arith) in
-    subst (λ xs. HaveRun g.S.Store (flat_map puts_key xs) c.args.tx.now.conn.now c.loop-row.tx.conn.now) whole c.loop-row.invariant.told
-
-pub returns-in_err-put_key-clause-told : goal.returns-in_err-put_key-clause-told
-returns-in_err-put_key-clause-told g c =
-    let stops = stops_at g.S.Store puts_key c.args.rows.now c.loop-row.row-index _ _ _ _ _ (search rules) c.loop-row.invariant.told
-    c.in_err-put_key.ensures.told in
+pub returns-in_err-write_key-clause-writes : goal.returns-in_err-write_key-clause-writes
+returns-in_err-write_key-clause-writes g c =
+    let stops = written_until g.S.Store {Z = Unit {0}} (writes_key Put) c.args.rows.now c.loop-row.row-index _ _ _
+    (PutsAll key_layout c.args.rows.now) _ _ _ tt _ (search rules) c.loop-row.invariant.writes
+    c.in_err-write_key.ensures.writes in
     search (rules, stops)
+
+pub returns-clause-writes : goal.returns-clause-writes
+returns-clause-writes g c =
+    let whole = take_all c.loop-row.row-index c.args.rows.now (omega arith) in
+    subst (λ xs. HasWritten g.S.Store {X = Unit {0}} (flat_map (writes_key Put) xs) (PutsAll key_layout xs) c.args.tx.now.conn.now c.loop-row.tx.conn.now
+    (Ok tt)) whole
+    c.loop-row.invariant.writes
+
+pub returns-in_err-write_key-clause-fits : goal.returns-in_err-write_key-clause-fits
+returns-in_err-write_key-clause-fits g c all =
+    let at = each_at FitsKey c.args.rows.now c.loop-row.row-index _ (search rules) all in
+    let fits = c.in_err-write_key.ensures.fits at in
+    search (rules, fits)

@@ -1,11 +1,15 @@
-use Rattle.std.proofs.Common.{rules}
+use Rattle.std.proofs.Common.{◌∙◌, ap, rules, subst}
+use Rattle.std.specs.Prelude.{option_copied}
 use Rattle.sqlite.specs.Held.{state}
 use Rattle.desk_saving.specs.Fitting.{Saves}
 use Rattle.desk_saving.specs.Makes.{MakesAll}
 use Rattle.desk_saving.proofs.BackFits.{saves_by}
 use Rattle.desk_saving.proofs.Leaving.{committed_by, left_by, spared_by, undone_by}
+use Rattle.desk_saving.proofs.RowsInTurn.{of_save}
 use Rattle.desk_saving.proofs.Told.{caused}
-use Rattle.desk_saving.specs.Statements.{save_statements}
+use Rattle.desk_saving.specs.Refusals.{Ran}
+use Rattle.desk_saving.specs.Statements.{save_statements, statements_from}
+use Rattle.desk_model.specs.declared.rows.Counters.{Counters}
 use Rattle.desk_model.specs.Kept.{EachOf}
 use Rattle.desk_saving.specs.Numbers.{FitsColumns}
 use Rattle.desk_saving.proofs.saving.save_all.Goals as goal
@@ -13,45 +17,53 @@ use Rattle.desk_saving.proofs.saving.save_all.Goals as goal
 pub returns-clause-ok : goal.returns-clause-ok
 returns-clause-ok g c =
     let old = c.args.conn.now in
-    let last = c.put_changes-put.new.tx.conn.now in
+    let last = c.make_changes-made.new.tx.conn.now in
     let changes = c.args.changes.now in
-    let means = saves_by c.args.known.now changes (state g.S.Store old).now (state g.S.Store last).now in
+    let means = saves_by (option_copied c.args.known) changes (state g.S.Store old).now (state g.S.Store last).now in
     let whole = committed_by g.S.Store old c.transaction-tx.result.conn.now last c.end.new.tx.0 c.transaction-tx.ensures.begun
-    c.put_changes-put.result c.end.result
-    (MakesAll c.args.known.now changes) (Saves c.args.known.now changes) means c.put_changes-put.ensures.ok c.end.ensures.left c.end.ensures.done
+    c.make_changes-made.result c.end.result
+    (MakesAll (option_copied c.args.known) changes) (Saves (option_copied c.args.known) changes) means c.make_changes-made.ensures.writes.does
+    c.end.ensures.left c.end.ensures.done
     c.end.ensures.ok in
     search (rules, whole)
 
 pub returns-clause-err : goal.returns-clause-err
 returns-clause-err g c =
-    let whole = undone_by g.S.Store c.args.conn.now c.transaction-tx.result.conn.now c.put_changes-put.new.tx.conn.now c.end.new.tx.0
+    let whole = undone_by g.S.Store c.args.conn.now c.transaction-tx.result.conn.now c.make_changes-made.new.tx.conn.now c.end.new.tx.0
     c.transaction-tx.ensures.begun
-    c.put_changes-put.result c.end.result (MakesAll c.args.known.now c.args.changes.now) c.put_changes-put.ensures.ok c.put_changes-put.ensures.kept
+    c.make_changes-made.result c.end.result (MakesAll (option_copied c.args.known) c.args.changes.now) c.make_changes-made.ensures.writes.does
+    c.make_changes-made.ensures.writes.kept
     c.end.ensures.left c.end.ensures.err in
     search (rules, whole)
 
 pub returns-clause-before : goal.returns-clause-before
 returns-clause-before g c =
-    let whole = spared_by g.S.Store c.args.conn.now c.transaction-tx.result.conn.now c.put_changes-put.new.tx.conn.now c.end.new.tx.0
+    let whole = spared_by g.S.Store c.args.conn.now c.transaction-tx.result.conn.now c.make_changes-made.new.tx.conn.now c.end.new.tx.0
     c.transaction-tx.ensures.begun
-    c.put_changes-put.result c.end.result c.put_changes-put.ensures.survives c.end.ensures.before in
+    c.make_changes-made.result c.end.result c.make_changes-made.ensures.writes.survives c.end.ensures.before in
     search (rules, whole)
 
 pub returns-clause-left : goal.returns-clause-left
 returns-clause-left g c =
     let old = c.args.conn.now in
-    let last = c.put_changes-put.new.tx.conn.now in
+    let last = c.make_changes-made.new.tx.conn.now in
     let changes = c.args.changes.now in
-    let means = saves_by c.args.known.now changes (state g.S.Store old).now (state g.S.Store last).now in
-    let whole = left_by g.S.Store old c.transaction-tx.result.conn.now last c.end.new.tx.0 c.transaction-tx.ensures.begun c.put_changes-put.result
-    (MakesAll c.args.known.now changes) (Saves c.args.known.now changes) means c.put_changes-put.ensures.survives c.put_changes-put.ensures.ok
+    let means = saves_by (option_copied c.args.known) changes (state g.S.Store old).now (state g.S.Store last).now in
+    let whole = left_by g.S.Store old c.transaction-tx.result.conn.now last c.end.new.tx.0 c.transaction-tx.ensures.begun c.make_changes-made.result
+    (MakesAll (option_copied c.args.known) changes) (Saves (option_copied c.args.known) changes) means c.make_changes-made.ensures.writes.survives
+    c.make_changes-made.ensures.writes.does
     c.end.ensures.left in
     search (rules, whole)
 
 pub returns-clause-cause : goal.returns-clause-cause
 returns-clause-cause g c =
-    let whole = caused g.S.Store (EachOf FitsColumns c.args.changes.now) (save_statements c.args.known.now c.args.last c.args.changes.now)
-    c.args.conn.now c.transaction-tx.result.conn.now
-    c.put_changes-put.new.tx.conn.now c.end.new.tx.0 c.transaction-tx.ensures.begun c.put_changes-put.result c.end.result
-    c.put_changes-put.ensures.told c.end.ensures.cause c.end.ensures.before (λ all. c.end.ensures.fits (c.put_changes-put.ensures.fits all)) in
+    let known = option_copied c.args.known in
+    let changes = c.args.changes.now in
+    let first = c.transaction-tx.result.conn.now in
+    let made = c.make_changes-made in
+    let same = ap (λ (last : Counters). statements_from last known changes) c.last_given-last.ensures ∙ of_save known changes in
+    let told = subst (λ sqls. Ran g.S.Store sqls first made.new.tx.conn.now made.result) same made.ensures.writes.told in
+    let whole = caused g.S.Store (EachOf FitsColumns changes) (save_statements known changes) c.args.conn.now first
+    made.new.tx.conn.now c.end.new.tx.0 c.transaction-tx.ensures.begun made.result c.end.result told c.end.ensures.cause c.end.ensures.before
+    (λ all. c.end.ensures.fits (made.ensures.fits all)) in
     search (rules, whole)

@@ -7,7 +7,8 @@ use Rattle.desk_saving.proofs.Upgraded.{upgrades}
 use Rattle.std.proofs.Common.{◌++◌, rules}
 use Rattle.std.specs.List.{flat_map}
 use Rattle.desk_saving.proofs.Told.{ran_behind, stops_some}
-use Rattle.desk_saving.specs.Statements.{defines, puts_key, puts_meta, upgrade_statements}
+use Rattle.desk_saving.specs.Statements.{defines, upgrade_statements, writes_key, writes_meta}
+use Rattle.desk_saving.specs.declared.manner.Manner.TheVariants.{Put}
 use Rattle.desk_saving.proofs.upgrading.widen.Goals as goal
 
 pub returns-clause-ok : goal.returns-clause-ok
@@ -36,12 +37,12 @@ returns-clause-survives g c =
 pub returns-clause-told : goal.returns-clause-told
 unfolding upgrade_statements
 returns-clause-told g c =
-    ran_behind g.S.Store (defines 15) (flat_map puts_key c.args.keys.now ++ puts_meta c.args.meta.now) _ _ _ c.fill.result
+    ran_behind g.S.Store (defines 15) (flat_map (writes_key Put) c.args.keys.now ++ writes_meta Put c.args.meta.now) _ _ _ c.fill.result
     c.in_ok-define_key_table.ensures.told c.fill.ensures.told
 
 pub returns-in_err-define_key_table-clause-told : goal.returns-in_err-define_key_table-clause-told
 unfolding upgrade_statements
 returns-in_err-define_key_table-clause-told g c =
-    let stops = stops_some g.S.Store (defines 15) (flat_map puts_key c.args.keys.now ++ puts_meta c.args.meta.now) _ _ _
+    let stops = stops_some g.S.Store (defines 15) (flat_map (writes_key Put) c.args.keys.now ++ writes_meta Put c.args.meta.now) _ _ _
     c.in_err-define_key_table.ensures.told in
     search (rules, stops)
