@@ -1,1 +1,3 @@
+pub mod Deeds
+pub mod Faults
 pub mod Statuses

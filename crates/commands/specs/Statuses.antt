@@ -1,31 +1,89 @@
--- The exit statuses of the program.
-use Rattle.std.specs.Prelude.{◌≡◌, ◌⊎◌, ◌≤◌, ℕ, Some, true, false}
+-- How the orders of the command line end.
+use Rattle.std.specs.Prelude.{◌≡◌, ◌⊎◌, ℕ, List, codes, Option, Some, None, Result, Ok, Err, true, false}
+use Rattle.sqlite.specs.Recovery.{Image}
+use Rattle.sqlite_disk.specs.declared.Disk as disk
 use Rattle.command_line.specs.declared.order.Listing.{Listing}
 use Rattle.command_line.specs.declared.order.Order.{Order}
 use Rattle.command_line.specs.declared.order.Order.TheVariants as order
+use Rattle.command_line.specs.declared.order.Syncs.{Syncs}
+use Rattle.command_line.specs.declared.order.Syncs.TheVariants as syncs
 use Rattle.command_line.specs.declared.order.Terms.{Terms as Words}
+use Rattle.commands.specs.Deeds.{AnswersReader, ChecksStatuses, ListsOrders, RevokesTarget, ServesCount}
+use Rattle.commands.specs.Faults.{IsOfOpening, open_fault}
+use Rattle.commands.specs.declared.fault.Fault.{Fault}
+use Rattle.commands.specs.declared.fault.Fault.TheVariants as fault
 use Rattle.desk_model.specs.Document.{order_status_text}
 use Rattle.desk_model.specs.Terms.{Terms, are_terms}
 use Rattle.desk_model.specs.declared.status.OrderStatus.{OrderStatus}
+use Rattle.desk_store.specs.declared.open_fault.OpenFault.{OpenFault}
+use Rattle.file_tasks.specs.Doing.{Doing}
+use Rattle.file_tasks.specs.Endings.{EndsInMemory, EndsOver, IsMadeIn}
 
 -- the terms that the words give
 abbrev pub terms_of : Words → Terms
 terms_of w = record { base = w.base.now; nonce_life = w.nonce_life; order_life = w.order_life; authz_life = w.authz_life }
 
+-- those of a desk in memory
+abbrev pub terms_in_memory : Terms
+terms_in_memory = record { base = codes "https://ca.example"; nonce_life = 3600; order_life = 604800; authz_life = 2592000 }
+
 -- the word of a status, if there is one, names a status of an order
 abbrev pub NamesStatus : Listing → Type 0
 NamesStatus l = (word : _) → l.status ≡ Some word → (s : OrderStatus) × (order_status_text s ≡ word.now)
 
--- the exit status of an order that no fault ends: 2 for words that no desk is made with or that name no status, and there alone;
--- 3 for a check alone
-abbrev pub Gives : Order → ℕ → Type 0
-Gives (order.Make file terms) status = ((status ≡ 0) × (are_terms (terms_of terms) ≡ true)) ⊎ ((status ≡ 2) × (are_terms (terms_of terms) ≡ false))
-Gives (order.Serve file port count) status = status ≡ 0
-Gives (order.Status file listing) status = ((status ≡ 0) × NamesStatus listing) ⊎ ((status ≡ 2) × (NamesStatus listing → ⊥))
-Gives (order.Check file json) status = (status ≡ 0) ⊎ (status ≡ 3)
-Gives (order.Revoke file target) status = status ≡ 0
-Gives (order.Batch file) status = status ≤ 1
+-- two files: the disk that keeps them, and the bytes that they hold at first
+pub record FilePair : Type 1 where
+  pub kind : Type 0
+  pub disk : disk.Ghosts kind
+  pub bytes : Image
 
--- the exit status of an order, which after a fault is 1
-abbrev pub EndsBy : Order → ℕ → Type 0
-EndsBy o status = (status ≡ 1) ⊎ Gives o status
+module _ {D : Type 0} (g : disk.Ghosts D) where
+  -- two files of this disk
+  abbrev pub files_on : Image → FilePair
+  files_on bytes = record { kind = D; disk = g; bytes = bytes }
+
+-- a task over them ends so
+abbrev pub EndsOverFiles : FilePair → Doing Fault → Result ℕ Fault → Type 0
+EndsOverFiles files = EndsOver files.disk IsOfOpening files.bytes
+
+-- how a making ends: by 2 where the terms break a limit; or a desk was made in the files, and what says so may still fail to be
+-- written; or none was made
+abbrev pub EndsMake : FilePair → Terms → Result ℕ Fault → Type 0
+EndsMake files policy how =
+    ((are_terms policy ≡ false) × (how ≡ Ok 2))
+    ⊎ (((are_terms policy ≡ true) × IsMadeIn files.disk files.bytes policy × ((how ≡ Ok 0) ⊎ (how ≡ Err fault.Output)))
+    ⊎ ((cause : OpenFault) × (how ≡ Err (fault.Desk (open_fault cause)))))
+
+-- 2 where the word of the status names none, and there alone
+abbrev pub EndsStatus : FilePair → Listing → Result ℕ Fault → Type 0
+EndsStatus files listing how =
+    ((NamesStatus listing → ⊥) × (how ≡ Ok 2)) ⊎ (NamesStatus listing × EndsOverFiles files ListsOrders how)
+
+-- the files to which each commit syncs twice and those to which it syncs once
+pub record Pairs : Type 1 where
+  pub twice : FilePair
+  pub once : FilePair
+
+-- those to which it syncs so
+abbrev pub files_by : Pairs → Syncs → FilePair
+files_by pairs syncs.Twice = pairs.twice
+files_by pairs syncs.Once = pairs.once
+
+-- how an order ends; its reader has these bytes, and its writer was given these, where that is known
+abbrev pub Ends : Pairs → (bytes was : Option (List ℕ)) → Order → Result ℕ Fault → Type 0
+Ends pairs bytes was (order.Make file terms) how = EndsMake pairs.twice (terms_of terms) how
+Ends pairs bytes was (order.Serve file port count) how = EndsOverFiles (files_by pairs file.syncs) (ServesCount count) how
+Ends pairs bytes was (order.Status file listing) how = EndsStatus pairs.twice listing how
+Ends pairs bytes was (order.Check file json) how = EndsOverFiles pairs.twice ChecksStatuses how
+Ends pairs bytes was (order.Revoke file target) how = EndsOverFiles pairs.twice (RevokesTarget target) how
+Ends pairs bytes was (order.Batch (Some file)) how = EndsOverFiles (files_by pairs file.syncs) (AnswersReader bytes was) how
+Ends pairs bytes was (order.Batch None) how = EndsInMemory IsOfOpening terms_in_memory (AnswersReader bytes was) how
+
+-- the exit status, which after a fault is 1
+abbrev pub status_of : Result ℕ Fault → ℕ
+status_of (Ok status) = status
+status_of (Err why) = 1
+
+-- an order ends by this status
+abbrev pub EndsBy : Pairs → (bytes was : Option (List ℕ)) → Order → ℕ → Type 0
+EndsBy pairs bytes was o status = (how : Result ℕ Fault) × Ends pairs bytes was o how × (status ≡ status_of how)

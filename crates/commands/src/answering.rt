@@ -1,4 +1,7 @@
 //! Lines and connections, answered by a desk.
+ghost use Rattle.std.specs.Prelude.{unwrap_or};
+ghost use Rattle.commands.specs.Deeds.{Serves};
+
 use crate::desks::adopt;
 use crate::fault::Fault;
 use batches::batch;
@@ -20,17 +23,17 @@ pub(crate) struct AnswerLines<'r, 'o, 'e, R: Read, W: Write, E: Write> {
 }
 
 impl<'r, 'o, 'e, R: Read, W: Write, E: Write> Task for AnswerLines<'r, 'o, 'e, R, W, E> {
-    ghost use Rattle.std.specs.Prelude.{◌≤◌};
+    ghost use Rattle.commands.specs.Deeds.{AnswersReader};
 
     type Fault = Fault;
 
-    ghost gives = { λ status. status ≤ 1 };
+    ghost does = { λ task. AnswersReader (R.remaining task.reader.now) (W.contents task.out.now) };
 
-    fn run<K: Storage + RowsAbove + Drop>(
-        &mut self,
-        store: K,
-    ) -> Result<(K, Result<u8, Fault>), Fault> {
-        let mut desk = adopt(self.alloc, store)?;
+    fn run<K: Storage + RowsAbove + Drop>(&mut self, store: K) -> (K, Result<u8, Fault>) {
+        let mut desk = match adopt(self.alloc, store) {
+            Ok(desk) => desk,
+            Err((store, fault)) => return (store, Err(fault)),
+        };
         let status = batch(
             self.alloc,
             &mut *self.reader,
@@ -38,7 +41,7 @@ impl<'r, 'o, 'e, R: Read, W: Write, E: Write> Task for AnswerLines<'r, 'o, 'e, R
             self.errors,
             &mut desk,
         );
-        Ok((desk.into_store(), Ok(status)))
+        (desk.into_store(), Ok(status))
     }
 }
 
@@ -53,8 +56,10 @@ pub(crate) struct ServeConnections<'a, W: Write, E: Write> {
 }
 
 impl<'a, W: Write, E: Write> ServeConnections<'a, W, E> {
-    // Takes the port, prints the address, and serves.
-    fn serve<K: Storage + Drop>(&mut self, desk: &mut Desk<K>) -> Result<(), Fault> {
+    // Takes the port, prints the address, and serves; gives the exit status.
+    fn serve<K: Storage + Drop>(&mut self, desk: &mut Desk<K>) -> Result<u8, Fault>
+        ensures { Serves K.Storage.sight K.Storage.causes (unwrap_or self.old.count 18446744073709551615) desk.old desk.new result }
+    {
         let (listener, bound) = bind(self.rt, self.port)?;
         if writeln!(self.out, "listening on {bound}").is_err() || self.out.flush().is_err() {
             return Err(Fault::Output);
@@ -67,26 +72,23 @@ impl<'a, W: Write, E: Write> ServeConnections<'a, W, E> {
             self.count,
             self.errors,
         )?;
-        Ok(())
+        Ok(0)
     }
 }
 
 impl<'a, W: Write, E: Write> Task for ServeConnections<'a, W, E> {
-    ghost use Rattle.std.specs.Prelude.{◌≡◌};
+    ghost use Rattle.commands.specs.Deeds.{ServesCount};
 
     type Fault = Fault;
 
-    ghost gives = { λ status. status ≡ 0 };
+    ghost does = { λ task. ServesCount task.count };
 
-    fn run<K: Storage + RowsAbove + Drop>(
-        &mut self,
-        store: K,
-    ) -> Result<(K, Result<u8, Fault>), Fault> {
-        let mut desk = adopt(self.rt.alloc(), store)?;
-        let outcome = match self.serve(&mut desk) {
-            Ok(()) => Ok(0),
-            Err(fault) => Err(fault),
+    fn run<K: Storage + RowsAbove + Drop>(&mut self, store: K) -> (K, Result<u8, Fault>) {
+        let mut desk = match adopt(self.rt.alloc(), store) {
+            Ok(desk) => desk,
+            Err((store, fault)) => return (store, Err(fault)),
         };
-        Ok((desk.into_store(), outcome))
+        let outcome = self.serve(&mut desk);
+        (desk.into_store(), outcome)
     }
 }

@@ -1,13 +1,25 @@
 //! The desk of a store.
+ghost use Rattle.std.specs.Prelude.{MatchResult};
+ghost use Rattle.commands.specs.Deeds.{Adopts, FailsToAdopt};
+
 use crate::fault::Fault;
 use desk_calls::{Desk, DeskFault};
 use desk_storage::Storage;
 use std::alloc::Global;
 
 /// The desk of a store.
-pub(crate) fn adopt<K: Storage + Drop>(alloc: Global, store: K) -> Result<Desk<K>, Fault> {
+///
+/// # Errors
+///
+/// `Desk` with the fault of the store, which comes back with it.
+pub(crate) fn adopt<K: Storage + Drop>(alloc: Global, store: K) -> Result<Desk<K>, (K, Fault)>
+    ensures { MatchResult result (Adopts K.Storage.sight store) (λ un. FailsToAdopt K.Storage.sight store un.0 un.1) }
+{
     match Desk::adopt(alloc, store) {
         Ok(desk) => Ok(desk),
-        Err(unadopted) => Err(Fault::Desk(DeskFault::from(unadopted.fault))),
+        Err(unadopted) => Err((
+            unadopted.store,
+            Fault::Desk(DeskFault::from(unadopted.fault)),
+        )),
     }
 }

@@ -14,7 +14,7 @@ use thiserror::Error;
 pub(crate) enum Fault {
     /// A fault of the desk, 20 to 27.
     #[error(transparent)]
-    Desk(#[from] DeskFault),
+    Desk(DeskFault),
     /// Standard output failed.
     #[error("output")]
     Output,
@@ -23,7 +23,7 @@ pub(crate) enum Fault {
     Refused(Refusal),
     /// The machine failed, or the desk is served no longer.
     #[error(transparent)]
-    Serve(#[from] ServeFault),
+    Serve(ServeFault),
 }
 
 /// What a word gets wrong that the parser does not see.
@@ -37,7 +37,33 @@ pub(crate) enum Wrong {
     Status,
 }
 
+impl From<DeskFault> for Fault {
+    ghost use Rattle.std.specs.Prelude.{◌≡◌};
+    ghost use Rattle.commands.specs.declared.fault.Fault.TheVariants.{Desk};
+
+    ghost from_gives = { λ fault e. e ≡ Desk fault };
+
+    fn from(fault: DeskFault) -> Fault {
+        Fault::Desk(fault)
+    }
+}
+
+impl From<ServeFault> for Fault {
+    ghost use Rattle.std.specs.Prelude.{◌≡◌};
+    ghost use Rattle.commands.specs.declared.fault.Fault.TheVariants.{Serve};
+
+    ghost from_gives = { λ fault e. e ≡ Serve fault };
+
+    fn from(fault: ServeFault) -> Fault {
+        Fault::Serve(fault)
+    }
+}
+
 impl From<OpenFault> for Fault {
+    ghost use Rattle.commands.specs.Faults.{IsOfOpening};
+
+    ghost from_gives = { IsOfOpening };
+
     fn from(fault: OpenFault) -> Fault {
         Fault::Desk(match fault {
             OpenFault::Storage(fault) => DeskFault::from(fault),
@@ -48,6 +74,11 @@ impl From<OpenFault> for Fault {
 }
 
 impl From<ReportFault> for Fault {
+    ghost use Rattle.std.specs.Prelude.{◌≡◌};
+    ghost use Rattle.commands.specs.Faults.{report_fault};
+
+    ghost from_gives = { λ fault e. e ≡ report_fault fault };
+
     fn from(fault: ReportFault) -> Fault {
         match fault {
             ReportFault::Storage(fault) => Fault::Desk(DeskFault::from(fault)),

@@ -1,5 +1,6 @@
 //! Reports on the rows of a store.
-ghost use Rattle.std.specs.Prelude.{MatchOption};
+ghost use Rattle.std.specs.Prelude.{◌≡◌, MatchOption};
+ghost use Rattle.commands.specs.Deeds.{how_checked, how_listed};
 ghost use Rattle.commands.specs.Statuses.{NamesStatus};
 
 use crate::fault::Fault;
@@ -8,7 +9,7 @@ use desk_loading::RowsAbove;
 use desk_model::OrderStatus;
 use desk_storage::Storage;
 use file_tasks::Task;
-use reports::{Form, OrderFilter, list_faults, list_orders};
+use reports::{Form, OrderFilter, ReportFault, list_faults, list_orders};
 use std::alloc::Global;
 use std::io::Write;
 
@@ -44,19 +45,16 @@ pub(crate) struct ListOrders<'a, W: Write> {
 }
 
 impl<'a, W: Write> Task for ListOrders<'a, W> {
-    ghost use Rattle.std.specs.Prelude.{◌≡◌};
+    ghost use Rattle.commands.specs.Deeds.{ListsOrders};
 
     type Fault = Fault;
 
-    ghost gives = { λ status. status ≡ 0 };
+    ghost does = { λ _. ListsOrders };
 
-    fn run<K: Storage + RowsAbove + Drop>(
-        &mut self,
-        store: K,
-    ) -> Result<(K, Result<u8, Fault>), Fault> {
+    fn run<K: Storage + RowsAbove + Drop>(&mut self, store: K) -> (K, Result<u8, Fault>) {
         let mut store = store;
-        list_orders(self.alloc, &mut store, self.out, self.form, self.filter)?;
-        Ok((store, Ok(0)))
+        let listed = list_orders(self.alloc, &mut store, self.out, self.form, self.filter);
+        (store, told(listed))
     }
 }
 
@@ -69,19 +67,30 @@ pub(crate) struct CheckStatuses<'a, W: Write> {
 }
 
 impl<'a, W: Write> Task for CheckStatuses<'a, W> {
-    ghost use Rattle.std.specs.Prelude.{◌≡◌, ◌⊎◌};
+    ghost use Rattle.commands.specs.Deeds.{ChecksStatuses};
 
     type Fault = Fault;
 
-    ghost gives = { λ status. (status ≡ 0) ⊎ (status ≡ 3) };
+    ghost does = { λ _. ChecksStatuses };
 
-    fn run<K: Storage + RowsAbove + Drop>(
-        &mut self,
-        store: K,
-    ) -> Result<(K, Result<u8, Fault>), Fault> {
+    fn run<K: Storage + RowsAbove + Drop>(&mut self, store: K) -> (K, Result<u8, Fault>) {
         let mut store = store;
-        let found = list_faults(self.alloc, &mut store, self.out, self.form)?;
-        let status = if found { FOUND } else { 0 };
-        Ok((store, Ok(status)))
+        let checked = list_faults(self.alloc, &mut store, self.out, self.form);
+        (store, found(checked))
     }
+}
+
+// How a list of orders ends.
+fn told(listed: Result<(), ReportFault>) -> Result<u8, Fault>
+    ensures { result ≡ how_listed listed }
+{
+    listed?;
+    Ok(0)
+}
+
+// How a list of wrong statuses ends, by whether there is one.
+fn found(checked: Result<bool, ReportFault>) -> Result<u8, Fault>
+    ensures { result ≡ how_checked checked }
+{
+    Ok(if checked? { FOUND } else { 0 })
 }

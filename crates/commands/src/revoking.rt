@@ -1,4 +1,8 @@
 //! What the operator revokes.
+ghost use Rattle.std.specs.Prelude.{◌≡◌, ◌⊎◌, Err, Ok, false};
+ghost use Rattle.commands.specs.Deeds.{Revokes, ask_of};
+ghost use Rattle.commands.specs.declared.fault.Fault.TheVariants as fault;
+
 use crate::desks::adopt;
 use crate::fault::Fault;
 use command_line::Target;
@@ -19,40 +23,56 @@ pub(crate) struct Revoke<'a, W: Write> {
 }
 
 impl<'a, W: Write> Revoke<'a, W> {
-    // Revokes it by a desk.
-    fn revoke<K: Storage + Drop>(&self, desk: &mut Desk<K>) -> Result<(), Fault> {
+    // Revokes it by a desk, and says so; gives the exit status.
+    fn revoke<K: Storage + Drop>(&mut self, desk: &mut Desk<K>) -> Result<u8, Fault>
+        requires opened { desk.old.is_closed ≡ false }
+        ensures { Revokes K.Storage.sight self.old.target desk.old desk.new result }
+    {
         let at = moment(self.rt)?;
-        let ask = match self.target {
-            Target::Authorization(number) => OfficeAsk::RevokeAuthz(number),
-            Target::Account(number) => OfficeAsk::RevokeAccount(number),
-        };
-        match desk.answer_office(self.rt.alloc(), at, ask)? {
+        match desk.answer_office(self.rt.alloc(), at, ask_of(self.target))? {
             Some(refusal) => Err(Fault::Refused(refusal)),
-            None => Ok(()),
+            None => self.tell(),
         }
     }
-}
 
-impl<'a, W: Write> Task for Revoke<'a, W> {
-    ghost use Rattle.std.specs.Prelude.{◌≡◌};
-
-    type Fault = Fault;
-
-    ghost gives = { λ status. status ≡ 0 };
-
-    fn run<K: Storage + RowsAbove + Drop>(
-        &mut self,
-        store: K,
-    ) -> Result<(K, Result<u8, Fault>), Fault> {
-        let mut desk = adopt(self.rt.alloc(), store)?;
-        self.revoke(&mut desk)?;
+    // Says what is revoked, and gives the exit status.
+    fn tell(&mut self) -> Result<u8, Fault>
+        ensures { (result ≡ Ok 0) ⊎ (result ≡ Err fault.Output) }
+    {
         let told = match self.target {
             Target::Authorization(number) => writeln!(self.out, "authz {number} revoked"),
             Target::Account(number) => writeln!(self.out, "account {number} revoked"),
         };
         match told {
-            Ok(()) => Ok((desk.into_store(), Ok(0))),
+            Ok(()) => Ok(0),
             Err(_) => Err(Fault::Output),
         }
+    }
+}
+
+impl<'a, W: Write> Task for Revoke<'a, W> {
+    ghost use Rattle.commands.specs.Deeds.{RevokesTarget};
+
+    type Fault = Fault;
+
+    ghost does = { λ task. RevokesTarget task.target };
+
+    fn run<K: Storage + RowsAbove + Drop>(&mut self, store: K) -> (K, Result<u8, Fault>) {
+        let mut desk = match adopt(self.rt.alloc(), store) {
+            Ok(desk) => desk,
+            Err((store, fault)) => return (store, Err(fault)),
+        };
+        let outcome = self.revoke(&mut desk);
+        (desk.into_store(), outcome)
+    }
+}
+
+// What is asked of the desk.
+fn ask_of(target: Target) -> OfficeAsk
+    ensures { result ≡ ask_of target }
+{
+    match target {
+        Target::Authorization(number) => OfficeAsk::RevokeAuthz(number),
+        Target::Account(number) => OfficeAsk::RevokeAccount(number),
     }
 }

@@ -1,7 +1,10 @@
 //! The words of the command line, done.
-ghost use Rattle.std.specs.Prelude.{◌≡◌, ◌≤◌, IfOk, MatchOption, true, false};
+ghost use Rattle.std.specs.Prelude.{◌≡◌, ◌≤◌, IfErr, IfOk, MatchOption, true, false};
+ghost use Rattle.sqlite.specs.WalFiles.{image_at};
 ghost use Rattle.desk_model.specs.Terms.{are_terms};
-ghost use Rattle.commands.specs.Statuses.{EndsBy, Gives, terms_of};
+ghost use Rattle.desk_calls.specs.declared.fault.DeskFault.TheVariants as deskfault;
+ghost use Rattle.commands.specs.Statuses.{Ends, EndsBy, EndsMake, EndsOverFiles, EndsStatus, FilePair, files_by, files_on, terms_in_memory, terms_of};
+ghost use Rattle.commands.specs.declared.fault.Fault.TheVariants as fault;
 
 use crate::answering::{AnswerLines, ServeConnections};
 use crate::fault::{Fault, Wrong, refuse, tell};
@@ -14,6 +17,8 @@ use command_line::{
 use desk_calls::DeskFault;
 use desk_model::Policy;
 use file_tasks::{Task, Unknown, Wary, make_desk, run_in_memory, run_over_file};
+use sqlite::{FileFrom, Start};
+use sqlite_disk::Disk;
 use std::alloc::Global;
 use std::io::{Read, Write};
 
@@ -50,6 +55,9 @@ pub fn tell_no_memory<E: Write>(errors: &mut E) -> u8
 }
 
 /// Does an order, and gives the exit status, as `run_words` does.
+///
+/// What is done over a file is said of the bytes that a start stands for (`Wary` where each commit syncs twice, `Unknown` where it
+/// syncs once); no clause ties them to the path.
 pub fn run_order<R: Read + Drop, W: Write, E: Write>(
     rt: &HostRuntime,
     order: Order<'_>,
@@ -57,7 +65,9 @@ pub fn run_order<R: Read + Drop, W: Write, E: Write>(
     out: &mut W,
     errors: &mut E,
 ) -> u8
-    ensures { EndsBy order.entry result }
+    ensures { let twice : FilePair = files_on ⟦<FileFrom<Wary> as Disk>⟧ (image_at ⟦<Wary as Start>⟧) in
+        let once : FilePair = files_on ⟦<FileFrom<Unknown> as Disk>⟧ (image_at ⟦<Unknown as Start>⟧) in
+        EndsBy (record { twice = twice; once = once }) (R.remaining reader) (W.contents out.old) order.entry result }
 {
     match try_order(rt, order, reader, out, errors) {
         Ok(status) => status,
@@ -73,7 +83,9 @@ fn try_order<R: Read + Drop, W: Write, E: Write>(
     out: &mut W,
     errors: &mut E,
 ) -> Result<u8, Fault>
-    ensures { IfOk result (Gives order.entry) }
+    ensures { let twice : FilePair = files_on ⟦<FileFrom<Wary> as Disk>⟧ (image_at ⟦<Wary as Start>⟧) in
+        let once : FilePair = files_on ⟦<FileFrom<Unknown> as Disk>⟧ (image_at ⟦<Unknown as Start>⟧) in
+        Ends (record { twice = twice; once = once }) (R.remaining reader) (W.contents out.old) order.entry result }
 {
     match order {
         Order::Make { file, terms } => make_file(rt, file, terms, out, errors),
@@ -109,7 +121,7 @@ fn make_file<W: Write, E: Write>(
     out: &mut W,
     errors: &mut E,
 ) -> Result<u8, Fault>
-    ensures { IfOk result (Gives (Order.Make file.entry terms.entry)) }
+    ensures { EndsMake (files_on ⟦<FileFrom<Wary> as Disk>⟧ (image_at ⟦<Wary as Start>⟧)) (terms_of terms.entry) result }
 {
     let Some(policy) = policy(rt.alloc(), terms)? else {
         return Ok(refuse(errors, Wrong::Policy));
@@ -129,7 +141,7 @@ fn list_file<W: Write, E: Write>(
     out: &mut W,
     errors: &mut E,
 ) -> Result<u8, Fault>
-    ensures { IfOk result (Gives (Order.Status file.entry listing.entry)) }
+    ensures { EndsStatus (files_on ⟦<FileFrom<Wary> as Disk>⟧ (image_at ⟦<Wary as Start>⟧)) listing.entry result }
 {
     let Some(filter) = filter(listing) else {
         return Ok(refuse(errors, Wrong::Status));
@@ -151,7 +163,9 @@ fn answer_lines<R: Read + Drop, W: Write, E: Write>(
     out: &mut W,
     errors: &mut E,
 ) -> Result<u8, Fault>
-    ensures { IfOk result (λ status. status ≤ 1) }
+    ensures { let twice : FilePair = files_on ⟦<FileFrom<Wary> as Disk>⟧ (image_at ⟦<Wary as Start>⟧) in
+        let once : FilePair = files_on ⟦<FileFrom<Unknown> as Disk>⟧ (image_at ⟦<Unknown as Start>⟧) in
+        Ends (record { twice = twice; once = once }) (R.remaining reader) (W.contents out.old) (Order.Batch file.entry) result }
 {
     let alloc = rt.alloc();
     let task = AnswerLines {
@@ -172,7 +186,9 @@ fn run_over_synced<T: Task<Fault = Fault> + Drop>(
     file: SyncedFile<'_>,
     task: T,
 ) -> Result<u8, Fault>
-    ensures { IfOk result T.Task.gives }
+    ensures { let twice : FilePair = files_on ⟦<FileFrom<Wary> as Disk>⟧ (image_at ⟦<Wary as Start>⟧) in
+        let once : FilePair = files_on ⟦<FileFrom<Unknown> as Disk>⟧ (image_at ⟦<Unknown as Start>⟧) in
+        EndsOverFiles (files_by (record { twice = twice; once = once }) file.entry.syncs) (T.Task.does task) result }
 {
     match file.syncs {
         Syncs::Once => run_over_file(rt, file.path, Unknown, task),
@@ -199,7 +215,9 @@ fn tell_words<W: Write, E: Write>(fault: &WordsFault, out: &mut W, errors: &mut 
 
 // The policy of terms, or `None` where they break a limit.
 fn policy(alloc: Global, terms: Terms<'_>) -> Result<Option<Policy>, Fault>
-    ensures { IfOk result (λ made. MatchOption made (are_terms (terms_of terms.entry) ≡ false) (λ _. are_terms (terms_of terms.entry) ≡ true)) }
+    ensures told { IfOk result (λ made. MatchOption made (are_terms (terms_of terms.entry) ≡ false)
+        (λ policy. (are_terms (terms_of terms.entry) ≡ true) × (policy ≡ terms_of terms.entry))) }
+    ensures failed { IfErr result (λ f. f ≡ fault.Desk deskfault.Memory) }
 {
     match Policy::new(
         alloc,
@@ -214,7 +232,10 @@ fn policy(alloc: Global, terms: Terms<'_>) -> Result<Option<Policy>, Fault>
 }
 
 // The policy of a desk that is made in memory.
-fn default_policy(alloc: Global) -> Result<Policy, Fault> {
+fn default_policy(alloc: Global) -> Result<Policy, Fault>
+    ensures made { IfOk result (λ policy. policy ≡ terms_in_memory) }
+    ensures failed { IfErr result (λ f. f ≡ fault.Desk deskfault.Memory) }
+{
     match policy(alloc, TERMS)? {
         Some(policy) => Ok(policy),
         None => unreachable!(),

@@ -1,9 +1,15 @@
 //! The desk of the file at a path, and its log beside it.
+ghost use Rattle.std.specs.Prelude.{◌≡◌, Ok, IfOk};
+ghost use Rattle.sqlite.specs.WalFiles.{image_at};
+ghost use Rattle.desk_files.specs.Opening.{OpensFiles};
+ghost use Rattle.file_tasks.specs.Endings.{IsClosed, IsMadeIn};
+
 use desk_files::{NotOpened, close_from, make_from, open_from};
 use desk_model::{Clock, Policy};
 use desk_storage::StorageFault;
 use desk_store::{OpenFault, Store};
 use sqlite::{FileFrom, FileStore, Start};
+use sqlite_disk::Disk;
 use std::fs;
 use std::io::ErrorKind;
 
@@ -32,7 +38,9 @@ pub(crate) fn make<S: Start>(
     path: &str,
     start: S,
     policy: Policy,
-) -> Result<(), OpenFault> {
+) -> Result<(), OpenFault>
+    ensures { IfOk result (λ _. IsMadeIn ⟦<FileFrom<S> as Disk>⟧ (image_at S.Start) policy) }
+{
     if holds_bytes(rt, path)? {
         return Err(OpenFault::NotADesk);
     }
@@ -42,7 +50,9 @@ pub(crate) fn make<S: Start>(
 // The store, or why there is none. The files are given up here alone, since a check pays for each place that drops them.
 fn told<S: Start>(
     opened: Result<Store<DeskFile<S>>, NotOpened<DeskFile<S>, FileFrom<S>>>,
-) -> Result<Store<DeskFile<S>>, OpenFault> {
+) -> Result<Store<DeskFile<S>>, OpenFault>
+    ensures { IfOk result (λ store. opened ≡ Ok store) }
+{
     match opened {
         Ok(store) => Ok(store),
         Err(not_opened) => Err(not_opened.fault),
@@ -59,7 +69,9 @@ pub(crate) fn open<S: Start>(
     rt: &HostRuntime,
     path: &str,
     start: S,
-) -> Result<Store<DeskFile<S>>, OpenFault> {
+) -> Result<Store<DeskFile<S>>, OpenFault>
+    ensures { IfOk result (OpensFiles (image_at S.Start)) }
+{
     if !holds_bytes(rt, path)? {
         return Err(OpenFault::NotADesk);
     }
@@ -71,7 +83,9 @@ pub(crate) fn open<S: Start>(
 /// # Errors
 ///
 /// `Storage` where the copy failed: the log then stands beside the file, and the next opening reads both.
-pub(crate) fn close<S: Start>(store: Store<DeskFile<S>>) -> Result<(), OpenFault> {
+pub(crate) fn close<S: Start>(store: Store<DeskFile<S>>) -> Result<(), OpenFault>
+    ensures { IfOk result (λ _. IsClosed ⟦<FileFrom<S> as Disk>⟧ store) }
+{
     match close_from(store) {
         Ok(_) => Ok(()),
         Err((fault, _)) => Err(fault),

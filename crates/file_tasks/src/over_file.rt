@@ -1,22 +1,29 @@
 //! A task by the store of a file.
-ghost use Rattle.std.specs.Prelude.{IfOk};
+ghost use Rattle.std.specs.Prelude.{◌≡◌, ◌≢◌, Ok, IfErr, IfOk, IsErrAnd};
+ghost use Rattle.sqlite.specs.WalFiles.{image_at};
+ghost use Rattle.file_tasks.specs.Doing.{OverStore};
+ghost use Rattle.file_tasks.specs.Endings.{EndsOver, IsMadeIn};
 
 use crate::files::{close, make, open};
 use crate::tasks::Task;
 use desk_model::Policy;
 use desk_store::{OpenFault, Store};
-use sqlite::{Alter, Start, Wary};
+use sqlite::{Alter, FileFrom, Start, Wary};
+use sqlite_disk::Disk;
 
-/// Makes a desk with a policy, at moment 0, in a new file.
+/// Makes a desk with a policy, at moment 0, in a new file, and closes it.
 ///
 /// # Errors
 ///
 /// `NotADesk` where there is a file with bytes at the path, `Storage` where the file or its store failed.
-pub fn make_desk(rt: &HostRuntime, path: &str, policy: Policy) -> Result<(), OpenFault> {
+pub fn make_desk(rt: &HostRuntime, path: &str, policy: Policy) -> Result<(), OpenFault>
+    ensures { IfOk result (λ _. IsMadeIn ⟦<FileFrom<Wary> as Disk>⟧ (image_at ⟦<Wary as Start>⟧) policy) }
+{
     make(rt, path, Wary, policy)
 }
 
-/// Opens the desk of a file, does a task with its store, closes it, and gives the exit status.
+/// Opens the desk of a file, does a task with its store, closes it, and gives the exit status. No clause ties the bytes that
+/// `S` stands for to the path.
 ///
 /// The file is missing or empty, or holds no desk: `NotADesk`. It holds one of a later format: `NewerFormat`. What is taken for
 /// granted of bytes whose write was cut off is said by the start: nothing by `Wary`, so that each commit syncs twice, and by
@@ -34,15 +41,24 @@ pub fn run_over_file<S: Start, T: Task + Drop>(
 ) -> Result<u8, T::Fault>
 where
     T::Fault: From<OpenFault>,
-    ensures { IfOk result T.Task.gives }
+    ensures { EndsOver ⟦<FileFrom<S> as Disk>⟧ T.Fault.from_gives (image_at S.Start) (T.Task.does task) result }
 {
     let mut task = task;
-    let (store, outcome) = run_over(open(rt, file, start)?, &mut task)?;
+    let (store, outcome) = run_over(open(rt, file, start)?, &mut task);
     let closed = close(store);
+    ended(outcome, closed)
+}
+
+// How a task ends once its file was closed, or could not be.
+fn ended<F: From<OpenFault>>(outcome: Result<u8, F>, closed: Result<(), OpenFault>) -> Result<u8, F>
+    ensures closed { outcome ≡ Ok 0 → IfOk closed (λ _. result ≡ Ok 0) }
+    ensures unclosed { outcome ≡ Ok 0 → IfErr closed (λ cause. IsErrAnd result (F.from_gives cause)) }
+    ensures otherwise { outcome ≢ Ok 0 → result ≡ outcome }
+{
     match outcome {
         Ok(0) => match closed {
             Ok(()) => Ok(0),
-            Err(fault) => Err(T::Fault::from(fault)),
+            Err(fault) => Err(F::from(fault)),
         },
         outcome => outcome,
     }
@@ -52,8 +68,8 @@ where
 pub(crate) fn run_over<S: Alter + Drop, T: Task>(
     store: Store<S>,
     task: &mut T,
-) -> Result<(Store<S>, Result<u8, T::Fault>), T::Fault>
-    ensures { IfOk result (λ done. IfOk done.1 T.gives) }
+) -> (Store<S>, Result<u8, T::Fault>)
+    ensures { OverStore (T.does task.old) S.Store store result.0 result.1 }
 {
     task.run(store)
 }

@@ -1,5 +1,6 @@
 //! A task by a store in memory.
 ghost use Rattle.std.specs.Prelude.{IfOk};
+ghost use Rattle.file_tasks.specs.Endings.{EndsInMemory, IsNew};
 
 use crate::over_file::run_over;
 use crate::tasks::Task;
@@ -10,7 +11,9 @@ use sqlite::{Connection, MemStore};
 use std::alloc::Global;
 
 // The store of a new desk in memory, made at moment 0.
-fn make_store(alloc: Global, policy: Policy) -> Result<Store<MemStore>, OpenFault> {
+fn make_store(alloc: Global, policy: Policy) -> Result<Store<MemStore>, OpenFault>
+    ensures { IfOk result (IsNew policy) }
+{
     let Ok(conn) = Connection::open_in_memory(alloc) else {
         return Err(OpenFault::Storage(StorageFault::Memory));
     };
@@ -28,10 +31,10 @@ fn make_store(alloc: Global, policy: Policy) -> Result<Store<MemStore>, OpenFaul
 pub fn run_in_memory<T: Task + Drop>(alloc: Global, policy: Policy, task: T) -> Result<u8, T::Fault>
 where
     T::Fault: From<OpenFault>,
-    ensures { IfOk result T.Task.gives }
+    ensures { EndsInMemory T.Fault.from_gives policy (T.Task.does task) result }
 {
     let mut task = task;
-    let (store, outcome) = run_over(make_store(alloc, policy)?, &mut task)?;
+    let (store, outcome) = run_over(make_store(alloc, policy)?, &mut task);
     drop(store);
     outcome
 }

@@ -1,7 +1,7 @@
-//! What is done with the store of a desk's file.
-ghost use Rattle.std.specs.Prelude.{ℕ, IfOk};
+//! What is done with the store of a desk.
+ghost use Rattle.file_tasks.specs.Doing.{Doing};
 
-use desk_loading::RowsAbove;
+use desk_loading::{LookUps, RowsAbove};
 use desk_storage::Storage;
 
 /// What a command does with a store. It is over any store whose rows can be read one by one, since a check pays for each call
@@ -10,17 +10,14 @@ pub trait Task {
     /// Why it ends, if not by its exit status.
     type Fault;
 
-    // The exit statuses that it may give.
-    ghost gives: { ℕ → Type 0 };
+    // What is so of the store before and after, where the task ends by this exit status or this fault.
+    ghost does: { Self → Doing Self.Fault };
 
-    /// Does it, and gives the store back, with the exit status or with why there is none.
+    /// Does it, and gives the store back, with the exit status.
     ///
     /// # Errors
     ///
-    /// The task's own, where the store is gone.
-    fn run<K: Storage + RowsAbove + Drop>(
-        &mut self,
-        store: K,
-    ) -> Result<(K, Result<u8, Self::Fault>), Self::Fault>
-        ensures { IfOk result (λ done. IfOk done.1 gives) };
+    /// The task's own; the store comes back as that left it.
+    fn run<K: Storage + RowsAbove + Drop>(&mut self, store: K) -> (K, Result<u8, Self::Fault>)
+        ensures { does self.old _ _ _ K.Storage.sight K.Storage.causes K.LookUps.sight store result.0 result.1 };
 }

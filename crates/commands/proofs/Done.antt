@@ -1,0 +1,54 @@
+-- What a word does, by what its steps say.
+use Rattle.std.proofs.Common.{◌≡◌, ◌∙◌, ◌≤◌, ℕ, zero, suc, List, [], Option, Result, Ok, Err, IsErrAnd, arith, ap, inl, inr, refl}
+use Rattle.batches.specs.InTurn.{AnswersFirst, StopsBehind}
+use Rattle.command_line.specs.declared.order.Target.{Target}
+use Rattle.commands.specs.Deeds.{AnswersLines, Revokes, Serves, ask_of, served, unserved}
+use Rattle.commands.specs.declared.fault.Fault.{Fault}
+use Rattle.commands.specs.declared.fault.Fault.TheVariants as fault
+use Rattle.connections.specs.InTurn.{ServesAll}
+use Rattle.connections.specs.declared.fault.ServeFault.{ServeFault}
+use Rattle.connections.specs.declared.fault.ServeFault.TheVariants as servefault
+use Rattle.desk_calls.specs.Office.{AnswersOffice}
+use Rattle.desk_calls.specs.SeenDesks.{IsSeenOn}
+use Rattle.desk_calls.specs.State.{DeskState}
+use Rattle.desk_calls.specs.declared.fault.DeskFault.{DeskFault}
+use Rattle.desk_storage.specs.Sight.{Sight}
+use Rattle.desk_storage.specs.Storing.{Causes}
+
+-- the end of what was done is this fault
+abbrev Fails : Result ℕ Fault → Fault → Type 0
+Fails how f = IsErrAnd how (λ e. e ≡ f)
+
+module _ {S C : Type 0} (v : Sight S C) where
+  -- the lines of a batch
+  pub lines_answered : (bytes was is : Option (List ℕ)) (desk ended : DeskState S) (status : ℕ) → status ≤ 1 → IsSeenOn v desk ended
+      → (status ≡ 0 → AnswersFirst v bytes was [] is desk ended) → (status ≡ 1 → StopsBehind v bytes was is desk ended)
+      → AnswersLines v bytes was desk ended (Ok status)
+  lines_answered bytes was is desk ended zero most seen all first = record { is = is; seen = seen; answers = inl (refl, all refl) }
+  lines_answered bytes was is desk ended (suc zero) most seen all first = record { is = is; seen = seen; answers = inr (refl, first refl) }
+  lines_answered bytes was is desk ended (suc (suc n)) most seen all first = absurd (omega (arith, most))
+
+  -- the machine told no moment
+  pub no_moment : (what : Target) (desk : DeskState S) (cause : ServeFault) (how : Result ℕ Fault) → cause ≡ servefault.Clock
+      → Fails how (fault.Serve cause) → Revokes v what desk desk how
+  no_moment what desk cause (Ok status) is told = absurd told
+  no_moment what desk cause (Err f) is told = inl (refl, ap Err (told ∙ ap fault.Serve is))
+
+  -- the desk had a fault
+  pub not_revoked : (what : Target) (desk ended : DeskState S) (at : ℕ) (cause : DeskFault) (how : Result ℕ Fault)
+      → AnswersOffice v at (ask_of what) desk.store ended.store (Err cause) → Fails how (fault.Desk cause) → Revokes v what desk ended how
+  not_revoked what desk ended at cause (Ok status) answers told = absurd told
+  not_revoked what desk ended at cause (Err f) answers told = inr (record { at = at; answer = Err cause; answers = answers; told = ap Err told })
+
+  module _ (causes : Causes S) (most : ℕ) where
+    -- the port was not to be had
+    pub not_bound : (desk : DeskState S) (cause : ServeFault) (how : Result ℕ Fault) → cause ≡ servefault.Bind
+        → Fails how (fault.Serve cause) → Serves v causes most desk desk how
+    not_bound desk cause (Ok status) is told = absurd told
+    not_bound desk cause (Err f) is told = unserved refl (inl (ap Err (told ∙ ap fault.Serve is)))
+
+    -- serving was ended by a fault
+    pub served_until : (desk ended : DeskState S) (cause : ServeFault) (how : Result ℕ Fault) → IsSeenOn v desk ended
+        → ServesAll v causes most desk ended (Err cause) → Fails how (fault.Serve cause) → Serves v causes most desk ended how
+    served_until desk ended cause (Ok status) seen all told = absurd told
+    served_until desk ended cause (Err f) seen all told = served (Err cause) seen all (ap Err told)

@@ -1,0 +1,38 @@
+-- How orders end, by what their steps say.
+use Rattle.std.proofs.Common.{◌≡◌, ◌∙◌, ℕ, List, Option, None, Some, Result, Ok, Err, IsErrAnd, ap, inl, inr, subst, sym}
+use Rattle.command_line.specs.declared.order.Order.{Order}
+use Rattle.command_line.specs.declared.order.Order.TheVariants as order
+use Rattle.command_line.specs.declared.order.SyncedFile.{SyncedFile}
+use Rattle.command_line.specs.declared.order.Syncs.{Syncs}
+use Rattle.commands.specs.Statuses.{Ends, EndsMake, EndsOverFiles, FilePair, Pairs, files_by}
+use Rattle.commands.specs.declared.fault.Fault.{Fault}
+use Rattle.commands.specs.declared.fault.Fault.TheVariants as fault
+use Rattle.desk_calls.specs.declared.fault.DeskFault.TheVariants as deskfault
+use Rattle.desk_model.specs.Terms.{Terms}
+use Rattle.desk_storage.specs.declared.fault.StorageFault.TheVariants.{Memory}
+use Rattle.desk_store.specs.declared.open_fault.OpenFault.TheVariants.{Storage}
+use Rattle.file_tasks.specs.Doing.{Doing}
+use Rattle.file_tasks.specs.Endings.{unmade}
+
+-- a task over the files to which commits sync so
+pub by_syncs : (pairs : Pairs) (does : Doing Fault) (how : Result ℕ Fault) (syncs is : Syncs) → syncs ≡ is
+    → EndsOverFiles (files_by pairs is) does how → EndsOverFiles (files_by pairs syncs) does how
+by_syncs pairs does how syncs is same ends = subst (λ s. EndsOverFiles (files_by pairs s) does how) (sym same) ends
+
+-- an order ends as the one that it is
+pub as_order : (pairs : Pairs) (bytes was : Option (List ℕ)) (o is : Order) (how : Result ℕ Fault) → o ≡ is
+    → Ends pairs bytes was is how → Ends pairs bytes was o how
+as_order pairs bytes was o is how same ends = subst (λ x. Ends pairs bytes was x how) (sym same) ends
+
+-- there was no memory for the policy of a desk in memory
+pub no_policy : (pairs : Pairs) (bytes was : Option (List ℕ)) (file : Option SyncedFile) (f : Fault) (how : Result ℕ Fault) → file ≡ None
+    → f ≡ fault.Desk deskfault.Memory → IsErrAnd how (λ e. e ≡ f) → Ends pairs bytes was (order.Batch file) how
+no_policy pairs bytes was (Some file) f how none is told = absurd (cc none)
+no_policy pairs bytes was None f (Ok status) none is told = absurd told
+no_policy pairs bytes was None f (Err e) none is told = unmade (Storage Memory) e (told ∙ is)
+
+-- there was no memory for that of a desk in files
+pub no_terms : (files : FilePair) (policy : Terms) (f : Fault) (how : Result ℕ Fault) → f ≡ fault.Desk deskfault.Memory
+    → IsErrAnd how (λ e. e ≡ f) → EndsMake files policy how
+no_terms files policy f (Ok status) is told = absurd told
+no_terms files policy f (Err e) is told = inr (inr (Storage Memory, ap Err (told ∙ is)))

@@ -1,0 +1,9 @@
+use Rattle.commands.specs.Deeds.{adopted, unadopted}
+use Rattle.commands.proofs.answering.ServeConnectionsTask.run.Goals as goal
+
+pub returns-in-Err : goal.returns-in-Err
+returns-in-Err g c = unadopted c.in-Err.fault c.in-Err.ensures
+
+pub returns : goal.returns
+returns g c =
+    adopted c.serve-outcome.result c.in-Ok.desk c.serve-outcome.new.desk c.in-Ok.ensures c.serve-outcome.ensures c.into_store.ensures

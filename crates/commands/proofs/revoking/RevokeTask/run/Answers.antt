@@ -1,0 +1,9 @@
+use Rattle.commands.specs.Deeds.{adopted, unadopted}
+use Rattle.commands.proofs.revoking.RevokeTask.run.Goals as goal
+
+pub returns-in-Err : goal.returns-in-Err
+returns-in-Err g c = unadopted c.in-Err.fault c.in-Err.ensures
+
+pub returns : goal.returns
+returns g c =
+    adopted c.revoke-outcome.result c.in-Ok.desk c.revoke-outcome.new.desk c.in-Ok.ensures c.revoke-outcome.ensures c.into_store.ensures

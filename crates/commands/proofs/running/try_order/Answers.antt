@@ -1,0 +1,5 @@
+use Rattle.commands.proofs.Orders.{as_order}
+use Rattle.commands.proofs.running.try_order.Goals as goal
+
+pub returns-in-Revoke : goal.returns-in-Revoke
+returns-in-Revoke g c = as_order _ _ _ c.args.order _ _ c.in-Revoke.is c.run_over_file-in-Revoke.ensures

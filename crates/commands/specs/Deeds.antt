@@ -1,0 +1,143 @@
+-- What the words of the program do with the store of a desk, and how that ends.
+use Rattle.std.specs.Prelude.{◌≡◌, ◌≢◌, ◌⊎◌, ◌↔◌, ℕ, List, [], Bool, true, false, Option, Some, None, Result, Ok, Err, IfOk, IsTrue, unwrap_or}
+use Rattle.batches.specs.InTurn.{AnswersFirst, StopsBehind}
+use Rattle.command_line.specs.declared.order.Target.{Target}
+use Rattle.command_line.specs.declared.order.Target.TheVariants as target
+use Rattle.commands.specs.Faults.{report_fault}
+use Rattle.commands.specs.declared.fault.Fault.{Fault}
+use Rattle.commands.specs.declared.fault.Fault.TheVariants as fault
+use Rattle.connections.specs.InTurn.{ServesAll}
+use Rattle.connections.specs.declared.fault.ServeFault.{ServeFault}
+use Rattle.connections.specs.declared.fault.ServeFault.TheVariants as servefault
+use Rattle.desk_calls.specs.Faults.{storage_fault}
+use Rattle.desk_calls.specs.Office.{AnswersOffice}
+use Rattle.desk_calls.specs.SeenDesks.{IsSeenOn}
+use Rattle.desk_calls.specs.State.{DeskState}
+use Rattle.desk_calls.specs.declared.fault.DeskFault.{DeskFault}
+use Rattle.desk_model.specs.Derived.{status_faults}
+use Rattle.desk_model.specs.declared.call.OfficeAsk.{OfficeAsk}
+use Rattle.desk_model.specs.declared.call.OfficeAsk.TheVariants as ask
+use Rattle.desk_model.specs.declared.refusal.Refusal.{Refusal}
+use Rattle.desk_storage.specs.Sight.{FailsToRead, ForTables, Sight, Stands}
+use Rattle.desk_storage.specs.Storing.{Causes}
+use Rattle.desk_storage.specs.declared.fault.StorageFault.{StorageFault}
+use Rattle.file_tasks.specs.Doing.{Doing}
+use Rattle.reports.specs.Reported.{Reports}
+use Rattle.reports.specs.declared.fault.ReportFault.{ReportFault}
+
+-- ---- reports
+
+-- how a list of orders ends
+abbrev pub how_listed : Result Unit ReportFault → Result ℕ Fault
+how_listed (Ok done) = Ok 0
+how_listed (Err why) = Err (report_fault why)
+
+-- how a list of wrong statuses ends: by 3 where there is one
+abbrev pub how_checked : Result Bool ReportFault → Result ℕ Fault
+how_checked (Ok true) = Ok 3
+how_checked (Ok false) = Ok 0
+how_checked (Err why) = Err (report_fault why)
+
+module _ {S C : Type 0} (v : Sight S C) where
+  -- the orders were listed, which changed nothing, or that was stopped
+  pub record Lists (old new : S) (how : Result ℕ Fault) : Type 0 where
+    pub listed : Result Unit ReportFault
+    pub reads : Reports v old new listed
+    pub ends : how ≡ how_listed listed
+
+  -- the wrong statuses were listed, which changed nothing, or that was stopped; one is found exactly where there is one
+  pub record Checks (old new : S) (how : Result ℕ Fault) : Type 0 where
+    pub checked : Result Bool ReportFault
+    pub reads : Reports v old new checked
+    pub found : ForTables v old new (λ T. IfOk checked (λ found. IsTrue found ↔ status_faults T ≢ []))
+    pub ends : how ≡ how_checked checked
+
+-- ---- what is done by a desk
+
+module _ {S C : Type 0} (v : Sight S C) where
+  -- a desk was adopted over the store: it is open, and has the policy of the tables
+  pub record Adopts (old : S) (desk : DeskState S) : Type 0 where
+    pub stands : Stands v old desk.store
+    pub policy : ForTables v old desk.store (λ T. desk.policy ≡ T.meta.policy)
+    pub opened : desk.is_closed ≡ false
+
+  -- the store failed where it was asked for the policy
+  pub record FailsToAdopt (old new : S) (f : Fault) : Type 0 where
+    pub why : StorageFault
+    pub reads : FailsToRead v old new why
+    pub fault : f ≡ fault.Desk (storage_fault why)
+
+  -- no desk was adopted; or one was, this was done by it, and its store is given back
+  pub data ByDesk (Does : DeskState S → DeskState S → Result ℕ Fault → Type 0) (old new : S) : Result ℕ Fault → Type 0 where
+    unadopted : (why : Fault) → FailsToAdopt old new why → ByDesk Does old new (Err why)
+    adopted : (how : Result ℕ Fault) (desk ended : DeskState S) → Adopts old desk → Does desk ended how → new ≡ ended.store → ByDesk Does old new how
+
+-- ---- revocations
+
+-- what is asked of the desk
+abbrev pub ask_of : Target → OfficeAsk
+ask_of (target.Authorization number) = ask.RevokeAuthz number
+ask_of (target.Account number) = ask.RevokeAccount number
+
+-- how a revocation ends, by the desk's answer: where it is not refused, what says so may still fail to be written
+abbrev pub IsTold : Result (Option Refusal) DeskFault → Result ℕ Fault → Type 0
+IsTold (Ok None) how = (how ≡ Ok 0) ⊎ (how ≡ Err fault.Output)
+IsTold (Ok (Some refusal)) how = how ≡ Err (fault.Refused refusal)
+IsTold (Err why) how = how ≡ Err (fault.Desk why)
+
+module _ {S C : Type 0} (v : Sight S C) where
+  -- the desk answered the office's ask at some moment
+  pub record AnswersRevocation (what : Target) (desk ended : DeskState S) (how : Result ℕ Fault) : Type 0 where
+    pub at : ℕ
+    pub answer : Result (Option Refusal) DeskFault
+    pub answers : AnswersOffice v at (ask_of what) desk.store ended.store answer
+    pub told : IsTold answer how
+
+  -- the machine told no moment, or the desk answered
+  abbrev pub Revokes : Target → DeskState S → DeskState S → Result ℕ Fault → Type 0
+  Revokes what desk ended how = ((ended ≡ desk) × (how ≡ Err (fault.Serve servefault.Clock))) ⊎ AnswersRevocation what desk ended how
+
+-- ---- lines and connections
+
+module _ {S C : Type 0} (v : Sight S C) where
+  -- the lines of a reader with these bytes, where these are known, were answered, all of them or up to one that was not
+  pub record AnswersLines (bytes was : Option (List ℕ)) (desk ended : DeskState S) (how : Result ℕ Fault) : Type 0 where
+    pub is : Option (List ℕ)
+    pub seen : IsSeenOn v desk ended
+    pub answers : ((how ≡ Ok 0) × AnswersFirst v bytes was [] is desk ended) ⊎ ((how ≡ Ok 1) × StopsBehind v bytes was is desk ended)
+
+-- how serving ends, by what ended it
+abbrev pub how_served : Result Unit ServeFault → Result ℕ Fault
+how_served (Ok done) = Ok 0
+how_served (Err why) = Err (fault.Serve why)
+
+module _ {S C : Type 0} (v : Sight S C) (causes : Causes S) where
+  -- no connection could be taken: the port was not to be had, or the address not to be printed; or so many were served, or
+  -- fewer, and then the machine or the desk failed
+  pub data Serves (most : ℕ) (desk ended : DeskState S) (how : Result ℕ Fault) : Type 0 where
+    unserved : ended ≡ desk → (how ≡ Err (fault.Serve servefault.Bind)) ⊎ (how ≡ Err fault.Output) → Serves most desk ended how
+    served :
+        (served : Result Unit ServeFault) → IsSeenOn v desk ended → ServesAll v causes most desk ended served → how ≡ how_served served
+        → Serves most desk ended how
+
+-- ---- the tasks
+
+-- the orders are listed
+abbrev pub ListsOrders : Doing Fault
+ListsOrders _ _ _ v causes rows = Lists rows
+
+-- the wrong statuses are listed
+abbrev pub ChecksStatuses : Doing Fault
+ChecksStatuses _ _ _ v causes rows = Checks rows
+
+-- an authorization or an account is revoked
+abbrev pub RevokesTarget : Target → Doing Fault
+RevokesTarget what _ _ _ v causes rows = ByDesk v (Revokes v what)
+
+-- the lines of a reader with these bytes are answered on a writer that was given these, where they are known
+abbrev pub AnswersReader : (bytes was : Option (List ℕ)) → Doing Fault
+AnswersReader bytes was _ _ _ v causes rows = ByDesk v (AnswersLines v bytes was)
+
+-- connections are served, so many or 2^64 - 1
+abbrev pub ServesCount : Option ℕ → Doing Fault
+ServesCount count _ _ _ v causes rows = ByDesk v (Serves v causes (unwrap_or count 18446744073709551615))
