@@ -27,7 +27,7 @@ import time
 HERE = os.path.dirname(os.path.abspath(__file__))
 TOP = os.path.dirname(HERE)
 SIZES = (100, 1000, 10000, 100000)
-TURNS, CALLS = 10, 10
+RUNS, TURNS, CALLS = 3, 10, 10
 OPENINGS = 3
 # What is timed, and how the page names it.
 NAMES = {"desk": "the program", "once": "the program, `--sync once`", "c": "C"}
@@ -256,6 +256,11 @@ class Program:
         self.turns[name].append((time.perf_counter() - start) / len(lines))
         return replies
 
+    def add(self, later):
+        """Adds the turns of a later run."""
+        for name, turns in later.turns.items():
+            self.turns[name] += turns
+
     def seconds(self):
         """The time of a call of each kind: the median of its turns."""
         return {name: statistics.median(turns) for name, turns in self.turns.items() if turns}
@@ -348,9 +353,19 @@ class Measured:
 
     def close(self):
         self.memory = {who: program.memory() for who, program in self.programs.items()}
-        self.seconds = {who: program.seconds() for who, program in self.programs.items()}
         for program in self.programs.values():
             program.close()
+
+    def add(self, later):
+        """Adds what a later run measured over files of the same size."""
+        for who, program in self.programs.items():
+            program.add(later.programs[who])
+            self.memory[who] = max(self.memory[who], later.memory[who])
+
+    @property
+    def seconds(self):
+        """The time of a call of each kind, by the turns of all runs."""
+        return {who: program.seconds() for who, program in self.programs.items()}
 
 
 def sync_times(place):
@@ -367,29 +382,43 @@ def sync_times(place):
     return times
 
 
+def ask(turn, sizes, of_one):
+    """The calls of one turn, kind by kind, over each size."""
+    for name, line_of in KINDS:
+        for measured in sizes.values():
+            measured.ask(turn, name, line_of)
+        if name in OF_ONE:
+            of_one.ask(turn, name, line_of)
+
+
 class Run:
     """What was measured over files in a folder, sizes taking turns as programs do, and the median time of a sync."""
 
     def __init__(self, place, words, without=None):
-        syncs = []
-        with tempfile.TemporaryDirectory(dir=place) as folder:
-            found = commands(words.only, folder)
-            found.pop(without, None)
-            self.sizes = {size: Measured(size, found, folder) for size in map(int, words.sizes.split(","))}
-            self.of_one = Measured(ORDERS_OF_ONE, found, folder, ORDERS_OF_ONE)
-            for turn in range(TURNS):
-                syncs += sync_times(folder)
-                self.ask(turn)
-            self.sync = statistics.median(syncs)
-            for measured in (*self.sizes.values(), self.of_one):
-                measured.close()
+        self.place, self.words, self.without = place, words, without
+        self.syncs, self.sizes, self.of_one = [], {}, None
+        for _ in range(RUNS):
+            with tempfile.TemporaryDirectory(dir=place) as folder:
+                self.measure(folder)
+        self.sync = statistics.median(self.syncs)
 
-    def ask(self, turn):
-        for name, line_of in KINDS:
-            for measured in self.sizes.values():
-                measured.ask(turn, name, line_of)
-            if name in OF_ONE:
-                self.of_one.ask(turn, name, line_of)
+    def measure(self, folder):
+        """One run over new files, whose turns are added to those of the runs before."""
+        found = commands(self.words.only, folder)
+        found.pop(self.without, None)
+        sizes = {size: Measured(size, found, folder) for size in map(int, self.words.sizes.split(","))}
+        of_one = Measured(ORDERS_OF_ONE, found, folder, ORDERS_OF_ONE)
+        for turn in range(TURNS):
+            self.syncs += sync_times(folder)
+            ask(turn, sizes, of_one)
+        for measured in (*sizes.values(), of_one):
+            measured.close()
+        if self.of_one is None:
+            self.sizes, self.of_one = sizes, of_one
+            return
+        for size, measured in sizes.items():
+            self.sizes[size].add(measured)
+        self.of_one.add(of_one)
 
     def growth_of_one(self, who, name):
         """The time of a call for the account that has all orders of its file, by that for one of few in the largest file."""
@@ -560,7 +589,7 @@ def say_how():
         one name each, {ORDERS_OF_ACCOUNT} to an account. `bin/desk batch --file`, the same with `--sync once`, and the C
         program `bench/desk.c`, which does the same transactions by hand on SQLite {sqlite3.sqlite_version}, each serve a
         copy; one more file has an account with all of its {ORDERS_OF_ONE:,} orders. They run side by side, over all files at once, and are asked in turns {CALLS} calls of a kind, {TURNS} times, each call
-        after the reply to the one before; their replies are compared and are the same. A list of work has the {CALLS} items
+        after the reply to the one before, and all of that {RUNS} times over new files; their replies are compared and are the same. A list of work has the {CALLS} items
         of its turn. A time is that of the whole round through the program's pipes, the median of the turns. Growth is the time
         of a call at the largest size by that at the smallest, ratio the program's rate by C's. Measured on
         {os.cpu_count()} processors of a machine that was shared with other work: the turns spread that load over all
