@@ -8,6 +8,7 @@ use Rattle.commands.specs.declared.fault.Fault.TheVariants as fault
 use Rattle.connections.specs.InTurn.{ServesAll}
 use Rattle.connections.specs.declared.fault.ServeFault.{ServeFault}
 use Rattle.connections.specs.declared.fault.ServeFault.TheVariants as servefault
+use Rattle.desk_calls.specs.Faults.{closes}
 use Rattle.desk_calls.specs.Office.{AnswersOffice}
 use Rattle.desk_calls.specs.SeenDesks.{IsSeenOn}
 use Rattle.desk_calls.specs.State.{DeskState}
@@ -36,9 +37,11 @@ module _ {S C : Type 0} (v : Sight S C) where
 
   -- the desk had a fault
   pub not_revoked : (what : Target) (desk ended : DeskState S) (at : ℕ) (cause : DeskFault) (how : Result ℕ Fault)
-      → AnswersOffice v at (ask_of what) desk.store ended.store (Err cause) → Fails how (fault.Desk cause) → Revokes v what desk ended how
-  not_revoked what desk ended at cause (Ok status) answers told = absurd told
-  not_revoked what desk ended at cause (Err f) answers told = inr (record { at = at; answer = Err cause; answers = answers; told = ap Err told })
+      → AnswersOffice v at (ask_of what) desk.store ended.store (Err cause) → ended.is_closed ≡ closes cause → ended.policy ≡ desk.policy
+      → Fails how (fault.Desk cause) → Revokes v what desk ended how
+  not_revoked what desk ended at cause (Ok status) answers flag policy told = absurd told
+  not_revoked what desk ended at cause (Err f) answers flag policy told =
+      inr (record { at = at; answer = Err cause; answers = answers; flag = flag; policy = policy; told = ap Err told })
 
   module _ (causes : Causes S) (most : ℕ) where
     -- the port was not to be had

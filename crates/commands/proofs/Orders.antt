@@ -1,5 +1,5 @@
 -- How orders end, by what their steps say.
-use Rattle.std.proofs.Common.{◌≡◌, ◌∙◌, ℕ, List, Option, None, Some, Result, Ok, Err, IsErrAnd, ap, inl, inr, subst, sym}
+use Rattle.std.proofs.Common.{◌≡◌, ◌∙◌, ℕ, List, Option, None, Some, Result, Ok, Err, IsErrAnd, ap, inr, subst, sym}
 use Rattle.command_line.specs.declared.order.Order.{Order}
 use Rattle.command_line.specs.declared.order.Order.TheVariants as order
 use Rattle.command_line.specs.declared.order.SyncedFile.{SyncedFile}

@@ -1,5 +1,5 @@
 -- No word ends with a status above 3.
-use Rattle.std.proofs.Common.{◌≡◌, ◌⊎◌, ◌≤◌, ℕ, List, Bool, true, false, Option, None, Some, Result, Ok, Err, arith, inl, inr, subst, sym, unwrap_or}
+use Rattle.std.proofs.Common.{◌≡◌, ◌≤◌, ℕ, List, Bool, true, false, Option, None, Some, Result, Ok, Err, arith, inl, inr, subst, sym, unwrap_or}
 use Rattle.command_line.specs.declared.order.Listing.{Listing}
 use Rattle.command_line.specs.declared.order.Order.{Order}
 use Rattle.command_line.specs.declared.order.Order.TheVariants as order
@@ -34,10 +34,6 @@ abbrev AreSmall : Doing Fault → Type 1
 AreSmall does =
     (S C D : Type 0) (v : Sight S C) (causes : Causes S) (rows : Sight S D) (old new : S) (how : Result ℕ Fault)
     → does S C D v causes rows old new how → IsSmall how
-
--- an end by a fault
-small_fault : (f : Fault) → IsSmall (Err f)
-small_fault f = omega arith
 
 -- an end by 0 to 3
 small_status : (n : ℕ) → n ≤ 3 → IsSmall (Ok n)

@@ -9,6 +9,7 @@ use Rattle.commands.specs.declared.fault.Fault.TheVariants as fault
 use Rattle.connections.specs.InTurn.{ServesAll}
 use Rattle.connections.specs.declared.fault.ServeFault.{ServeFault}
 use Rattle.connections.specs.declared.fault.ServeFault.TheVariants as servefault
+use Rattle.desk_calls.specs.Answers.{is_closed_after}
 use Rattle.desk_calls.specs.Faults.{storage_fault}
 use Rattle.desk_calls.specs.Office.{AnswersOffice}
 use Rattle.desk_calls.specs.SeenDesks.{IsSeenOn}
@@ -91,6 +92,8 @@ module _ {S C : Type 0} (v : Sight S C) where
     pub at : ℕ
     pub answer : Result (Option Refusal) DeskFault
     pub answers : AnswersOffice v at (ask_of what) desk.store ended.store answer
+    pub flag : ended.is_closed ≡ is_closed_after answer
+    pub policy : ended.policy ≡ desk.policy
     pub told : IsTold answer how
 
   -- the machine told no moment, or the desk answered

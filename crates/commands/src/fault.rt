@@ -11,7 +11,7 @@ use thiserror::Error;
 
 /// Why a command ends.
 #[derive(Clone, Copy, Debug, Error)]
-pub(crate) enum Fault {
+pub enum Fault {
     /// A fault of the desk, 20 to 27.
     #[error(transparent)]
     Desk(DeskFault),

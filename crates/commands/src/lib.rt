@@ -8,4 +8,5 @@ mod reporting;
 mod revoking;
 mod running;
 
+pub use fault::Fault;
 pub use running::{run_order, run_words, tell_no_memory};

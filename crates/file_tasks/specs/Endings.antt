@@ -1,5 +1,5 @@
 -- How a task ends that is done with the desk of two files, or with a new one in memory.
-use Rattle.std.specs.Prelude.{◌≡◌, ◌≢◌, ℕ, Result, Ok, Err}
+use Rattle.std.specs.Prelude.{◌≢◌, ℕ, Result, Ok, Err}
 use Rattle.sqlite.specs.Files.{over_files}
 use Rattle.sqlite.specs.Recovery.{Image}
 use Rattle.sqlite.specs.Steps.{over_memory}

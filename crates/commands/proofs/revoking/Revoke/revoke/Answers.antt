@@ -15,4 +15,5 @@ returns-in_err-refusal g c =
     (Err c.in_err-refusal.field-0.0) in
     not_revoked g.K.Storage.sight c.args.self.now.target c.args.desk.now c.answer_office.new.self c.in_ok-at.at c.in_err-refusal.field-0.0
     c.from_residual-in_err-refusal.result (subst answers c.ask_of.ensures (c.in_err-refusal.ensures.exit c.requires.opened))
+    (c.in_err-refusal.ensures.flag c.requires.opened) c.in_err-refusal.ensures.policy
     c.from_residual-in_err-refusal.ensures.1

@@ -1,0 +1,2 @@
+mod Chains
+mod Words

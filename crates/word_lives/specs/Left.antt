@@ -1,0 +1,56 @@
+-- What the words of the program leave of a desk's files.
+use Rattle.std.specs.Prelude.{◌≡◌, ℕ, List, Option, Result}
+use Rattle.sqlite.specs.Files.{over_files}
+use Rattle.sqlite.specs.Recovery.{Image}
+use Rattle.sqlite_disk.specs.declared.Disk as disk
+use Rattle.sqlite_store.specs.declared.store.FileStore.{FileStore}
+use Rattle.command_line.specs.declared.order.Target.{Target}
+use Rattle.commands.specs.Deeds.{AnswersReader, ChecksStatuses, ListsOrders, RevokesTarget, ServesCount}
+use Rattle.commands.specs.declared.fault.Fault.{Fault}
+use Rattle.desk_calls.specs.State.{DeskState}
+use Rattle.desk_model.specs.Entry.{History}
+use Rattle.desk_model.specs.Legal.{Legal}
+use Rattle.desk_model.specs.Tables.{picture}
+use Rattle.desk_model.specs.declared.call.Call.{Call}
+use Rattle.desk_openings.specs.LeftFiles.{LeftFiles, file_sight}
+use Rattle.desk_store.specs.Desks.{store_sight}
+use Rattle.desk_store.specs.declared.store.Store.{Store}
+use Rattle.file_tasks.specs.Doing.{Doing}
+use Rattle.file_tasks.specs.Endings.{IsDoneOver}
+use Rattle.word_lives.specs.Kept.{HasCalls, Replied}
+
+module _ {D : Type 0} (g : disk.Ghosts D) where
+  -- the desk of a history was in the files when a word opened them, in either format, and the disk was honest to the end
+  pub record IsOver {bytes : Image} {does : Doing Fault} {how : Result ℕ Fault} (F : History) (done : IsDoneOver g bytes does how) : Type 0 where
+    pub legal : Legal F
+    pub files : LeftFiles
+    pub opened : files.image ≡ bytes
+    pub desk : (file_sight g).has files (picture F)
+    pub honest : (file_sight g).is_honest done.ended
+
+  -- whatever files a stop then leaves, they have the desk as it was, in today's format
+  abbrev pub LeavesDesk : History → Store (FileStore D g) → Type 0
+  LeavesDesk F ended = (left : LeftFiles) → (file_sight g).leaves ended left → (store_sight (over_files {g = g})).has left.trees (picture F)
+
+  -- calls to the desk that was adopted were replied to, and whatever files a stop then leaves, they have the desk with these, each whole,
+  -- and with one more at most
+  pub record LeavesCalls (F : History) (ended : Store (FileStore D g)) : Type 0 where
+    pub calls : List Call
+    pub desk : DeskState (Store (FileStore D g))
+    pub end : DeskState (Store (FileStore D g))
+    pub replied : Replied (store_sight (over_files {g = g})) desk calls end
+    pub is : end.store ≡ ended
+    pub left : (left : LeftFiles) → (file_sight g).leaves ended left → HasCalls (store_sight (over_files {g = g})) F calls left.trees
+
+  -- whatever history the desk of the files has, a word leaves this of it
+  abbrev pub Leaves : Doing Fault → (History → Store (FileStore D g) → Type 0) → Type 0
+  Leaves does Left =
+      (bytes : Image) (how : Result ℕ Fault) (done : IsDoneOver g bytes does how) (F : History) → IsOver F done → Left F done.ended
+
+  -- so it is of each word
+  pub record WordsLeave : Type 0 where
+    pub status : Leaves ListsOrders LeavesDesk
+    pub check : Leaves ChecksStatuses LeavesDesk
+    pub revoke : (what : Target) → Leaves (RevokesTarget what) LeavesCalls
+    pub batch : (bytes was : Option (List ℕ)) → Leaves (AnswersReader bytes was) LeavesCalls
+    pub serve : (count : Option ℕ) → Leaves (ServesCount count) LeavesCalls
