@@ -9,7 +9,7 @@ use Rattle.batches.proofs.Acting.{line_acts}
 use Rattle.batches.specs.Said.{Says}
 use Rattle.batches.specs.InTurn.{AnswersEach, Stops, not_one, one_more, silent, unread, unwritten}
 use Rattle.command_line.specs.declared.order.Target.{Target}
-use Rattle.commands.specs.Deeds.{AnswersLines, AnswersReader, ByDesk, ChecksStatuses, ListsOrders, Revokes, RevokesTarget, Serves, ServesCount}
+use Rattle.commands.specs.Deeds.{Adopts, AnswersLines, AnswersReader, ByDesk, ChecksStatuses, FailsToAdopt, ListsOrders, Revokes, RevokesTarget, Serves, ServesCount}
 use Rattle.commands.specs.Deeds.{adopted, ask_of, served, unadopted, unserved}
 use Rattle.commands.specs.declared.fault.Fault.{Fault}
 use Rattle.connections.specs.InTurn.{ServesAll, ServesClient, ServesMany}
@@ -19,6 +19,7 @@ use Rattle.connections.specs.declared.fault.ServeFault.TheVariants as servefault
 use Rattle.desk_calls.specs.Answers.{is_closed_after}
 use Rattle.desk_calls.specs.Meets.{ActsOnce}
 use Rattle.desk_calls.specs.Office.{AnswersOffice, office_call}
+use Rattle.desk_calls.specs.Seen.{Told}
 use Rattle.desk_calls.specs.State.{DeskState}
 use Rattle.desk_calls.specs.declared.fault.DeskFault.{DeskFault}
 use Rattle.desk_http.proofs.Acting.{once_acts}
@@ -28,7 +29,6 @@ use Rattle.desk_model.specs.Entry.{History}
 use Rattle.desk_model.specs.History.{terms}
 use Rattle.desk_model.specs.Legal.{Legal}
 use Rattle.desk_model.specs.Tables.{picture}
-use Rattle.desk_model.specs.declared.call.Call.{Call}
 use Rattle.desk_model.specs.declared.call.OfficeAsk.{OfficeAsk}
 use Rattle.desk_model.specs.declared.refusal.Refusal.{Refusal}
 use Rattle.desk_storage.specs.Sight.{Keeps, Sight}
@@ -37,9 +37,9 @@ use Rattle.desk_store.specs.Desks.{store_sight}
 use Rattle.desk_store.specs.declared.store.Store.{Store}
 use Rattle.file_tasks.specs.Doing.{Doing}
 use Rattle.file_tasks.specs.Endings.{IsDoneOver}
-use Rattle.word_lives.specs.Kept.{HasCalls, Replied}
+use Rattle.word_lives.specs.Kept.{Answered, HasLife}
 use Rattle.word_lives.specs.Kept as kept
-use Rattle.word_lives.specs.Left.{IsOver, Leaves, LeavesCalls, LeavesDesk, WordsLeave}
+use Rattle.word_lives.specs.Left.{IsOver, Leaves, LeavesLife, LeavesDesk, WordsLeave}
 use Rattle.word_lives.proofs.Chains.{AreCalls, honest_at_first, left_behind, no_call, once_more}
 
 module _ {S C : Type 0} (v : Sight S C) where
@@ -135,56 +135,65 @@ module _ {S C : Type 0} (v : Sight S C) where
 
   -- ---- what is left behind a desk
 
-  -- calls to a desk were replied to, and what is left has them, and one more at most
+  -- calls to a desk were replied to, and what is left has a life of them, and of one more at most
   record IsLeft (F : History) (new : S) : Type 0 where
-    pub calls : List Call
+    pub told : List Told
     pub desk : DeskState S
     pub end : DeskState S
-    pub replied : Replied v desk calls end
+    pub answered : Answered v desk told end
     pub is : end.store ≡ new
-    pub left : (c : C) → v.leaves new c → HasCalls v F calls c
+    pub left : (c : C) → v.leaves new c → HasLife v F told c
 
   -- so it is of what was done by a desk, if that was calls
   record IsByDesk (F : History) (old new : S) : Type 0 where
     pub honest : v.is_honest old
     pub left : Keeps v old (picture F) → IsLeft F new
 
-  by_desk : (Does : DeskState S → DeskState S → Result ℕ Fault → Type 0)
-      → ((desk ended : DeskState S) (how : Result ℕ Fault) → desk.is_closed ≡ false → Does desk ended how → AreCalls v desk ended)
-      → (F : History) → Legal F → (old new : S) (how : Result ℕ Fault) → ByDesk v Does old new how → v.is_honest new → IsByDesk F old new
-  by_desk Does calls F legal old new how (unadopted why fails) honest =
+  -- no desk was adopted
+  by_none : (F : History) → Legal F → (old new : S) (why : Fault) → FailsToAdopt v old new why → v.is_honest new → IsByDesk F old new
+  by_none F legal old new why fails honest =
       let d : DeskState S = record { store = new; policy = terms F; is_closed = false } in
       record {
         honest = fails.reads.honest honest;
         left = λ keeps. record {
-          calls = [];
+          told = [];
           desk = d;
           end = d;
-          replied = kept.not_one;
+          answered = kept.not_one;
           is = refl;
-          left = λ c may. record { calls = []; kept = inl refl; legal = legal; tables = keeps.left c (fails.reads.left honest c may) };
+          left = λ c may.
+              record { life = []; lives = legal; replies = refl; kept = inl refl; tables = keeps.left c (fails.reads.left honest c may) };
         };
       }
+
+  -- the desk that was adopted has what the store had
+  keeps_adopted : (F : History) (old : S) (desk : DeskState S) → Adopts v old desk → v.is_honest desk.store → Keeps v old (picture F)
+      → Keeps v desk.store (picture F)
+  keeps_adopted F old desk adopts honest keeps = record {
+    tables = adopts.stands.tables honest (picture F) keeps.tables;
+    left = λ c may. keeps.left c (adopts.stands.left honest c may);
+  }
+
+  by_desk : (Does : DeskState S → DeskState S → Result ℕ Fault → Type 0)
+      → ((desk ended : DeskState S) (how : Result ℕ Fault) → desk.is_closed ≡ false → Does desk ended how → AreCalls v desk ended)
+      → (F : History) → Legal F → (old new : S) (how : Result ℕ Fault) → ByDesk v Does old new how → v.is_honest new → IsByDesk F old new
+  by_desk Does calls F legal old new how (unadopted why fails) honest = by_none F legal old new why fails honest
   by_desk Does calls F legal old new how (adopted is desk ended adopts does back) honest =
       let ends : v.is_honest ended.store = subst v.is_honest back honest in
-      let are = calls desk ended is adopts.opened does in
-      let starts = honest_at_first v desk ended are.calls are.replied ends in
+      let are : AreCalls v desk ended = calls desk ended is adopts.opened does in
+      let starts : v.is_honest desk.store = honest_at_first v desk ended are.told are.answered ends in
       record {
         honest = adopts.stands.honest starts;
-        left = λ keeps.
-            let kept : Keeps v desk.store (picture F) = record {
-              tables = adopts.stands.tables starts (picture F) keeps.tables;
-              left = λ c may. keeps.left c (adopts.stands.left starts c may);
-            } in
-            record {
-              calls = are.calls;
-              desk = desk;
-              end = ended;
-              replied = are.replied;
-              is = sym back;
-              left = λ c may.
-                  left_behind v F desk ended are.calls are.replied ends adopts.opened legal kept c (subst (λ s. v.leaves s c) back may);
-            };
+        left = λ keeps. record {
+          told = are.told;
+          desk = desk;
+          end = ended;
+          answered = are.answered;
+          is = sym back;
+          left = λ c may.
+              left_behind v F desk ended are.told are.answered ends adopts.opened legal (keeps_adopted F old desk adopts starts keeps) c
+              (subst (λ s. v.leaves s c) back may);
+        };
       }
 
 module _ {D : Type 0} (g : disk.Ghosts D) where
@@ -199,14 +208,14 @@ module _ {D : Type 0} (g : disk.Ghosts D) where
 
   -- a word that is done by a desk
   left_by : {bytes : Image} {does : Doing Fault} {how : Result ℕ Fault} (F : History) (done : IsDoneOver g bytes does how) → IsOver g F done
-      → IsByDesk stored F done.opened done.ended → LeavesCalls g F done.ended
+      → IsByDesk stored F done.opened done.ended → LeavesLife g F done.ended
   left_by F done over by =
       let it = by.left (keeps_opened F done over by.honest) in
       record {
-        calls = it.calls;
+        told = it.told;
         desk = it.desk;
         end = it.end;
-        replied = it.replied;
+        answered = it.answered;
         is = it.is;
         left = λ left may. it.left left.trees may;
       }
@@ -220,18 +229,18 @@ module _ {D : Type 0} (g : disk.Ghosts D) where
   check_leaves bytes how done F over left may =
       (keeps_opened F done over (done.did.reads.honest over.honest)).left left.trees (done.did.reads.left over.honest left.trees may)
 
-  revoke_leaves : (what : Target) → Leaves g (RevokesTarget what) (LeavesCalls g)
+  revoke_leaves : (what : Target) → Leaves g (RevokesTarget what) (LeavesLife g)
   revoke_leaves what bytes how done F over =
       left_by F done over
       (by_desk stored (Revokes stored what) (revoke_calls stored what) F over.legal done.opened done.ended how done.did over.honest)
 
-  batch_leaves : (bytes was : Option (List ℕ)) → Leaves g (AnswersReader bytes was) (LeavesCalls g)
+  batch_leaves : (bytes was : Option (List ℕ)) → Leaves g (AnswersReader bytes was) (LeavesLife g)
   batch_leaves given was bytes how done F over =
       left_by F done over
       (by_desk stored (AnswersLines stored given was) (λ desk ended how running it. batch_calls stored given was desk ended how it) F over.legal
       done.opened done.ended how done.did over.honest)
 
-  serve_leaves : (count : Option ℕ) → Leaves g (ServesCount count) (LeavesCalls g)
+  serve_leaves : (count : Option ℕ) → Leaves g (ServesCount count) (LeavesLife g)
   serve_leaves count bytes how done F over =
       let most = unwrap_or count 18446744073709551615 in
       left_by F done over

@@ -7,17 +7,17 @@ use Rattle.sqlite_store.specs.declared.store.FileStore.{FileStore}
 use Rattle.command_line.specs.declared.order.Target.{Target}
 use Rattle.commands.specs.Deeds.{AnswersReader, ChecksStatuses, ListsOrders, RevokesTarget, ServesCount}
 use Rattle.commands.specs.declared.fault.Fault.{Fault}
+use Rattle.desk_calls.specs.Seen.{Told}
 use Rattle.desk_calls.specs.State.{DeskState}
 use Rattle.desk_model.specs.Entry.{History}
 use Rattle.desk_model.specs.Legal.{Legal}
 use Rattle.desk_model.specs.Tables.{picture}
-use Rattle.desk_model.specs.declared.call.Call.{Call}
 use Rattle.desk_openings.specs.LeftFiles.{LeftFiles, file_sight}
 use Rattle.desk_store.specs.Desks.{store_sight}
 use Rattle.desk_store.specs.declared.store.Store.{Store}
 use Rattle.file_tasks.specs.Doing.{Doing}
 use Rattle.file_tasks.specs.Endings.{IsDoneOver}
-use Rattle.word_lives.specs.Kept.{HasCalls, Replied}
+use Rattle.word_lives.specs.Kept.{Answered, HasLife}
 
 module _ {D : Type 0} (g : disk.Ghosts D) where
   -- the desk of a history was in the files when a word opened them, in either format, and the disk was honest to the end
@@ -32,15 +32,15 @@ module _ {D : Type 0} (g : disk.Ghosts D) where
   abbrev pub LeavesDesk : History → Store (FileStore D g) → Type 0
   LeavesDesk F ended = (left : LeftFiles) → (file_sight g).leaves ended left → (store_sight (over_files {g = g})).has left.trees (picture F)
 
-  -- calls to the desk that was adopted were replied to, and whatever files a stop then leaves, they have the desk with these, each whole,
-  -- and with one more at most
-  pub record LeavesCalls (F : History) (ended : Store (FileStore D g)) : Type 0 where
-    pub calls : List Call
+  -- calls to the desk that was adopted were replied to, and whatever files a stop then leaves, they have the desk of a life in which just
+  -- these were, and one call at most was cut off
+  pub record LeavesLife (F : History) (ended : Store (FileStore D g)) : Type 0 where
+    pub told : List Told
     pub desk : DeskState (Store (FileStore D g))
     pub end : DeskState (Store (FileStore D g))
-    pub replied : Replied (store_sight (over_files {g = g})) desk calls end
+    pub answered : Answered (store_sight (over_files {g = g})) desk told end
     pub is : end.store ≡ ended
-    pub left : (left : LeftFiles) → (file_sight g).leaves ended left → HasCalls (store_sight (over_files {g = g})) F calls left.trees
+    pub left : (left : LeftFiles) → (file_sight g).leaves ended left → HasLife (store_sight (over_files {g = g})) F told left.trees
 
   -- whatever history the desk of the files has, a word leaves this of it
   abbrev pub Leaves : Doing Fault → (History → Store (FileStore D g) → Type 0) → Type 0
@@ -51,6 +51,6 @@ module _ {D : Type 0} (g : disk.Ghosts D) where
   pub record WordsLeave : Type 0 where
     pub status : Leaves ListsOrders LeavesDesk
     pub check : Leaves ChecksStatuses LeavesDesk
-    pub revoke : (what : Target) → Leaves (RevokesTarget what) LeavesCalls
-    pub batch : (bytes was : Option (List ℕ)) → Leaves (AnswersReader bytes was) LeavesCalls
-    pub serve : (count : Option ℕ) → Leaves (ServesCount count) LeavesCalls
+    pub revoke : (what : Target) → Leaves (RevokesTarget what) LeavesLife
+    pub batch : (bytes was : Option (List ℕ)) → Leaves (AnswersReader bytes was) LeavesLife
+    pub serve : (count : Option ℕ) → Leaves (ServesCount count) LeavesLife

@@ -6,8 +6,9 @@ ghost use Rattle.word_lives.specs.Left.{WordsLeave};
 use sqlite_disk::Disk;
 
 /// Whatever word is done with the desk of two files, and however it ends: files that held the desk of a legal history, in either
-/// format, hold it as it was behind `status` and `check`, and behind the other words with the entries of the calls that were replied to,
-/// each whole, and of one more at most, which a fault cut off. So it is of the files that are closed, and of those that a stop leaves.
+/// format, hold it as it was behind `status` and `check`. Behind the other words they hold the desk of a life from that history on, in
+/// which just the calls that were replied to have these replies, and one call more at most was cut off by a fault. So it is of the files
+/// that are closed, and of those that a stop leaves; and what holds over every life (`lives_hold` of desk_lives) holds of them.
 pub fn words_live<D: Disk>()
     ensures { WordsLeave D.Disk }
 {}
