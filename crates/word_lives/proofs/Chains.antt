@@ -1,5 +1,5 @@
 -- Calls to a desk, one after the other.
-use Rattle.std.proofs.Common.{◌≡◌, List, [], ◌∷◌, Bool, true, false, Result, Ok, Err, IsTrue, ap, inl, inr, refl, subst, sym}
+use Rattle.std.proofs.Common.{◌≡◌, ◌⊎◌, List, [], ◌∷◌, Bool, true, false, Result, Ok, Err, IsTrue, ap, inl, inr, refl, subst, sym}
 use Rattle.desk_calls.specs.Answers.{Exits, IsEither}
 use Rattle.desk_calls.specs.Faults.{closes}
 use Rattle.desk_calls.specs.Meets.{ActsOnce, Meets}
@@ -135,23 +135,44 @@ module _ {S C : Type 0} (v : Sight S C) where
 
   -- ---- what was done, as calls
 
-  -- calls, whichever they are
-  pub record AreCalls (old new : DeskState S) : Type 0 where
+  -- calls to a desk, of whose replies this is so
+  pub record AreCalls (P : List Told → Type 0) (old new : DeskState S) : Type 0 where
     pub told : List Told
     pub answered : Answered v old told new
+    pub says : P told
 
   -- no call
-  pub no_call : (old new : DeskState S) → new ≡ old → AreCalls old new
-  no_call old new same = subst (AreCalls old) (sym same) (record { told = []; answered = not_one })
+  pub no_call : (P : List Told → Type 0) → P [] → (old new : DeskState S) → new ≡ old → AreCalls P old new
+  no_call P none old new same = subst (AreCalls P old) (sym same) (record { told = []; answered = not_one; says = none })
+
+  -- these, or one more
+  abbrev pub OrOneMore : (P : List Told → Type 0) → List Told → Type 0
+  OrOneMore P told = (earlier : List Told) × P earlier × ((told ≡ earlier) ⊎ ((last : Told) × (told ≡ last ∷ earlier)))
 
   -- one more
-  acts_more : (old mid new : DeskState S) (call : Call) (result : Result Reply DeskFault) → Meets v call mid new result → AreCalls old mid
-      → AreCalls old new
-  acts_more old mid new call (Ok reply) meets before =
-      record { told = record { call = call; reply = reply } ∷ before.told; answered = one_more call reply before.answered meets }
-  acts_more old mid new call (Err why) meets before = record { told = before.told; answered = one_declined call why before.answered meets }
+  acts_more : (P : List Told → Type 0) (old mid new : DeskState S) (call : Call) (result : Result Reply DeskFault) → Meets v call mid new result
+      → AreCalls P old mid → AreCalls (OrOneMore P) old new
+  acts_more P old mid new call (Ok reply) meets before =
+      let last : Told = record { call = call; reply = reply } in
+      record {
+        told = last ∷ before.told;
+        answered = one_more call reply before.answered meets;
+        says = (before.told, before.says, inr (last, refl));
+      }
+  acts_more P old mid new call (Err why) meets before =
+      record { told = before.told; answered = one_declined call why before.answered meets; says = (before.told, before.says, inl refl) }
 
   -- one more, or none
-  pub once_more : (old mid new : DeskState S) → AreCalls old mid → ActsOnce v mid new → AreCalls old new
-  once_more old mid new before (inl same) = subst (AreCalls old) (sym same) before
-  once_more old mid new before (inr one) = acts_more old mid new one.call one.result one.meets before
+  pub once_more : (P : List Told → Type 0) (old mid new : DeskState S) → AreCalls P old mid → ActsOnce v mid new → AreCalls (OrOneMore P) old new
+  once_more P old mid new before (inl same) =
+      subst (AreCalls (OrOneMore P) old) (sym same)
+      (record { told = before.told; answered = before.answered; says = (before.told, before.says, inl refl) })
+  once_more P old mid new before (inr one) = acts_more P old mid new one.call one.result one.meets before
+
+  -- of which anything is so
+  abbrev pub Any : List Told → Type 0
+  Any told = Unit {0}
+
+  -- calls, whichever they are
+  pub any_calls : (P : List Told → Type 0) (old new : DeskState S) → AreCalls P old new → AreCalls Any old new
+  any_calls P old new are = record { told = are.told; answered = are.answered; says = tt }

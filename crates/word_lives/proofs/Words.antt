@@ -1,13 +1,17 @@
 -- The words of the program as calls to a desk, and what they leave of its files.
-use Rattle.std.proofs.Common.{◌≡◌, ℕ, zero, suc, List, [], false, Option, None, Result, Ok, Err, inl, inr, refl, subst, sym, unwrap_or}
+use Rattle.std.proofs.KnownBytes.{Appends-nil}
+use Rattle.std.specs.Prelude.{IfSome}
+use Rattle.std.proofs.Common.{◌≡◌, ℕ, zero, suc, List, [], ◌∷◌, ◌++◌, false, Option, None, Some, Result, Ok, Err, inl, inr, refl, subst, sym, unwrap_or}
 use Rattle.sqlite.specs.Files.{over_files}
 use Rattle.sqlite.specs.Recovery.{Image}
 use Rattle.sqlite.specs.Tree.{Trees}
 use Rattle.sqlite_disk.specs.declared.Disk as disk
 use Rattle.sqlite_store.specs.declared.store.FileStore.{FileStore}
 use Rattle.batches.proofs.Acting.{line_acts}
-use Rattle.batches.specs.Said.{Says}
-use Rattle.batches.specs.InTurn.{AnswersEach, Stops, not_one, one_more, silent, unread, unwritten}
+use Rattle.batches.specs.InTurn as batch
+use Rattle.batches.specs.LineRequests.{IsRequestOf, call_of}
+use Rattle.batches.specs.Said.{RepliesTo, Says}
+use Rattle.batches.specs.InTurn.{AnswersEach, AnswersFirst, AreLines, Stops, StopsBehind, not_one, one_more, silent, unread, unwritten}
 use Rattle.command_line.specs.declared.order.Target.{Target}
 use Rattle.commands.specs.Deeds.{Adopts, AnswersLines, AnswersReader, ByDesk, ChecksStatuses, FailsToAdopt, ListsOrders, Revokes, RevokesTarget, Serves, ServesCount}
 use Rattle.commands.specs.Deeds.{adopted, ask_of, served, unadopted, unserved}
@@ -31,6 +35,7 @@ use Rattle.desk_model.specs.Legal.{Legal}
 use Rattle.desk_model.specs.Tables.{picture}
 use Rattle.desk_model.specs.declared.call.OfficeAsk.{OfficeAsk}
 use Rattle.desk_model.specs.declared.refusal.Refusal.{Refusal}
+use Rattle.desk_model.specs.declared.reply.Reply.{Reply}
 use Rattle.desk_storage.specs.Sight.{Keeps, Sight}
 use Rattle.desk_storage.specs.Storing.{Causes}
 use Rattle.desk_store.specs.Desks.{store_sight}
@@ -39,8 +44,18 @@ use Rattle.file_tasks.specs.Doing.{Doing}
 use Rattle.file_tasks.specs.Endings.{IsDoneOver}
 use Rattle.word_lives.specs.Kept.{Answered, HasLife}
 use Rattle.word_lives.specs.Kept as kept
-use Rattle.word_lives.specs.Left.{IsOver, Leaves, LeavesLife, LeavesDesk, WordsLeave}
-use Rattle.word_lives.proofs.Chains.{AreCalls, honest_at_first, left_behind, no_call, once_more}
+use Rattle.requests.specs.Lines.{Spells, line_text}
+use Rattle.requests.specs.declared.lines.Line.{Line}
+use Rattle.requests.specs.declared.request.Request.{Request}
+use Rattle.requests.specs.declared.request.Request.TheVariants as request
+use Rattle.word_lives.specs.Left.{IsOver, Leaves, LeavesBatch, LeavesLife, LeavesDesk, WordsLeave}
+use Rattle.word_lives.specs.Told.{TellsBatch, TellsLines, asked, no_line, refused}
+use Rattle.word_lives.proofs.Chains.{Any, AreCalls, OrOneMore, any_calls, honest_at_first, left_behind, no_call, once_more}
+
+-- no line was read
+none_read : (bytes : Option (List ℕ)) → IfSome bytes (λ xs. AreLines xs [] (unwrap_or bytes []))
+none_read None = tt
+none_read (Some xs) = batch.no_line
 
 module _ {S C : Type 0} (v : Sight S C) where
   -- ---- lines
@@ -49,38 +64,119 @@ module _ {S C : Type 0} (v : Sight S C) where
   said_acts : (mid new : DeskState S) (line text : List ℕ) → Says v mid line text new → ActsOnce v mid new
   said_acts mid new line text says = line_acts v (λ (t : List ℕ). t) mid new line (Ok text) says
 
+  -- a line that was answered
+  one_line : (old mid new : DeskState S) (lines : List (List ℕ)) (said line : List ℕ) (reply : Reply) (l : Line) (q : Request)
+      → Spells line l → IsRequestOf l q → RepliesTo v mid l q reply new → AreCalls v (TellsLines lines said) old mid
+      → AreCalls v (TellsLines (lines ++ line ∷ []) (said ++ (line_text reply ++ 10 ∷ []))) old new
+  one_line old mid new lines said line reply l (request.Asks what) spells asks replies before =
+      record {
+        told = record { call = call_of l what; reply = reply } ∷ before.told;
+        answered = kept.one_more (call_of l what) reply before.answered replies;
+        says = asked before.says line l what reply spells asks;
+      }
+  one_line old mid new lines said line reply l (request.Refused refusal) spells asks replies before =
+      let is : IsRequestOf l (request.Refused reply) = subst (λ r. IsRequestOf l (request.Refused r)) (sym replies.0) asks in
+      record {
+        told = before.told;
+        answered = subst (Answered v old before.told) (sym replies.1) before.answered;
+        says = refused before.says line l reply spells is;
+      }
+
   -- lines that were answered
-  lines_calls : (old new : DeskState S) (lines : List (List ℕ)) (said : List ℕ) → AnswersEach v old lines said new → AreCalls v old new
-  lines_calls old new lines said not_one = no_call v old old refl
+  lines_calls : (old new : DeskState S) (lines : List (List ℕ)) (said : List ℕ) → AnswersEach v old lines said new
+      → AreCalls v (TellsLines lines said) old new
+  lines_calls old new lines said not_one = no_call v (TellsLines [] []) no_line old old refl
   lines_calls old new lines said (one_more {lines = first} {said = told} {line = line} {text = text} {mid = mid} before says) =
-      once_more v old mid new (lines_calls old mid first told before) (said_acts mid new line text says)
+      subst (λ t. AreCalls v (TellsLines (first ++ line ∷ []) (told ++ (t ++ 10 ∷ []))) old new) (sym says.2)
+      (one_line old mid new first told line says.0 says.1.line says.1.request says.1.spells says.1.asks says.1.replies
+      (lines_calls old mid first told before))
 
   -- and one that was not
-  stop_calls : (was is : Option (List ℕ)) (old mid new : DeskState S) → AreCalls v old mid → Stops v was is mid new → AreCalls v old new
-  stop_calls was is old mid new before (unread same kept) = once_more v old mid new before (inl same)
-  stop_calls was is old mid new before (silent line why says kept) =
-      once_more v old mid new before (line_acts v (λ (t : List ℕ). t) mid new line (Err why) says)
-  stop_calls was is old mid new before (unwritten line text says) = once_more v old mid new before (said_acts mid new line text says)
+  stop_calls : (P : List Told → Type 0) (was is : Option (List ℕ)) (old mid new : DeskState S) → AreCalls v P old mid → Stops v was is mid new
+      → AreCalls v (OrOneMore v P) old new
+  stop_calls P was is old mid new before (unread same kept) = once_more v P old mid new before (inl same)
+  stop_calls P was is old mid new before (silent line why says kept) =
+      once_more v P old mid new before (line_acts v (λ (t : List ℕ). t) mid new line (Err why) says)
+  stop_calls P was is old mid new before (unwritten line text says) = once_more v P old mid new before (said_acts mid new line text says)
 
-  -- those of a reader
+  -- all lines of a reader, or the first ones
+  all_lines : (bytes was is : Option (List ℕ)) (desk ended : DeskState S) → AnswersFirst v bytes was [] is desk ended
+      → AreCalls v (TellsBatch bytes was) desk ended
+  all_lines bytes was is desk ended first =
+      let are : AreCalls v (TellsLines first.lines first.said) desk ended = lines_calls desk ended first.lines first.said first.answered in
+      record {
+        told = are.told;
+        answered = are.answered;
+        says = record {
+          lines = first.lines;
+          unread = [];
+          read = first.read;
+          said = first.said;
+          is = is;
+          written = first.written;
+          telling = are.told;
+          tells = are.says;
+          all = inl refl;
+        };
+      }
+
+  first_lines : (bytes was is : Option (List ℕ)) (desk ended : DeskState S) → StopsBehind v bytes was is desk ended
+      → AreCalls v (TellsBatch bytes was) desk ended
+  first_lines bytes was is desk ended stops =
+      let first : AnswersFirst v bytes was stops.left stops.written desk stops.mid = stops.first in
+      let before : AreCalls v (TellsLines first.lines first.said) desk stops.mid = lines_calls desk stops.mid first.lines first.said first.answered in
+      let are : AreCalls v (OrOneMore v (TellsLines first.lines first.said)) desk ended =
+      stop_calls (TellsLines first.lines first.said) stops.written is desk stops.mid ended before stops.stops in
+      record {
+        told = are.told;
+        answered = are.answered;
+        says = record {
+          lines = first.lines;
+          unread = stops.left;
+          read = first.read;
+          said = first.said;
+          is = stops.written;
+          written = first.written;
+          telling = are.says.0;
+          tells = are.says.1;
+          all = are.says.2;
+        };
+      }
+
   batch_calls : (bytes was : Option (List ℕ)) (desk ended : DeskState S) (how : Result ℕ Fault) → AnswersLines v bytes was desk ended how
-      → AreCalls v desk ended
+      → AreCalls v (TellsBatch bytes was) desk ended
   batch_calls bytes was desk ended how it =
       elim it.answers [
-        | inl all ↦ lines_calls desk ended all.1.lines all.1.said all.1.answered
-        | inr first ↦
-            stop_calls first.1.written it.is desk first.1.mid ended
-            (lines_calls desk first.1.mid first.1.first.lines first.1.first.said first.1.first.answered) first.1.stops
+        | inl all ↦ all_lines bytes was it.is desk ended all.1
+        | inr first ↦ first_lines bytes was it.is desk ended first.1
       ]
 
+  -- nothing was read
+  no_lines : (bytes was : Option (List ℕ)) → TellsBatch bytes was []
+  no_lines bytes was = record {
+    lines = [];
+    unread = unwrap_or bytes [];
+    read = none_read bytes;
+    said = [];
+    is = was;
+    written = Appends-nil was;
+    telling = [];
+    tells = no_line;
+    all = inl refl;
+  }
+
   -- ---- revocations
+
+  -- calls, and one more or none
+  calls_on : (old mid new : DeskState S) → AreCalls v (Any v) old mid → ActsOnce v mid new → AreCalls v (Any v) old new
+  calls_on old mid new before acts = any_calls v (OrOneMore v (Any v)) old new (once_more v (Any v) old mid new before acts)
 
   -- what an office asked of an open desk
   office_calls : (at : ℕ) (what : OfficeAsk) (desk ended : DeskState S) (answer : Result (Option Refusal) DeskFault) → desk.is_closed ≡ false
       → AnswersOffice v at what desk.store ended.store answer → ended.is_closed ≡ is_closed_after answer → ended.policy ≡ desk.policy
-      → AreCalls v desk ended
+      → AreCalls v (Any v) desk ended
   office_calls at what desk ended (Ok refusal) running answers flag policy =
-      once_more v desk desk ended (no_call v desk desk refl) (inr (record {
+      calls_on desk desk ended (no_call v (Any v) tt desk desk refl) (inr (record {
         call = office_call at what;
         result = Ok (answers.0);
         meets = record {
@@ -90,7 +186,7 @@ module _ {S C : Type 0} (v : Sight S C) where
         };
       }))
   office_calls at what desk ended (Err why) running answers flag policy =
-      once_more v desk desk ended (no_call v desk desk refl) (inr (record {
+      calls_on desk desk ended (no_call v (Any v) tt desk desk refl) (inr (record {
         call = office_call at what;
         result = Err why;
         meets = record {
@@ -101,8 +197,8 @@ module _ {S C : Type 0} (v : Sight S C) where
       }))
 
   revoke_calls : (what : Target) (desk ended : DeskState S) (how : Result ℕ Fault) → desk.is_closed ≡ false → Revokes v what desk ended how
-      → AreCalls v desk ended
-  revoke_calls what desk ended how running (inl it) = no_call v desk ended it.0
+      → AreCalls v (Any v) desk ended
+  revoke_calls what desk ended how running (inl it) = no_call v (Any v) tt desk ended it.0
   revoke_calls what desk ended how running (inr it) = office_calls it.at (ask_of what) desk ended it.answer running it.answers it.flag it.policy
 
   -- ---- connections
@@ -114,44 +210,46 @@ module _ {S C : Type 0} (v : Sight S C) where
     client_acts sent old new (turn.heard s) = once_acts v causes s.at s.random new.policy.base old new sent (s.does None tt)
 
     -- so many of them
-    many_calls : (n : ℕ) (old new : DeskState S) → ServesMany v causes n old new → AreCalls v old new
-    many_calls zero old new same = no_call v old new same
+    many_calls : (n : ℕ) (old new : DeskState S) → ServesMany v causes n old new → AreCalls v (Any v) old new
+    many_calls zero old new same = no_call v (Any v) tt old new same
     many_calls (suc n) old new many =
-        once_more v old many.0 new (many_calls n old many.0 many.1) (client_acts many.2.0 many.0 new many.2.1)
+        calls_on old many.0 new (many_calls n old many.0 many.1) (client_acts many.2.0 many.0 new many.2.1)
 
     -- all, or up to one that ended the serving
-    all_calls : (most : ℕ) (old new : DeskState S) (ended : Result Unit ServeFault) → ServesAll v causes most old new ended → AreCalls v old new
+    all_calls : (most : ℕ) (old new : DeskState S) (ended : Result Unit ServeFault) → ServesAll v causes most old new ended → AreCalls v (Any v) old new
     all_calls most old new (Ok all) it = many_calls most old new it
     all_calls most old new (Err (servefault.Desk why)) it =
-        once_more v old it.2 new (many_calls it.0 old it.2 it.3) (client_acts it.4.0 it.2 new it.4.1)
+        calls_on old it.2 new (many_calls it.0 old it.2 it.3) (client_acts it.4.0 it.2 new it.4.1)
     all_calls most old new (Err servefault.Bind) it = many_calls it.0 old new it.2
     all_calls most old new (Err servefault.Accept) it = many_calls it.0 old new it.2
     all_calls most old new (Err servefault.Clock) it = many_calls it.0 old new it.2
     all_calls most old new (Err servefault.Random) it = many_calls it.0 old new it.2
 
-    serve_calls : (most : ℕ) (desk ended : DeskState S) (how : Result ℕ Fault) → Serves v causes most desk ended how → AreCalls v desk ended
-    serve_calls most desk ended how (unserved same is) = no_call v desk ended same
+    serve_calls : (most : ℕ) (desk ended : DeskState S) (how : Result ℕ Fault) → Serves v causes most desk ended how → AreCalls v (Any v) desk ended
+    serve_calls most desk ended how (unserved same is) = no_call v (Any v) tt desk ended same
     serve_calls most desk ended how (served by seen all is) = all_calls most desk ended by all
 
   -- ---- what is left behind a desk
 
-  -- calls to a desk were replied to, and what is left has a life of them, and of one more at most
-  record IsLeft (F : History) (new : S) : Type 0 where
+  -- calls to a desk were replied to, of which this is so, and what is left has a life of them, and of one more at most
+  record IsLeft (P : List Told → Type 0) (F : History) (new : S) : Type 0 where
     pub told : List Told
     pub desk : DeskState S
     pub end : DeskState S
     pub answered : Answered v desk told end
     pub is : end.store ≡ new
     pub left : (c : C) → v.leaves new c → HasLife v F told c
+    pub says : P told
 
   -- so it is of what was done by a desk, if that was calls
-  record IsByDesk (F : History) (old new : S) : Type 0 where
+  record IsByDesk (P : List Told → Type 0) (F : History) (old new : S) : Type 0 where
     pub honest : v.is_honest old
-    pub left : Keeps v old (picture F) → IsLeft F new
+    pub left : Keeps v old (picture F) → IsLeft P F new
 
   -- no desk was adopted
-  by_none : (F : History) → Legal F → (old new : S) (why : Fault) → FailsToAdopt v old new why → v.is_honest new → IsByDesk F old new
-  by_none F legal old new why fails honest =
+  by_none : (P : List Told → Type 0) → P [] → (F : History) → Legal F → (old new : S) (why : Fault) → FailsToAdopt v old new why
+      → v.is_honest new → IsByDesk P F old new
+  by_none P none F legal old new why fails honest =
       let d : DeskState S = record { store = new; policy = terms F; is_closed = false } in
       record {
         honest = fails.reads.honest honest;
@@ -163,6 +261,7 @@ module _ {S C : Type 0} (v : Sight S C) where
           is = refl;
           left = λ c may.
               record { life = []; lives = legal; replies = refl; kept = inl refl; tables = keeps.left c (fails.reads.left honest c may) };
+          says = none;
         };
       }
 
@@ -174,13 +273,13 @@ module _ {S C : Type 0} (v : Sight S C) where
     left = λ c may. keeps.left c (adopts.stands.left honest c may);
   }
 
-  by_desk : (Does : DeskState S → DeskState S → Result ℕ Fault → Type 0)
-      → ((desk ended : DeskState S) (how : Result ℕ Fault) → desk.is_closed ≡ false → Does desk ended how → AreCalls v desk ended)
-      → (F : History) → Legal F → (old new : S) (how : Result ℕ Fault) → ByDesk v Does old new how → v.is_honest new → IsByDesk F old new
-  by_desk Does calls F legal old new how (unadopted why fails) honest = by_none F legal old new why fails honest
-  by_desk Does calls F legal old new how (adopted is desk ended adopts does back) honest =
+  by_desk : (P : List Told → Type 0) → P [] → (Does : DeskState S → DeskState S → Result ℕ Fault → Type 0)
+      → ((desk ended : DeskState S) (how : Result ℕ Fault) → desk.is_closed ≡ false → Does desk ended how → AreCalls v P desk ended)
+      → (F : History) → Legal F → (old new : S) (how : Result ℕ Fault) → ByDesk v Does old new how → v.is_honest new → IsByDesk P F old new
+  by_desk P none Does calls F legal old new how (unadopted why fails) honest = by_none P none F legal old new why fails honest
+  by_desk P none Does calls F legal old new how (adopted is desk ended adopts does back) honest =
       let ends : v.is_honest ended.store = subst v.is_honest back honest in
-      let are : AreCalls v desk ended = calls desk ended is adopts.opened does in
+      let are : AreCalls v P desk ended = calls desk ended is adopts.opened does in
       let starts : v.is_honest desk.store = honest_at_first v desk ended are.told are.answered ends in
       record {
         honest = adopts.stands.honest starts;
@@ -193,6 +292,7 @@ module _ {S C : Type 0} (v : Sight S C) where
           left = λ c may.
               left_behind v F desk ended are.told are.answered ends adopts.opened legal (keeps_adopted F old desk adopts starts keeps) c
               (subst (λ s. v.leaves s c) back may);
+          says = are.says;
         };
       }
 
@@ -206,11 +306,9 @@ module _ {D : Type 0} (g : disk.Ghosts D) where
       → stored.is_honest done.opened → Keeps stored done.opened (picture F)
   keeps_opened F done over honest = (done.opens honest over.files over.opened (picture F) over.desk).tables
 
-  -- a word that is done by a desk
-  left_by : {bytes : Image} {does : Doing Fault} {how : Result ℕ Fault} (F : History) (done : IsDoneOver g bytes does how) → IsOver g F done
-      → IsByDesk stored F done.opened done.ended → LeavesLife g F done.ended
-  left_by F done over by =
-      let it = by.left (keeps_opened F done over by.honest) in
+  -- what is left of a store over files
+  left_by : (P : List Told → Type 0) (F : History) (ended : Store (FileStore D g)) → IsLeft stored P F ended → LeavesLife g F ended
+  left_by P F ended it =
       record {
         told = it.told;
         desk = it.desk;
@@ -219,6 +317,27 @@ module _ {D : Type 0} (g : disk.Ghosts D) where
         is = it.is;
         left = λ left may. it.left left.trees may;
       }
+
+  -- and of lines
+  left_batch : (bytes was : Option (List ℕ)) (F : History) (ended : Store (FileStore D g)) → IsLeft stored (TellsBatch bytes was) F ended
+      → LeavesBatch g bytes was F ended
+  left_batch bytes was F ended it =
+      record {
+        lives = record {
+          told = it.told;
+          desk = it.desk;
+          end = it.end;
+          answered = it.answered;
+          is = it.is;
+          left = λ left may. it.left left.trees may;
+        };
+        tells = it.says;
+      }
+
+  -- and of a word that is done by a desk
+  left_over : {bytes : Image} {does : Doing Fault} {how : Result ℕ Fault} (P : List Told → Type 0) (F : History) (done : IsDoneOver g bytes does how)
+      → IsOver g F done → IsByDesk stored P F done.opened done.ended → IsLeft stored P F done.ended
+  left_over P F done over by = by.left (keeps_opened F done over by.honest)
 
   -- each word
   status_leaves : Leaves g ListsOrders (LeavesDesk g)
@@ -231,21 +350,25 @@ module _ {D : Type 0} (g : disk.Ghosts D) where
 
   revoke_leaves : (what : Target) → Leaves g (RevokesTarget what) (LeavesLife g)
   revoke_leaves what bytes how done F over =
-      left_by F done over
-      (by_desk stored (Revokes stored what) (revoke_calls stored what) F over.legal done.opened done.ended how done.did over.honest)
+      left_by (Any stored) F done.ended
+      (left_over (Any stored) F done over
+      (by_desk stored (Any stored) tt (Revokes stored what) (revoke_calls stored what) F over.legal done.opened done.ended how done.did over.honest))
 
-  batch_leaves : (bytes was : Option (List ℕ)) → Leaves g (AnswersReader bytes was) (LeavesLife g)
+  batch_leaves : (bytes was : Option (List ℕ)) → Leaves g (AnswersReader bytes was) (LeavesBatch g bytes was)
   batch_leaves given was bytes how done F over =
-      left_by F done over
-      (by_desk stored (AnswersLines stored given was) (λ desk ended how running it. batch_calls stored given was desk ended how it) F over.legal
-      done.opened done.ended how done.did over.honest)
+      let P : List Told → Type 0 = TellsBatch given was in
+      left_batch given was F done.ended
+      (left_over P F done over
+      (by_desk stored P (no_lines stored given was) (AnswersLines stored given was)
+      (λ desk ended how running it. batch_calls stored given was desk ended how it) F over.legal done.opened done.ended how done.did over.honest))
 
   serve_leaves : (count : Option ℕ) → Leaves g (ServesCount count) (LeavesLife g)
   serve_leaves count bytes how done F over =
-      let most = unwrap_or count 18446744073709551615 in
-      left_by F done over
-      (by_desk stored (Serves stored _ most) (λ desk ended how running it. serve_calls stored _ most desk ended how it) F over.legal done.opened
-      done.ended how done.did over.honest)
+      let most : ℕ = unwrap_or count 18446744073709551615 in
+      left_by (Any stored) F done.ended
+      (left_over (Any stored) F done over
+      (by_desk stored (Any stored) tt (Serves stored _ most) (λ desk ended how running it. serve_calls stored _ most desk ended how it) F over.legal
+      done.opened done.ended how done.did over.honest))
 
   pub words_leave : WordsLeave g
   words_leave = record {

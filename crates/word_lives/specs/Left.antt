@@ -18,6 +18,7 @@ use Rattle.desk_store.specs.declared.store.Store.{Store}
 use Rattle.file_tasks.specs.Doing.{Doing}
 use Rattle.file_tasks.specs.Endings.{IsDoneOver}
 use Rattle.word_lives.specs.Kept.{Answered, HasLife}
+use Rattle.word_lives.specs.Told.{TellsBatch}
 
 module _ {D : Type 0} (g : disk.Ghosts D) where
   -- the desk of a history was in the files when a word opened them, in either format, and the disk was honest to the end
@@ -42,6 +43,11 @@ module _ {D : Type 0} (g : disk.Ghosts D) where
     pub is : end.store ≡ ended
     pub left : (left : LeftFiles) → (file_sight g).leaves ended left → HasLife (store_sight (over_files {g = g})) F told left.trees
 
+  -- and what was said to the lines of a batch tells these replies
+  pub record LeavesBatch (bytes was : Option (List ℕ)) (F : History) (ended : Store (FileStore D g)) : Type 0 where
+    pub lives : LeavesLife F ended
+    pub tells : TellsBatch bytes was lives.told
+
   -- whatever history the desk of the files has, a word leaves this of it
   abbrev pub Leaves : Doing Fault → (History → Store (FileStore D g) → Type 0) → Type 0
   Leaves does Left =
@@ -52,5 +58,5 @@ module _ {D : Type 0} (g : disk.Ghosts D) where
     pub status : Leaves ListsOrders LeavesDesk
     pub check : Leaves ChecksStatuses LeavesDesk
     pub revoke : (what : Target) → Leaves (RevokesTarget what) LeavesLife
-    pub batch : (bytes was : Option (List ℕ)) → Leaves (AnswersReader bytes was) LeavesLife
+    pub batch : (bytes was : Option (List ℕ)) → Leaves (AnswersReader bytes was) (LeavesBatch bytes was)
     pub serve : (count : Option ℕ) → Leaves (ServesCount count) LeavesLife

@@ -1,0 +1,37 @@
+-- What is said to the lines of a batch, and the replies that it tells.
+use Rattle.std.specs.Prelude.{◌≡◌, ◌⊎◌, ℕ, List, [], ◌∷◌, ◌++◌, Option, IfSome}
+use Rattle.std.specs.Io.KnownBytes.{Appends}
+use Rattle.batches.specs.InTurn.{AreLines}
+use Rattle.batches.specs.LineRequests.{IsRequestOf, call_of}
+use Rattle.desk_calls.specs.Seen.{Told}
+use Rattle.desk_model.specs.declared.call.Ask.{Ask}
+use Rattle.desk_model.specs.declared.reply.Reply.{Reply}
+use Rattle.requests.specs.Lines.{Spells, line_text}
+use Rattle.requests.specs.declared.lines.Line.{Line}
+use Rattle.requests.specs.declared.request.Request.TheVariants as request
+
+-- these texts were said to these lines, each with its end, and tell these replies, the latest first: to a line that asks something the
+-- text of its reply, to another one the refusal of its request, which is no reply of the desk's
+pub data TellsLines : (lines : List (List ℕ)) (said : List ℕ) (told : List Told) → Type 0 where
+  no_line : TellsLines [] [] []
+  asked :
+      {lines : List (List ℕ)} {said : List ℕ} {told : List Told} → TellsLines lines said told
+      → (bytes : List ℕ) (l : Line) (what : Ask) (reply : Reply) → Spells bytes l → IsRequestOf l (request.Asks what)
+      → TellsLines (lines ++ bytes ∷ []) (said ++ (line_text reply ++ 10 ∷ [])) (record { call = call_of l what; reply = reply } ∷ told)
+  refused :
+      {lines : List (List ℕ)} {said : List ℕ} {told : List Told} → TellsLines lines said told
+      → (bytes : List ℕ) (l : Line) (reply : Reply) → Spells bytes l → IsRequestOf l (request.Refused reply)
+      → TellsLines (lines ++ bytes ∷ []) (said ++ (line_text reply ++ 10 ∷ [])) told
+
+-- the lines were read of a reader with these bytes, where they are known, and what was said to them was written behind these; the replies
+-- of the desk are those, and one more at most, which was not said
+pub record TellsBatch (bytes was : Option (List ℕ)) (told : List Told) : Type 0 where
+  pub lines : List (List ℕ)
+  pub unread : List ℕ
+  pub read : IfSome bytes (λ xs. AreLines xs lines unread)
+  pub said : List ℕ
+  pub is : Option (List ℕ)
+  pub written : Appends was is said
+  pub telling : List Told
+  pub tells : TellsLines lines said telling
+  pub all : (told ≡ telling) ⊎ ((last : Told) × (told ≡ last ∷ telling))
