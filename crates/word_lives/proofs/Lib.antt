@@ -1,2 +1,4 @@
 mod Chains
+mod Going
+mod Joined
 mod Words

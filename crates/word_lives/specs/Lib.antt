@@ -1,3 +1,4 @@
+pub mod Again
 pub mod Kept
 pub mod Left
 pub mod Told

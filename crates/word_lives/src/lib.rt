@@ -1,6 +1,7 @@
 //! What the words of the program leave of a desk's files.
 #![tactic(auto)]
 
+ghost use Rattle.word_lives.specs.Again.{WordsGoOn};
 ghost use Rattle.word_lives.specs.Left.{WordsLeave};
 
 use sqlite_disk::Disk;
@@ -10,6 +11,9 @@ use sqlite_disk::Disk;
 /// which just the calls that were replied to have these replies, and one call more at most was cut off by a fault. So it is of the files
 /// that are closed, and of those that a stop leaves; and what holds over every life (`lives_hold` of desk_lives) holds of them. What
 /// `batch` wrote to its lines are the texts of these replies, all but the last one's at most, and refusals of requests that are none.
+///
+/// Words that are done one after the other, each over the files that the one before left, go on with one life.
 pub fn words_live<D: Disk>()
-    ensures { WordsLeave D.Disk }
+    ensures left { WordsLeave D.Disk }
+    ensures again { WordsGoOn D.Disk }
 {}
