@@ -31,6 +31,11 @@ terms_in_memory = record { base = codes "https://ca.example"; nonce_life = 3600;
 abbrev pub NamesStatus : Listing → Type 0
 NamesStatus l = (word : _) → l.status ≡ Some word → (s : OrderStatus) × (order_status_text s ≡ word.now)
 
+-- the orders asked for have this status, or any where there is no word
+abbrev pub AsksFor : Listing → Option OrderStatus → Type 0
+AsksFor l None = l.status ≡ None
+AsksFor l (Some s) = (word : _) × (l.status ≡ Some word) × (order_status_text s ≡ word.now)
+
 -- two files: the disk that keeps them, and the bytes that they hold at first
 pub record FilePair : Type 1 where
   pub kind : Type 0

@@ -1,7 +1,7 @@
 //! Reports on the rows of a store.
-ghost use Rattle.std.specs.Prelude.{◌≡◌, MatchOption};
+ghost use Rattle.std.specs.Prelude.{◌≡◌, IfSome, MatchOption};
 ghost use Rattle.commands.specs.Deeds.{how_checked, how_listed};
-ghost use Rattle.commands.specs.Statuses.{NamesStatus};
+ghost use Rattle.commands.specs.Statuses.{AsksFor, NamesStatus};
 
 use crate::fault::Fault;
 use command_line::Listing;
@@ -23,7 +23,8 @@ pub(crate) fn form(json: bool) -> Form {
 
 /// The orders that the words ask for, or `None` where the word of their status names none.
 pub(crate) fn filter(listing: Listing<'_>) -> Option<OrderFilter>
-    ensures { MatchOption result (NamesStatus listing.entry → ⊥) (λ _. NamesStatus listing.entry) }
+    ensures named { MatchOption result (NamesStatus listing.entry → ⊥) (λ _. NamesStatus listing.entry) }
+    ensures asked { IfSome result (λ f. (f.account ≡ listing.entry.account) × AsksFor listing.entry f.status) }
 {
     let status = match listing.status {
         Some(word) => Some(OrderStatus::from_text(word)?),
