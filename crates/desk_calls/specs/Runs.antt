@@ -1,5 +1,5 @@
 -- The exits of a run of calls.
-use Rattle.std.specs.Prelude.{◌≡◌, List, [], ◌∷◌, length, take, drop, Option, Some, None, Ok, Err}
+use Rattle.std.specs.Prelude.{◌≡◌, Bool, false, List, [], ◌∷◌, length, take, drop, Option, Some, None, Ok, Err}
 use Rattle.desk_model.specs.Entry.{History}
 use Rattle.desk_model.specs.Legal.{Legal}
 use Rattle.desk_model.specs.Tables.{picture}
@@ -8,6 +8,7 @@ use Rattle.desk_model.specs.declared.call.Call.{Call}
 use Rattle.desk_model.specs.declared.reply.Reply.{Reply}
 use Rattle.desk_storage.specs.Sight.{Sight, Keeps}
 use Rattle.desk_calls.specs.Answers.{Answers, ExitsBy}
+use Rattle.desk_calls.specs.Faults.{closes}
 use Rattle.desk_calls.specs.declared.fault.DeskFault.{DeskFault}
 use Rattle.desk_calls.specs.declared.fault.DeskFault.TheVariants as deskfault
 
@@ -17,6 +18,11 @@ IsOfModel (Some deskfault.Memory) = ⊥
 IsOfModel (Some deskfault.Device) = ⊥
 IsOfModel (Some deskfault.Reopen) = ⊥
 IsOfModel _ = Unit {0}
+
+-- whether the desk is closed behind a run
+abbrev pub is_closed_behind : Option DeskFault → Bool
+is_closed_behind None = false
+is_closed_behind (Some why) = closes why
 
 module _ {S C : Type 0} (v : Sight S C) where
   -- these calls have these replies, one after the other

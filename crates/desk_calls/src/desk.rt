@@ -5,7 +5,7 @@ ghost use Rattle.desk_storage.specs.Storing.{Loads};
 ghost use Rattle.desk_calls.specs.declared.fault.DeskFault.TheVariants as fault;
 ghost use Rattle.desk_calls.specs.Answers.{Answers, is_closed_after};
 ghost use Rattle.desk_calls.specs.Causes.{IsCaused};
-ghost use Rattle.desk_calls.specs.Runs.{Runs, RunsAs};
+ghost use Rattle.desk_calls.specs.Runs.{Runs, RunsAs, is_closed_behind};
 ghost use Rattle.desk_model.specs.Limits.{last_moment};
 
 use crate::fault::DeskFault;
@@ -172,6 +172,7 @@ impl<K: Storage + Drop> Desk<K> {
         ensures closed { IsTrue self.old.is_closed → (result.0.items ≡ []) × (result.1 ≡ Some fault.Reopen) × (self.new ≡ self.old) }
         ensures exit { self.old.is_closed ≡ false → Runs K.Storage.sight calls.now self.old.store self.new.store result.0.items result.1 }
         ensures chain { self.old.is_closed ≡ false → RunsAs K.Storage.sight self.old.store calls.now result.0.items result.1 self.new.store }
+        ensures flag { self.old.is_closed ≡ false → self.new.is_closed ≡ is_closed_behind result.1 }
         ensures policy { self.new.policy ≡ self.old.policy }
     {
         if self.is_closed {
@@ -184,6 +185,7 @@ impl<K: Storage + Drop> Desk<K> {
     fn answer_all(&mut self, alloc: Global, calls: &[Call]) -> (Vec<Reply>, Option<DeskFault>)
         requires { self.old.is_closed ≡ false }
         ensures chain { RunsAs K.Storage.sight self.old.store calls.now result.0.items result.1 self.new.store }
+        ensures flag { self.new.is_closed ≡ is_closed_behind result.1 }
         ensures policy { self.new.policy ≡ self.old.policy }
     {
         let mut replies = Vec::new(alloc);

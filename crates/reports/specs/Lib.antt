@@ -1,2 +1,4 @@
 pub mod Filter
+pub mod Listed
+pub mod Printed
 pub mod Reported

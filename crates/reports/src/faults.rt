@@ -1,9 +1,13 @@
 //! The list of status faults.
-ghost use Rattle.std.specs.Prelude.{◌≡◌, ◌↔◌, ◌≢◌, [], IfOk, IsTrue};
+ghost use Rattle.std.specs.Prelude.{◌≡◌, ◌↔◌, ◌≢◌, [], IfOk, IsTrue, OnOk, false};
+ghost use Rattle.std.specs.Io.KnownBytes.{Appends};
 ghost use Rattle.desk_model.specs.Derived.{status_faults};
 ghost use Rattle.desk_passes.specs.Left.{faults_of};
 ghost use Rattle.desk_storage.specs.Sight.{ForTables};
+ghost use Rattle.reports.specs.Printed.{fault_line, faults_text, line_of, lines_of};
 ghost use Rattle.reports.specs.Reported.{Reports};
+ghost use Rattle.reports.specs.declared.form.Form.{Form as Manner};
+ghost use Rattle.reports.specs.declared.form.Form.TheVariants.{Text};
 
 use crate::fault::ReportFault;
 use crate::form::Form;
@@ -22,7 +26,9 @@ struct Line {
 }
 
 // What is said of a fault.
-fn said_of(fault: StatusFault) -> Line {
+fn said_of(fault: StatusFault) -> Line
+    ensures { (form : Manner) → fault_line form result.kind.now result.number result.stored.now result.derived.now ≡ line_of form fault }
+{
     let (kind, number, stored, derived) = match fault {
         StatusFault::Account {
             number,
@@ -54,7 +60,10 @@ fn said_of(fault: StatusFault) -> Line {
 }
 
 // The line of a fault. No member of the document needs an escape.
-fn write_fault<W: Write>(out: &mut W, form: Form, line: Line) -> io::Result<()> {
+fn write_fault<W: Write>(out: &mut W, form: Form, line: Line) -> io::Result<()>
+    ensures { OnOk result (Appends (W.contents out.old) (W.contents out.new)
+        (fault_line form line.kind.now line.number line.stored.now line.derived.now)) }
+{
     let Line {
         kind,
         number,
@@ -82,6 +91,8 @@ fn write_kind<K: RowsAbove, W: Write>(
     ensures reads { Reports K.sight source.old source.new result }
     ensures found { ForTables K.sight source.old source.new (λ T. moment ≡ T.meta.counters.clock →
         IfOk result (λ found. IsTrue found ↔ faults_of T kind ≢ [])) }
+    ensures printed { ForTables K.sight source.old source.new (λ T. moment ≡ T.meta.counters.clock →
+        OnOk result (Appends (W.contents out.old) (W.contents out.new) (lines_of form (faults_of T kind)))) }
 {
     let mut found = false;
     let mut faults = StatusFaults::new(source, kind, moment);
@@ -103,6 +114,8 @@ fn write_kinds<K: RowsAbove, W: Write>(
     ensures reads { Reports K.sight source.old source.new result }
     ensures found { ForTables K.sight source.old source.new (λ T. moment ≡ T.meta.counters.clock →
         IfOk result (λ found. IsTrue found ↔ status_faults T ≢ [])) }
+    ensures printed { ForTables K.sight source.old source.new (λ T. moment ≡ T.meta.counters.clock →
+        OnOk result (Appends (W.contents out.old) (W.contents out.new) (lines_of form (status_faults T)))) }
 {
     let mut found = false;
     for kind in FaultKind::ALL {
@@ -111,6 +124,16 @@ fn write_kinds<K: RowsAbove, W: Write>(
         }
     }
     Ok(found)
+}
+
+// Whether a line says that there is no fault.
+fn says_none(found: bool, form: Form) -> bool
+    ensures { IsTrue result ↔ ((found ≡ false) × (form ≡ Text)) }
+{
+    match form {
+        Form::Text => !found,
+        Form::Json => false,
+    }
 }
 
 /// Writes a line for each stored status of a desk that is wrong, by kind and number, and says whether there is one; as text,
@@ -128,10 +151,12 @@ pub fn list_faults<K: RowsAbove, W: Write>(
     ensures reads { Reports K.sight source.old source.new result }
     ensures found { ForTables K.sight source.old source.new (λ T.
         IfOk result (λ found. IsTrue found ↔ status_faults T ≢ [])) }
+    ensures printed { ForTables K.sight source.old source.new (λ T.
+        OnOk result (Appends (W.contents out.old) (W.contents out.new) (faults_text form (status_faults T)))) }
 {
     let moment = moment_of(alloc, source)?;
     let found = write_kinds(alloc, source, out, form, moment)?;
-    if !found && form == Form::Text {
+    if says_none(found, form) {
         writeln!(out, "no fault")?;
     }
     Ok(found)

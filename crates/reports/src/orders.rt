@@ -1,6 +1,10 @@
 //! The list of orders.
-ghost use Rattle.std.specs.Prelude.{IsTrue, ◌↔◌};
+ghost use Rattle.std.specs.Prelude.{◌↔◌, IfOk, IsTrue, OnOk};
+ghost use Rattle.std.specs.Io.KnownBytes.{Appends};
+ghost use Rattle.desk_storage.specs.Sight.{ForTables};
 ghost use Rattle.reports.specs.Filter.{Allows};
+ghost use Rattle.reports.specs.Listed.{Prints, PrintsAll, Turns};
+ghost use Rattle.reports.specs.Printed.{count_line, order_line};
 ghost use Rattle.reports.specs.Reported.{Reports};
 
 use crate::fault::ReportFault;
@@ -52,7 +56,9 @@ fn allows_status(asked: Option<OrderStatus>, status: OrderStatus) -> bool
 
 // The line of an order with the moment at which it expires. As text: its number and its account's, right in ten places, its
 // stored status, left in ten, and the moment. No member of the document needs an escape.
-fn write_order<W: Write>(alloc: Global, out: &mut W, form: Form, row: &OrderRow) -> io::Result<()> {
+fn write_order<W: Write>(alloc: Global, out: &mut W, form: Form, row: &OrderRow) -> io::Result<()>
+    ensures { OnOk result (Appends (W.contents out.old) (W.contents out.new) (order_line form row.now)) }
+{
     let OrderRow {
         number,
         account,
@@ -70,6 +76,24 @@ fn write_order<W: Write>(alloc: Global, out: &mut W, form: Form, row: &OrderRow)
     }
 }
 
+// Writes the line of an order that a filter keeps, and gives the count of those, so far and with it.
+fn write_if_kept<W: Write>(
+    alloc: Global,
+    out: &mut W,
+    form: Form,
+    filter: OrderFilter,
+    row: &OrderRow,
+    count: u64,
+) -> io::Result<u64>
+    ensures { IfOk result (Turns form (W.contents out.old) (W.contents out.new) filter row.now count) }
+{
+    if !filter.keeps(row) {
+        return Ok(count);
+    }
+    write_order(alloc, out, form, row)?;
+    Ok(count.saturating_add(1))
+}
+
 // Writes the line of each order that a filter keeps, and gives how many these are.
 fn write_kept<K: RowsAbove, W: Write>(
     alloc: Global,
@@ -78,15 +102,14 @@ fn write_kept<K: RowsAbove, W: Write>(
     form: Form,
     filter: OrderFilter,
 ) -> Result<u64, ReportFault>
-    ensures { Reports K.sight source.old source.new result }
+    ensures reads { Reports K.sight source.old source.new result }
+    ensures printed { ForTables K.sight source.old source.new (λ T. IfOk result (λ count.
+        Prints form (W.contents out.old) (W.contents out.new) filter T.orders count)) }
 {
     let mut count: u64 = 0;
     let mut orders = Orders::new(source);
     while let Some(order) = orders.next(alloc)? {
-        if filter.keeps(&order) {
-            write_order(alloc, out, form, &order)?;
-            count = count.saturating_add(1);
-        }
+        count = write_if_kept(alloc, out, form, filter, &order, count)?;
     }
     Ok(count)
 }
@@ -105,10 +128,20 @@ pub fn list_orders<K: RowsAbove, W: Write>(
     filter: OrderFilter,
 ) -> Result<(), ReportFault>
     ensures reads { Reports K.sight source.old source.new result }
+    ensures printed { ForTables K.sight source.old source.new (λ T. OnOk result (
+        PrintsAll form (W.contents out.old) (W.contents out.new) filter T.orders)) }
 {
     let count = write_kept(alloc, source, out, form, filter)?;
-    if form == Form::Text {
-        writeln!(out, "orders {count}")?;
-    }
+    write_count(out, form, count)?;
     Ok(())
+}
+
+// Writes how many orders there are, as text.
+fn write_count<W: Write>(out: &mut W, form: Form, count: u64) -> io::Result<()>
+    ensures { OnOk result (Appends (W.contents out.old) (W.contents out.new) (count_line form count)) }
+{
+    match form {
+        Form::Text => writeln!(out, "orders {count}"),
+        Form::Json => Ok(()),
+    }
 }

@@ -1,6 +1,7 @@
 use Rattle.std.proofs.Common.{◌≡◌, ◌-◌, ◌^◌}
 use Rattle.desk_storage.specs.Sight.{ForTables, Stands}
 use Rattle.desk_passes.specs.Left.{faults_above, faults_of}
+use Rattle.reports.proofs.Printing.{Writes}
 use Rattle.reports.proofs.Searching.{Searches}
 use Rattle.reports.proofs.faults.write_kind.Given as goal
 
@@ -10,6 +11,9 @@ invariant-loop-fault g l = record {
   stands : Stands g.K.LookUps.sight l.fn.source l.faults.source.now;
   found : ForTables g.K.LookUps.sight l.fn.source l.faults.source.now (λ T. l.moment ≡ T.meta.counters.clock
       → Searches l.found (faults_of T l.fn.kind) (faults_above T l.faults.kind l.faults.moment l.faults.above));
+  printed : ForTables g.K.LookUps.sight l.fn.source l.faults.source.now (λ T. l.moment ≡ T.meta.counters.clock
+      → Writes l.form (g.W.Write.contents l.fn.out) (g.W.Write.contents l.out) (faults_of T l.fn.kind)
+      (faults_above T l.faults.kind l.faults.moment l.faults.above));
 }
 
 abbrev pub decreases-loop-fault : goal.decreases-loop-fault

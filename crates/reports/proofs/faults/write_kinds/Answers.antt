@@ -1,11 +1,14 @@
-use Rattle.std.proofs.Common.{rules, ◌≢◌, ◌↔◌, ◌+◌, List, [], ◌∷◌, IsTrue, drop, subst, sym}
-use Rattle.std.proofs.lemmas.List.{drop_all}
+use Rattle.std.proofs.Common.{rules, ◌≢◌, ◌↔◌, ◌+◌, List, [], ◌∷◌, IsTrue, ap, drop, get_or, subst, sym}
+use Rattle.std.proofs.lemmas.List.{at_drop_more, drop_all}
+use Rattle.std.specs.Io.KnownBytes.{Appends}
 use Rattle.std.specs.List.{flat_map}
 use Rattle.desk_passes.proofs.Alls.{kinds_make_all}
 use Rattle.desk_passes.specs.Left.{faults_of}
 use Rattle.desk_passes.specs.declared.fault_kind.FaultKind.{FaultKind}
 use Rattle.desk_passes.specs.declared.fault_kind.FaultKind.TheVariants.{Account, Order, Authorization, Challenge}
+use Rattle.reports.proofs.Printing.{writes_all, writes_part}
 use Rattle.reports.proofs.Searching.{Searches, tells, turn_found, turn_passed}
+use Rattle.reports.specs.Printed.{lines_of}
 use Rattle.reports.proofs.faults.write_kinds.Goals.{then-branch, else-branch}
 use Rattle.reports.proofs.faults.write_kinds.Goals as goal
 
@@ -29,6 +32,13 @@ loop-kind-preserved g c = record {
             (sym w.found-is) (turn_passed (faults_of T) kinds c.loop-kind.kind-index Account c.loop-kind.found c.loop-kind-test.true so_far
             (λ some. cc (here.1 some, w.if-branch.false)))
       ];
+  printed = λ honest T holds now.
+      let before = c.in_ok-write_kind.ensures.reads.honest honest in
+      let here = c.in_ok-write_kind.ensures.printed honest T (c.loop-kind.invariant.stands.tables before T holds) now in
+      writes_part c.args.form _ _ _ (flat_map (faults_of T) kinds) (flat_map (faults_of T) (drop c.loop-kind.kind-index kinds))
+      (faults_of T (get_or kinds c.loop-kind.kind-index Account)) (flat_map (faults_of T) (drop (c.loop-kind.kind-index + 1) kinds))
+      (c.loop-kind.invariant.printed before T holds now) (at_drop_more (flat_map (faults_of T)) kinds c.loop-kind.kind-index Account c.loop-kind-test.true)
+      here;
 }
 
 -- the four kinds make all faults
@@ -38,3 +48,11 @@ returns-clause-found g c honest T holds now =
     (tells c.loop-kind.found (flat_map (faults_of T) kinds)
     (subst (λ l. Searches c.loop-kind.found (flat_map (faults_of T) kinds) (flat_map (faults_of T) l))
     (drop_all c.loop-kind.kind-index kinds c.loop-kind-test.false) (c.loop-kind.invariant.found honest T holds now)))
+
+-- and their lines
+pub returns-clause-printed : goal.returns-clause-printed
+returns-clause-printed g c honest T holds now =
+    subst (λ all. Appends (g.W.Write.contents c.args.out.now) (g.W.Write.contents c.loop-kind.out) (lines_of c.args.form all)) (kinds_make_all T)
+    (writes_all c.args.form _ _ (flat_map (faults_of T) kinds) (flat_map (faults_of T) (drop c.loop-kind.kind-index kinds))
+    (c.loop-kind.invariant.printed honest T holds now)
+    (ap (flat_map (faults_of T)) (drop_all c.loop-kind.kind-index kinds c.loop-kind-test.false)))

@@ -2,6 +2,7 @@ use Rattle.std.proofs.Common.{◌≡◌, drop}
 use Rattle.std.specs.List.{flat_map}
 use Rattle.desk_storage.specs.Sight.{ForTables, Stands}
 use Rattle.desk_passes.specs.Left.{faults_of}
+use Rattle.reports.proofs.Printing.{Writes}
 use Rattle.reports.proofs.Searching.{Searches}
 use Rattle.reports.proofs.faults.write_kinds.Given as goal
 
@@ -10,4 +11,7 @@ invariant-loop-kind g l = record {
   stands : Stands g.K.LookUps.sight l.fn.source l.source;
   found : ForTables g.K.LookUps.sight l.fn.source l.source (λ T. l.moment ≡ T.meta.counters.clock
       → Searches l.found (flat_map (faults_of T) l.kind-items) (flat_map (faults_of T) (drop l.kind-index l.kind-items)));
+  printed : ForTables g.K.LookUps.sight l.fn.source l.source (λ T. l.moment ≡ T.meta.counters.clock
+      → Writes l.form (g.W.Write.contents l.fn.out) (g.W.Write.contents l.out) (flat_map (faults_of T) l.kind-items)
+      (flat_map (faults_of T) (drop l.kind-index l.kind-items)));
 }
