@@ -1,10 +1,11 @@
 -- How orders end, by what their steps say.
-use Rattle.std.proofs.Common.{◌≡◌, ◌∙◌, ℕ, List, Option, None, Some, Result, Ok, Err, IsErrAnd, ap, inr, subst, sym}
+use Rattle.std.proofs.Common.{◌≡◌, ◌∙◌, ℕ, Bool, List, Option, None, Some, Result, Ok, Err, IsErrAnd, ap, inr, subst, sym}
 use Rattle.command_line.specs.declared.order.Order.{Order}
 use Rattle.command_line.specs.declared.order.Order.TheVariants as order
 use Rattle.command_line.specs.declared.order.SyncedFile.{SyncedFile}
 use Rattle.command_line.specs.declared.order.Syncs.{Syncs}
-use Rattle.commands.specs.Statuses.{Ends, EndsMake, EndsOverFiles, FilePair, Pairs, files_by}
+use Rattle.commands.specs.Deeds.{ChecksStatuses}
+use Rattle.commands.specs.Statuses.{Ends, EndsMake, EndsOverFiles, FilePair, Pairs, files_by, form_of}
 use Rattle.commands.specs.declared.fault.Fault.{Fault}
 use Rattle.commands.specs.declared.fault.Fault.TheVariants as fault
 use Rattle.desk_calls.specs.declared.fault.DeskFault.TheVariants as deskfault
@@ -13,6 +14,7 @@ use Rattle.desk_storage.specs.declared.fault.StorageFault.TheVariants.{Memory}
 use Rattle.desk_store.specs.declared.open_fault.OpenFault.TheVariants.{Storage}
 use Rattle.file_tasks.specs.Doing.{Doing}
 use Rattle.file_tasks.specs.Endings.{unmade}
+use Rattle.reports.specs.declared.form.Form.{Form}
 
 -- a task over the files to which commits sync so
 pub by_syncs : (pairs : Pairs) (does : Doing Fault) (how : Result ℕ Fault) (syncs is : Syncs) → syncs ≡ is
@@ -23,6 +25,13 @@ by_syncs pairs does how syncs is same ends = subst (λ s. EndsOverFiles (files_b
 pub as_order : (pairs : Pairs) (bytes was : Option (List ℕ)) (o is : Order) (how : Result ℕ Fault) → o ≡ is
     → Ends pairs bytes was is how → Ends pairs bytes was o how
 as_order pairs bytes was o is how same ends = subst (λ x. Ends pairs bytes was x how) (sym same) ends
+
+-- a check ends in the form that is asked for
+pub as_check : (pairs : Pairs) (bytes was : Option (List ℕ)) (o : Order) (file : _) (json : Bool) (f : Form) (how : Result ℕ Fault)
+    → o ≡ order.Check file json → f ≡ form_of json → EndsOverFiles pairs.twice (ChecksStatuses f was) how → Ends pairs bytes was o how
+as_check pairs bytes was o file json f how same is ends =
+    as_order pairs bytes was o (order.Check file json) how same
+    (subst (λ x. EndsOverFiles pairs.twice (ChecksStatuses x was) how) is ends)
 
 -- there was no memory for the policy of a desk in memory
 pub no_policy : (pairs : Pairs) (bytes was : Option (List ℕ)) (file : Option SyncedFile) (f : Fault) (how : Result ℕ Fault) → file ≡ None

@@ -8,7 +8,7 @@ use Rattle.commands.specs.Deeds.{AnswersReader, ChecksStatuses, ListsOrders, Rev
 use Rattle.commands.specs.Deeds.{AnswersLines, ByDesk, IsTold, Revokes, Serves, adopted, unadopted, served, unserved}
 use Rattle.commands.specs.Deeds.{how_checked, how_listed, how_served}
 use Rattle.commands.specs.Faults.{IsOfOpening}
-use Rattle.commands.specs.Statuses.{Ends, EndsBy, EndsMake, EndsOverFiles, EndsStatus, FilePair, Pairs, files_by, status_of, terms_in_memory, terms_of}
+use Rattle.commands.specs.Statuses.{Ends, EndsBy, EndsMake, EndsOverFiles, EndsStatus, FilePair, Pairs, files_by, form_of, status_of, terms_in_memory, terms_of}
 use Rattle.commands.specs.declared.fault.Fault.{Fault}
 use Rattle.connections.specs.declared.fault.ServeFault.{ServeFault}
 use Rattle.desk_calls.specs.State.{DeskState}
@@ -20,6 +20,8 @@ use Rattle.desk_storage.specs.Storing.{Causes}
 use Rattle.file_tasks.specs.Doing.{Doing}
 use Rattle.file_tasks.specs.Endings.{EndsInMemory, closed, done, otherwise, unclosed, unmade, unopened}
 use Rattle.reports.specs.declared.fault.ReportFault.{ReportFault}
+use Rattle.reports.specs.declared.form.Form.{Form}
+use Rattle.reports.specs.declared.orders.OrderFilter.{OrderFilter}
 
 -- the exit status is 3 at most
 abbrev pub IsSmall : Result ℕ Fault → Type 0
@@ -70,11 +72,11 @@ small_by v Does small old new how (unadopted why fails) = omega arith
 small_by v Does small old new how (adopted is desk ended adopts does back) = small desk ended is does
 
 -- each task
-small_lists : AreSmall ListsOrders
-small_lists S C D v causes rows old new how it = small_as how _ it.ends (small_listed it.listed)
+small_lists : (f : Form) (filter : OrderFilter) (was : Option (List ℕ)) → AreSmall (ListsOrders f filter was)
+small_lists f filter was S C D v causes rows old new how it = small_as how _ it.ends (small_listed it.listed)
 
-small_checks : AreSmall ChecksStatuses
-small_checks S C D v causes rows old new how it = small_as how _ it.ends (small_checked it.checked)
+small_checks : (f : Form) (was : Option (List ℕ)) → AreSmall (ChecksStatuses f was)
+small_checks f was S C D v causes rows old new how it = small_as how _ it.ends (small_checked it.checked)
 
 small_revoked : {S C : Type 0} (v : Sight S C) (what : Target) (desk ended : DeskState S) (how : Result ℕ Fault)
     → Revokes v what desk ended how → IsSmall how
@@ -122,17 +124,18 @@ small_make files policy how (inr (inl (legal, made, inl is))) = small_as how _ i
 small_make files policy how (inr (inl (legal, made, inr is))) = small_as how _ is (omega arith)
 small_make files policy how (inr (inr (cause, is))) = small_as how _ is (omega arith)
 
-small_list : (files : FilePair) (listing : Listing) (how : Result ℕ Fault) → EndsStatus files listing how → IsSmall how
-small_list files listing how (inl it) = small_as how _ it.1 (small_status 2 (omega arith))
-small_list files listing how (inr it) = small_over files ListsOrders small_lists how it.1
+small_list : (files : FilePair) (listing : Listing) (was : Option (List ℕ)) (how : Result ℕ Fault) → EndsStatus files listing was how → IsSmall how
+small_list files listing was how (inl it) = small_as how _ it.1 (small_status 2 (omega arith))
+small_list files listing was how (inr it) =
+    small_over files (ListsOrders (form_of listing.json) it.filter was) (small_lists (form_of listing.json) it.filter was) how it.ends
 
 -- each order
 small_order : (pairs : Pairs) (bytes was : Option (List ℕ)) (o : Order) (how : Result ℕ Fault) → Ends pairs bytes was o how → IsSmall how
 small_order pairs bytes was (order.Make file terms) how it = small_make pairs.twice (terms_of terms) how it
 small_order pairs bytes was (order.Serve file port count) how it =
     small_over (files_by pairs file.syncs) (ServesCount count) (small_serves count) how it
-small_order pairs bytes was (order.Status file listing) how it = small_list pairs.twice listing how it
-small_order pairs bytes was (order.Check file json) how it = small_over pairs.twice ChecksStatuses small_checks how it
+small_order pairs bytes was (order.Status file listing) how it = small_list pairs.twice listing was how it
+small_order pairs bytes was (order.Check file json) how it = small_over pairs.twice (ChecksStatuses (form_of json) was) (small_checks (form_of json) was) how it
 small_order pairs bytes was (order.Revoke file target) how it = small_over pairs.twice (RevokesTarget target) (small_revokes target) how it
 small_order pairs bytes was (order.Batch (Some file)) how it =
     small_over (files_by pairs file.syncs) (AnswersReader bytes was) (small_answers bytes was) how it

@@ -1,5 +1,6 @@
 -- What the words of the program do with the store of a desk, and how that ends.
-use Rattle.std.specs.Prelude.{◌≡◌, ◌≢◌, ◌⊎◌, ◌↔◌, ℕ, List, [], Bool, true, false, Option, Some, None, Result, Ok, Err, IfOk, IsTrue, unwrap_or}
+use Rattle.std.specs.Prelude.{◌≡◌, ◌≢◌, ◌⊎◌, ◌↔◌, ℕ, List, [], Bool, true, false, Option, Some, None, Result, Ok, Err, IfOk, IsTrue, OnOk, unwrap_or}
+use Rattle.std.specs.Io.KnownBytes.{Appends}
 use Rattle.batches.specs.InTurn.{AnswersFirst, StopsBehind}
 use Rattle.command_line.specs.declared.order.Target.{Target}
 use Rattle.command_line.specs.declared.order.Target.TheVariants as target
@@ -23,7 +24,11 @@ use Rattle.desk_storage.specs.Sight.{FailsToRead, ForTables, Sight, Stands}
 use Rattle.desk_storage.specs.Storing.{Causes}
 use Rattle.desk_storage.specs.declared.fault.StorageFault.{StorageFault}
 use Rattle.file_tasks.specs.Doing.{Doing}
+use Rattle.reports.specs.Listed.{PrintsAll}
+use Rattle.reports.specs.Printed.{faults_text}
 use Rattle.reports.specs.Reported.{Reports}
+use Rattle.reports.specs.declared.form.Form.{Form}
+use Rattle.reports.specs.declared.orders.OrderFilter.{OrderFilter}
 use Rattle.reports.specs.declared.fault.ReportFault.{ReportFault}
 
 -- ---- reports
@@ -40,17 +45,21 @@ how_checked (Ok false) = Ok 0
 how_checked (Err why) = Err (report_fault why)
 
 module _ {S C : Type 0} (v : Sight S C) where
-  -- the orders were listed, which changed nothing, or that was stopped
-  pub record Lists (old new : S) (how : Result ℕ Fault) : Type 0 where
+  -- the orders that a filter keeps were listed, which changed nothing, or that was stopped
+  pub record Lists (f : Form) (filter : OrderFilter) (was : Option (List ℕ)) (old new : S) (how : Result ℕ Fault) : Type 0 where
     pub listed : Result Unit ReportFault
+    pub is : Option (List ℕ)
     pub reads : Reports v old new listed
+    pub printed : ForTables v old new (λ T. OnOk listed (PrintsAll f was is filter T.orders))
     pub ends : how ≡ how_listed listed
 
   -- the wrong statuses were listed, which changed nothing, or that was stopped; one is found exactly where there is one
-  pub record Checks (old new : S) (how : Result ℕ Fault) : Type 0 where
+  pub record Checks (f : Form) (was : Option (List ℕ)) (old new : S) (how : Result ℕ Fault) : Type 0 where
     pub checked : Result Bool ReportFault
+    pub is : Option (List ℕ)
     pub reads : Reports v old new checked
     pub found : ForTables v old new (λ T. IfOk checked (λ found. IsTrue found ↔ status_faults T ≢ []))
+    pub printed : ForTables v old new (λ T. OnOk checked (Appends was is (faults_text f (status_faults T))))
     pub ends : how ≡ how_checked checked
 
 -- ---- what is done by a desk
@@ -125,13 +134,13 @@ module _ {S C : Type 0} (v : Sight S C) (causes : Causes S) where
 
 -- ---- the tasks
 
--- the orders are listed
-abbrev pub ListsOrders : Doing Fault
-ListsOrders _ _ _ v causes rows = Lists rows
+-- the orders that a filter keeps are listed on a writer that was given these bytes, where they are known
+abbrev pub ListsOrders : Form → OrderFilter → (was : Option (List ℕ)) → Doing Fault
+ListsOrders f filter was _ _ _ v causes rows = Lists rows f filter was
 
--- the wrong statuses are listed
-abbrev pub ChecksStatuses : Doing Fault
-ChecksStatuses _ _ _ v causes rows = Checks rows
+-- the wrong statuses are
+abbrev pub ChecksStatuses : Form → (was : Option (List ℕ)) → Doing Fault
+ChecksStatuses f was _ _ _ v causes rows = Checks rows f was
 
 -- an authorization or an account is revoked
 abbrev pub RevokesTarget : Target → Doing Fault

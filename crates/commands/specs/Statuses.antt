@@ -1,5 +1,5 @@
 -- How the orders of the command line end.
-use Rattle.std.specs.Prelude.{◌≡◌, ◌⊎◌, ℕ, List, codes, Option, Some, None, Result, Ok, Err, true, false}
+use Rattle.std.specs.Prelude.{◌≡◌, ◌⊎◌, ℕ, Bool, List, codes, Option, Some, None, Result, Ok, Err, true, false}
 use Rattle.sqlite.specs.Recovery.{Image}
 use Rattle.sqlite_disk.specs.declared.Disk as disk
 use Rattle.command_line.specs.declared.order.Listing.{Listing}
@@ -18,6 +18,9 @@ use Rattle.desk_model.specs.declared.status.OrderStatus.{OrderStatus}
 use Rattle.desk_store.specs.declared.open_fault.OpenFault.{OpenFault}
 use Rattle.file_tasks.specs.Doing.{Doing}
 use Rattle.file_tasks.specs.Endings.{EndsInMemory, EndsOver, IsMadeIn}
+use Rattle.reports.specs.declared.form.Form.{Form}
+use Rattle.reports.specs.declared.form.Form.TheVariants as form
+use Rattle.reports.specs.declared.orders.OrderFilter.{OrderFilter}
 
 -- the terms that the words give
 abbrev pub terms_of : Words → Terms
@@ -59,10 +62,22 @@ EndsMake files policy how =
     ⊎ (((are_terms policy ≡ true) × IsMadeIn files.disk files.bytes policy × ((how ≡ Ok 0) ⊎ (how ≡ Err fault.Output)))
     ⊎ ((cause : OpenFault) × (how ≡ Err (fault.Desk (open_fault cause)))))
 
+-- the form that is asked for
+abbrev pub form_of : Bool → Form
+form_of true = form.Json
+form_of false = form.Text
+
+-- the orders are listed that are asked for
+pub record ListsAsked (files : FilePair) (listing : Listing) (was : Option (List ℕ)) (how : Result ℕ Fault) : Type 0 where
+  pub names : NamesStatus listing
+  pub filter : OrderFilter
+  pub account : filter.account ≡ listing.account
+  pub status : AsksFor listing filter.status
+  pub ends : EndsOverFiles files (ListsOrders (form_of listing.json) filter was) how
+
 -- 2 where the word of the status names none, and there alone
-abbrev pub EndsStatus : FilePair → Listing → Result ℕ Fault → Type 0
-EndsStatus files listing how =
-    ((NamesStatus listing → ⊥) × (how ≡ Ok 2)) ⊎ (NamesStatus listing × EndsOverFiles files ListsOrders how)
+abbrev pub EndsStatus : FilePair → Listing → (was : Option (List ℕ)) → Result ℕ Fault → Type 0
+EndsStatus files listing was how = ((NamesStatus listing → ⊥) × (how ≡ Ok 2)) ⊎ ListsAsked files listing was how
 
 -- the files to which each commit syncs twice and those to which it syncs once
 pub record Pairs : Type 1 where
@@ -78,8 +93,8 @@ files_by pairs syncs.Once = pairs.once
 abbrev pub Ends : Pairs → (bytes was : Option (List ℕ)) → Order → Result ℕ Fault → Type 0
 Ends pairs bytes was (order.Make file terms) how = EndsMake pairs.twice (terms_of terms) how
 Ends pairs bytes was (order.Serve file port count) how = EndsOverFiles (files_by pairs file.syncs) (ServesCount count) how
-Ends pairs bytes was (order.Status file listing) how = EndsStatus pairs.twice listing how
-Ends pairs bytes was (order.Check file json) how = EndsOverFiles pairs.twice ChecksStatuses how
+Ends pairs bytes was (order.Status file listing) how = EndsStatus pairs.twice listing was how
+Ends pairs bytes was (order.Check file json) how = EndsOverFiles pairs.twice (ChecksStatuses (form_of json) was) how
 Ends pairs bytes was (order.Revoke file target) how = EndsOverFiles pairs.twice (RevokesTarget target) how
 Ends pairs bytes was (order.Batch (Some file)) how = EndsOverFiles (files_by pairs file.syncs) (AnswersReader bytes was) how
 Ends pairs bytes was (order.Batch None) how = EndsInMemory IsOfOpening terms_in_memory (AnswersReader bytes was) how

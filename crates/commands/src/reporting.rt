@@ -1,7 +1,7 @@
 //! Reports on the rows of a store.
 ghost use Rattle.std.specs.Prelude.{◌≡◌, IfSome, MatchOption};
 ghost use Rattle.commands.specs.Deeds.{how_checked, how_listed};
-ghost use Rattle.commands.specs.Statuses.{AsksFor, NamesStatus};
+ghost use Rattle.commands.specs.Statuses.{AsksFor, NamesStatus, form_of};
 
 use crate::fault::Fault;
 use command_line::Listing;
@@ -17,7 +17,9 @@ use std::io::Write;
 const FOUND: u8 = 3;
 
 /// The form that the words ask for.
-pub(crate) fn form(json: bool) -> Form {
+pub(crate) fn form(json: bool) -> Form
+    ensures { result ≡ form_of json }
+{
     if json { Form::Json } else { Form::Text }
 }
 
@@ -50,7 +52,7 @@ impl<'a, W: Write> Task for ListOrders<'a, W> {
 
     type Fault = Fault;
 
-    ghost does = { λ _. ListsOrders };
+    ghost does = { λ task. ListsOrders task.form task.filter (W.contents task.out.now) };
 
     fn run<K: Storage + RowsAbove + Drop>(&mut self, store: K) -> (K, Result<u8, Fault>) {
         let mut store = store;
@@ -72,7 +74,7 @@ impl<'a, W: Write> Task for CheckStatuses<'a, W> {
 
     type Fault = Fault;
 
-    ghost does = { λ _. ChecksStatuses };
+    ghost does = { λ task. ChecksStatuses task.form (W.contents task.out.now) };
 
     fn run<K: Storage + RowsAbove + Drop>(&mut self, store: K) -> (K, Result<u8, Fault>) {
         let mut store = store;

@@ -141,7 +141,7 @@ fn list_file<W: Write, E: Write>(
     out: &mut W,
     errors: &mut E,
 ) -> Result<u8, Fault>
-    ensures { EndsStatus (files_on ⟦<FileFrom<Wary> as Disk>⟧ (image_at ⟦<Wary as Start>⟧)) listing.entry result }
+    ensures { EndsStatus (files_on ⟦<FileFrom<Wary> as Disk>⟧ (image_at ⟦<Wary as Start>⟧)) listing.entry (W.contents out.old) result }
 {
     let Some(filter) = filter(listing) else {
         return Ok(refuse(errors, Wrong::Status));

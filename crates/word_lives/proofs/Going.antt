@@ -70,8 +70,8 @@ module _ {D : Type 0} (g : disk.Ghosts D) where
   words_go_on =
       let all : WordsLeave g = words_leave g in
       record {
-        status = desk_goes_on ListsOrders all.status;
-        check = desk_goes_on ChecksStatuses all.check;
+        status = λ f filter was. desk_goes_on (ListsOrders f filter was) (all.status f filter was);
+        check = λ f was. desk_goes_on (ChecksStatuses f was) (all.check f was);
         revoke = λ what F words files h how done honest.
             life_goes_on F words files h done.ended
             (all.revoke what files.image how done (history F h.life) (is_over F words files h done honest));

@@ -44,6 +44,8 @@ use Rattle.file_tasks.specs.Doing.{Doing}
 use Rattle.file_tasks.specs.Endings.{IsDoneOver}
 use Rattle.word_lives.specs.Kept.{Answered, HasLife}
 use Rattle.word_lives.specs.Kept as kept
+use Rattle.reports.specs.declared.form.Form.{Form}
+use Rattle.reports.specs.declared.orders.OrderFilter.{OrderFilter}
 use Rattle.requests.specs.Lines.{Spells, line_text}
 use Rattle.requests.specs.declared.lines.Line.{Line}
 use Rattle.requests.specs.declared.request.Request.{Request}
@@ -340,12 +342,12 @@ module _ {D : Type 0} (g : disk.Ghosts D) where
   left_over P F done over by = by.left (keeps_opened F done over by.honest)
 
   -- each word
-  status_leaves : Leaves g ListsOrders (LeavesDesk g)
-  status_leaves bytes how done F over left may =
+  status_leaves : (f : Form) (filter : OrderFilter) (was : Option (List ℕ)) → Leaves g (ListsOrders f filter was) (LeavesDesk g)
+  status_leaves f filter was bytes how done F over left may =
       (keeps_opened F done over (done.did.reads.honest over.honest)).left left.trees (done.did.reads.left over.honest left.trees may)
 
-  check_leaves : Leaves g ChecksStatuses (LeavesDesk g)
-  check_leaves bytes how done F over left may =
+  check_leaves : (f : Form) (was : Option (List ℕ)) → Leaves g (ChecksStatuses f was) (LeavesDesk g)
+  check_leaves f was bytes how done F over left may =
       (keeps_opened F done over (done.did.reads.honest over.honest)).left left.trees (done.did.reads.left over.honest left.trees may)
 
   revoke_leaves : (what : Target) → Leaves g (RevokesTarget what) (LeavesLife g)

@@ -13,6 +13,8 @@ use Rattle.desk_openings.specs.LeftFiles.{LeftFiles, file_sight}
 use Rattle.desk_store.specs.Desks.{AreOfDesk}
 use Rattle.file_tasks.specs.Doing.{Doing}
 use Rattle.file_tasks.specs.Endings.{IsDoneOver}
+use Rattle.reports.specs.declared.form.Form.{Form}
+use Rattle.reports.specs.declared.orders.OrderFilter.{OrderFilter}
 use Rattle.word_lives.specs.Kept.{AreKept, calls_of}
 
 -- the replies of words, the latest first
@@ -45,8 +47,8 @@ module _ {D : Type 0} (g : disk.Ghosts D) where
 
   -- so it is of each word
   pub record WordsGoOn : Type 0 where
-    pub status : GoesOn ListsOrders
-    pub check : GoesOn ChecksStatuses
+    pub status : (f : Form) (filter : OrderFilter) (was : Option (List ℕ)) → GoesOn (ListsOrders f filter was)
+    pub check : (f : Form) (was : Option (List ℕ)) → GoesOn (ChecksStatuses f was)
     pub revoke : (what : Target) → GoesOn (RevokesTarget what)
     pub batch : (bytes was : Option (List ℕ)) → GoesOn (AnswersReader bytes was)
     pub serve : (count : Option ℕ) → GoesOn (ServesCount count)

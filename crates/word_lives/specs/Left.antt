@@ -17,6 +17,8 @@ use Rattle.desk_store.specs.Desks.{store_sight}
 use Rattle.desk_store.specs.declared.store.Store.{Store}
 use Rattle.file_tasks.specs.Doing.{Doing}
 use Rattle.file_tasks.specs.Endings.{IsDoneOver}
+use Rattle.reports.specs.declared.form.Form.{Form}
+use Rattle.reports.specs.declared.orders.OrderFilter.{OrderFilter}
 use Rattle.word_lives.specs.Kept.{Answered, HasLife}
 use Rattle.word_lives.specs.Told.{TellsBatch}
 
@@ -55,8 +57,8 @@ module _ {D : Type 0} (g : disk.Ghosts D) where
 
   -- so it is of each word
   pub record WordsLeave : Type 0 where
-    pub status : Leaves ListsOrders LeavesDesk
-    pub check : Leaves ChecksStatuses LeavesDesk
+    pub status : (f : Form) (filter : OrderFilter) (was : Option (List ℕ)) → Leaves (ListsOrders f filter was) LeavesDesk
+    pub check : (f : Form) (was : Option (List ℕ)) → Leaves (ChecksStatuses f was) LeavesDesk
     pub revoke : (what : Target) → Leaves (RevokesTarget what) LeavesLife
     pub batch : (bytes was : Option (List ℕ)) → Leaves (AnswersReader bytes was) (LeavesBatch bytes was)
     pub serve : (count : Option ℕ) → Leaves (ServesCount count) LeavesLife

@@ -1,0 +1,13 @@
+use Rattle.commands.proofs.reporting.CheckStatusesTask.run.Goals as goal
+
+pub returns : goal.returns
+returns g c =
+    let listed = c.list_faults-checked.ensures in
+    record {
+      checked = c.list_faults-checked.result;
+      is = g.W.Write.contents c.list_faults-checked.new.out;
+      reads = listed.reads;
+      found = listed.found;
+      printed = listed.printed;
+      ends = c.found.ensures;
+    }
