@@ -124,6 +124,11 @@ def functions_of(path, text):
     return found
 
 
+def messages(said):
+    """The prover's messages, each in one line with those that are set in below it."""
+    return re.sub(r"\n  +", " ", said).split("\n")
+
+
 class Edit:
     """A planted edit: the texts that it replaces, and the functions of src/ that it changes, none where it changes more than functions."""
 
@@ -151,7 +156,7 @@ class Edit:
 
     def is_refused(self, said):
         """Whether the prover's words refuse a function that the edit changes, for what stands in it and not for a name that it lost."""
-        for line in said.split("\n"):
+        for line in messages(said):
             at = re.match(r"(?:note: )?(?:\./)?(src/\S+?):(\d+):\d+: (?:error: |it is not proved)", line)
             if at and any(it.holds(at[1], int(at[2]) - 1) for it in self.functions):
                 return True
