@@ -9,8 +9,8 @@ use sqlite_disk::Disk;
 /// Whatever word is done with the desk of two files, and however it ends: files that held the desk of a legal history, in either
 /// format, hold it as it was behind `status` and `check`. Behind the other words they hold the desk of a life from that history on, in
 /// which just the calls that were replied to have these replies, and one call more at most was cut off by a fault. So it is of the files
-/// that are closed, and of those that a stop leaves; and what holds over every life (`lives_hold` of desk_lives) holds of them. What
-/// `batch` wrote to its lines are the texts of these replies, all but the last one's at most, and refusals of requests that are none.
+/// that are closed, and of those that a stop leaves; and what holds over every life (`lives_hold` of desk_lives) holds of them. The
+/// calls of `batch` are those that its reader's lines spell, in turn, all but the last at most.
 ///
 /// Words that are done one after the other, each over the files that the one before left, go on with one life.
 pub fn words_live<D: Disk>()
