@@ -8,7 +8,7 @@ use Rattle.commands.specs.Deeds.{AnswersReader, ChecksStatuses, ListsOrders, Rev
 use Rattle.commands.specs.Deeds.{AnswersLines, ByDesk, IsTold, Revokes, Serves, adopted, unadopted, served, unserved}
 use Rattle.commands.specs.Deeds.{how_checked, how_listed, how_served}
 use Rattle.commands.specs.Faults.{IsOfOpening}
-use Rattle.commands.specs.Statuses.{Ends, EndsBy, EndsMake, EndsOverFiles, EndsStatus, FilePair, Pairs, files_by, form_of, status_of, terms_in_memory, terms_of}
+use Rattle.commands.specs.Statuses.{Ends, EndsBy, EndsMake, EndsOverFiles, EndsStatus, FilePair, form_of, status_of, terms_in_memory, terms_of}
 use Rattle.commands.specs.declared.fault.Fault.{Fault}
 use Rattle.connections.specs.declared.fault.ServeFault.{ServeFault}
 use Rattle.desk_calls.specs.State.{DeskState}
@@ -130,17 +130,17 @@ small_list files listing was how (inr it) =
     small_over files (ListsOrders (form_of listing.json) it.filter was) (small_lists (form_of listing.json) it.filter was) how it.ends
 
 -- each order
-small_order : (pairs : Pairs) (bytes was : Option (List ℕ)) (o : Order) (how : Result ℕ Fault) → Ends pairs bytes was o how → IsSmall how
-small_order pairs bytes was (order.Make file terms) how it = small_make pairs.twice (terms_of terms) how it
-small_order pairs bytes was (order.Serve file port count) how it =
-    small_over (files_by pairs file.syncs) (ServesCount count) (small_serves count) how it
-small_order pairs bytes was (order.Status file listing) how it = small_list pairs.twice listing was how it
-small_order pairs bytes was (order.Check file json) how it = small_over pairs.twice (ChecksStatuses (form_of json) was) (small_checks (form_of json) was) how it
-small_order pairs bytes was (order.Revoke file target) how it = small_over pairs.twice (RevokesTarget target) (small_revokes target) how it
-small_order pairs bytes was (order.Batch (Some file)) how it =
-    small_over (files_by pairs file.syncs) (AnswersReader bytes was) (small_answers bytes was) how it
-small_order pairs bytes was (order.Batch None) how it = small_in_memory terms_in_memory (AnswersReader bytes was) (small_answers bytes was) how it
+small_order : (files : FilePair) (bytes was : Option (List ℕ)) (o : Order) (how : Result ℕ Fault) → Ends files bytes was o how → IsSmall how
+small_order files bytes was (order.Make file terms) how it = small_make files (terms_of terms) how it
+small_order files bytes was (order.Serve file port count) how it =
+    small_over files (ServesCount count) (small_serves count) how it
+small_order files bytes was (order.Status file listing) how it = small_list files listing was how it
+small_order files bytes was (order.Check file json) how it = small_over files (ChecksStatuses (form_of json) was) (small_checks (form_of json) was) how it
+small_order files bytes was (order.Revoke file target) how it = small_over files (RevokesTarget target) (small_revokes target) how it
+small_order files bytes was (order.Batch (Some file)) how it =
+    small_over files (AnswersReader bytes was) (small_answers bytes was) how it
+small_order files bytes was (order.Batch None) how it = small_in_memory terms_in_memory (AnswersReader bytes was) (small_answers bytes was) how it
 
 -- no exit status is above 3
-pub at_most_three : (pairs : Pairs) (bytes was : Option (List ℕ)) (o : Order) (status : ℕ) → EndsBy pairs bytes was o status → status ≤ 3
-at_most_three pairs bytes was o status it = subst (λ n. n ≤ 3) (sym it.2) (small_order pairs bytes was o it.0 it.1)
+pub at_most_three : (files : FilePair) (bytes was : Option (List ℕ)) (o : Order) (status : ℕ) → EndsBy files bytes was o status → status ≤ 3
+at_most_three files bytes was o status it = subst (λ n. n ≤ 3) (sym it.2) (small_order files bytes was o it.0 it.1)

@@ -79,25 +79,26 @@ pub record ListsAsked (files : FilePair) (listing : Listing) (was : Option (List
 abbrev pub EndsStatus : FilePair → Listing → (was : Option (List ℕ)) → Result ℕ Fault → Type 0
 EndsStatus files listing was how = ((NamesStatus listing → ⊥) × (how ≡ Ok 2)) ⊎ ListsAsked files listing was how
 
--- the files to which each commit syncs twice and those to which it syncs once
-pub record Pairs : Type 1 where
-  pub twice : FilePair
-  pub once : FilePair
+-- how often a commit syncs that an order makes: as its word says, or twice
+abbrev pub syncs_of : Order → Syncs
+syncs_of (order.Serve file port count) = file.syncs
+syncs_of (order.Batch (Some file)) = file.syncs
+syncs_of _ = syncs.Twice
 
--- those to which it syncs so
-abbrev pub files_by : Pairs → Syncs → FilePair
-files_by pairs syncs.Twice = pairs.twice
-files_by pairs syncs.Once = pairs.once
+-- whether that supposes of each byte which was written and not synced that it is the old or the new one
+abbrev pub supposes : Syncs → Bool
+supposes syncs.Once = true
+supposes syncs.Twice = false
 
--- how an order ends; its reader has these bytes, and its writer was given these, where that is known
-abbrev pub Ends : Pairs → (bytes was : Option (List ℕ)) → Order → Result ℕ Fault → Type 0
-Ends pairs bytes was (order.Make file terms) how = EndsMake pairs.twice (terms_of terms) how
-Ends pairs bytes was (order.Serve file port count) how = EndsOverFiles (files_by pairs file.syncs) (ServesCount count) how
-Ends pairs bytes was (order.Status file listing) how = EndsStatus pairs.twice listing was how
-Ends pairs bytes was (order.Check file json) how = EndsOverFiles pairs.twice (ChecksStatuses (form_of json) was) how
-Ends pairs bytes was (order.Revoke file target) how = EndsOverFiles pairs.twice (RevokesTarget target) how
-Ends pairs bytes was (order.Batch (Some file)) how = EndsOverFiles (files_by pairs file.syncs) (AnswersReader bytes was) how
-Ends pairs bytes was (order.Batch None) how = EndsInMemory IsOfOpening terms_in_memory (AnswersReader bytes was) how
+-- how an order over these files ends; its reader has these bytes, and its writer was given these, where that is known
+abbrev pub Ends : FilePair → (bytes was : Option (List ℕ)) → Order → Result ℕ Fault → Type 0
+Ends files bytes was (order.Make file terms) how = EndsMake files (terms_of terms) how
+Ends files bytes was (order.Serve file port count) how = EndsOverFiles files (ServesCount count) how
+Ends files bytes was (order.Status file listing) how = EndsStatus files listing was how
+Ends files bytes was (order.Check file json) how = EndsOverFiles files (ChecksStatuses (form_of json) was) how
+Ends files bytes was (order.Revoke file target) how = EndsOverFiles files (RevokesTarget target) how
+Ends files bytes was (order.Batch (Some file)) how = EndsOverFiles files (AnswersReader bytes was) how
+Ends files bytes was (order.Batch None) how = EndsInMemory IsOfOpening terms_in_memory (AnswersReader bytes was) how
 
 -- the exit status, which after a fault is 1
 abbrev pub status_of : Result ℕ Fault → ℕ
@@ -105,5 +106,5 @@ status_of (Ok status) = status
 status_of (Err why) = 1
 
 -- an order ends by this status
-abbrev pub EndsBy : Pairs → (bytes was : Option (List ℕ)) → Order → ℕ → Type 0
-EndsBy pairs bytes was o status = (how : Result ℕ Fault) × Ends pairs bytes was o how × (status ≡ status_of how)
+abbrev pub EndsBy : FilePair → (bytes was : Option (List ℕ)) → Order → ℕ → Type 0
+EndsBy files bytes was o status = (how : Result ℕ Fault) × Ends files bytes was o how × (status ≡ status_of how)

@@ -3,7 +3,7 @@ ghost use Rattle.std.specs.Prelude.{◌≡◌, ◌≤◌, IfErr, IfOk, MatchOpti
 ghost use Rattle.sqlite.specs.WalFiles.{image_at};
 ghost use Rattle.desk_model.specs.Terms.{are_terms};
 ghost use Rattle.desk_calls.specs.declared.fault.DeskFault.TheVariants as deskfault;
-ghost use Rattle.commands.specs.Statuses.{Ends, EndsBy, EndsMake, EndsOverFiles, EndsStatus, FilePair, files_by, files_on, terms_in_memory, terms_of};
+ghost use Rattle.commands.specs.Statuses.{Ends, EndsBy, EndsMake, EndsStatus, files_on, supposes, syncs_of, terms_in_memory, terms_of};
 ghost use Rattle.commands.specs.declared.fault.Fault.TheVariants as fault;
 
 use crate::answering::{AnswerLines, ServeConnections};
@@ -42,7 +42,10 @@ pub fn run_words<R: Read + Drop, W: Write, E: Write>(
     ensures { result ≤ 3 }
 {
     match read_words(rt.alloc(), words) {
-        Ok(order) => run_order(rt, order, reader, out, errors),
+        Ok(order) => match syncs_of(order) {
+            Syncs::Once => run_order(rt, order, Unknown, reader, out, errors),
+            Syncs::Twice => run_order(rt, order, Wary, reader, out, errors),
+        },
         Err(fault) => tell_words(&fault, out, errors),
     }
 }
@@ -56,39 +59,38 @@ pub fn tell_no_memory<E: Write>(errors: &mut E) -> u8
 
 /// Does an order, and gives the exit status, as `run_words` does.
 ///
-/// What is done over a file is said of the bytes that a start stands for (`Wary` where each commit syncs twice, `Unknown` where it
-/// syncs once); no clause ties them to the path.
-pub fn run_order<R: Read + Drop, W: Write, E: Write>(
+/// What is done over a file is said of the bytes that `start` stands for, whatever they are; no clause ties them to the path. Commits
+/// sync as `start` asks for, which is as the order says: twice by one like `Wary`, once by one like `Unknown`.
+pub fn run_order<S: Start, R: Read + Drop, W: Write, E: Write>(
     rt: &HostRuntime,
     order: Order<'_>,
+    start: S,
     reader: R,
     out: &mut W,
     errors: &mut E,
 ) -> u8
-    ensures { let twice : FilePair = files_on ⟦<FileFrom<Wary> as Disk>⟧ (image_at ⟦<Wary as Start>⟧) in
-        let once : FilePair = files_on ⟦<FileFrom<Unknown> as Disk>⟧ (image_at ⟦<Unknown as Start>⟧) in
-        EndsBy (record { twice = twice; once = once }) (R.remaining reader) (W.contents out.old) order.entry result }
+    requires start { S.Start.is_mixing ≡ supposes (syncs_of order) }
+    ensures { EndsBy (files_on ⟦<FileFrom<S> as Disk>⟧ (image_at S.Start)) (R.remaining reader) (W.contents out.old) order.entry result }
 {
-    match try_order(rt, order, reader, out, errors) {
+    match try_order(rt, order, start, reader, out, errors) {
         Ok(status) => status,
         Err(fault) => tell(errors, fault),
     }
 }
 
 // Does an order, and gives the exit status where no fault ends it.
-fn try_order<R: Read + Drop, W: Write, E: Write>(
+fn try_order<S: Start, R: Read + Drop, W: Write, E: Write>(
     rt: &HostRuntime,
     order: Order<'_>,
+    start: S,
     reader: R,
     out: &mut W,
     errors: &mut E,
 ) -> Result<u8, Fault>
-    ensures { let twice : FilePair = files_on ⟦<FileFrom<Wary> as Disk>⟧ (image_at ⟦<Wary as Start>⟧) in
-        let once : FilePair = files_on ⟦<FileFrom<Unknown> as Disk>⟧ (image_at ⟦<Unknown as Start>⟧) in
-        Ends (record { twice = twice; once = once }) (R.remaining reader) (W.contents out.old) order.entry result }
+    ensures { Ends (files_on ⟦<FileFrom<S> as Disk>⟧ (image_at S.Start)) (R.remaining reader) (W.contents out.old) order.entry result }
 {
     match order {
-        Order::Make { file, terms } => make_file(rt, file, terms, out, errors),
+        Order::Make { file, terms } => make_file(rt, file, terms, start, out, errors),
         Order::Serve { file, port, count } => {
             let task = ServeConnections {
                 rt,
@@ -97,36 +99,39 @@ fn try_order<R: Read + Drop, W: Write, E: Write>(
                 out,
                 errors,
             };
-            run_over_synced(rt, file, task)
+            run_over_file(rt, file.path, start, task)
         }
-        Order::Status { file, listing } => list_file(rt, file, listing, out, errors),
+        Order::Status { file, listing } => list_file(rt, file, listing, start, out, errors),
         Order::Check { file, json } => {
             let task = CheckStatuses {
                 alloc: rt.alloc(),
                 out,
                 form: form(json),
             };
-            run_over_file(rt, file, Wary, task)
+            run_over_file(rt, file, start, task)
         }
-        Order::Revoke { file, target } => run_over_file(rt, file, Wary, Revoke { rt, target, out }),
-        Order::Batch { file } => answer_lines(rt, file, reader, out, errors),
+        Order::Revoke { file, target } => {
+            run_over_file(rt, file, start, Revoke { rt, target, out })
+        }
+        Order::Batch { file } => answer_lines(rt, file, start, reader, out, errors),
     }
 }
 
 // Makes a desk in a new file, where its terms keep the limits.
-fn make_file<W: Write, E: Write>(
+fn make_file<S: Start, W: Write, E: Write>(
     rt: &HostRuntime,
     file: &str,
     terms: Terms<'_>,
+    start: S,
     out: &mut W,
     errors: &mut E,
 ) -> Result<u8, Fault>
-    ensures { EndsMake (files_on ⟦<FileFrom<Wary> as Disk>⟧ (image_at ⟦<Wary as Start>⟧)) (terms_of terms.entry) result }
+    ensures { EndsMake (files_on ⟦<FileFrom<S> as Disk>⟧ (image_at S.Start)) (terms_of terms.entry) result }
 {
     let Some(policy) = policy(rt.alloc(), terms)? else {
         return Ok(refuse(errors, Wrong::Policy));
     };
-    make_desk(rt, file, policy)?;
+    make_desk(rt, file, start, policy)?;
     match writeln!(out, "made") {
         Ok(()) => Ok(0),
         Err(_) => Err(Fault::Output),
@@ -134,14 +139,15 @@ fn make_file<W: Write, E: Write>(
 }
 
 // Lists orders of the desk in a file, where the word of their status names one.
-fn list_file<W: Write, E: Write>(
+fn list_file<S: Start, W: Write, E: Write>(
     rt: &HostRuntime,
     file: &str,
     listing: Listing<'_>,
+    start: S,
     out: &mut W,
     errors: &mut E,
 ) -> Result<u8, Fault>
-    ensures { EndsStatus (files_on ⟦<FileFrom<Wary> as Disk>⟧ (image_at ⟦<Wary as Start>⟧)) listing.entry (W.contents out.old) result }
+    ensures { EndsStatus (files_on ⟦<FileFrom<S> as Disk>⟧ (image_at S.Start)) listing.entry (W.contents out.old) result }
 {
     let Some(filter) = filter(listing) else {
         return Ok(refuse(errors, Wrong::Status));
@@ -152,20 +158,19 @@ fn list_file<W: Write, E: Write>(
         form: form(listing.json),
         filter,
     };
-    run_over_file(rt, file, Wary, task)
+    run_over_file(rt, file, start, task)
 }
 
 // Answers the lines of a reader, by the desk of a file or by a new one in memory.
-fn answer_lines<R: Read + Drop, W: Write, E: Write>(
+fn answer_lines<S: Start, R: Read + Drop, W: Write, E: Write>(
     rt: &HostRuntime,
     file: Option<SyncedFile<'_>>,
+    start: S,
     mut reader: R,
     out: &mut W,
     errors: &mut E,
 ) -> Result<u8, Fault>
-    ensures { let twice : FilePair = files_on ⟦<FileFrom<Wary> as Disk>⟧ (image_at ⟦<Wary as Start>⟧) in
-        let once : FilePair = files_on ⟦<FileFrom<Unknown> as Disk>⟧ (image_at ⟦<Unknown as Start>⟧) in
-        Ends (record { twice = twice; once = once }) (R.remaining reader) (W.contents out.old) (Order.Batch file.entry) result }
+    ensures { Ends (files_on ⟦<FileFrom<S> as Disk>⟧ (image_at S.Start)) (R.remaining reader) (W.contents out.old) (Order.Batch file.entry) result }
 {
     let alloc = rt.alloc();
     let task = AnswerLines {
@@ -175,24 +180,23 @@ fn answer_lines<R: Read + Drop, W: Write, E: Write>(
         errors,
     };
     match file {
-        Some(file) => run_over_synced(rt, file, task),
+        Some(file) => run_over_file(rt, file.path, start, task),
         None => run_in_memory(alloc, default_policy(alloc)?, task),
     }
 }
 
-// Does a task with the desk in a file, to which each commit syncs so often.
-fn run_over_synced<T: Task<Fault = Fault> + Drop>(
-    rt: &HostRuntime,
-    file: SyncedFile<'_>,
-    task: T,
-) -> Result<u8, Fault>
-    ensures { let twice : FilePair = files_on ⟦<FileFrom<Wary> as Disk>⟧ (image_at ⟦<Wary as Start>⟧) in
-        let once : FilePair = files_on ⟦<FileFrom<Unknown> as Disk>⟧ (image_at ⟦<Unknown as Start>⟧) in
-        EndsOverFiles (files_by (record { twice = twice; once = once }) file.entry.syncs) (T.Task.does task) result }
+// How often a commit syncs that an order makes.
+fn syncs_of(order: Order<'_>) -> Syncs
+    ensures { result ≡ syncs_of order.entry }
 {
-    match file.syncs {
-        Syncs::Once => run_over_file(rt, file.path, Unknown, task),
-        Syncs::Twice => run_over_file(rt, file.path, Wary, task),
+    match order {
+        Order::Make { .. } => Syncs::Twice,
+        Order::Serve { file, .. } => file.syncs,
+        Order::Status { .. } => Syncs::Twice,
+        Order::Check { .. } => Syncs::Twice,
+        Order::Revoke { .. } => Syncs::Twice,
+        Order::Batch { file: Some(file) } => file.syncs,
+        Order::Batch { file: None } => Syncs::Twice,
     }
 }
 

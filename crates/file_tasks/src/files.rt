@@ -28,12 +28,12 @@ fn holds_bytes(rt: &HostRuntime, path: &str) -> Result<bool, OpenFault> {
     }
 }
 
-/// Makes a desk with a policy, at moment 0, in a new file.
+/// Makes a desk with a policy, at moment 0, in a new file, and closes it. No clause ties the bytes that `S` stands for to the path.
 ///
 /// # Errors
 ///
 /// `NotADesk` where there is a file with bytes at the path, `Storage` where the file or its store failed.
-pub(crate) fn make<S: Start>(
+pub fn make_desk<S: Start>(
     rt: &HostRuntime,
     path: &str,
     start: S,

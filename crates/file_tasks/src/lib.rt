@@ -6,7 +6,8 @@ mod over_file;
 mod over_memory;
 mod tasks;
 
-pub use over_file::{make_desk, run_over_file};
+pub use files::make_desk;
+pub use over_file::run_over_file;
 pub use over_memory::run_in_memory;
 pub use sqlite::{Unknown, Wary};
 pub use tasks::Task;

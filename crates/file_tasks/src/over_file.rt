@@ -2,25 +2,13 @@
 ghost use Rattle.std.specs.Prelude.{◌≡◌, ◌≢◌, Ok, IfErr, IfOk, IsErrAnd};
 ghost use Rattle.sqlite.specs.WalFiles.{image_at};
 ghost use Rattle.file_tasks.specs.Doing.{OverStore};
-ghost use Rattle.file_tasks.specs.Endings.{EndsOver, IsMadeIn};
+ghost use Rattle.file_tasks.specs.Endings.{EndsOver};
 
-use crate::files::{close, make, open};
+use crate::files::{close, open};
 use crate::tasks::Task;
-use desk_model::Policy;
 use desk_store::{OpenFault, Store};
-use sqlite::{Alter, FileFrom, Start, Wary};
+use sqlite::{Alter, FileFrom, Start};
 use sqlite_disk::Disk;
-
-/// Makes a desk with a policy, at moment 0, in a new file, and closes it.
-///
-/// # Errors
-///
-/// `NotADesk` where there is a file with bytes at the path, `Storage` where the file or its store failed.
-pub fn make_desk(rt: &HostRuntime, path: &str, policy: Policy) -> Result<(), OpenFault>
-    ensures { IfOk result (λ _. IsMadeIn ⟦<FileFrom<Wary> as Disk>⟧ (image_at ⟦<Wary as Start>⟧) policy) }
-{
-    make(rt, path, Wary, policy)
-}
 
 /// Opens the desk of a file, does a task with its store, closes it, and gives the exit status. No clause ties the bytes that
 /// `S` stands for to the path.

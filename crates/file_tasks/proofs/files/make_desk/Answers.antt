@@ -1,7 +1,7 @@
 use Rattle.std.proofs.lemmas.Result.{IfOk-at_ok, IfOk-weaker}
 use Rattle.sqlite.specs.WalFiles.{image_at}
 use Rattle.file_tasks.proofs.Ending.{is_made}
-use Rattle.file_tasks.proofs.files.make.Goals as goal
+use Rattle.file_tasks.proofs.files.make_desk.Goals as goal
 
 pub returns : goal.returns
 returns g c =
