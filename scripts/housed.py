@@ -22,6 +22,7 @@ use desk_model::Policy;
 use desk_storage::Storage;
 use desk_store::OpenFault;
 use file_tasks::{Task, Wary, make_desk, run_over_file};
+use std::io::Write;
 use std::process::ExitCode;
 
 #[derive(Drop)]
@@ -41,19 +42,21 @@ impl From<OpenFault> for Failed {
 impl<'a> Task for Serve<'a> {
     type Fault = Failed;
 
-    ghost gives = { λ _. Unit {0} };
+    ghost does = { λ _ _ _ _ _ _ _ _ _ _ _ _. Unit {0} };
 
-    fn run<K: Storage + RowsAbove + Drop>(&mut self, store: K) -> Result<(K, Result<u8, Failed>), Failed> {
-        let Ok(mut desk) = Desk::adopt(self.rt.alloc(), store) else {
-            return Err(Failed);
+    fn run<K: Storage + RowsAbove + Drop, W: Write>(&mut self, store: K, _: &mut W) -> (K, Result<u8, Failed>) {
+        let mut desk = match Desk::adopt(self.rt.alloc(), store) {
+            Ok(desk) => desk,
+            Err(unadopted) => return (unadopted.store, Err(Failed)),
         };
         let Ok((listener, _)) = bind(self.rt, PORT) else {
-            return Err(Failed);
+            return (desk.into_store(), Err(Failed));
         };
-        match serve_all(self.rt.alloc(), self.rt, &listener, &mut desk, None, &mut self.rt.stderr()) {
-            Ok(()) => Ok((desk.into_store(), Ok(0))),
+        let outcome = match serve_all(self.rt.alloc(), self.rt, &listener, &mut desk, None, &mut self.rt.stderr()) {
+            Ok(()) => Ok(0),
             Err(_) => Err(Failed),
-        }
+        };
+        (desk.into_store(), outcome)
     }
 }
 
@@ -61,10 +64,12 @@ fn main(rt: HostRuntime) -> ExitCode {
     let Ok(Some(policy)) = Policy::new(rt.alloc(), "BASE", 3600, 604800, 2592000) else {
         return ExitCode::from(1);
     };
-    if make_desk(&rt, "ca.db", policy).is_err() {
+    let (made, _) = make_desk(&rt, "ca.db", Wary, policy);
+    if made.is_err() {
         return ExitCode::from(1);
     }
-    match run_over_file(&rt, "ca.db", Wary, Serve { rt: &rt }) {
+    let (ended, _) = run_over_file(&rt, "ca.db", Wary, Serve { rt: &rt }, &mut rt.stderr());
+    match ended {
         Ok(status) => ExitCode::from(status),
         Err(_) => ExitCode::from(1),
     }

@@ -24,9 +24,9 @@ module _ {S C : Type 0} (v : Sight S C) where
   -- the lines of a batch
   pub lines_answered : (bytes was is : Option (List ℕ)) (desk ended : DeskState S) (status : ℕ) → status ≤ 1 → IsSeenOn v desk ended
       → (status ≡ 0 → AnswersFirst v bytes was [] is desk ended) → (status ≡ 1 → StopsBehind v bytes was is desk ended)
-      → AnswersLines v bytes was desk ended (Ok status)
-  lines_answered bytes was is desk ended zero most seen all first = record { is = is; seen = seen; answers = inl (refl, all refl) }
-  lines_answered bytes was is desk ended (suc zero) most seen all first = record { is = is; seen = seen; answers = inr (refl, first refl) }
+      → AnswersLines v bytes was is desk ended (Ok status)
+  lines_answered bytes was is desk ended zero most seen all first = record { seen = seen; answers = inl (refl, all refl) }
+  lines_answered bytes was is desk ended (suc zero) most seen all first = record { seen = seen; answers = inr (refl, first refl) }
   lines_answered bytes was is desk ended (suc (suc n)) most seen all first = absurd (omega (arith, most))
 
   -- the machine told no moment

@@ -23,7 +23,7 @@ use Rattle.desk_model.specs.declared.refusal.Refusal.{Refusal}
 use Rattle.desk_storage.specs.Sight.{FailsToRead, ForTables, Sight, Stands}
 use Rattle.desk_storage.specs.Storing.{Causes}
 use Rattle.desk_storage.specs.declared.fault.StorageFault.{StorageFault}
-use Rattle.file_tasks.specs.Doing.{Doing}
+use Rattle.file_tasks.specs.Doing.{Deed}
 use Rattle.reports.specs.Listed.{PrintsAll}
 use Rattle.reports.specs.Printed.{faults_text}
 use Rattle.reports.specs.Reported.{Reports}
@@ -46,17 +46,15 @@ how_checked (Err why) = Err (report_fault why)
 
 module _ {S C : Type 0} (v : Sight S C) where
   -- the orders that a filter keeps were listed, which changed nothing, or that was stopped
-  pub record Lists (f : Form) (filter : OrderFilter) (was : Option (List ℕ)) (old new : S) (how : Result ℕ Fault) : Type 0 where
+  pub record Lists (f : Form) (filter : OrderFilter) (was is : Option (List ℕ)) (old new : S) (how : Result ℕ Fault) : Type 0 where
     pub listed : Result Unit ReportFault
-    pub is : Option (List ℕ)
     pub reads : Reports v old new listed
     pub printed : ForTables v old new (λ T. OnOk listed (PrintsAll f was is filter T.orders))
     pub ends : how ≡ how_listed listed
 
   -- the wrong statuses were listed, which changed nothing, or that was stopped; one is found exactly where there is one
-  pub record Checks (f : Form) (was : Option (List ℕ)) (old new : S) (how : Result ℕ Fault) : Type 0 where
+  pub record Checks (f : Form) (was is : Option (List ℕ)) (old new : S) (how : Result ℕ Fault) : Type 0 where
     pub checked : Result Bool ReportFault
-    pub is : Option (List ℕ)
     pub reads : Reports v old new checked
     pub found : ForTables v old new (λ T. IfOk checked (λ found. IsTrue found ↔ status_faults T ≢ []))
     pub printed : ForTables v old new (λ T. OnOk checked (Appends was is (faults_text f (status_faults T))))
@@ -77,10 +75,11 @@ module _ {S C : Type 0} (v : Sight S C) where
     pub reads : FailsToRead v old new why
     pub fault : f ≡ fault.Desk (storage_fault why)
 
-  -- no desk was adopted; or one was, this was done by it, and its store is given back
-  pub data ByDesk (Does : DeskState S → DeskState S → Result ℕ Fault → Type 0) (old new : S) : Result ℕ Fault → Type 0 where
-    unadopted : (why : Fault) → FailsToAdopt old new why → ByDesk Does old new (Err why)
-    adopted : (how : Result ℕ Fault) (desk ended : DeskState S) → Adopts old desk → Does desk ended how → new ≡ ended.store → ByDesk Does old new how
+  -- no desk was adopted, and nothing written; or one was, this was done by it, and its store is given back
+  pub data ByDesk (was is : Option (List ℕ)) (Does : DeskState S → DeskState S → Result ℕ Fault → Type 0) (old new : S) : Result ℕ Fault → Type 0 where
+    unadopted : (why : Fault) → FailsToAdopt old new why → is ≡ was → ByDesk was is Does old new (Err why)
+    adopted :
+        (how : Result ℕ Fault) (desk ended : DeskState S) → Adopts old desk → Does desk ended how → new ≡ ended.store → ByDesk was is Does old new how
 
 -- ---- revocations
 
@@ -113,8 +112,7 @@ module _ {S C : Type 0} (v : Sight S C) where
 
 module _ {S C : Type 0} (v : Sight S C) where
   -- the lines of a reader with these bytes, where these are known, were answered, all of them or up to one that was not
-  pub record AnswersLines (bytes was : Option (List ℕ)) (desk ended : DeskState S) (how : Result ℕ Fault) : Type 0 where
-    pub is : Option (List ℕ)
+  pub record AnswersLines (bytes was is : Option (List ℕ)) (desk ended : DeskState S) (how : Result ℕ Fault) : Type 0 where
     pub seen : IsSeenOn v desk ended
     pub answers : ((how ≡ Ok 0) × AnswersFirst v bytes was [] is desk ended) ⊎ ((how ≡ Ok 1) × StopsBehind v bytes was is desk ended)
 
@@ -132,24 +130,24 @@ module _ {S C : Type 0} (v : Sight S C) (causes : Causes S) where
         (served : Result Unit ServeFault) → IsSeenOn v desk ended → ServesAll v causes most desk ended served → how ≡ how_served served
         → Serves most desk ended how
 
--- ---- the tasks
+-- ---- the tasks, by what their writer was given before them and has behind them, where it is known
 
--- the orders that a filter keeps are listed on a writer that was given these bytes, where they are known
-abbrev pub ListsOrders : Form → OrderFilter → (was : Option (List ℕ)) → Doing Fault
-ListsOrders f filter was _ _ _ v causes rows = Lists rows f filter was
+-- the orders that a filter keeps are listed
+abbrev pub ListsOrders : Form → OrderFilter → Deed Fault
+ListsOrders f filter was is _ _ _ v causes rows = Lists rows f filter was is
 
 -- the wrong statuses are
-abbrev pub ChecksStatuses : Form → (was : Option (List ℕ)) → Doing Fault
-ChecksStatuses f was _ _ _ v causes rows = Checks rows f was
+abbrev pub ChecksStatuses : Form → Deed Fault
+ChecksStatuses f was is _ _ _ v causes rows = Checks rows f was is
 
 -- an authorization or an account is revoked
-abbrev pub RevokesTarget : Target → Doing Fault
-RevokesTarget what _ _ _ v causes rows = ByDesk v (Revokes v what)
+abbrev pub RevokesTarget : Target → Deed Fault
+RevokesTarget what was is _ _ _ v causes rows = ByDesk v was is (Revokes v what)
 
--- the lines of a reader with these bytes are answered on a writer that was given these, where they are known
-abbrev pub AnswersReader : (bytes was : Option (List ℕ)) → Doing Fault
-AnswersReader bytes was _ _ _ v causes rows = ByDesk v (AnswersLines v bytes was)
+-- the lines of a reader with these bytes are answered
+abbrev pub AnswersReader : (bytes : Option (List ℕ)) → Deed Fault
+AnswersReader bytes was is _ _ _ v causes rows = ByDesk v was is (AnswersLines v bytes was is)
 
 -- connections are served, so many or 2^64 - 1
-abbrev pub ServesCount : Option ℕ → Doing Fault
-ServesCount count _ _ _ v causes rows = ByDesk v (Serves v causes (unwrap_or count 18446744073709551615))
+abbrev pub ServesCount : Option ℕ → Deed Fault
+ServesCount count was is _ _ _ v causes rows = ByDesk v was is (Serves v causes (unwrap_or count 18446744073709551615))

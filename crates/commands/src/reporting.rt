@@ -40,45 +40,51 @@ pub(crate) fn filter(listing: Listing<'_>) -> Option<OrderFilter>
 
 /// Lists the orders.
 #[derive(Drop)]
-pub(crate) struct ListOrders<'a, W: Write> {
+pub(crate) struct ListOrders {
     pub(crate) alloc: Global,
-    pub(crate) out: &'a mut W,
     pub(crate) form: Form,
     pub(crate) filter: OrderFilter,
 }
 
-impl<'a, W: Write> Task for ListOrders<'a, W> {
+impl Task for ListOrders {
     ghost use Rattle.commands.specs.Deeds.{ListsOrders};
 
     type Fault = Fault;
 
-    ghost does = { λ task. ListsOrders task.form task.filter (W.contents task.out.now) };
+    ghost does = { λ task. ListsOrders task.form task.filter };
 
-    fn run<K: Storage + RowsAbove + Drop>(&mut self, store: K) -> (K, Result<u8, Fault>) {
+    fn run<K: Storage + RowsAbove + Drop, W: Write>(
+        &mut self,
+        store: K,
+        out: &mut W,
+    ) -> (K, Result<u8, Fault>) {
         let mut store = store;
-        let listed = list_orders(self.alloc, &mut store, self.out, self.form, self.filter);
+        let listed = list_orders(self.alloc, &mut store, out, self.form, self.filter);
         (store, told(listed))
     }
 }
 
 /// Lists the stored statuses that are wrong.
 #[derive(Drop)]
-pub(crate) struct CheckStatuses<'a, W: Write> {
+pub(crate) struct CheckStatuses {
     pub(crate) alloc: Global,
-    pub(crate) out: &'a mut W,
     pub(crate) form: Form,
 }
 
-impl<'a, W: Write> Task for CheckStatuses<'a, W> {
+impl Task for CheckStatuses {
     ghost use Rattle.commands.specs.Deeds.{ChecksStatuses};
 
     type Fault = Fault;
 
-    ghost does = { λ task. ChecksStatuses task.form (W.contents task.out.now) };
+    ghost does = { λ task. ChecksStatuses task.form };
 
-    fn run<K: Storage + RowsAbove + Drop>(&mut self, store: K) -> (K, Result<u8, Fault>) {
+    fn run<K: Storage + RowsAbove + Drop, W: Write>(
+        &mut self,
+        store: K,
+        out: &mut W,
+    ) -> (K, Result<u8, Fault>) {
         let mut store = store;
-        let checked = list_faults(self.alloc, &mut store, self.out, self.form);
+        let checked = list_faults(self.alloc, &mut store, out, self.form);
         (store, found(checked))
     }
 }

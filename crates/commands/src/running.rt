@@ -3,7 +3,9 @@ ghost use Rattle.std.specs.Prelude.{◌≡◌, ◌≤◌, IfErr, IfOk, MatchOpti
 ghost use Rattle.sqlite.specs.WalFiles.{image_at};
 ghost use Rattle.desk_model.specs.Terms.{are_terms};
 ghost use Rattle.desk_calls.specs.declared.fault.DeskFault.TheVariants as deskfault;
-ghost use Rattle.commands.specs.Statuses.{Ends, EndsBy, EndsMake, EndsStatus, files_on, supposes, syncs_of, terms_in_memory, terms_of};
+ghost use Rattle.commands.specs.Faults.{IsOfOpening};
+ghost use Rattle.commands.specs.Statuses.{Ends, EndsBy, EndsMake, EndsStatus, IsToldMade, supposes, syncs_of, terms_in_memory, terms_of};
+ghost use Rattle.file_tasks.specs.Endings.{EndsInMemory};
 ghost use Rattle.commands.specs.declared.fault.Fault.TheVariants as fault;
 
 use crate::answering::{AnswerLines, ServeConnections};
@@ -16,7 +18,8 @@ use command_line::{
 };
 use desk_calls::DeskFault;
 use desk_model::Policy;
-use file_tasks::{Task, Unknown, Wary, make_desk, run_in_memory, run_over_file};
+use desk_store::OpenFault;
+use file_tasks::{Left, Task, Unknown, Wary, make_desk, run_in_memory, run_over_file};
 use sqlite::{FileFrom, Start};
 use sqlite_disk::Disk;
 use std::alloc::Global;
@@ -43,8 +46,8 @@ pub fn run_words<R: Read + Drop, W: Write, E: Write>(
 {
     match read_words(rt.alloc(), words) {
         Ok(order) => match syncs_of(order) {
-            Syncs::Once => run_order(rt, order, Unknown, reader, out, errors),
-            Syncs::Twice => run_order(rt, order, Wary, reader, out, errors),
+            Syncs::Once => run_from(rt, order, Unknown, reader, out, errors),
+            Syncs::Twice => run_from(rt, order, Wary, reader, out, errors),
         },
         Err(fault) => tell_words(&fault, out, errors),
     }
@@ -57,7 +60,24 @@ pub fn tell_no_memory<E: Write>(errors: &mut E) -> u8
     tell(errors, Fault::Desk(DeskFault::Memory))
 }
 
-/// Does an order, and gives the exit status, as `run_words` does.
+// Does an order, gives up what is left of its files, and gives the exit status.
+fn run_from<S: Start, R: Read + Drop, W: Write, E: Write>(
+    rt: &HostRuntime,
+    order: Order<'_>,
+    start: S,
+    reader: R,
+    out: &mut W,
+    errors: &mut E,
+) -> u8
+    requires start { S.Start.is_mixing ≡ supposes (syncs_of order) }
+    ensures { result ≤ 3 }
+{
+    let (status, left) = run_order(rt, order, start, reader, out, errors);
+    drop(left);
+    status
+}
+
+/// Does an order, and gives the exit status, as `run_words` does, and what is left of its files.
 ///
 /// What is done over a file is said of the bytes that `start` stands for, whatever they are; no clause ties them to the path. Commits
 /// sync as `start` asks for, which is as the order says: twice by one like `Wary`, once by one like `Unknown`.
@@ -68,13 +88,14 @@ pub fn run_order<S: Start, R: Read + Drop, W: Write, E: Write>(
     reader: R,
     out: &mut W,
     errors: &mut E,
-) -> u8
+) -> (u8, Left<FileFrom<S>>)
     requires start { S.Start.is_mixing ≡ supposes (syncs_of order) }
-    ensures { EndsBy (files_on ⟦<FileFrom<S> as Disk>⟧ (image_at S.Start)) (R.remaining reader) (W.contents out.old) order.entry result }
+    ensures { EndsBy ⟦<FileFrom<S> as Disk>⟧ (image_at S.Start) (R.remaining reader) (W.contents out.old) (W.contents out.new) order.entry result.0 result.1 }
 {
-    match try_order(rt, order, start, reader, out, errors) {
-        Ok(status) => status,
-        Err(fault) => tell(errors, fault),
+    let (how, left) = try_order(rt, order, start, reader, out, errors);
+    match how {
+        Ok(status) => (status, left),
+        Err(fault) => (tell(errors, fault), left),
     }
 }
 
@@ -86,8 +107,8 @@ fn try_order<S: Start, R: Read + Drop, W: Write, E: Write>(
     reader: R,
     out: &mut W,
     errors: &mut E,
-) -> Result<u8, Fault>
-    ensures { Ends (files_on ⟦<FileFrom<S> as Disk>⟧ (image_at S.Start)) (R.remaining reader) (W.contents out.old) order.entry result }
+) -> (Result<u8, Fault>, Left<FileFrom<S>>)
+    ensures { Ends ⟦<FileFrom<S> as Disk>⟧ (image_at S.Start) (R.remaining reader) (W.contents out.old) (W.contents out.new) order.entry result.0 result.1 }
 {
     match order {
         Order::Make { file, terms } => make_file(rt, file, terms, start, out, errors),
@@ -96,22 +117,20 @@ fn try_order<S: Start, R: Read + Drop, W: Write, E: Write>(
                 rt,
                 port,
                 count,
-                out,
                 errors,
             };
-            run_over_file(rt, file.path, start, task)
+            run_over_file(rt, file.path, start, task, out)
         }
         Order::Status { file, listing } => list_file(rt, file, listing, start, out, errors),
         Order::Check { file, json } => {
             let task = CheckStatuses {
                 alloc: rt.alloc(),
-                out,
                 form: form(json),
             };
-            run_over_file(rt, file, start, task)
+            run_over_file(rt, file, start, task, out)
         }
         Order::Revoke { file, target } => {
-            run_over_file(rt, file, start, Revoke { rt, target, out })
+            run_over_file(rt, file, start, Revoke { rt, target }, out)
         }
         Order::Batch { file } => answer_lines(rt, file, start, reader, out, errors),
     }
@@ -125,16 +144,29 @@ fn make_file<S: Start, W: Write, E: Write>(
     start: S,
     out: &mut W,
     errors: &mut E,
-) -> Result<u8, Fault>
-    ensures { EndsMake (files_on ⟦<FileFrom<S> as Disk>⟧ (image_at S.Start)) (terms_of terms.entry) result }
+) -> (Result<u8, Fault>, Left<FileFrom<S>>)
+    ensures { EndsMake ⟦<FileFrom<S> as Disk>⟧ (image_at S.Start) (terms_of terms.entry) (W.contents out.old) (W.contents out.new) result.0 result.1 }
 {
-    let Some(policy) = policy(rt.alloc(), terms)? else {
-        return Ok(refuse(errors, Wrong::Policy));
-    };
-    make_desk(rt, file, start, policy)?;
-    match writeln!(out, "made") {
-        Ok(()) => Ok(0),
-        Err(_) => Err(Fault::Output),
+    match policy(rt.alloc(), terms) {
+        Ok(Some(policy)) => {
+            let (made, left) = make_desk(rt, file, start, policy);
+            (tell_made(out, made), left)
+        }
+        Ok(None) => (Ok(refuse(errors, Wrong::Policy)), Left::Untouched),
+        Err(fault) => (Err(fault), Left::Untouched),
+    }
+}
+
+// Says that a desk is made, where it is, and gives the exit status.
+fn tell_made<W: Write>(out: &mut W, made: Result<(), OpenFault>) -> Result<u8, Fault>
+    ensures { IsToldMade made result }
+{
+    match made {
+        Ok(()) => match writeln!(out, "made") {
+            Ok(()) => Ok(0),
+            Err(_) => Err(Fault::Output),
+        },
+        Err(fault) => Err(Fault::from(fault)),
     }
 }
 
@@ -146,19 +178,18 @@ fn list_file<S: Start, W: Write, E: Write>(
     start: S,
     out: &mut W,
     errors: &mut E,
-) -> Result<u8, Fault>
-    ensures { EndsStatus (files_on ⟦<FileFrom<S> as Disk>⟧ (image_at S.Start)) listing.entry (W.contents out.old) result }
+) -> (Result<u8, Fault>, Left<FileFrom<S>>)
+    ensures { EndsStatus ⟦<FileFrom<S> as Disk>⟧ (image_at S.Start) listing.entry (W.contents out.old) (W.contents out.new) result.0 result.1 }
 {
     let Some(filter) = filter(listing) else {
-        return Ok(refuse(errors, Wrong::Status));
+        return (Ok(refuse(errors, Wrong::Status)), Left::Untouched);
     };
     let task = ListOrders {
         alloc: rt.alloc(),
-        out,
         form: form(listing.json),
         filter,
     };
-    run_over_file(rt, file, start, task)
+    run_over_file(rt, file, start, task, out)
 }
 
 // Answers the lines of a reader, by the desk of a file or by a new one in memory.
@@ -169,20 +200,31 @@ fn answer_lines<S: Start, R: Read + Drop, W: Write, E: Write>(
     mut reader: R,
     out: &mut W,
     errors: &mut E,
-) -> Result<u8, Fault>
-    ensures { Ends (files_on ⟦<FileFrom<S> as Disk>⟧ (image_at S.Start)) (R.remaining reader) (W.contents out.old) (Order.Batch file.entry) result }
+) -> (Result<u8, Fault>, Left<FileFrom<S>>)
+    ensures { Ends ⟦<FileFrom<S> as Disk>⟧ (image_at S.Start) (R.remaining reader) (W.contents out.old) (W.contents out.new)
+        (Order.Batch file.entry) result.0 result.1 }
 {
     let alloc = rt.alloc();
     let task = AnswerLines {
         alloc,
         reader: &mut reader,
-        out,
         errors,
     };
     match file {
-        Some(file) => run_over_file(rt, file.path, start, task),
-        None => run_in_memory(alloc, default_policy(alloc)?, task),
+        Some(file) => run_over_file(rt, file.path, start, task, out),
+        None => (answer_in_memory(alloc, task, out), Left::Untouched),
     }
+}
+
+// Does a task by a new desk in memory.
+fn answer_in_memory<T: Task<Fault = Fault> + Drop, W: Write>(
+    alloc: Global,
+    task: T,
+    out: &mut W,
+) -> Result<u8, Fault>
+    ensures { EndsInMemory IsOfOpening terms_in_memory (T.Task.does task) (W.contents out.old) (W.contents out.new) result }
+{
+    run_in_memory(alloc, default_policy(alloc)?, task, out)
 }
 
 // How often a commit syncs that an order makes.

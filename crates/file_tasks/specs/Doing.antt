@@ -1,5 +1,5 @@
 -- What a task does with the store of a desk.
-use Rattle.std.specs.Prelude.{ℕ, Result}
+use Rattle.std.specs.Prelude.{ℕ, List, Option, Result}
 use Rattle.sqlite.specs.Store.{Ghosts}
 use Rattle.desk_storage.specs.Sight.{Sight}
 use Rattle.desk_storage.specs.Storing.{Causes}
@@ -12,6 +12,10 @@ use Rattle.desk_store.specs.declared.store.Store.{Store}
 abbrev pub Doing : Type 0 → Type 1
 Doing F = (S C D : Type 0) → Sight S C → Causes S → Sight S D → S → S → Result ℕ F → Type 0
 
--- the same of a store over a connection
+-- the same of a task whose writer was given these bytes before it and has these behind it, where they are known
+abbrev pub Deed : Type 0 → Type 1
+Deed F = (was is : Option (List ℕ)) → Doing F
+
+-- what is done with a store over a connection
 abbrev pub OverStore : {F S : Type 0} → Doing F → Ghosts S → Store S → Store S → Result ℕ F → Type 0
 OverStore does g = does _ _ _ (store_sight g) (λ changes old new why. Failed g changes old.conn new.conn why) (store_sight g)

@@ -1,15 +1,16 @@
 //! The desk of the file at a path, and its log beside it.
-ghost use Rattle.std.specs.Prelude.{◌≡◌, Ok, IfOk};
+ghost use Rattle.std.specs.Prelude.{◌≡◌, IfErr, IfOk};
 ghost use Rattle.sqlite.specs.WalFiles.{image_at};
 ghost use Rattle.desk_files.specs.Opening.{OpensFiles};
-ghost use Rattle.file_tasks.specs.Endings.{IsClosed, IsMadeIn};
+ghost use Rattle.desk_store.specs.Making.{IsOfStorage};
+ghost use Rattle.file_tasks.specs.Endings.{EndsMaking, IsLeft, IsUnopened};
 
-use desk_files::{NotOpened, close_from, make_from, open_from};
+use crate::left::Left;
+use desk_files::{close_from, make_from, open_from};
 use desk_model::{Clock, Policy};
 use desk_storage::StorageFault;
 use desk_store::{OpenFault, Store};
 use sqlite::{FileFrom, FileStore, Start};
-use sqlite_disk::Disk;
 use std::fs;
 use std::io::ErrorKind;
 
@@ -17,7 +18,9 @@ use std::io::ErrorKind;
 pub(crate) type DeskFile<S> = FileStore<FileFrom<S>>;
 
 // Whether there is a file with bytes at the path.
-fn holds_bytes(rt: &HostRuntime, path: &str) -> Result<bool, OpenFault> {
+fn holds_bytes(rt: &HostRuntime, path: &str) -> Result<bool, OpenFault>
+    ensures { IfErr result IsOfStorage }
+{
     match fs::metadata(rt, path) {
         Ok(found) => Ok(found.len() > 0),
         Err(error) => match error.kind() {
@@ -28,7 +31,8 @@ fn holds_bytes(rt: &HostRuntime, path: &str) -> Result<bool, OpenFault> {
     }
 }
 
-/// Makes a desk with a policy, at moment 0, in a new file, and closes it. No clause ties the bytes that `S` stands for to the path.
+/// Makes a desk with a policy, at moment 0, in a new file, closes it, and gives what is left of the files. No clause ties the
+/// bytes that `S` stands for to the path.
 ///
 /// # Errors
 ///
@@ -38,24 +42,17 @@ pub fn make_desk<S: Start>(
     path: &str,
     start: S,
     policy: Policy,
-) -> Result<(), OpenFault>
-    ensures { IfOk result (λ _. IsMadeIn ⟦<FileFrom<S> as Disk>⟧ (image_at S.Start) policy) }
+) -> (Result<(), OpenFault>, Left<FileFrom<S>>)
+    ensures { EndsMaking (image_at S.Start) policy result.0 result.1 }
 {
-    if holds_bytes(rt, path)? {
-        return Err(OpenFault::NotADesk);
+    match holds_bytes(rt, path) {
+        Ok(false) => {}
+        Ok(true) => return (Err(OpenFault::NotADesk), Left::Untouched),
+        Err(fault) => return (Err(fault), Left::Untouched),
     }
-    close(told(make_from(rt, path, start, policy, Clock::at(0)))?)
-}
-
-// The store, or why there is none. The files are given up here alone, since a check pays for each place that drops them.
-fn told<S: Start>(
-    opened: Result<Store<DeskFile<S>>, NotOpened<DeskFile<S>, FileFrom<S>>>,
-) -> Result<Store<DeskFile<S>>, OpenFault>
-    ensures { IfOk result (λ store. opened ≡ Ok store) }
-{
-    match opened {
-        Ok(store) => Ok(store),
-        Err(not_opened) => Err(not_opened.fault),
+    match make_from(rt, path, start, policy, Clock::at(0)) {
+        Ok(store) => close(store),
+        Err(unmade) => (Err(unmade.fault), Left::Unopened(unmade)),
     }
 }
 
@@ -64,30 +61,38 @@ fn told<S: Start>(
 /// # Errors
 ///
 /// `NotADesk` where the file is missing or empty, or holds no desk, `NewerFormat` where it holds one of a later format,
-/// `Storage` where the file or its store failed.
+/// `Storage` where the file or its store failed; with what is left of the files.
 pub(crate) fn open<S: Start>(
     rt: &HostRuntime,
     path: &str,
     start: S,
-) -> Result<Store<DeskFile<S>>, OpenFault>
-    ensures { IfOk result (OpensFiles (image_at S.Start)) }
+) -> Result<Store<DeskFile<S>>, (OpenFault, Left<FileFrom<S>>)>
+    ensures opened { IfOk result (OpensFiles (image_at S.Start)) }
+    ensures unopened { IfErr result (λ e. IsUnopened (image_at S.Start) e.0 e.1) }
 {
-    if !holds_bytes(rt, path)? {
-        return Err(OpenFault::NotADesk);
+    match holds_bytes(rt, path) {
+        Ok(true) => {}
+        Ok(false) => return Err((OpenFault::NotADesk, Left::Untouched)),
+        Err(fault) => return Err((fault, Left::Untouched)),
     }
-    told(open_from(rt, path, start))
+    match open_from(rt, path, start) {
+        Ok(store) => Ok(store),
+        Err(unopened) => Err((unopened.fault, Left::Unopened(unopened))),
+    }
 }
 
-/// Closes the file, after its log was copied into it.
+/// Closes the file, after its log was copied into it, and gives what is left of it.
 ///
 /// # Errors
 ///
 /// `Storage` where the copy failed: the log then stands beside the file, and the next opening reads both.
-pub(crate) fn close<S: Start>(store: Store<DeskFile<S>>) -> Result<(), OpenFault>
-    ensures { IfOk result (λ _. IsClosed ⟦<FileFrom<S> as Disk>⟧ store) }
+pub(crate) fn close<S: Start>(
+    store: Store<DeskFile<S>>,
+) -> (Result<(), OpenFault>, Left<FileFrom<S>>)
+    ensures { IsLeft store result.0 result.1 }
 {
     match close_from(store) {
-        Ok(_) => Ok(()),
-        Err((fault, _)) => Err(fault),
+        Ok(files) => (Ok(()), Left::Closed(files)),
+        Err((fault, last)) => (Err(fault), Left::Unclosed(last)),
     }
 }

@@ -9,6 +9,7 @@ use desk_storage::StorageFault;
 use desk_store::{OpenFault, Store};
 use sqlite::{Connection, MemStore};
 use std::alloc::Global;
+use std::io::Write;
 
 // The store of a new desk in memory, made at moment 0.
 fn make_store(alloc: Global, policy: Policy) -> Result<Store<MemStore>, OpenFault>
@@ -28,13 +29,18 @@ fn make_store(alloc: Global, policy: Policy) -> Result<Store<MemStore>, OpenFaul
 /// # Errors
 ///
 /// The task's own, and `Storage` where the desk was not made.
-pub fn run_in_memory<T: Task + Drop>(alloc: Global, policy: Policy, task: T) -> Result<u8, T::Fault>
+pub fn run_in_memory<T: Task + Drop, W: Write>(
+    alloc: Global,
+    policy: Policy,
+    task: T,
+    out: &mut W,
+) -> Result<u8, T::Fault>
 where
     T::Fault: From<OpenFault>,
-    ensures { EndsInMemory T.Fault.from_gives policy (T.Task.does task) result }
+    ensures { EndsInMemory T.Fault.from_gives policy (T.Task.does task) (W.contents out.old) (W.contents out.new) result }
 {
     let mut task = task;
-    let (store, outcome) = run_over(make_store(alloc, policy)?, &mut task);
+    let (store, outcome) = run_over(make_store(alloc, policy)?, &mut task, out);
     drop(store);
     outcome
 }

@@ -1,9 +1,8 @@
 -- Words over the files that the one before left.
-use Rattle.std.proofs.Common.{◌∙◌, ℕ, List, [], ◌∷◌, ◌++◌, Result, ap₂, inl, refl, subst, sym}
+use Rattle.std.proofs.Common.{◌∙◌, ℕ, List, ◌∷◌, ◌++◌, Result, ap₂, refl, subst, sym}
 use Rattle.sqlite.specs.Files.{over_files}
 use Rattle.sqlite_disk.specs.declared.Disk as disk
-use Rattle.sqlite_store.specs.declared.store.FileStore.{FileStore}
-use Rattle.commands.specs.Deeds.{ChecksStatuses, ListsOrders}
+use Rattle.commands.specs.Deeds.{AnswersReader, ChecksStatuses, ListsOrders, RevokesTarget, ServesCount}
 use Rattle.commands.specs.declared.fault.Fault.{Fault}
 use Rattle.desk_calls.specs.Seen.{Told}
 use Rattle.desk_lives.proofs.Extends.{histories_are_legal}
@@ -13,14 +12,14 @@ use Rattle.desk_model.specs.Tables.{picture}
 use Rattle.desk_openings.proofs.Finding.{in_todays}
 use Rattle.desk_openings.specs.LeftFiles.{LeftFiles, file_sight}
 use Rattle.desk_store.specs.Desks.{AreOfDesk, store_sight}
-use Rattle.desk_store.specs.declared.store.Store.{Store}
 use Rattle.file_tasks.specs.Doing.{Doing}
 use Rattle.file_tasks.specs.Endings.{IsDoneOver}
 use Rattle.word_lives.proofs.Joined.{history_on, kept_on, lives_on, replied_on}
 use Rattle.word_lives.proofs.Words.{words_leave}
-use Rattle.word_lives.specs.Again.{GoesOn, HasLives, WordsGoOn}
+use Rattle.word_lives.specs.Again.{GoesOn, HasLives, StaysOn, WordsGoOn}
 use Rattle.word_lives.specs.Kept.{HasLife}
-use Rattle.word_lives.specs.Left.{IsOver, Leaves, LeavesDesk, LeavesLife, WordsLeave}
+use Rattle.word_lives.specs.Left.{IsOver, LeavesAsIs, LeavesLife, LivesOn, WordsLeave}
+use Rattle.word_lives.specs.Told.{TellsAny, TellsBatch, TellsRevocation}
 
 -- the life of all words before has one more word
 with_word : {D : Type 0} (g : disk.Ghosts D) (F : History) (words : List (List Told)) (files left : LeftFiles) (told : List Told)
@@ -47,38 +46,32 @@ module _ {D : Type 0} (g : disk.Ghosts D) where
   }
 
   -- a word that leaves the desk as it was
-  desk_goes_on : (does : Doing Fault) → Leaves g does (LeavesDesk g) → GoesOn g does
-  desk_goes_on does leaves F words files h how done honest = (
-    [],
-    λ left may.
-        with_word g F words files left [] h (record {
-          life = [];
-          lives = histories_are_legal F h.life h.lives;
-          replies = refl;
-          kept = inl refl;
-          tables = leaves files.image how done (history F h.life) (is_over F words files h done honest) left may;
-        }),
+  desk_stays_on : (does : Doing Fault) → LeavesAsIs g does → StaysOn g does
+  desk_stays_on does leaves F words files h how done honest left may = (
+    record {
+      life = h.life;
+      lives = h.lives;
+      replies = h.replies;
+      kept = h.kept;
+      tables = leaves files.image how done (history F h.life) (is_over F words files h done honest) left may;
+    },
+    refl,
   )
 
   -- a word that goes on with its life
-  life_goes_on : (F : History) (words : List (List Told)) (files : LeftFiles) (h : HasLives F words files) (ended : Store (FileStore D g))
-      → LeavesLife g (history F h.life) ended
-      → (told : List Told) × ((left : LeftFiles) → (file_sight g).leaves ended left → HasLives F (told ∷ words) left)
-  life_goes_on F words files h ended it = (it.told, λ left may. with_word g F words files left it.told h (it.left left may))
+  life_goes_on : (does : Doing Fault) (Says : Result ℕ Fault → List Told → Type 0) → LivesOn g does Says → GoesOn g does Says
+  life_goes_on does Says leaves F words files h how done honest =
+      let it : LeavesLife g (Says how) (history F h.life) done.opened done.ended =
+      leaves files.image how done (history F h.life) (is_over F words files h done honest) in
+      (it.told, it.says, λ left may. with_word g F words files left it.told h (it.left left may))
 
   pub words_go_on : WordsGoOn g
   words_go_on =
       let all : WordsLeave g = words_leave g in
       record {
-        status = λ f filter was. desk_goes_on (ListsOrders f filter was) (all.status f filter was);
-        check = λ f was. desk_goes_on (ChecksStatuses f was) (all.check f was);
-        revoke = λ what F words files h how done honest.
-            life_goes_on F words files h done.ended
-            (all.revoke what files.image how done (history F h.life) (is_over F words files h done honest));
-        batch = λ bytes was F words files h how done honest.
-            life_goes_on F words files h done.ended
-            (all.batch bytes was files.image how done (history F h.life) (is_over F words files h done honest)).lives;
-        serve = λ count F words files h how done honest.
-            life_goes_on F words files h done.ended
-            (all.serve count files.image how done (history F h.life) (is_over F words files h done honest));
+        status = λ f filter was is. desk_stays_on (ListsOrders f filter was is) (all.status f filter was is);
+        check = λ f was is. desk_stays_on (ChecksStatuses f was is) (all.check f was is);
+        revoke = λ what was is. life_goes_on (RevokesTarget what was is) (TellsRevocation what) (all.revoke what was is);
+        batch = λ bytes was is. life_goes_on (AnswersReader bytes was is) (TellsBatch bytes was is) (all.batch bytes was is);
+        serve = λ count was is. life_goes_on (ServesCount count was is) TellsAny (all.serve count was is);
       }

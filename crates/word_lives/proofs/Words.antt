@@ -1,7 +1,7 @@
 -- The words of the program as calls to a desk, and what they leave of its files.
 use Rattle.std.proofs.KnownBytes.{Appends-nil}
 use Rattle.std.specs.Prelude.{IfSome}
-use Rattle.std.proofs.Common.{◌≡◌, ℕ, zero, suc, List, [], ◌∷◌, ◌++◌, false, Option, None, Some, Result, Ok, Err, inl, inr, refl, subst, sym, unwrap_or}
+use Rattle.std.proofs.Common.{◌≡◌, ◌∙◌, ◌⊎◌, ℕ, zero, suc, List, [], ◌∷◌, ◌++◌, false, Option, None, Some, Result, Ok, Err, inl, inr, refl, subst, sym, unwrap_or}
 use Rattle.sqlite.specs.Files.{over_files}
 use Rattle.sqlite.specs.Recovery.{Image}
 use Rattle.sqlite.specs.Tree.{Trees}
@@ -13,7 +13,7 @@ use Rattle.batches.specs.LineRequests.{IsRequestOf, call_of}
 use Rattle.batches.specs.Said.{RepliesTo, Says}
 use Rattle.batches.specs.InTurn.{AnswersEach, AnswersFirst, AreLines, Stops, StopsBehind, not_one, one_more, silent, unread, unwritten}
 use Rattle.command_line.specs.declared.order.Target.{Target}
-use Rattle.commands.specs.Deeds.{Adopts, AnswersLines, AnswersReader, ByDesk, ChecksStatuses, FailsToAdopt, ListsOrders, Revokes, RevokesTarget, Serves, ServesCount}
+use Rattle.commands.specs.Deeds.{Adopts, AnswersLines, AnswersReader, ByDesk, ChecksStatuses, FailsToAdopt, IsTold, ListsOrders, Revokes, RevokesTarget, Serves, ServesCount}
 use Rattle.commands.specs.Deeds.{adopted, ask_of, served, unadopted, unserved}
 use Rattle.commands.specs.declared.fault.Fault.{Fault}
 use Rattle.connections.specs.InTurn.{ServesAll, ServesClient, ServesMany}
@@ -33,7 +33,6 @@ use Rattle.desk_model.specs.Entry.{History}
 use Rattle.desk_model.specs.History.{terms}
 use Rattle.desk_model.specs.Legal.{Legal}
 use Rattle.desk_model.specs.Tables.{picture}
-use Rattle.desk_model.specs.declared.call.OfficeAsk.{OfficeAsk}
 use Rattle.desk_model.specs.declared.refusal.Refusal.{Refusal}
 use Rattle.desk_model.specs.declared.reply.Reply.{Reply}
 use Rattle.desk_storage.specs.Sight.{Keeps, Sight}
@@ -50,8 +49,8 @@ use Rattle.requests.specs.Lines.{Spells, line_text}
 use Rattle.requests.specs.declared.lines.Line.{Line}
 use Rattle.requests.specs.declared.request.Request.{Request}
 use Rattle.requests.specs.declared.request.Request.TheVariants as request
-use Rattle.word_lives.specs.Left.{IsOver, Leaves, LeavesBatch, LeavesLife, LeavesDesk, WordsLeave}
-use Rattle.word_lives.specs.Told.{TellsBatch, TellsLines, asked, no_line, refused}
+use Rattle.word_lives.specs.Left.{IsOver, LeavesAsIs, LeavesLife, LivesOn, WordsLeave}
+use Rattle.word_lives.specs.Told.{TellsAny, TellsBatch, TellsLines, TellsRevocation, asked, no_line, refused}
 use Rattle.word_lives.proofs.Chains.{Any, AreCalls, OrOneMore, any_calls, honest_at_first, left_behind, no_call, once_more}
 
 -- no line was read
@@ -102,9 +101,9 @@ module _ {S C : Type 0} (v : Sight S C) where
   stop_calls P was is old mid new before (unwritten line text says) = once_more v P old mid new before (said_acts mid new line text says)
 
   -- all lines of a reader, or the first ones
-  all_lines : (bytes was is : Option (List ℕ)) (desk ended : DeskState S) → AnswersFirst v bytes was [] is desk ended
-      → AreCalls v (TellsBatch bytes was) desk ended
-  all_lines bytes was is desk ended first =
+  all_lines : (bytes was is : Option (List ℕ)) (desk ended : DeskState S) (how : Result ℕ Fault) → AnswersFirst v bytes was [] is desk ended
+      → AreCalls v (TellsBatch bytes was is how) desk ended
+  all_lines bytes was is desk ended how first =
       let are : AreCalls v (TellsLines first.lines first.said) desk ended = lines_calls desk ended first.lines first.said first.answered in
       record {
         told = are.told;
@@ -114,17 +113,19 @@ module _ {S C : Type 0} (v : Sight S C) where
           unread = [];
           read = first.read;
           said = first.said;
-          is = is;
-          written = first.written;
+          written = is;
+          appended = first.written;
           telling = are.told;
           tells = are.says;
           all = inl refl;
+          whole = λ _. (refl, refl);
+          ends = inl refl;
         };
       }
 
-  first_lines : (bytes was is : Option (List ℕ)) (desk ended : DeskState S) → StopsBehind v bytes was is desk ended
-      → AreCalls v (TellsBatch bytes was) desk ended
-  first_lines bytes was is desk ended stops =
+  first_lines : (bytes was is : Option (List ℕ)) (desk ended : DeskState S) (how : Result ℕ Fault) → how ≡ Ok 1 → StopsBehind v bytes was is desk ended
+      → AreCalls v (TellsBatch bytes was is how) desk ended
+  first_lines bytes was is desk ended how one stops =
       let first : AnswersFirst v bytes was stops.left stops.written desk stops.mid = stops.first in
       let before : AreCalls v (TellsLines first.lines first.said) desk stops.mid = lines_calls desk stops.mid first.lines first.said first.answered in
       let are : AreCalls v (OrOneMore v (TellsLines first.lines first.said)) desk ended =
@@ -137,73 +138,86 @@ module _ {S C : Type 0} (v : Sight S C) where
           unread = stops.left;
           read = first.read;
           said = first.said;
-          is = stops.written;
-          written = first.written;
+          written = stops.written;
+          appended = first.written;
           telling = are.says.0;
           tells = are.says.1;
           all = are.says.2;
+          whole = λ none. absurd (cc (one, none));
+          ends = inr one;
         };
       }
 
-  batch_calls : (bytes was : Option (List ℕ)) (desk ended : DeskState S) (how : Result ℕ Fault) → AnswersLines v bytes was desk ended how
-      → AreCalls v (TellsBatch bytes was) desk ended
-  batch_calls bytes was desk ended how it =
+  batch_calls : (bytes was is : Option (List ℕ)) (desk ended : DeskState S) (how : Result ℕ Fault) → AnswersLines v bytes was is desk ended how
+      → AreCalls v (TellsBatch bytes was is how) desk ended
+  batch_calls bytes was is desk ended how it =
       elim it.answers [
-        | inl all ↦ all_lines bytes was it.is desk ended all.1
-        | inr first ↦ first_lines bytes was it.is desk ended first.1
+        | inl all ↦ all_lines bytes was is desk ended how all.1
+        | inr first ↦ first_lines bytes was is desk ended how first.0 first.1
       ]
 
   -- nothing was read
-  no_lines : (bytes was : Option (List ℕ)) → TellsBatch bytes was []
-  no_lines bytes was = record {
+  no_lines : (bytes was is : Option (List ℕ)) (why : Fault) → is ≡ was → TellsBatch bytes was is (Err why) []
+  no_lines bytes was is why same = record {
     lines = [];
     unread = unwrap_or bytes [];
     read = none_read bytes;
     said = [];
-    is = was;
-    written = Appends-nil was;
+    written = was;
+    appended = Appends-nil was;
     telling = [];
     tells = no_line;
     all = inl refl;
+    whole = λ none. absurd (cc none);
+    ends = inl same;
   }
 
   -- ---- revocations
 
-  -- calls, and one more or none
-  calls_on : (old mid new : DeskState S) → AreCalls v (Any v) old mid → ActsOnce v mid new → AreCalls v (Any v) old new
-  calls_on old mid new before acts = any_calls v (OrOneMore v (Any v)) old new (once_more v (Any v) old mid new before acts)
+  -- the desk's answer, where it was not told as done but without a refusal
+  not_refused : (answer : Result (Option Refusal) DeskFault) (refusal : Option Refusal) (how : Result ℕ Fault) → answer ≡ Ok refusal
+      → IsTold answer how → how ≡ Ok 0 → refusal ≡ None
+  not_refused (Ok None) refusal how is told well = cc is
+  not_refused (Ok (Some r)) refusal how is told well = absurd (cc (told, well))
+  not_refused (Err why) refusal how is told well = absurd (cc is)
 
   -- what an office asked of an open desk
-  office_calls : (at : ℕ) (what : OfficeAsk) (desk ended : DeskState S) (answer : Result (Option Refusal) DeskFault) → desk.is_closed ≡ false
-      → AnswersOffice v at what desk.store ended.store answer → ended.is_closed ≡ is_closed_after answer → ended.policy ≡ desk.policy
-      → AreCalls v (Any v) desk ended
-  office_calls at what desk ended (Ok refusal) running answers flag policy =
-      calls_on desk desk ended (no_call v (Any v) tt desk desk refl) (inr (record {
-        call = office_call at what;
-        result = Ok (answers.0);
-        meets = record {
+  office_calls : (at : ℕ) (what : Target) (desk ended : DeskState S) (answer : Result (Option Refusal) DeskFault) (how : Result ℕ Fault)
+      → desk.is_closed ≡ false → AnswersOffice v at (ask_of what) desk.store ended.store answer → ended.is_closed ≡ is_closed_after answer
+      → ended.policy ≡ desk.policy → IsTold answer how → AreCalls v (TellsRevocation what how) desk ended
+  office_calls at what desk ended (Ok refusal) how running answers flag policy told =
+      record {
+        told = record { call = office_call at (ask_of what); reply = answers.0 } ∷ [];
+        answered = kept.one_more (office_call at (ask_of what)) answers.0 kept.not_one (record {
           when_open = λ _. record { answers = answers.1; flag = flag };
           when_closed = λ closed. absurd (cc (running, closed));
           policy = policy;
-        };
-      }))
-  office_calls at what desk ended (Err why) running answers flag policy =
-      calls_on desk desk ended (no_call v (Any v) tt desk desk refl) (inr (record {
-        call = office_call at what;
-        result = Err why;
-        meets = record {
+        });
+        says = inr (at, answers.0, refl, λ well. sym answers.2 ∙ not_refused (Ok refusal) refusal how refl told well);
+      }
+  office_calls at what desk ended (Err why) how running answers flag policy told =
+      record {
+        told = [];
+        answered = kept.one_declined (office_call at (ask_of what)) why kept.not_one (record {
           when_open = λ _. record { answers = answers; flag = flag };
           when_closed = λ closed. absurd (cc (running, closed));
           policy = policy;
-        };
-      }))
+        });
+        says = inl (refl, λ well. absurd (cc (told, well)));
+      }
 
   revoke_calls : (what : Target) (desk ended : DeskState S) (how : Result ℕ Fault) → desk.is_closed ≡ false → Revokes v what desk ended how
-      → AreCalls v (Any v) desk ended
-  revoke_calls what desk ended how running (inl it) = no_call v (Any v) tt desk ended it.0
-  revoke_calls what desk ended how running (inr it) = office_calls it.at (ask_of what) desk ended it.answer running it.answers it.flag it.policy
+      → AreCalls v (TellsRevocation what how) desk ended
+  revoke_calls what desk ended how running (inl it) =
+      no_call v (TellsRevocation what how) (inl (refl, λ well. absurd (let e = it.1 in cc (e, well)))) desk ended it.0
+  revoke_calls what desk ended how running (inr it) =
+      office_calls it.at what desk ended it.answer how running it.answers it.flag it.policy it.told
 
   -- ---- connections
+
+  -- calls, and one more or none
+  calls_on : (old mid new : DeskState S) → AreCalls v (Any v) old mid → ActsOnce v mid new → AreCalls v (Any v) old new
+  calls_on old mid new before acts = any_calls v (OrOneMore v (Any v)) old new (once_more v (Any v) old mid new before acts)
 
   module _ (causes : Causes S) where
     -- a connection does nothing to a desk, or what an answer to one call does
@@ -234,10 +248,11 @@ module _ {S C : Type 0} (v : Sight S C) where
   -- ---- what is left behind a desk
 
   -- calls to a desk were replied to, of which this is so, and what is left has a life of them, and of one more at most
-  record IsLeft (P : List Told → Type 0) (F : History) (new : S) : Type 0 where
+  record IsLeft (P : List Told → Type 0) (F : History) (old new : S) : Type 0 where
     pub told : List Told
     pub desk : DeskState S
     pub end : DeskState S
+    pub adopts : Adopts v old desk ⊎ ((why : Fault) × FailsToAdopt v old new why × (told ≡ []))
     pub answered : Answered v desk told end
     pub is : end.store ≡ new
     pub left : (c : C) → v.leaves new c → HasLife v F told c
@@ -246,7 +261,7 @@ module _ {S C : Type 0} (v : Sight S C) where
   -- so it is of what was done by a desk, if that was calls
   record IsByDesk (P : List Told → Type 0) (F : History) (old new : S) : Type 0 where
     pub honest : v.is_honest old
-    pub left : Keeps v old (picture F) → IsLeft P F new
+    pub left : Keeps v old (picture F) → IsLeft P F old new
 
   -- no desk was adopted
   by_none : (P : List Told → Type 0) → P [] → (F : History) → Legal F → (old new : S) (why : Fault) → FailsToAdopt v old new why
@@ -259,6 +274,7 @@ module _ {S C : Type 0} (v : Sight S C) where
           told = [];
           desk = d;
           end = d;
+          adopts = inr (why, fails, refl);
           answered = kept.not_one;
           is = refl;
           left = λ c may.
@@ -275,13 +291,15 @@ module _ {S C : Type 0} (v : Sight S C) where
     left = λ c may. keeps.left c (adopts.stands.left honest c may);
   }
 
-  by_desk : (P : List Told → Type 0) → P [] → (Does : DeskState S → DeskState S → Result ℕ Fault → Type 0)
-      → ((desk ended : DeskState S) (how : Result ℕ Fault) → desk.is_closed ≡ false → Does desk ended how → AreCalls v P desk ended)
-      → (F : History) → Legal F → (old new : S) (how : Result ℕ Fault) → ByDesk v Does old new how → v.is_honest new → IsByDesk P F old new
-  by_desk P none Does calls F legal old new how (unadopted why fails) honest = by_none P none F legal old new why fails honest
-  by_desk P none Does calls F legal old new how (adopted is desk ended adopts does back) honest =
+  by_desk : (P : Result ℕ Fault → List Told → Type 0) (was is : Option (List ℕ)) → ((why : Fault) → is ≡ was → P (Err why) [])
+      → (Does : DeskState S → DeskState S → Result ℕ Fault → Type 0)
+      → ((desk ended : DeskState S) (how : Result ℕ Fault) → desk.is_closed ≡ false → Does desk ended how → AreCalls v (P how) desk ended)
+      → (F : History) → Legal F → (old new : S) (how : Result ℕ Fault) → ByDesk v was is Does old new how → v.is_honest new → IsByDesk (P how) F old new
+  by_desk P was is none Does calls F legal old new how (unadopted why fails same) honest =
+      by_none (P (Err why)) (none why same) F legal old new why fails honest
+  by_desk P was is none Does calls F legal old new how (adopted outcome desk ended adopts does back) honest =
       let ends : v.is_honest ended.store = subst v.is_honest back honest in
-      let are : AreCalls v P desk ended = calls desk ended is adopts.opened does in
+      let are : AreCalls v (P outcome) desk ended = calls desk ended outcome adopts.opened does in
       let starts : v.is_honest desk.store = honest_at_first v desk ended are.told are.answered ends in
       record {
         honest = adopts.stands.honest starts;
@@ -289,6 +307,7 @@ module _ {S C : Type 0} (v : Sight S C) where
           told = are.told;
           desk = desk;
           end = ended;
+          adopts = inl adopts;
           answered = are.answered;
           is = sym back;
           left = λ c may.
@@ -308,69 +327,50 @@ module _ {D : Type 0} (g : disk.Ghosts D) where
       → stored.is_honest done.opened → Keeps stored done.opened (picture F)
   keeps_opened F done over honest = (done.opens honest over.files over.opened (picture F) over.desk).tables
 
-  -- what is left of a store over files
-  left_by : (P : List Told → Type 0) (F : History) (ended : Store (FileStore D g)) → IsLeft stored P F ended → LeavesLife g F ended
-  left_by P F ended it =
+  -- what is left of a store over files by a word that is done by a desk
+  left_over : {bytes : Image} {does : Doing Fault} {how : Result ℕ Fault} (P : List Told → Type 0) (F : History) (done : IsDoneOver g bytes does how)
+      → IsOver g F done → IsByDesk stored P F done.opened done.ended → LeavesLife g P F done.opened done.ended
+  left_over P F done over by =
+      let it : IsLeft stored P F done.opened done.ended = by.left (keeps_opened F done over by.honest) in
       record {
         told = it.told;
+        says = it.says;
         desk = it.desk;
         end = it.end;
+        adopts = it.adopts;
         answered = it.answered;
         is = it.is;
         left = λ left may. it.left left.trees may;
       }
 
-  -- and of lines
-  left_batch : (bytes was : Option (List ℕ)) (F : History) (ended : Store (FileStore D g)) → IsLeft stored (TellsBatch bytes was) F ended
-      → LeavesBatch g bytes was F ended
-  left_batch bytes was F ended it =
-      record {
-        lives = record {
-          told = it.told;
-          desk = it.desk;
-          end = it.end;
-          answered = it.answered;
-          is = it.is;
-          left = λ left may. it.left left.trees may;
-        };
-        tells = it.says;
-      }
-
-  -- and of a word that is done by a desk
-  left_over : {bytes : Image} {does : Doing Fault} {how : Result ℕ Fault} (P : List Told → Type 0) (F : History) (done : IsDoneOver g bytes does how)
-      → IsOver g F done → IsByDesk stored P F done.opened done.ended → IsLeft stored P F done.ended
-  left_over P F done over by = by.left (keeps_opened F done over by.honest)
-
   -- each word
-  status_leaves : (f : Form) (filter : OrderFilter) (was : Option (List ℕ)) → Leaves g (ListsOrders f filter was) (LeavesDesk g)
-  status_leaves f filter was bytes how done F over left may =
+  status_leaves : (f : Form) (filter : OrderFilter) (was is : Option (List ℕ)) → LeavesAsIs g (ListsOrders f filter was is)
+  status_leaves f filter was is bytes how done F over left may =
       (keeps_opened F done over (done.did.reads.honest over.honest)).left left.trees (done.did.reads.left over.honest left.trees may)
 
-  check_leaves : (f : Form) (was : Option (List ℕ)) → Leaves g (ChecksStatuses f was) (LeavesDesk g)
-  check_leaves f was bytes how done F over left may =
+  check_leaves : (f : Form) (was is : Option (List ℕ)) → LeavesAsIs g (ChecksStatuses f was is)
+  check_leaves f was is bytes how done F over left may =
       (keeps_opened F done over (done.did.reads.honest over.honest)).left left.trees (done.did.reads.left over.honest left.trees may)
 
-  revoke_leaves : (what : Target) → Leaves g (RevokesTarget what) (LeavesLife g)
-  revoke_leaves what bytes how done F over =
-      left_by (Any stored) F done.ended
-      (left_over (Any stored) F done over
-      (by_desk stored (Any stored) tt (Revokes stored what) (revoke_calls stored what) F over.legal done.opened done.ended how done.did over.honest))
+  revoke_leaves : (what : Target) (was is : Option (List ℕ)) → LivesOn g (RevokesTarget what was is) (TellsRevocation what)
+  revoke_leaves what was is bytes how done F over =
+      left_over (TellsRevocation what how) F done over
+      (by_desk stored (TellsRevocation what) was is (λ why same. inl (refl, λ well. absurd (cc well))) (Revokes stored what) (revoke_calls stored what)
+      F over.legal done.opened done.ended how done.did over.honest)
 
-  batch_leaves : (bytes was : Option (List ℕ)) → Leaves g (AnswersReader bytes was) (LeavesBatch g bytes was)
-  batch_leaves given was bytes how done F over =
-      let P : List Told → Type 0 = TellsBatch given was in
-      left_batch given was F done.ended
-      (left_over P F done over
-      (by_desk stored P (no_lines stored given was) (AnswersLines stored given was)
-      (λ desk ended how running it. batch_calls stored given was desk ended how it) F over.legal done.opened done.ended how done.did over.honest))
+  batch_leaves : (bytes was is : Option (List ℕ)) → LivesOn g (AnswersReader bytes was is) (TellsBatch bytes was is)
+  batch_leaves given was is bytes how done F over =
+      left_over (TellsBatch given was is how) F done over
+      (by_desk stored (TellsBatch given was is) was is (no_lines stored given was is) (AnswersLines stored given was is)
+      (λ desk ended outcome running it. batch_calls stored given was is desk ended outcome it) F over.legal done.opened done.ended how done.did
+      over.honest)
 
-  serve_leaves : (count : Option ℕ) → Leaves g (ServesCount count) (LeavesLife g)
-  serve_leaves count bytes how done F over =
+  serve_leaves : (count : Option ℕ) (was is : Option (List ℕ)) → LivesOn g (ServesCount count was is) TellsAny
+  serve_leaves count was is bytes how done F over =
       let most : ℕ = unwrap_or count 18446744073709551615 in
-      left_by (Any stored) F done.ended
-      (left_over (Any stored) F done over
-      (by_desk stored (Any stored) tt (Serves stored _ most) (λ desk ended how running it. serve_calls stored _ most desk ended how it) F over.legal
-      done.opened done.ended how done.did over.honest))
+      left_over (TellsAny how) F done over
+      (by_desk stored TellsAny was is (λ why same. tt) (Serves stored _ most)
+      (λ desk ended outcome running it. serve_calls stored _ most desk ended outcome it) F over.legal done.opened done.ended how done.did over.honest)
 
   pub words_leave : WordsLeave g
   words_leave = record {

@@ -16,6 +16,7 @@ use Rattle.file_tasks.specs.Endings.{IsDoneOver}
 use Rattle.reports.specs.declared.form.Form.{Form}
 use Rattle.reports.specs.declared.orders.OrderFilter.{OrderFilter}
 use Rattle.word_lives.specs.Kept.{AreKept, calls_of}
+use Rattle.word_lives.specs.Told.{TellsAny, TellsBatch, TellsRevocation}
 
 -- the replies of words, the latest first
 abbrev pub all_told : List (List Told) → List Told
@@ -37,18 +38,25 @@ pub record HasLives (F : History) (words : List (List Told)) (files : LeftFiles)
   pub tables : AreOfDesk files.trees (picture (history F life))
 
 module _ {D : Type 0} (g : disk.Ghosts D) where
-  -- a word over files with such a life, on a disk that is honest to the end: whatever files it closes or a stop then leaves, the life goes
-  -- on in them
-  abbrev pub GoesOn : Doing Fault → Type 0
-  GoesOn does =
+  -- a word over files with such a life, on a disk that is honest to the end: whatever files it closes or a stop then leaves, they have the
+  -- same life, and so the same tables
+  abbrev pub StaysOn : Doing Fault → Type 0
+  StaysOn does =
+      (F : History) (words : List (List Told)) (files : LeftFiles) (h : HasLives F words files) (how : Result ℕ Fault)
+      (done : IsDoneOver g files.image does how) → (file_sight g).is_honest done.ended
+      → (left : LeftFiles) → (file_sight g).leaves done.ended left → (still : HasLives F words left) × (still.life ≡ h.life)
+
+  -- or the life goes on in them, with such replies
+  abbrev pub GoesOn : Doing Fault → (Result ℕ Fault → List Told → Type 0) → Type 0
+  GoesOn does Says =
       (F : History) (words : List (List Told)) (files : LeftFiles) → HasLives F words files
       → (how : Result ℕ Fault) (done : IsDoneOver g files.image does how) → (file_sight g).is_honest done.ended
-      → (told : List Told) × ((left : LeftFiles) → (file_sight g).leaves done.ended left → HasLives F (told ∷ words) left)
+      → (told : List Told) × Says how told × ((left : LeftFiles) → (file_sight g).leaves done.ended left → HasLives F (told ∷ words) left)
 
   -- so it is of each word
   pub record WordsGoOn : Type 0 where
-    pub status : (f : Form) (filter : OrderFilter) (was : Option (List ℕ)) → GoesOn (ListsOrders f filter was)
-    pub check : (f : Form) (was : Option (List ℕ)) → GoesOn (ChecksStatuses f was)
-    pub revoke : (what : Target) → GoesOn (RevokesTarget what)
-    pub batch : (bytes was : Option (List ℕ)) → GoesOn (AnswersReader bytes was)
-    pub serve : (count : Option ℕ) → GoesOn (ServesCount count)
+    pub status : (f : Form) (filter : OrderFilter) (was is : Option (List ℕ)) → StaysOn (ListsOrders f filter was is)
+    pub check : (f : Form) (was is : Option (List ℕ)) → StaysOn (ChecksStatuses f was is)
+    pub revoke : (what : Target) (was is : Option (List ℕ)) → GoesOn (RevokesTarget what was is) (TellsRevocation what)
+    pub batch : (bytes was is : Option (List ℕ)) → GoesOn (AnswersReader bytes was is) (TellsBatch bytes was is)
+    pub serve : (count : Option ℕ) (was is : Option (List ℕ)) → GoesOn (ServesCount count was is) TellsAny

@@ -1,11 +1,11 @@
 -- What the words of the program leave of a desk's files.
-use Rattle.std.specs.Prelude.{◌≡◌, ℕ, List, Option, Result}
+use Rattle.std.specs.Prelude.{◌≡◌, ◌⊎◌, ℕ, List, [], Option, Result}
 use Rattle.sqlite.specs.Files.{over_files}
 use Rattle.sqlite.specs.Recovery.{Image}
 use Rattle.sqlite_disk.specs.declared.Disk as disk
 use Rattle.sqlite_store.specs.declared.store.FileStore.{FileStore}
 use Rattle.command_line.specs.declared.order.Target.{Target}
-use Rattle.commands.specs.Deeds.{AnswersReader, ChecksStatuses, ListsOrders, RevokesTarget, ServesCount}
+use Rattle.commands.specs.Deeds.{Adopts, AnswersReader, ChecksStatuses, FailsToAdopt, ListsOrders, RevokesTarget, ServesCount}
 use Rattle.commands.specs.declared.fault.Fault.{Fault}
 use Rattle.desk_calls.specs.Seen.{Told}
 use Rattle.desk_calls.specs.State.{DeskState}
@@ -20,7 +20,7 @@ use Rattle.file_tasks.specs.Endings.{IsDoneOver}
 use Rattle.reports.specs.declared.form.Form.{Form}
 use Rattle.reports.specs.declared.orders.OrderFilter.{OrderFilter}
 use Rattle.word_lives.specs.Kept.{Answered, HasLife}
-use Rattle.word_lives.specs.Told.{TellsBatch}
+use Rattle.word_lives.specs.Told.{TellsAny, TellsBatch, TellsRevocation}
 
 module _ {D : Type 0} (g : disk.Ghosts D) where
   -- the desk of a history was in the files when a word opened them, in either format, and the disk was honest to the end
@@ -35,30 +35,39 @@ module _ {D : Type 0} (g : disk.Ghosts D) where
   abbrev pub LeavesDesk : History → Store (FileStore D g) → Type 0
   LeavesDesk F ended = (left : LeftFiles) → (file_sight g).leaves ended left → (store_sight (over_files {g = g})).has left.trees (picture F)
 
-  -- calls to the desk that was adopted were replied to, and whatever files a stop then leaves, they have the desk of a life in which just
-  -- these were, and one call at most was cut off
-  pub record LeavesLife (F : History) (ended : Store (FileStore D g)) : Type 0 where
+  -- a desk was adopted over the opened store; or none was, and nothing replied
+  abbrev pub IsOfOpened : (opened ended : Store (FileStore D g)) → DeskState (Store (FileStore D g)) → List Told → Type 0
+  IsOfOpened opened ended desk told =
+      Adopts (store_sight (over_files {g = g})) opened desk
+      ⊎ ((why : Fault) × FailsToAdopt (store_sight (over_files {g = g})) opened ended why × (told ≡ []))
+
+  -- calls to the desk that was adopted were replied to, of which this is so, and whatever files a stop then leaves, they have the desk of a
+  -- life in which just these were, and one call at most was cut off
+  pub record LeavesLife (Says : List Told → Type 0) (F : History) (opened ended : Store (FileStore D g)) : Type 0 where
     pub told : List Told
+    pub says : Says told
     pub desk : DeskState (Store (FileStore D g))
     pub end : DeskState (Store (FileStore D g))
+    pub adopts : IsOfOpened opened ended desk told
     pub answered : Answered (store_sight (over_files {g = g})) desk told end
     pub is : end.store ≡ ended
     pub left : (left : LeftFiles) → (file_sight g).leaves ended left → HasLife (store_sight (over_files {g = g})) F told left.trees
 
-  -- and what was said to the lines of a batch tells these replies
-  pub record LeavesBatch (bytes was : Option (List ℕ)) (F : History) (ended : Store (FileStore D g)) : Type 0 where
-    pub lives : LeavesLife F ended
-    pub tells : TellsBatch bytes was lives.told
+  -- whatever history the desk of the files has, a word leaves it as it was
+  abbrev pub LeavesAsIs : Doing Fault → Type 0
+  LeavesAsIs does =
+      (bytes : Image) (how : Result ℕ Fault) (done : IsDoneOver g bytes does how) (F : History) → IsOver F done → LeavesDesk F done.ended
 
-  -- whatever history the desk of the files has, a word leaves this of it
-  abbrev pub Leaves : Doing Fault → (History → Store (FileStore D g) → Type 0) → Type 0
-  Leaves does Left =
-      (bytes : Image) (how : Result ℕ Fault) (done : IsDoneOver g bytes does how) (F : History) → IsOver F done → Left F done.ended
+  -- or lets it live on, with such replies
+  abbrev pub LivesOn : Doing Fault → (Result ℕ Fault → List Told → Type 0) → Type 0
+  LivesOn does Says =
+      (bytes : Image) (how : Result ℕ Fault) (done : IsDoneOver g bytes does how) (F : History) → IsOver F done
+      → LeavesLife (Says how) F done.opened done.ended
 
-  -- so it is of each word
+  -- so it is of each word, whose writer was given these bytes and has these in the end, where that is known
   pub record WordsLeave : Type 0 where
-    pub status : (f : Form) (filter : OrderFilter) (was : Option (List ℕ)) → Leaves (ListsOrders f filter was) LeavesDesk
-    pub check : (f : Form) (was : Option (List ℕ)) → Leaves (ChecksStatuses f was) LeavesDesk
-    pub revoke : (what : Target) → Leaves (RevokesTarget what) LeavesLife
-    pub batch : (bytes was : Option (List ℕ)) → Leaves (AnswersReader bytes was) (LeavesBatch bytes was)
-    pub serve : (count : Option ℕ) → Leaves (ServesCount count) LeavesLife
+    pub status : (f : Form) (filter : OrderFilter) (was is : Option (List ℕ)) → LeavesAsIs (ListsOrders f filter was is)
+    pub check : (f : Form) (was is : Option (List ℕ)) → LeavesAsIs (ChecksStatuses f was is)
+    pub revoke : (what : Target) (was is : Option (List ℕ)) → LivesOn (RevokesTarget what was is) (TellsRevocation what)
+    pub batch : (bytes was is : Option (List ℕ)) → LivesOn (AnswersReader bytes was is) (TellsBatch bytes was is)
+    pub serve : (count : Option ℕ) (was is : Option (List ℕ)) → LivesOn (ServesCount count was is) TellsAny

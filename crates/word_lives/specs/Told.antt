@@ -1,8 +1,12 @@
 -- What is said to the lines of a batch, and the replies that it tells.
-use Rattle.std.specs.Prelude.{◌≡◌, ◌⊎◌, ℕ, List, [], ◌∷◌, ◌++◌, Option, IfSome}
+use Rattle.std.specs.Prelude.{◌≡◌, ◌≢◌, ◌⊎◌, ℕ, List, [], ◌∷◌, ◌++◌, Option, None, IfSome, Result, Ok}
 use Rattle.std.specs.Io.KnownBytes.{Appends}
 use Rattle.batches.specs.InTurn.{AreLines}
 use Rattle.batches.specs.LineRequests.{IsRequestOf, call_of}
+use Rattle.command_line.specs.declared.order.Target.{Target}
+use Rattle.commands.specs.Deeds.{ask_of}
+use Rattle.commands.specs.declared.fault.Fault.{Fault}
+use Rattle.desk_calls.specs.Office.{office_call, refusal_in}
 use Rattle.desk_calls.specs.Seen.{Told}
 use Rattle.desk_model.specs.declared.call.Ask.{Ask}
 use Rattle.desk_model.specs.declared.reply.Reply.{Reply}
@@ -24,14 +28,29 @@ pub data TellsLines : (lines : List (List ℕ)) (said : List ℕ) (told : List T
       → TellsLines (lines ++ bytes ∷ []) (said ++ (line_text reply ++ 10 ∷ [])) told
 
 -- the lines were read of a reader with these bytes, where they are known, and what was said to them was written behind these; the replies
--- of the desk are those, and one more at most, which was not said
-pub record TellsBatch (bytes was : Option (List ℕ)) (told : List Told) : Type 0 where
+-- of the desk are those, and one more at most, which was not said. With 0 every line was read, and each reply said, and nothing else was
+-- written; with 1 a text may be written in part
+pub record TellsBatch (bytes was is : Option (List ℕ)) (how : Result ℕ Fault) (told : List Told) : Type 0 where
   pub lines : List (List ℕ)
   pub unread : List ℕ
   pub read : IfSome bytes (λ xs. AreLines xs lines unread)
   pub said : List ℕ
-  pub is : Option (List ℕ)
-  pub written : Appends was is said
+  pub written : Option (List ℕ)
+  pub appended : Appends was written said
   pub telling : List Told
   pub tells : TellsLines lines said telling
   pub all : (told ≡ telling) ⊎ ((last : Told) × (told ≡ last ∷ telling))
+  pub whole : how ≡ Ok 0 → (unread ≡ []) × (told ≡ telling)
+  pub ends : (is ≡ written) ⊎ (how ≡ Ok 1)
+
+-- the desk replied to the revocation of this target at some moment, and refused nothing where that is told as done; or it did not reply,
+-- which is not told so
+abbrev pub TellsRevocation : Target → Result ℕ Fault → List Told → Type 0
+TellsRevocation what how told =
+    ((told ≡ []) × (how ≢ Ok 0))
+    ⊎ ((at : ℕ) × (reply : Reply) × (told ≡ record { call = office_call at (ask_of what); reply = reply } ∷ [])
+    × (how ≡ Ok 0 → refusal_in reply.body ≡ None))
+
+-- whatever it replied to
+abbrev pub TellsAny : Result ℕ Fault → List Told → Type 0
+TellsAny how told = Unit {0}

@@ -1,15 +1,13 @@
-use Rattle.sqlite.specs.WalFiles.{image_at}
-use Rattle.file_tasks.proofs.Ending.{ends_done, ends_unopened}
+use Rattle.std.proofs.Common.{refl}
+use Rattle.file_tasks.specs.Endings.{done, unopened}
 use Rattle.file_tasks.proofs.over_file.run_over_file.Goals as goal
 
-pub returns-in_err-open : goal.returns-in_err-open
-returns-in_err-open g c =
-    ends_unopened g.T.Fault.From.from_gives _ (image_at g.S.Start) (g.T.Task.does c.args.task) c.in_err-open.field-0.0 c.from_residual.result
-    c.from_residual.ensures.1
+pub returns-in-Ok : goal.returns-in-Ok
+returns-in-Ok g c =
+    let ends = c.ended.ensures in
+    done c.run_over-store.result.1
+    (record { opened = c.in-Ok.store; ended = c.run_over-store.result.0; opens = c.in-Ok.ensures.opened; did = c.run_over-store.ensures })
+    c.close-closed.result.0 c.close-closed.ensures (record { closed = ends.closed; unclosed = ends.unclosed; otherwise = ends.otherwise })
 
 pub returns : goal.returns
-returns g c =
-    let ends = c.ended.ensures in
-    ends_done g.T.Fault.From.from_gives _ (image_at g.S.Start) (g.T.Task.does c.args.task) c.in_ok-open.field-0 c.run_over-store.result.0
-    c.run_over-store.result.1 c.ended.result c.close-closed.result c.in_ok-open.ensures c.run_over-store.ensures c.close-closed.ensures
-    ends.closed ends.unclosed ends.otherwise
+returns g c = unopened c.in-Err.fault c.failed.ensures c.in-Err.ensures.unopened refl

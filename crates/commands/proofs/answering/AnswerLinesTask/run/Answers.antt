@@ -1,10 +1,10 @@
-use Rattle.std.proofs.Common.{Ok}
+use Rattle.std.proofs.Common.{Ok, refl}
 use Rattle.commands.specs.Deeds.{adopted, unadopted}
 use Rattle.commands.proofs.Done.{lines_answered}
 use Rattle.commands.proofs.answering.AnswerLinesTask.run.Goals as goal
 
 pub returns-in-Err : goal.returns-in-Err
-returns-in-Err g c = unadopted c.in-Err.fault c.in-Err.ensures
+returns-in-Err g c = unadopted c.in-Err.fault c.in-Err.ensures refl
 
 pub returns : goal.returns
 returns g c =

@@ -1,8 +1,9 @@
+use Rattle.std.proofs.Common.{refl}
 use Rattle.commands.specs.Deeds.{adopted, unadopted}
 use Rattle.commands.proofs.answering.ServeConnectionsTask.run.Goals as goal
 
 pub returns-in-Err : goal.returns-in-Err
-returns-in-Err g c = unadopted c.in-Err.fault c.in-Err.ensures
+returns-in-Err g c = unadopted c.in-Err.fault c.in-Err.ensures refl
 
 pub returns : goal.returns
 returns g c =

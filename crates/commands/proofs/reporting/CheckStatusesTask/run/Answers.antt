@@ -5,7 +5,6 @@ returns g c =
     let listed = c.list_faults-checked.ensures in
     record {
       checked = c.list_faults-checked.result;
-      is = g.W.Write.contents c.list_faults-checked.new.out;
       reads = listed.reads;
       found = listed.found;
       printed = listed.printed;

@@ -5,7 +5,6 @@ returns g c =
     let listed = c.list_orders-listed.ensures in
     record {
       listed = c.list_orders-listed.result;
-      is = g.W.Write.contents c.list_orders-listed.new.out;
       reads = listed.reads;
       printed = listed.printed;
       ends = c.told.ensures;
