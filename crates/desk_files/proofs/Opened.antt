@@ -12,7 +12,7 @@ use Rattle.sqlite.specs.Tree.{Trees}
 use Rattle.sqlite.specs.View.{doubt}
 use Rattle.desk_model.specs.Tables.{Tables}
 use Rattle.desk_model.specs.Terms.{Terms}
-use Rattle.desk_schema.specs.Names.{uses_key_table}
+use Rattle.desk_schema.specs.Names.{uses_key_table, uses_names}
 use Rattle.desk_schema.specs.Schema.{no_schema}
 use Rattle.desk_schema.specs.Stays.{Asks}
 use Rattle.desk_storage.specs.declared.fault.StorageFault.TheVariants as fault
@@ -23,7 +23,7 @@ use Rattle.desk_upgrading.specs.FirstDesks.{HasFirst}
 use Rattle.desk_openings.specs.Formats.{AreOfFirst, HasEither}
 use Rattle.desk_openings.specs.LeftFiles.{AreOfOpening, LeftFiles, file_sight, schema_in}
 use Rattle.desk_openings.proofs.Finding.{empty_files_are_opened, first_files_are_opened, found_files_are_opened, reads_files}
-use Rattle.desk_files.specs.Opening.{IsEarly, LeavesNewDesk}
+use Rattle.desk_files.specs.Opening.{IsEarly, IsTaken, LeavesNewDesk}
 
 -- by cases on a test
 pub by_cases : (test : Bool) (P : Type 0) → (test ≡ true → P) → (test ≡ false → P) → P
@@ -95,6 +95,17 @@ module _ {D : Type 0} {g : disk.Ghosts D} where
     first = subst (λ schema. uses_key_table schema ≡ false) (sym found.schema) is.first;
     desk = λ T first. is.desk T (found.first T first);
   })
+
+  -- where no desk is made beside a name that is taken, the files of one that was made have none
+  pub is_free : (files : LeftFiles) (conn : Held (FileStore D g)) → HasFound files conn → (IsTrue (uses_names (file_state conn).now.schema) → ⊥)
+      → uses_names (schema_in files) ≡ false
+  is_free files conn found none =
+      by_cases (uses_names (schema_in files)) _ (λ is. absurd (none (subst (λ schema. uses_names schema ≡ true) found.schema is))) (λ is. is)
+
+  -- what a stop leaves of a connection where a name is taken is what the files held
+  pub taken_left : (files : LeftFiles) (conn : Held (FileStore D g)) → HasFound files conn → (why : OpenFault) (new : State)
+      → IsTaken (λ trees. trees ≡ (file_state conn).committed.trees) why new → IsTaken (λ trees. trees ≡ files.trees) why new
+  taken_left files conn found why new taken = record { fault = taken.fault; left = λ trees may. taken.left trees may ∙ found.trees }
 
   -- a connection to an empty file
   pub record IsOnNothing (conn : Held (FileStore D g)) : Type 0 where

@@ -1,5 +1,5 @@
 -- What making and opening the desk of two files gives.
-use Rattle.std.specs.Prelude.{◌≡◌, ◌⊎◌, [], ℕ}
+use Rattle.std.specs.Prelude.{◌≡◌, ◌⊎◌, [], false, ℕ, IsTrue}
 use Rattle.sqlite_disk.specs.declared.Disk as disk
 use Rattle.sqlite_store.specs.declared.store.FileStore.{FileStore}
 use Rattle.sqlite.specs.Files.{IsCleanLeft, IsEmpty, faults_left, file_state}
@@ -14,6 +14,7 @@ use Rattle.sqlite.specs.Tree.{Trees}
 use Rattle.desk_model.specs.Tables.{Tables, picture}
 use Rattle.desk_model.specs.History.{first_history}
 use Rattle.desk_model.specs.Terms.{Terms}
+use Rattle.desk_schema.specs.Names.{uses_names}
 use Rattle.desk_storage.specs.Sight.{Keeps, Opens}
 use Rattle.desk_store.specs.Causes.{cause_of}
 use Rattle.desk_store.specs.Desks.{AreOfDesk}
@@ -25,7 +26,7 @@ use Rattle.desk_store.specs.declared.faults.Cause.TheVariants as cause
 use Rattle.desk_store.specs.declared.open_fault.OpenFault.{OpenFault}
 use Rattle.desk_store.specs.declared.open_fault.OpenFault.TheVariants.{NewerFormat, NotADesk, Storage}
 use Rattle.desk_store.specs.declared.store.Store.{Store}
-use Rattle.desk_openings.specs.LeftFiles.{AreOfOpening, LeftFiles, file_sight}
+use Rattle.desk_openings.specs.LeftFiles.{AreOfOpening, LeftFiles, file_sight, schema_in}
 
 -- memory was refused, or the disk failed
 abbrev pub fault_of_files : Cause → StorageFault
@@ -49,6 +50,11 @@ IsEarly (Storage _) = ⊥
 pub record LeavesNewDesk (policy : Terms) (at : ℕ) (Was : Trees → Type 0) (why : OpenFault) (s : State) : Type 0 where
   pub fault : IsOfStorage why
   pub left : (trees : Trees) → s.may_leave trees → Was trees ⊎ AreOfDesk trees (picture (first_history policy at))
+
+-- a making that found a name of the desk's taken: the fault is that, and a stop leaves what was there
+pub record IsTaken (Was : Trees → Type 0) (why : OpenFault) (s : State) : Type 0 where
+  pub fault : why ≡ NotADesk
+  pub left : (trees : Trees) → s.may_leave trees → Was trees
 
 module _ {D : Type 0} {g : disk.Ghosts D} where
   -- whatever desk the bytes held, in either format, the store has it in today's, and a stop leaves that alone
@@ -85,3 +91,13 @@ module _ {D : Type 0} {g : disk.Ghosts D} where
   abbrev pub FailsToMake : Terms → ℕ → Image → OpenFault → Held (FileStore D g) → Type 0
   FailsToMake policy at image why conn =
       HasCleanDisk (file_state conn) → image.db ≡ [] → LeavesNewDesk policy at IsEmpty why (file_state conn)
+
+  -- a desk was made: whatever database the bytes held had no table, index or view of a name of the desk's
+  abbrev pub FoundNoName : Image → Store (FileStore D g) → Type 0
+  FoundNoName image store = (file_sight g).is_honest store → (files : LeftFiles) → files.image ≡ image → uses_names (schema_in files) ≡ false
+
+  -- where it had one, the fault is that, and a stop leaves the database that the bytes held
+  abbrev pub RefusesName : Image → OpenFault → Held (FileStore D g) → Type 0
+  RefusesName image why conn =
+      HasCleanDisk (file_state conn) → (files : LeftFiles) → files.image ≡ image → IsTrue (uses_names (schema_in files))
+      → IsTaken (λ trees. trees ≡ files.trees) why (file_state conn)

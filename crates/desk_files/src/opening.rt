@@ -5,7 +5,8 @@ ghost use Rattle.sqlite.specs.Held.{IsNew};
 ghost use Rattle.sqlite.specs.Start.{FindsIn};
 ghost use Rattle.sqlite.specs.State.{HasCleanDisk};
 ghost use Rattle.sqlite.specs.WalFiles.{image_at};
-ghost use Rattle.desk_files.specs.Opening.{FailsToMake, LeavesAnOpening, LeavesAsFound, MakesFiles, OpensFiles, RefusesNoDatabase, RefusesNoDesk};
+ghost use Rattle.desk_files.specs.Opening.{FailsToMake, FoundNoName, LeavesAnOpening, LeavesAsFound, MakesFiles, OpensFiles, RefusesName};
+ghost use Rattle.desk_files.specs.Opening.{RefusesNoDatabase, RefusesNoDesk};
 ghost use Rattle.desk_store.specs.Making.{IsOfStorage};
 
 use crate::fault::refusal_fault;
@@ -67,6 +68,8 @@ fn begin_from<S: Start>(
     ensures left { first ≡ None → IfErr result (λ un. IfSome un.conn (LeavesAnOpening (image_at S.Start))) }
     ensures spared { first ≡ None → IfErr result (λ un. IfSome un.conn (LeavesAsFound (image_at S.Start) un.fault)) }
     ensures unmade { IfSome first (λ it. IfErr result (λ un. IfSome un.conn (FailsToMake it.policy it.at (image_at S.Start) un.fault))) }
+    ensures free { IfSome first (λ _. IfOk result (FoundNoName (image_at S.Start))) }
+    ensures taken { IfSome first (λ _. IfErr result (λ un. IfSome un.conn (RefusesName (image_at S.Start) un.fault))) }
 {
     let conn = match connect(rt, path, start) {
         Ok(conn) => conn,
@@ -109,8 +112,8 @@ pub fn open_from<S: Start>(
 
 /// Makes a desk with a policy at a moment in the files at a path, where `S` stands for their bytes.
 ///
-/// The tables and the first row are written by one transaction, so there is no desk without its policy. A caller that must
-/// not write into files of others looks first whether there are any.
+/// The tables and the first row are written by one transaction, so there is no desk without its policy. Beside a desk that is there
+/// none is made. A caller that must not write into other files either looks first whether there are any.
 ///
 /// # Errors
 ///
@@ -127,6 +130,8 @@ pub fn make_from<S: Start>(
     ensures unreached { IfErr result (λ un. un.conn ≡ None → un.refused ≡ None → IsOfStorage un.fault) }
     ensures refused { IfErr result (λ un. IfSome un.refused (RefusesNoDatabase (image_at S.Start) un.fault)) }
     ensures unmade { IfErr result (λ un. IfSome un.conn (FailsToMake policy at (image_at S.Start) un.fault)) }
+    ensures free { IfOk result (FoundNoName (image_at S.Start)) }
+    ensures taken { IfErr result (λ un. IfSome un.conn (RefusesName (image_at S.Start) un.fault)) }
 {
     begin_from(rt, path, start, Some(First { policy, at }))
 }

@@ -6,13 +6,14 @@ ghost use Rattle.sqlite.specs.Tree.{Trees};
 ghost use Rattle.sqlite.specs.View.{doubt};
 ghost use Rattle.desk_model.specs.History.{first_history};
 ghost use Rattle.desk_model.specs.Tables.{Tables, picture};
+ghost use Rattle.desk_schema.specs.Names.{uses_names};
 ghost use Rattle.desk_schema.specs.Schema.{no_schema};
 ghost use Rattle.desk_storage.specs.Sight.{Keeps};
 ghost use Rattle.desk_store.specs.Desks.{store_sight};
 ghost use Rattle.desk_store.specs.Making.{IsOfStorage};
 ghost use Rattle.desk_store.specs.Opening.{IsUpgraded};
 ghost use Rattle.desk_openings.specs.Formats.{HasEither};
-ghost use Rattle.desk_files.specs.Opening.{IsEarly, LeavesNewDesk};
+ghost use Rattle.desk_files.specs.Opening.{IsEarly, IsTaken, LeavesNewDesk};
 
 use desk_model::{Clock, Policy};
 use desk_store::{Store, Unopened};
@@ -55,6 +56,9 @@ fn make_tables<A: Alter>(
     ensures unmade { IfErr result (λ un. HasCleanDisk (state A.Store un.conn) → (state A.Store conn).now.schema ≡ no_schema
         → IsTrue (state A.Store conn).is_open → LeavesNewDesk policy at
         (λ trees. trees ≡ (state A.Store conn).committed.trees) un.fault (state A.Store un.conn)) }
+    ensures taken { IsTrue (uses_names (state A.Store conn).now.schema) → MatchResult result (λ store. ⊥)
+        (λ un. IsTrue (state A.Store conn).is_open
+        → IsTaken (λ trees. trees ≡ (state A.Store conn).committed.trees) un.fault (state A.Store un.conn)) }
 {
     match Store::make(alloc, conn, policy, at) {
         Ok(store) => Ok(store),
@@ -93,6 +97,9 @@ pub(crate) fn begin<A: Alter>(
     ensures unmade { IfSome first (λ it. IfErr result (λ un. HasCleanDisk (state A.Store un.conn) → (state A.Store conn).now.schema ≡ no_schema
         → IsTrue (state A.Store conn).is_open → LeavesNewDesk it.policy it.at
         (λ trees. trees ≡ (state A.Store conn).committed.trees) un.fault (state A.Store un.conn))) }
+    ensures taken { IfSome first (λ _. IsTrue (uses_names (state A.Store conn).now.schema) → MatchResult result (λ store. ⊥)
+        (λ un. IsTrue (state A.Store conn).is_open
+        → IsTaken (λ trees. trees ≡ (state A.Store conn).committed.trees) un.fault (state A.Store un.conn))) }
 {
     match first {
         None => open_tables(alloc, conn),

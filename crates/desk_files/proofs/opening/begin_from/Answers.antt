@@ -3,9 +3,11 @@ use Rattle.sqlite.specs.Files.{IsEmpty, file_state}
 use Rattle.sqlite.specs.State.{HasCleanDisk}
 use Rattle.sqlite.specs.Tree.{Trees}
 use Rattle.sqlite.specs.WalFiles.{image_at}
+use Rattle.std.specs.Prelude.{IsTrue}
+use Rattle.desk_schema.specs.Names.{uses_names}
 use Rattle.desk_openings.specs.LeftFiles.{files_have}
 use Rattle.desk_openings.proofs.Finding.{in_todays, keeps_within}
-use Rattle.desk_files.proofs.Opened.{Connects, files_found, new_desk_left, nothing_found, opening_left}
+use Rattle.desk_files.proofs.Opened.{Connects, files_found, is_free, new_desk_left, nothing_found, opening_left, taken_left}
 use Rattle.desk_files.proofs.Refused.{if_there}
 use Rattle.desk_files.proofs.opening.begin_from.Goals as goal
 
@@ -62,3 +64,22 @@ returns-in-Err-begin-clause-unmade g c =
     new_desk_left first.policy first.at (λ (trees : Trees). trees ≡ (file_state c.in-Ok.conn).committed.trees) IsEmpty c.in-Err-begin.unopened.fault
     (file_state c.in-Err-begin.unopened.conn) (λ trees same. subst IsEmpty (sym same) nothing.empty)
     (it clean nothing.schema nothing.opened.0.is_open))
+
+pub returns-in-Ok-begin-clause-free : goal.returns-in-Ok-begin-clause-free
+returns-in-Ok-begin-clause-free g c =
+    let connected = c.in-Ok.ensures in
+    let made = c.in-Ok-begin.ensures in
+    let connects : Connects (image_at g.S.Start) c.in-Ok.conn = record { fresh = connected.fresh; opened = connected.opened; found = connected.found } in
+    if_there c.args.first made.taken (λ first it clean files same.
+    let found = files_found (image_at g.S.Start) c.in-Ok.conn connects (file_state c.in-Ok-begin.store.conn) made.honest clean files same in
+    is_free files c.in-Ok.conn found it)
+
+pub returns-in-Err-begin-clause-taken : goal.returns-in-Err-begin-clause-taken
+returns-in-Err-begin-clause-taken g c =
+    let connected = c.in-Ok.ensures in
+    let failed = c.in-Err-begin.ensures in
+    let connects : Connects (image_at g.S.Start) c.in-Ok.conn = record { fresh = connected.fresh; opened = connected.opened; found = connected.found } in
+    if_there c.args.first failed.taken (λ first it clean files same taken.
+    let found = files_found (image_at g.S.Start) c.in-Ok.conn connects (file_state c.in-Err-begin.unopened.conn) failed.honest clean files same in
+    taken_left files c.in-Ok.conn found c.in-Err-begin.unopened.fault (file_state c.in-Err-begin.unopened.conn)
+    (it (subst (λ schema. IsTrue (uses_names schema)) found.schema taken) found.is_open))

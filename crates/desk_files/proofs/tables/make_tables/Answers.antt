@@ -2,6 +2,7 @@ use Rattle.std.proofs.Common.{◌≡◌, ◌≤◌, false, inl, inr, refl, subst
 use Rattle.sqlite.specs.Held.{state}
 use Rattle.sqlite.specs.View.{doubt}
 use Rattle.desk_schema.specs.Names.{uses_names}
+use Rattle.desk_store.specs.declared.open_fault.OpenFault.TheVariants.{NotADesk}
 use Rattle.desk_files.proofs.Opened.{by_cases}
 use Rattle.desk_files.proofs.tables.make_tables.Goals as goal
 
@@ -32,4 +33,17 @@ returns-in-Err-clause-unmade g c clean none is_open =
         | inl was ↦ inl (g.met.A.Store.settled c.args.conn.store trees is_open was)
         | inr made ↦ inr (made none)
       ];
+    }
+
+pub returns-in-Ok-clause-taken : goal.returns-in-Ok-clause-taken
+returns-in-Ok-clause-taken g c taken = absurd (let e = c.in-Ok.ensures.taken taken in cc)
+
+pub returns-in-Err-clause-taken : goal.returns-in-Err-clause-taken
+returns-in-Err-clause-taken g c taken is_open =
+    let e = c.in-Err.ensures.taken taken in
+    let same : c.in-Err.unmade.conn ≡ c.args.conn = cc in
+    let why : c.in-Err.unmade.fault ≡ NotADesk = cc in
+    record {
+      fault = why;
+      left = λ trees may. g.met.A.Store.settled c.args.conn.store trees is_open (subst (λ conn. (state g.A.Store conn).may_leave trees) same may);
     }
