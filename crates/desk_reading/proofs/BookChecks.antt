@@ -12,9 +12,10 @@ use Rattle.sqlite.proofs.Callers.{unchanged_then}
 use Rattle.desk_model.specs.Tables.{Tables}
 use Rattle.desk_reading.specs.BookShown.{Checks}
 use Rattle.desk_reading.specs.Checking.{ShowsTable}
-use Rattle.desk_reading.specs.Failures.{HasTexts, MayRead}
+use Rattle.desk_reading.specs.Failures.{HasTexts, IsMet, MayRead}
 use Rattle.desk_reading.proofs.Failing.{may_read_still}
-use Rattle.desk_reading.proofs.Results.{failed_as}
+use Rattle.desk_reading.proofs.MetFaults.{met_behind}
+use Rattle.desk_reading.proofs.Results.{failed_as, fails_then}
 use Rattle.desk_schema.specs.Failing.{IsFailure}
 use Rattle.desk_schema.specs.Stays.{Asks}
 use Rattle.desk_schema.proofs.StaysLemmas.{asks_then}
@@ -24,10 +25,12 @@ module _ {S : Type 0} (g : Ghosts S) where
   -- the reading of a table failed
   pub checks_failed : (Readable : Type 0) (P : Database → Type 0) (old new : Held S) (e : Error) (r : Result Bool Error) → IsErr r → IsErrAnd r (λ x. x ≡ e)
       → ((T : Tables) → Holds (state g old).now T → HasTexts T → Readable)
-      → (HasCleanDisk (state g new) → MayRead (state g old) → Readable → IsFailure e) → Asks (state g old) (state g new) → Checks g old new P r
-  checks_failed Readable P old new e r is_err same readable fails asks = record {
+      → (HasCleanDisk (state g new) → MayRead (state g old) → Readable → IsFailure e)
+      → (HasCleanDisk (state g new) → IsMet (state g old) (state g new) e) → Asks (state g old) (state g new) → Checks g old new P r
+  checks_failed Readable P old new e r is_err same readable fails met asks = record {
     known = λ clean. IfOk-from_err r _ is_err;
     fails = λ clean T has may texts. failed_as r e IsFailure (fails clean may (readable T has texts)) same;
+    met = λ clean. failed_as r e (IsMet (state g old) (state g new)) (met clean) same;
     unchanged = λ clean. IfOk-from_err r _ is_err;
     asks = asks;
   }
@@ -38,6 +41,7 @@ module _ {S : Type 0} (g : Ghosts S) where
   checks_stopped P old new same asks = record {
     known = λ clean is. absurd (cc is);
     fails = λ clean T has may texts. tt;
+    met = λ clean. tt;
     unchanged = same;
     asks = asks;
   }
@@ -48,6 +52,7 @@ module _ {S : Type 0} (g : Ghosts S) where
   checks_last P old new known same asks = record {
     known = λ clean _. known clean;
     fails = λ clean T has may texts. tt;
+    met = λ clean. tt;
     unchanged = same;
     asks = asks;
   }
@@ -61,6 +66,7 @@ module _ {S : Type 0} (g : Ghosts S) where
     fails = λ clean T has may texts.
         let still = same (honest clean) in
         rest.fails clean T (subst (λ db. Holds db T) (sym still.0.now_is) has) (may_read_still (state g old) (state g mid) still asks may) texts;
+    met = λ clean. fails_then r (rest.met clean) (λ e is. met_behind (state g old) (state g mid) (state g new) e asks is);
     unchanged = λ clean. unchanged r (honest clean) (rest.unchanged clean);
     asks = asks_then (state g old) (state g mid) (state g new) asks rest.asks;
   }

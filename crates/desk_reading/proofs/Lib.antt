@@ -18,6 +18,7 @@ pub mod Lists
 pub mod Loading
 pub mod LookUpReadings
 pub mod LookUpRows
+pub mod MetFaults
 pub mod NestLemmas
 pub mod ReadValues
 pub mod Readings

@@ -1,5 +1,5 @@
 -- Tables that are read one after the other.
-use Rattle.std.proofs.Common.{◌≡◌, ℕ, List, [], map, Result, Ok, Err, refl, subst, arith, ◌∙◌}
+use Rattle.std.proofs.Common.{◌≡◌, ◌⊎◌, inl, inr, ℕ, List, [], map, Result, Ok, Err, refl, subst, arith, ◌∙◌}
 use Rattle.std.specs.Prelude.{IfErr, IfOk, OnOk}
 use Rattle.sqlite.specs.Held.{Held, state}
 use Rattle.sqlite.specs.Order.{Row}
@@ -10,10 +10,11 @@ use Rattle.sqlite.proofs.Callers.{unchanged_then}
 use Rattle.desk_schema.specs.Failing.{IsFailure}
 use Rattle.desk_schema.specs.Stays.{Asks}
 use Rattle.desk_schema.proofs.StaysLemmas.{asks_then}
-use Rattle.desk_reading.specs.Failures.{FailsToRead, IsReadable, MayRead}
+use Rattle.desk_reading.specs.Failures.{FailsToRead, IsMet, IsReadable, MayRead}
 use Rattle.desk_reading.specs.Reads.{Reads}
 use Rattle.desk_reading.specs.Shown.{IsShown}
 use Rattle.desk_reading.proofs.Failing.{may_read_still}
+use Rattle.desk_reading.proofs.MetFaults.{met_behind, met_on}
 use Rattle.desk_reading.proofs.Results.{fails_then, read_then}
 use Rattle.desk_reading.proofs.ShownRows.{shown_now, shown_still}
 
@@ -22,11 +23,13 @@ module _ {S : Type 0} (g : Ghosts S) where
   pub reads_first : {C : Type 0} (text : List ℕ) (spelled : Row → C) (Fits : Row → Type 0) (first now : Held S) (read : Result (List C) Error)
       → (HasCleanDisk (state g now) → IfOk read (λ all. (rows : List Row) × Shown text [] (state g first) (state g now) rows × (all ≡ map spelled rows)))
       → (HasCleanDisk (state g now) → IfErr read (FailsToRead text [] (state g first) (state g now) Fits))
+      → (HasCleanDisk (state g now) → IfErr read (IsMet (state g first) (state g now)))
       → (HasCleanDisk (state g now) → OnOk read (IsUnchanged (state g first) (state g now))) → Asks (state g first) (state g now)
       → Reads g first now (IsShown g text spelled first) (IsReadable g first text Fits) read
-  reads_first text spelled Fits first now read shown fails same asks = record {
+  reads_first text spelled Fits first now read shown fails met same asks = record {
     shown = λ clean. read_then read (shown clean) (λ all it. shown_now g text spelled first now it.0 all it.1 it.2);
     fails = λ clean may readable. fails_then read (fails clean) (λ e h. readable first now e refl may h);
+    met = met;
     unchanged = same;
     asks = asks;
   }
@@ -37,9 +40,10 @@ module _ {S : Type 0} (g : Ghosts S) where
       → Reads g first mid P Readable earlier
       → (HasCleanDisk (state g now) → IfOk read (λ both. (earlier ≡ Ok both.0) × IsShown g text spelled mid both.1))
       → (HasCleanDisk (state g now) → IfErr earlier IsFailure → OnOk earlier (MayRead (state g mid) × IsReadable g mid text Fits) → IfErr read IsFailure)
+      → (HasCleanDisk (state g now) → IfErr read (λ e. (earlier ≡ Err e) ⊎ IsMet (state g mid) (state g now) e))
       → (HasCleanDisk (state g now) → OnOk read (IsUnchanged (state g mid) (state g now))) → Asks (state g mid) (state g now)
       → Reads g first now (λ both. P both.0 × IsShown g text spelled first both.1) (Readable × IsReadable g first text Fits) read
-  reads_more {A} {C} P Readable text spelled Fits first mid now earlier read before shown fails same asks = record {
+  reads_more {A} {C} P Readable text spelled Fits first mid now earlier read before shown fails met same asks = record {
     shown = λ clean. read_then read (shown clean) (λ both it. (
       subst (λ r. IfOk r P) it.0 (before.shown (honest clean)),
       shown_still g text spelled first mid both.1 (subst (λ r. OnOk r (IsUnchanged (state g first) (state g mid))) it.0
@@ -47,6 +51,11 @@ module _ {S : Type 0} (g : Ghosts S) where
     ));
     fails = λ clean may readable. fails clean (before.fails (honest clean) may readable.0)
         (read_on earlier (before.unchanged (honest clean)) may readable.1);
+    met = λ clean. fails_then read (met clean) (λ e h. elim h [
+      | inl was ↦ met_on (state g first) (state g mid) (state g now) e asks
+          (subst (λ (r : Result A Error). IfErr r (IsMet (state g first) (state g mid))) was (before.met (honest clean)))
+      | inr is ↦ met_behind (state g first) (state g mid) (state g now) e before.asks is
+    ]);
     unchanged = λ clean. both_unchanged read (shown clean) (before.unchanged (honest clean)) (same clean);
     asks = asks_then (state g first) (state g mid) (state g now) before.asks asks;
   }

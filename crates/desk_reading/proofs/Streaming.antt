@@ -6,7 +6,7 @@ use Rattle.sqlite.specs.Given.{HasBegun, HasGiven, IsRefused, Returns}
 use Rattle.sqlite.specs.Held.{Held, state}
 use Rattle.sqlite.specs.Listing.{understood}
 use Rattle.sqlite.specs.Order.{Row}
-use Rattle.sqlite.specs.State.{CommitsShowing, HasCleanDisk, IsUnchanged, Shown, Survives}
+use Rattle.sqlite.specs.State.{CommitsShowing, FailsToQuery, HasCleanDisk, IsUnchanged, Shown, Survives}
 use Rattle.sqlite.specs.Store.{Ghosts}
 use Rattle.sqlite.specs.Schema.{Schema}
 use Rattle.sqlite.specs.declared.error.Error.{Error}
@@ -19,8 +19,10 @@ use Rattle.desk_laws.proofs.Basics.{each-append}
 use Rattle.desk_schema.specs.Stays.{Asks, Stays}
 use Rattle.desk_schema.proofs.StaysLemmas.{stays_unchanged}
 use Rattle.desk_reading.specs.Checking.{GoesOn, HasGivenRows, ShowsTable}
+use Rattle.desk_reading.specs.Failures.{IsMet}
 use Rattle.desk_reading.specs.Selecting.{IsQuery}
 use Rattle.desk_reading.proofs.Asking.{stays_failed}
+use Rattle.desk_reading.proofs.MetFaults.{query_met}
 use Rattle.desk_reading.proofs.Selecting.{commits_none, none_understood}
 
 -- a query shows nothing of a write
@@ -55,6 +57,14 @@ module _ {S : Type 0} (g : Ghosts S) (text : List ℕ) (is : IsQuery text) where
     stays = λ clean. stays_failed text [] (state g old) (state g new) d is (refused.err clean);
     idle = refused.mode;
   }
+
+  -- its error is the disk's only where that met a fault
+  pub met_refused : {A : Type 0} (r : Result A Error) (old new : Held S) (e : Error) → r ≡ Err e → OnErr r (IsRefused g text [] old r new)
+      → HasCleanDisk (state g new) → IsMet (state g old) (state g new) e
+  met_refused (Ok a) old new e was refused clean = absurd (cc was)
+  met_refused (Err d) old new e was refused clean =
+      let same : d ≡ e = cc in
+      query_met text [] (state g old) (state g new) e is (subst (FailsToQuery text [] (state g old) (state g new)) same (refused.err clean))
 
   -- one that did has given nothing yet
   pub begun_query : (old new : Held S) → HasBegun g text [] old new → HasGiven g text [] new [] × IsUnchanged (state g old) (state g new)

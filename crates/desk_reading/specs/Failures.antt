@@ -1,12 +1,13 @@
 -- Why a reading of a desk's tables fails.
-use Rattle.std.specs.Prelude.{◌≡◌, ◌⊎◌, ℕ, All, IsTrue, List, [], None}
+use Rattle.std.specs.Prelude.{◌≡◌, ◌⊎◌, ℕ, All, Bool, true, false, IsTrue, List, [], None}
 use Rattle.sqlite.specs.Held.{Held, state}
 use Rattle.sqlite.specs.Order.{Row}
 use Rattle.sqlite.specs.State.{State, FailsToQuery, Shown}
 use Rattle.sqlite.specs.Store.{Ghosts}
 use Rattle.sqlite.specs.declared.error.Error.{Error}
 use Rattle.sqlite.specs.declared.error.Error.TheVariants.{SqliteFailure}
-use Rattle.sqlite.specs.declared.error.ErrorCode.TheVariants.{OutOfMemory}
+use Rattle.sqlite.specs.declared.error.ErrorCode.TheVariants.{DatabaseCorrupt, DiskFull, OutOfMemory, SystemIoFailure, TooBig}
+use Rattle.sqlite_disk.specs.Disk.{MoreFaults}
 use Rattle.desk_columns.specs.Columns.{rows_columns}
 use Rattle.desk_columns.specs.Flat.{flat}
 use Rattle.desk_columns.specs.TextColumns.{ColumnsAreTexts}
@@ -16,6 +17,22 @@ use Rattle.desk_schema.specs.Failing.{IsFailure}
 -- memory was refused
 abbrev pub IsOutOfMemory : Error → Type 0
 IsOutOfMemory e = e ≡ SqliteFailure OutOfMemory
+
+-- an error of the disk, or of a size
+abbrev pub is_of_device : Error → Bool
+is_of_device (SqliteFailure SystemIoFailure) = true
+is_of_device (SqliteFailure DatabaseCorrupt) = true
+is_of_device (SqliteFailure DiskFull) = true
+is_of_device (SqliteFailure TooBig) = true
+is_of_device _ = false
+
+-- an error of neither, as those of a value are that has another kind
+abbrev pub IsOfNoDevice : Error → Type 0
+IsOfNoDevice e = is_of_device e ≡ false
+
+-- a reading has an error of the disk only where the disk met one more fault
+abbrev pub IsMet : State → State → Error → Type 0
+IsMet old new e = IsTrue (is_of_device e) → MoreFaults old.faults new.faults
 
 -- the connection is open, and its queries may take as many steps as they need
 pub record MayRead (s : State) : Type 0 where

@@ -5,7 +5,7 @@ ghost use Rattle.sqlite.specs.Held.{state};
 ghost use Rattle.desk_columns.specs.declared.columns.StoredRows.{StoredRows};
 ghost use Rattle.desk_model.specs.Tables.{Tables};
 ghost use Rattle.desk_reading.specs.BookShown.{Checks, ShowsAccounts, ShowsAuthorizations, ShowsBookRows, ShowsChallenges, ShowsKeys, ShowsListed, ShowsNonces, ShowsOrders};
-ghost use Rattle.desk_reading.specs.Failures.{HasTexts, MayRead};
+ghost use Rattle.desk_reading.specs.Failures.{HasTexts, IsMet, MayRead};
 ghost use Rattle.desk_reading.specs.Held.{ForHeld};
 ghost use Rattle.desk_reading.specs.Shown.{AreShown};
 ghost use Rattle.desk_schema.specs.Failing.{IsFailure};
@@ -157,6 +157,7 @@ pub fn has_book_rows<S: Alter>(alloc: Global, conn: &mut Connection<S>) -> Resul
     ensures book { HasCleanDisk (state S.Store conn.new) → IfOk result (λ known. IsTrue known
         → (stored : StoredRows) × AreShown S.Store conn.old stored × (T : Tables) × IsBookOfStored stored T) }
     ensures fails { ForHeld (state S.Store conn.old) (state S.Store conn.new) (λ T. MayRead (state S.Store conn.old) → HasTexts T → IfErr result IsFailure) }
+    ensures met { HasCleanDisk (state S.Store conn.new) → IfErr result (IsMet (state S.Store conn.old) (state S.Store conn.new)) }
     ensures unchanged { HasCleanDisk (state S.Store conn.new) → OnOk result (IsUnchanged (state S.Store conn.old) (state S.Store conn.new)) }
     ensures asks { Asks (state S.Store conn.old) (state S.Store conn.new) }
 {

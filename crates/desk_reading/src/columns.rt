@@ -1,7 +1,7 @@
 //! The columns of a row of an answer.
 ghost use Rattle.std.specs.Prelude.{◌≡◌, All, IfErr, IfOk, map};
 ghost use Rattle.sqlite.specs.Order.{Row as SqlRow};
-ghost use Rattle.desk_reading.specs.Failures.{IsOutOfMemory};
+ghost use Rattle.desk_reading.specs.Failures.{IsOfNoDevice, IsOutOfMemory};
 ghost use Rattle.desk_reading.specs.Fitting.{FitsAccount, FitsAuthorization, FitsChallenge, FitsKey, FitsListed, FitsMeta, FitsNonce, FitsOrder};
 ghost use Rattle.desk_reading.specs.Spelled.{account_in, authorization_in, challenge_in, key_in, listed_in, meta_in, nonce_in, order_in};
 
@@ -27,7 +27,8 @@ pub(crate) trait Selected: Columns {
     /// The columns of a row.
     fn of(row: &Row) -> Result<Self, Error>
         ensures read { IfOk result (λ c. c ≡ spelled row.now) }
-        ensures fails { Fits row.now → IfErr result IsOutOfMemory };
+        ensures fails { Fits row.now → IfErr result IsOutOfMemory }
+        ensures kind { IfErr result IsOfNoDevice };
 }
 
 /// The columns of each row.
@@ -38,6 +39,7 @@ pub(crate) trait Selected: Columns {
 pub(crate) fn read_all<C: Selected>(alloc: Global, rows: &[Row]) -> Result<Sequence<C>, Error>
     ensures read { IfOk result (λ all. all ≡ map C.spelled rows.now) }
     ensures fails { All C.Fits rows.now → IfErr result IsOutOfMemory }
+    ensures kind { IfErr result IsOfNoDevice }
 {
     let mut all = Vec::new(alloc);
     for row in rows {

@@ -6,7 +6,7 @@ ghost use Rattle.sqlite.specs.State.{HasCleanDisk, IsUnchanged};
 ghost use Rattle.sqlite.specs.Held.{state};
 ghost use Rattle.desk_schema.specs.Failing.{IsFailure};
 ghost use Rattle.desk_schema.specs.Stays.{Asks};
-ghost use Rattle.desk_reading.specs.Failures.{MayRead};
+ghost use Rattle.desk_reading.specs.Failures.{IsMet, MayRead};
 ghost use Rattle.desk_reading.specs.First.{ForFirst};
 ghost use Rattle.desk_reading.specs.Format.{IsNewer, IsOfLaterFormat, ShowsFormats};
 ghost use Rattle.desk_reading.specs.Held.{ForHeld};
@@ -56,6 +56,7 @@ pub fn is_newer<S: Alter>(conn: &mut Connection<S>) -> Result<bool, Error>
     ensures later { HasCleanDisk (state S.Store conn.new) → IsOfLaterFormat (state S.Store conn.old).now → IfOk result IsTrue }
     ensures later_fails { HasCleanDisk (state S.Store conn.new) → IsOfLaterFormat (state S.Store conn.old).now → MayRead (state S.Store conn.old)
         → IfErr result IsFailure }
+    ensures met { HasCleanDisk (state S.Store conn.new) → IfErr result (IsMet (state S.Store conn.old) (state S.Store conn.new)) }
     ensures unchanged { HasCleanDisk (state S.Store conn.new) → OnOk result (IsUnchanged (state S.Store conn.old) (state S.Store conn.new)) }
     ensures asks { Asks (state S.Store conn.old) (state S.Store conn.new) }
 {

@@ -5,7 +5,7 @@ ghost use Rattle.sqlite.specs.State.{FailsToQuery, HasCleanDisk, IsUnchanged, Sh
 ghost use Rattle.sqlite.specs.Values.{bound};
 ghost use Rattle.sqlite.specs.Held.{state};
 ghost use Rattle.desk_schema.specs.Stays.{Asks};
-ghost use Rattle.desk_reading.specs.Failures.{FailsToRead};
+ghost use Rattle.desk_reading.specs.Failures.{FailsToRead, IsMet};
 ghost use Rattle.desk_reading.specs.Selecting.{IsQuery};
 
 use crate::columns::{Selected, read_all};
@@ -29,6 +29,7 @@ pub(crate) fn all_rows<S: Alter>(
         → IfOk result (λ rows. Shown text.now (bound params.now) (state S.Store conn.old) (state S.Store conn.new) rows.items) }
     ensures err { HasCleanDisk (state S.Store conn.new)
         → IfErr result (FailsToQuery text.now (bound params.now) (state S.Store conn.old) (state S.Store conn.new)) }
+    ensures met { HasCleanDisk (state S.Store conn.new) → IfErr result (IsMet (state S.Store conn.old) (state S.Store conn.new)) }
     ensures unchanged { HasCleanDisk (state S.Store conn.new) → OnOk result (IsUnchanged (state S.Store conn.old) (state S.Store conn.new)) }
     ensures asks { Asks (state S.Store conn.old) (state S.Store conn.new) }
 {
@@ -52,6 +53,7 @@ pub(crate) fn read_query<S: Alter, C: Selected>(
         × Shown text.now (bound params.now) (state S.Store conn.old) (state S.Store conn.new) rows × (all ≡ map C.spelled rows)) }
     ensures fails { HasCleanDisk (state S.Store conn.new)
         → IfErr result (FailsToRead text.now (bound params.now) (state S.Store conn.old) (state S.Store conn.new) C.Fits) }
+    ensures met { HasCleanDisk (state S.Store conn.new) → IfErr result (IsMet (state S.Store conn.old) (state S.Store conn.new)) }
     ensures unchanged { HasCleanDisk (state S.Store conn.new) → OnOk result (IsUnchanged (state S.Store conn.old) (state S.Store conn.new)) }
     ensures asks { Asks (state S.Store conn.old) (state S.Store conn.new) }
 {

@@ -4,7 +4,7 @@ ghost use Rattle.sqlite.specs.State.{HasCleanDisk, IsUnchanged};
 ghost use Rattle.sqlite.specs.Held.{state};
 ghost use Rattle.desk_schema.specs.Failing.{IsFailure};
 ghost use Rattle.desk_schema.specs.Stays.{Asks};
-ghost use Rattle.desk_reading.specs.Failures.{HasTexts, MayRead};
+ghost use Rattle.desk_reading.specs.Failures.{HasTexts, IsMet, MayRead};
 ghost use Rattle.desk_reading.specs.Held.{ForHeld};
 ghost use Rattle.desk_reading.specs.AllTables.{AreAllShown, AreFirstReadable, AreFirstTablesShown, AreReadable};
 ghost use Rattle.desk_reading.specs.Reads.{Reads};
@@ -76,6 +76,7 @@ pub fn load_stored<S: Alter>(alloc: Global, conn: &mut Connection<S>) -> Result<
     ensures shown { HasCleanDisk (state S.Store conn.new) → IfOk result (AreShown S.Store conn.old) }
     ensures found { ForHeld (state S.Store conn.old) (state S.Store conn.new) (λ T. IfOk result (λ stored. AreColumnsOf stored T)) }
     ensures fails { ForHeld (state S.Store conn.old) (state S.Store conn.new) (λ T. MayRead (state S.Store conn.old) → HasTexts T → IfErr result IsFailure) }
+    ensures met { HasCleanDisk (state S.Store conn.new) → IfErr result (IsMet (state S.Store conn.old) (state S.Store conn.new)) }
     ensures unchanged { HasCleanDisk (state S.Store conn.new) → OnOk result (IsUnchanged (state S.Store conn.old) (state S.Store conn.new)) }
     ensures asks { Asks (state S.Store conn.old) (state S.Store conn.new) }
 {

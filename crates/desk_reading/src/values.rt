@@ -2,7 +2,7 @@
 ghost use Rattle.std.specs.Prelude.{◌≡◌, IfErr, IfOk, Ok, map, option_map, string_bytes};
 ghost use Rattle.sqlite.specs.Order.{column};
 ghost use Rattle.desk_model.specs.Kept.{EachOf};
-ghost use Rattle.desk_reading.specs.Failures.{IsOutOfMemory};
+ghost use Rattle.desk_reading.specs.Failures.{IsOfNoDevice, IsOutOfMemory};
 ghost use Rattle.desk_reading.specs.Fitting.{HasAt, HoldsBlob, HoldsBlobOrNull, HoldsInt, HoldsIntOrNull, HoldsText, HoldsTextOrNull};
 ghost use Rattle.desk_reading.specs.Spelled.{bytes_in, bytes_or_none, number_in, number_or_none};
 
@@ -13,6 +13,7 @@ use sqlite::{Error, Row};
 fn number(row: &Row, at: usize) -> Result<i64, Error>
     ensures read { IfOk result (λ n. n ≡ number_in (column row.now at)) }
     ensures fails { HasAt HoldsInt row.now at → IfErr result IsOutOfMemory }
+    ensures kind { IfErr result IsOfNoDevice }
 {
     row.get(at)
 }
@@ -21,6 +22,7 @@ fn number(row: &Row, at: usize) -> Result<i64, Error>
 pub(crate) fn numbers<const N: usize>(row: &Row, places: [usize; N]) -> Result<[i64; N], Error>
     ensures read { IfOk result (λ found. found ≡ map (λ at. number_in (column row.now at)) places.entry) }
     ensures fails { EachOf (HasAt HoldsInt row.now) places.entry → IfErr result IsOutOfMemory }
+    ensures kind { IfErr result IsOfNoDevice }
 {
     let mut found = [0; N];
     for i in 0..N {
@@ -33,6 +35,7 @@ pub(crate) fn numbers<const N: usize>(row: &Row, places: [usize; N]) -> Result<[
 fn string(row: &Row, at: usize) -> Result<String, Error>
     ensures read { IfOk result (λ t. string_bytes t ≡ bytes_in (column row.now at)) }
     ensures fails { HasAt HoldsText row.now at → IfErr result IsOutOfMemory }
+    ensures kind { IfErr result IsOfNoDevice }
 {
     row.get(at)
 }
@@ -41,6 +44,7 @@ fn string(row: &Row, at: usize) -> Result<String, Error>
 fn byte_vec(row: &Row, at: usize) -> Result<Vec<u8>, Error>
     ensures read { IfOk result (λ b. b.items ≡ bytes_in (column row.now at)) }
     ensures fails { HasAt HoldsBlob row.now at → IfErr result IsOutOfMemory }
+    ensures kind { IfErr result IsOfNoDevice }
 {
     row.get(at)
 }
@@ -49,6 +53,7 @@ fn byte_vec(row: &Row, at: usize) -> Result<Vec<u8>, Error>
 pub(crate) fn text(row: &Row, at: usize) -> Result<Text, Error>
     ensures read { IfOk result (λ t. t ≡ bytes_in (column row.now at)) }
     ensures fails { HasAt HoldsText row.now at → IfErr result IsOutOfMemory }
+    ensures kind { IfErr result IsOfNoDevice }
 {
     let read = string(row, at)?;
     Ok(Text::new(read))
@@ -58,6 +63,7 @@ pub(crate) fn text(row: &Row, at: usize) -> Result<Text, Error>
 pub(crate) fn bytes(row: &Row, at: usize) -> Result<Sequence<u8>, Error>
     ensures read { IfOk result (λ b. b ≡ bytes_in (column row.now at)) }
     ensures fails { HasAt HoldsBlob row.now at → IfErr result IsOutOfMemory }
+    ensures kind { IfErr result IsOfNoDevice }
 {
     let read = byte_vec(row, at)?;
     Ok(Sequence::new(read))
@@ -67,6 +73,7 @@ pub(crate) fn bytes(row: &Row, at: usize) -> Result<Sequence<u8>, Error>
 pub(crate) fn number_or_none(row: &Row, at: usize) -> Result<Option<i64>, Error>
     ensures read { IfOk result (λ o. o ≡ number_or_none (column row.now at)) }
     ensures fails { HasAt HoldsIntOrNull row.now at → IfErr result IsOutOfMemory }
+    ensures kind { IfErr result IsOfNoDevice }
 {
     row.get(at)
 }
@@ -78,6 +85,7 @@ pub(crate) fn numbers_or_none<const N: usize>(
 ) -> Result<[Option<i64>; N], Error>
     ensures read { IfOk result (λ found. found ≡ map (λ at. number_or_none (column row.now at)) places.entry) }
     ensures fails { EachOf (HasAt HoldsIntOrNull row.now) places.entry → IfErr result IsOutOfMemory }
+    ensures kind { IfErr result IsOfNoDevice }
 {
     let mut found = [None; N];
     for i in 0..N {
@@ -90,6 +98,7 @@ pub(crate) fn numbers_or_none<const N: usize>(
 fn string_or_none(row: &Row, at: usize) -> Result<Option<String>, Error>
     ensures read { IfOk result (λ o. option_map string_bytes o ≡ bytes_or_none (column row.now at)) }
     ensures fails { HasAt HoldsTextOrNull row.now at → IfErr result IsOutOfMemory }
+    ensures kind { IfErr result IsOfNoDevice }
 {
     row.get(at)
 }
@@ -98,6 +107,7 @@ fn string_or_none(row: &Row, at: usize) -> Result<Option<String>, Error>
 fn byte_vec_or_none(row: &Row, at: usize) -> Result<Option<Vec<u8>>, Error>
     ensures read { IfOk result (λ o. option_map (λ b. b.items) o ≡ bytes_or_none (column row.now at)) }
     ensures fails { HasAt HoldsBlobOrNull row.now at → IfErr result IsOutOfMemory }
+    ensures kind { IfErr result IsOfNoDevice }
 {
     row.get(at)
 }
@@ -106,6 +116,7 @@ fn byte_vec_or_none(row: &Row, at: usize) -> Result<Option<Vec<u8>>, Error>
 pub(crate) fn text_or_none(row: &Row, at: usize) -> Result<Option<Text>, Error>
     ensures read { IfOk result (λ o. o ≡ bytes_or_none (column row.now at)) }
     ensures fails { HasAt HoldsTextOrNull row.now at → IfErr result IsOutOfMemory }
+    ensures kind { IfErr result IsOfNoDevice }
 {
     match string_or_none(row, at)? {
         Some(found) => Ok(Some(Text::new(found))),
@@ -117,6 +128,7 @@ pub(crate) fn text_or_none(row: &Row, at: usize) -> Result<Option<Text>, Error>
 pub(crate) fn bytes_or_none(row: &Row, at: usize) -> Result<Option<Sequence<u8>>, Error>
     ensures read { IfOk result (λ o. o ≡ bytes_or_none (column row.now at)) }
     ensures fails { HasAt HoldsBlobOrNull row.now at → IfErr result IsOutOfMemory }
+    ensures kind { IfErr result IsOfNoDevice }
 {
     match byte_vec_or_none(row, at)? {
         Some(found) => Ok(Some(Sequence::new(found))),
@@ -131,6 +143,7 @@ pub(crate) fn both<A: Drop, B: Drop>(
 ) -> Result<(A, B), Error>
     ensures read { IfOk result (λ pair. (first ≡ Ok pair.0) × (second ≡ Ok pair.1)) }
     ensures fails { IfErr first IsOutOfMemory → IfErr second IsOutOfMemory → IfErr result IsOutOfMemory }
+    ensures kind { IfErr first IsOfNoDevice → IfErr second IsOfNoDevice → IfErr result IsOfNoDevice }
 {
     let first = first?;
     let second = second?;

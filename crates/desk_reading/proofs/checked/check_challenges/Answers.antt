@@ -14,7 +14,7 @@ returns-in_err-answered g c =
     checks_failed g.S.Store _ (λ db. ShowsChallenges g.S.Store db c.args.last c.args.authorizations.now) c.args.conn.now c.check_table.new.conn
     c.in_err-answered.field-0.0
     c.from_residual.result c.from_residual.ensures.0 c.from_residual.ensures.1 (λ T has texts. challenges_readable g.S.Store c.args.conn.now T has texts)
-    c.in_err-answered.ensures.fails c.in_err-answered.ensures.asks
+    c.in_err-answered.ensures.fails c.in_err-answered.ensures.met c.in_err-answered.ensures.asks
 
 pub returns-in_default : goal.returns-in_default
 returns-in_default g c =

@@ -13,7 +13,7 @@ pub returns-in_err-check_table : goal.returns-in_err-check_table
 returns-in_err-check_table g c =
     checks_failed g.S.Store _ (λ db. ShowsKeys g.S.Store db c.args.answered.now) c.args.conn.now c.check_table.new.conn c.in_err-check_table.field-0.0
     c.from_residual.result c.from_residual.ensures.0 c.from_residual.ensures.1 (λ T has texts. keys_readable g.S.Store c.args.conn.now T has texts)
-    c.in_err-check_table.ensures.fails c.in_err-check_table.ensures.asks
+    c.in_err-check_table.ensures.fails c.in_err-check_table.ensures.met c.in_err-check_table.ensures.asks
 
 pub returns-in_default : goal.returns-in_default
 returns-in_default g c =

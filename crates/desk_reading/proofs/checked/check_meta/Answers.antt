@@ -13,7 +13,7 @@ returns-in_err-last g c =
     checks_failed g.S.Store _ (λ db. ShowsBookRows g.S.Store db) c.args.conn.now c.check_table.new.conn
     c.in_err-last.field-0.0
     c.from_residual.result c.from_residual.ensures.0 c.from_residual.ensures.1 (λ T has texts. meta_readable g.S.Store c.args.conn.now T has texts)
-    c.in_err-last.ensures.fails c.in_err-last.ensures.asks
+    c.in_err-last.ensures.fails c.in_err-last.ensures.met c.in_err-last.ensures.asks
 
 pub returns-in_default : goal.returns-in_default
 returns-in_default g c =

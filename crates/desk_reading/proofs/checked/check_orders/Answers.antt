@@ -14,7 +14,7 @@ returns-in_err-orders g c =
     checks_failed g.S.Store _ (λ db. ShowsOrders g.S.Store db c.args.last c.args.accounts.now) c.args.conn.now c.check_table.new.conn
     c.in_err-orders.field-0.0
     c.from_residual.result c.from_residual.ensures.0 c.from_residual.ensures.1 (λ T has texts. orders_readable g.S.Store c.args.conn.now T has texts)
-    c.in_err-orders.ensures.fails c.in_err-orders.ensures.asks
+    c.in_err-orders.ensures.fails c.in_err-orders.ensures.met c.in_err-orders.ensures.asks
 
 pub returns-in_default : goal.returns-in_default
 returns-in_default g c =

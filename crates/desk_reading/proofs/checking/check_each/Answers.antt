@@ -1,9 +1,12 @@
-use Rattle.std.proofs.Common.{◌≡◌, [], refl, sym, ◌∙◌, rules, arith}
+use Rattle.std.proofs.Common.{◌≡◌, [], IfErr, refl, sym, ◌∙◌, rules, arith}
 use Rattle.sqlite.specs.Held.{state}
 use Rattle.sqlite.specs.State.{HasCleanDisk}
 use Rattle.desk_schema.specs.Stays.{Asks}
 use Rattle.desk_schema.proofs.StaysLemmas.{asks_then, stays_unchanged}
-use Rattle.desk_reading.proofs.Streaming.{asks_begun, asks_refused, begun_query, given_all, given_more, given_none}
+use Rattle.desk_reading.specs.Failures.{IsMet}
+use Rattle.desk_reading.proofs.MetFaults.{met_behind, query_met}
+use Rattle.desk_reading.proofs.Results.{failed_as}
+use Rattle.desk_reading.proofs.Streaming.{asks_begun, asks_refused, begun_query, given_all, given_more, given_none, met_refused}
 use Rattle.desk_reading.proofs.checking.check_each.Goals as goal
 
 pub returns-in_err-rows-clause-asks : goal.returns-in_err-rows-clause-asks
@@ -52,3 +55,27 @@ rows-preserved g c =
           c.args.check.now c.rows.check c.check_row.new.check c.in-Some.row.now was gives (rw c.in_ok-row.was at (moved.same clean))
           (c.in_ok-check_row.ensures.passed c.if-not-branch.false),
     )
+
+pub returns-in_err-rows-clause-met : goal.returns-in_err-rows-clause-met
+returns-in_err-rows-clause-met g c clean =
+    let store = g.S.Store in
+    let new = c.query.follows.lender-at-none in
+    let e = c.in_err-rows.field-0.0 in
+    failed_as c.from_residual.result e (IsMet (state store c.args.conn.now) (state store new))
+    (met_refused store c.args.text.now c.requires c.query.result c.args.conn.now new e c.in_err-rows.was c.query.follows.holds-at-none clean)
+    c.from_residual.ensures.1
+
+pub returns-in_err-row-clause-met : goal.returns-in_err-row-clause-met
+returns-in_err-row-clause-met g c =
+    let store = g.S.Store in
+    let moved = c.next.follows.holds-at-none in
+    let old = state store c.args.conn.now in
+    let mid = state store c.rows.rows.conn.now in
+    let now = state store c.next.follows.lender-at-none.conn.now in
+    let e = c.in_err-row.field-0.0 in
+    let whole : HasCleanDisk now → IfErr c.from_residual-in_err-row.result (IsMet old now) = λ clean.
+    let was = c.rows.invariant.2 (omega (arith, clean, moved.survives.clean)) in
+    let fails = (rw c.in_err-row.was at (moved.err clean)) c.args.text.now [] was.given was.gives in
+    failed_as c.from_residual-in_err-row.result e (IsMet old now)
+    (met_behind old mid now e c.rows.invariant.1 (query_met c.args.text.now [] mid now e c.requires fails)) c.from_residual-in_err-row.ensures.1 in
+    search (rules, whole)

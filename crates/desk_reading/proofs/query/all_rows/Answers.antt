@@ -1,6 +1,8 @@
 use Rattle.sqlite.proofs.StateLemmas.{survives_weaker}
 use Rattle.sqlite.specs.Values.{bound}
 use Rattle.desk_reading.proofs.Asking.{stays_queried, unchanged_queried}
+use Rattle.desk_reading.proofs.MetFaults.{query_met}
+use Rattle.desk_reading.proofs.Results.{fails_then}
 use Rattle.desk_reading.proofs.Selecting.{commits_none}
 use Rattle.desk_reading.proofs.query.all_rows.Goals as goal
 
@@ -15,3 +17,8 @@ returns-clause-asks g c = record {
       (c.query_all.ensures.err clean);
   idle = c.query_all.ensures.mode;
 }
+
+pub returns-clause-met : goal.returns-clause-met
+returns-clause-met g c clean =
+    fails_then c.query_all.result (c.query_all.ensures.err clean) (λ e fails.
+    query_met c.args.text.now (bound c.args.params.now) _ _ e c.requires fails)

@@ -1,5 +1,7 @@
 use Rattle.std.proofs.Common.{inr}
 use Rattle.desk_reading.specs.Failures.{IsOutOfMemory}
+use Rattle.sqlite.specs.Held.{state}
+use Rattle.desk_reading.proofs.MetFaults.{no_device}
 use Rattle.desk_reading.proofs.Results.{fails_then, fails_under, read_then}
 use Rattle.desk_reading.proofs.query.read_query.Goals as goal
 
@@ -18,3 +20,8 @@ returns-clause-unchanged g c clean = read_then c.read_all.result c.read_all.ensu
 
 pub returns-clause-asks : goal.returns-clause-asks
 returns-clause-asks g c = c.in_ok-rows.ensures.asks
+
+pub returns-clause-met : goal.returns-clause-met
+returns-clause-met g c clean =
+    fails_then c.read_all.result c.read_all.ensures.kind (λ e none.
+    no_device (state g.S.Store c.args.conn.now) (state g.S.Store c.all_rows.new.conn) e none)
