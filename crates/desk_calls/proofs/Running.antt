@@ -1,18 +1,22 @@
 -- Calls that are answered one after the other.
 use Rattle.std.proofs.Common.{◌≡◌, ℕ, ◌+◌, ◌<◌, ◌≤◌, List, [], ◌∷◌, ◌++◌, length, take, drop, get_or, subst, refl, sym, ◌∙◌, ap, add-one}
-use Rattle.std.proofs.Common.{None, Some, Option, Ok, Err}
+use Rattle.std.proofs.Common.{◌⊎◌, inl, inr, None, Some, Option, Result, Ok, Err}
+use Rattle.std.specs.Prelude.{◌↔◌}
 use Rattle.std.proofs.Math.Seq.{drop-cons, take-suc}
 use Rattle.std.proofs.lemmas.List.{drop_all}
 use Rattle.desk_model.specs.Entry.{History}
 use Rattle.desk_model.specs.Legal.{Legal}
+use Rattle.desk_model.specs.Limits.{last_moment}
 use Rattle.desk_model.specs.Tables.{picture}
 use Rattle.desk_model.specs.Decide.{decide, after}
 use Rattle.desk_model.specs.Run.{IsFormedCall, fault, run, and_reply}
 use Rattle.desk_model.specs.declared.call.Call.{Call}
 use Rattle.desk_model.specs.declared.reply.Reply.{Reply}
 use Rattle.desk_storage.specs.Sight.{Sight, Keeps}
+use Rattle.desk_storage.specs.Storing.{Causes}
 use Rattle.desk_calls.specs.Answers.{Answers, ExitsBy}
-use Rattle.desk_calls.specs.Runs.{AnswersAll, EndsBy, RunsAs, ExitsRun, IsOfModel, IsRun, Runs}
+use Rattle.desk_calls.specs.Causes.{IsCaused}
+use Rattle.desk_calls.specs.Runs.{AnswersAll, EndsBy, EndsCaused, IsLate, RunsAs, ExitsRun, IsOfModel, IsRun, Runs, TellsLate}
 use Rattle.desk_calls.specs.declared.fault.DeskFault.{DeskFault}
 use Rattle.desk_calls.specs.declared.fault.DeskFault.TheVariants as deskfault
 
@@ -32,8 +36,38 @@ ran_out : (F : History) (call : Call) (calls : List Call) (n : ℕ) → fault F 
     run F (call ∷ calls) ≡ record { replies = []; history = F }
 ran_out F call calls n some = rw some refl
 
+-- ---- calls that are too late
+
+-- the next call ended the run as it was answered
+pub tells_late : (call : Call) (rest : List Call) (why : DeskFault) → ((Err {A = Reply} why ≡ Err deskfault.Moment) ↔ (last_moment < call.at))
+    → TellsLate (call ∷ rest) why
+tells_late call rest why told = record {
+  late = λ is. told.0 (ap Err is);
+  told = λ past. let same = told.1 past in inl (cc);
+}
+
+-- memory was refused before it
+pub tells_memory : (rest : List Call) → TellsLate rest deskfault.Memory
+tells_memory rest = record { late = λ is. absurd (let e = is in cc); told = λ past. inr refl }
+
+-- as the next call of all
+pub late_at : (calls : List Call) (n i : ℕ) (call : Call) (why : DeskFault) → n ≡ i → i < length calls → call ≡ get_or calls i call
+    → ((rest : List Call) → TellsLate (call ∷ rest) why) → TellsLate (drop n calls) why
+late_at calls n i call why counted lt is tells =
+    subst (λ k. TellsLate (drop k calls) why) (sym counted)
+    (subst (λ l. TellsLate l why) (sym (drop-cons calls i call lt)) (subst (λ c. TellsLate (c ∷ drop (i + 1) calls) why) is (tells (drop (i + 1) calls))))
+
 module _ {S C : Type 0} (v : Sight S C) where
   -- ---- the chain
+
+  -- what a fault comes from, behind the calls that were answered
+  pub caused_at : (causes : Causes S) (old mid new : S) (calls : List Call) (replies : List Reply) (i : ℕ) (why : DeskFault) → length replies ≡ i
+      → AnswersAll v old (take i calls) replies mid → IsCaused v causes mid new why → EndsCaused v causes old new calls replies why
+  caused_at causes old mid new calls replies i why counted all caused = record {
+    from = mid;
+    answered = subst (λ n. AnswersAll v old (take n calls) replies mid) (sym counted) all;
+    cause = caused;
+  }
 
   -- one more call is answered
   pub answers_more : (old now new : S) (calls : List Call) (replies : List Reply) (call : Call) (reply : Reply) → AnswersAll v old calls replies now →

@@ -1,13 +1,16 @@
 -- The exits of a run of calls.
-use Rattle.std.specs.Prelude.{◌≡◌, Bool, false, List, [], ◌∷◌, length, take, drop, Option, Some, None, Ok, Err}
+use Rattle.std.specs.Prelude.{◌≡◌, ◌⊎◌, ◌<◌, Bool, false, List, [], ◌∷◌, length, take, drop, Option, Some, None, Ok, Err}
 use Rattle.desk_model.specs.Entry.{History}
 use Rattle.desk_model.specs.Legal.{Legal}
+use Rattle.desk_model.specs.Limits.{last_moment}
 use Rattle.desk_model.specs.Tables.{picture}
 use Rattle.desk_model.specs.Run.{run}
 use Rattle.desk_model.specs.declared.call.Call.{Call}
 use Rattle.desk_model.specs.declared.reply.Reply.{Reply}
 use Rattle.desk_storage.specs.Sight.{Sight, Keeps}
+use Rattle.desk_storage.specs.Storing.{Causes}
 use Rattle.desk_calls.specs.Answers.{Answers, ExitsBy}
+use Rattle.desk_calls.specs.Causes.{IsCaused}
 use Rattle.desk_calls.specs.Faults.{closes}
 use Rattle.desk_calls.specs.declared.fault.DeskFault.{DeskFault}
 use Rattle.desk_calls.specs.declared.fault.DeskFault.TheVariants as deskfault
@@ -23,6 +26,16 @@ IsOfModel _ = Unit {0}
 abbrev pub is_closed_behind : Option DeskFault → Bool
 is_closed_behind None = false
 is_closed_behind (Some why) = closes why
+
+-- the next call is past the last moment
+abbrev pub IsLate : List Call → Type 0
+IsLate [] = ⊥
+IsLate (call ∷ rest) = last_moment < call.at
+
+-- the fault of the next call is that it is past the last moment exactly where it is, unless memory was refused before
+pub record TellsLate (rest : List Call) (why : DeskFault) : Type 0 where
+  pub late : why ≡ deskfault.Moment → IsLate rest
+  pub told : IsLate rest → (why ≡ deskfault.Moment) ⊎ (why ≡ deskfault.Memory)
 
 module _ {S C : Type 0} (v : Sight S C) where
   -- these calls have these replies, one after the other
@@ -40,6 +53,12 @@ module _ {S C : Type 0} (v : Sight S C) where
   -- a run as the chain of its answers
   abbrev pub RunsAs : S → List Call → List Reply → Option DeskFault → S → Type 0
   RunsAs old calls replies why new = (mid : S) × AnswersAll old (take (length replies) calls) replies mid × EndsBy mid (drop (length replies) calls) why new
+
+  -- behind the calls that were answered, a run ended by a fault that comes so
+  pub record EndsCaused (causes : Causes S) (old new : S) (calls : List Call) (replies : List Reply) (why : DeskFault) : Type 0 where
+    pub from : S
+    pub answered : AnswersAll old (take (length replies) calls) replies from
+    pub cause : IsCaused v causes from new why
 
   -- ---- by histories
 

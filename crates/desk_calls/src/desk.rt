@@ -1,11 +1,11 @@
 //! One desk, which answers calls one after the other.
-ghost use Rattle.std.specs.Prelude.{◌≡◌, ◌<◌, ◌↔◌, IsTrue, true, false, Err, IfErr, IfOk, MatchResult, Ok, Some, []};
+ghost use Rattle.std.specs.Prelude.{◌≡◌, ◌<◌, ◌↔◌, IsTrue, true, false, drop, length, Err, IfErr, IfOk, IfSome, MatchResult, Ok, Some, []};
 ghost use Rattle.desk_storage.specs.Sight.{FailsToRead, ForTables, Stands};
 ghost use Rattle.desk_storage.specs.Storing.{Loads};
 ghost use Rattle.desk_calls.specs.declared.fault.DeskFault.TheVariants as fault;
 ghost use Rattle.desk_calls.specs.Answers.{Answers, is_closed_after};
 ghost use Rattle.desk_calls.specs.Causes.{IsCaused};
-ghost use Rattle.desk_calls.specs.Runs.{Runs, RunsAs, is_closed_behind};
+ghost use Rattle.desk_calls.specs.Runs.{EndsCaused, Runs, RunsAs, TellsLate, is_closed_behind};
 ghost use Rattle.desk_model.specs.Limits.{last_moment};
 
 use crate::fault::DeskFault;
@@ -172,6 +172,9 @@ impl<K: Storage + Drop> Desk<K> {
         ensures closed { IsTrue self.old.is_closed → (result.0.items ≡ []) × (result.1 ≡ Some fault.Reopen) × (self.new ≡ self.old) }
         ensures exit { self.old.is_closed ≡ false → Runs K.Storage.sight calls.now self.old.store self.new.store result.0.items result.1 }
         ensures chain { self.old.is_closed ≡ false → RunsAs K.Storage.sight self.old.store calls.now result.0.items result.1 self.new.store }
+        ensures caused { self.old.is_closed ≡ false
+            → IfSome result.1 (EndsCaused K.Storage.sight K.Storage.causes self.old.store self.new.store calls.now result.0.items) }
+        ensures late { self.old.is_closed ≡ false → IfSome result.1 (TellsLate (drop (length result.0.items) calls.now)) }
         ensures flag { self.old.is_closed ≡ false → self.new.is_closed ≡ is_closed_behind result.1 }
         ensures policy { self.new.policy ≡ self.old.policy }
     {
@@ -185,6 +188,8 @@ impl<K: Storage + Drop> Desk<K> {
     fn answer_all(&mut self, alloc: Global, calls: &[Call]) -> (Vec<Reply>, Option<DeskFault>)
         requires { self.old.is_closed ≡ false }
         ensures chain { RunsAs K.Storage.sight self.old.store calls.now result.0.items result.1 self.new.store }
+        ensures caused { IfSome result.1 (EndsCaused K.Storage.sight K.Storage.causes self.old.store self.new.store calls.now result.0.items) }
+        ensures late { IfSome result.1 (TellsLate (drop (length result.0.items) calls.now)) }
         ensures flag { self.new.is_closed ≡ is_closed_behind result.1 }
         ensures policy { self.new.policy ≡ self.old.policy }
     {

@@ -1,8 +1,10 @@
 //! What an office asks of a desk.
-ghost use Rattle.std.specs.Prelude.{◌≡◌, IsTrue, false, Err};
+ghost use Rattle.std.specs.Prelude.{◌≡◌, ◌<◌, ◌↔◌, IsTrue, false, Err, IfErr};
 ghost use Rattle.desk_calls.specs.declared.fault.DeskFault.TheVariants as fault;
 ghost use Rattle.desk_calls.specs.Answers.{is_closed_after};
+ghost use Rattle.desk_calls.specs.Causes.{IsCaused};
 ghost use Rattle.desk_calls.specs.Office.{AnswersOffice, refusal_in};
+ghost use Rattle.desk_model.specs.Limits.{last_moment};
 
 use crate::desk::Desk;
 use crate::fault::DeskFault;
@@ -34,6 +36,10 @@ impl<K: Storage + Drop> Desk<K> {
         ask: OfficeAsk,
     ) -> Result<Option<Refusal>, DeskFault>
         ensures closed { IsTrue self.old.is_closed → (result ≡ Err fault.Reopen) × (self.new ≡ self.old) }
+        ensures late { self.old.is_closed ≡ false → (result ≡ Err fault.Moment) ↔ (last_moment < at) }
+        ensures unmade { last_moment < at → self.new ≡ self.old }
+        ensures caused { self.old.is_closed ≡ false
+            → IfErr result (IsCaused K.Storage.sight K.Storage.causes self.old.store self.new.store) }
         ensures exit { self.old.is_closed ≡ false → AnswersOffice K.Storage.sight at ask self.old.store self.new.store result }
         ensures flag { self.old.is_closed ≡ false → self.new.is_closed ≡ is_closed_after result }
         ensures policy { self.new.policy ≡ self.old.policy }

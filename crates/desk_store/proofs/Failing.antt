@@ -16,13 +16,14 @@ use Rattle.desk_schema.specs.Stays.{Asks}
 use Rattle.desk_upgrading.specs.FirstDesks.{HasFirst}
 use Rattle.desk_storage.specs.Sight.{Reads}
 use Rattle.desk_storage.specs.declared.fault.StorageFault.{StorageFault}
-use Rattle.desk_store.specs.Causes.{Failed, FailedToSave, IsOfSave, LeavesNothing}
+use Rattle.desk_store.specs.Causes.{Failed, FailedToSave, IsMetFault, IsOfSave, LeavesNothing}
 use Rattle.desk_store.specs.Desks.{store_sight}
 use Rattle.desk_store.specs.Opening.{FailedToOpen, FailedToUpgrade}
 use Rattle.desk_store.specs.declared.open_fault.OpenFault.{OpenFault}
 use Rattle.desk_store.specs.declared.open_fault.OpenFault.TheVariants.{NewerFormat, NotADesk, Storage}
 use Rattle.desk_store.specs.declared.store.Store.{Store}
 use Rattle.desk_store.proofs.EitherFormat.{of_faults}
+use Rattle.desk_store.proofs.OpeningFaults.{met_later}
 
 -- nothing is left that was not, where no commit survives
 pub leaves_nothing : (old new : State) → Survives old new (λ _. ⊥) → LeavesNothing old new
@@ -65,16 +66,17 @@ read_failed g old new (Err why) reads = reads_nothing g old new (Err why) reads
 -- ---- opening
 
 -- an opening that only asked
-pub opened_nothing : {S : Type 0} (g : Ghosts S) (old new : Held S) (f : OpenFault) → LeavesNothing (state g old) (state g new) → FailedToOpen g old new f
-opened_nothing g old new (Storage why) left = inl left
-opened_nothing g old new NotADesk left = left
-opened_nothing g old new NewerFormat left = left
+pub opened_nothing : {S : Type 0} (g : Ghosts S) (old new : Held S) (f : OpenFault) → LeavesNothing (state g old) (state g new)
+    → (HasCleanDisk (state g new) → IsMetFault (state g old) (state g new) f) → FailedToOpen g old new f
+opened_nothing g old new (Storage why) left met = inl (record { nothing = left; met = met })
+opened_nothing g old new NotADesk left met = left
+opened_nothing g old new NewerFormat left met = left
 
 -- whatever it answers
 pub asked_to_open : {S R : Type 0} (g : Ghosts S) (old new : Held S) (result : Result R OpenFault) → Asks (state g old) (state g new)
-    → IfErr result (FailedToOpen g old new)
-asked_to_open g old new (Ok done) asked = tt
-asked_to_open g old new (Err f) asked = opened_nothing g old new f (leaves_nothing (state g old) (state g new) asked.survives)
+    → (HasCleanDisk (state g new) → IfErr result (IsMetFault (state g old) (state g new))) → IfErr result (FailedToOpen g old new)
+asked_to_open g old new (Ok done) asked met = tt
+asked_to_open g old new (Err f) asked met = opened_nothing g old new f (leaves_nothing (state g old) (state g new) asked.survives) met
 
 -- ---- behind a call that only asked, and changed nothing
 
@@ -92,7 +94,10 @@ module _ {S : Type 0} (g : Ghosts S) (old mid new : Held S) (asked : Asks (state
 
   -- an opening
   open_behind : (f : OpenFault) → FailedToOpen g mid new f → FailedToOpen g old new f
-  open_behind (Storage why) (inl left) = inl (nothing_then (state g old) (state g mid) (state g new) (leaves_nothing _ _ asked.survives) left)
+  open_behind (Storage why) (inl read) = inl (record {
+    nothing = nothing_then (state g old) (state g mid) (state g new) (leaves_nothing _ _ asked.survives) read.nothing;
+    met = λ clean. met_later (state g old) (state g mid) (state g new) (Storage why) asked (read.met clean);
+  })
   open_behind (Storage why) (inr upgrade) = inr (upgrade_behind why upgrade)
   open_behind NotADesk left = nothing_then (state g old) (state g mid) (state g new) (leaves_nothing _ _ asked.survives) left
   open_behind NewerFormat left = nothing_then (state g old) (state g mid) (state g new) (leaves_nothing _ _ asked.survives) left

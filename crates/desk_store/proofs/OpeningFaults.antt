@@ -1,6 +1,7 @@
 -- Why the opening of a desk fails.
-use Rattle.std.proofs.Common.{◌≡◌, Result, Ok, Err, inl, inr, true, false, Bool, subst, ap, sym, ◌∙◌}
-use Rattle.std.specs.Prelude.{IfErr, ◌⊎◌}
+use Rattle.std.proofs.Common.{◌≡◌, ◌≤◌, Result, Ok, Err, inl, inr, true, false, Bool, arith, refl, subst, ap, sym, ◌∙◌}
+use Rattle.std.specs.Prelude.{IfErr, IsTrue, ◌⊎◌}
+use Rattle.sqlite_disk.specs.Disk.{MoreFaults}
 use Rattle.sqlite.specs.State.{State, IsUnchanged}
 use Rattle.sqlite.specs.Schema.{Schema}
 use Rattle.sqlite_schema.specs.Names.{same_name}
@@ -9,10 +10,16 @@ use Rattle.desk_schema.specs.Names.{uses_names}
 use Rattle.desk_store.specs.Desks.{HasDesk}
 use Rattle.desk_store.proofs.Standing.{desk_unchanged}
 use Rattle.sqlite.specs.declared.error.Error.{Error}
+use Rattle.sqlite.specs.declared.error.Error.TheVariants as error
+use Rattle.sqlite.specs.declared.error.ErrorCode.{ErrorCode}
+use Rattle.sqlite.specs.declared.error.ErrorCode.TheVariants as code
+use Rattle.desk_reading.specs.Failures.{IsMet, is_of_device}
+use Rattle.desk_reading.proofs.MetFaults.{met_on}
+use Rattle.desk_schema.specs.Stays.{Asks}
 use Rattle.desk_schema.specs.Failing.{IsFailure}
 use Rattle.desk_storage.specs.declared.fault.StorageFault.{StorageFault}
 use Rattle.desk_storage.specs.declared.fault.StorageFault.TheVariants as fault
-use Rattle.desk_store.specs.Causes.{IsOfOpening, cause_of}
+use Rattle.desk_store.specs.Causes.{IsMetFault, IsOfOpening, cause_of}
 use Rattle.desk_store.specs.Making.{IsOfStorage}
 use Rattle.desk_store.specs.declared.faults.Cause.TheVariants as cause
 use Rattle.desk_store.specs.declared.faults.Cause.{Cause}
@@ -60,3 +67,77 @@ unfolding same_name
 not_free schema shown used is same taken free =
     let never : true ≡ false = sym taken ∙ is ∙ ap uses_names same ∙ free in
     absurd (cc never)
+
+-- ---- the fault of the disk
+
+-- a code that is told as the disk's is one of it
+code_of_device : (c : ErrorCode) → cause_of (error.SqliteFailure c) ≡ cause.Device → IsTrue (is_of_device (error.SqliteFailure c))
+code_of_device code.DatabaseCorrupt is = refl
+code_of_device code.TooBig is = refl
+code_of_device code.SystemIoFailure is = refl
+code_of_device code.DiskFull is = refl
+code_of_device (code.ConstraintViolation constraint) is = absurd (let e = is in cc)
+code_of_device code.TypeMismatch is = absurd (let e = is in cc)
+code_of_device code.IntegerOverflow is = absurd (let e = is in cc)
+code_of_device code.NoRowid is = absurd (let e = is in cc)
+code_of_device code.ForeignKeyMismatch is = absurd (let e = is in cc)
+code_of_device code.TooDeep is = absurd (let e = is in cc)
+code_of_device code.NoClock is = absurd (let e = is in cc)
+code_of_device code.NameTaken is = absurd (let e = is in cc)
+code_of_device code.BadName is = absurd (let e = is in cc)
+code_of_device code.BadKey is = absurd (let e = is in cc)
+code_of_device code.BadText is = absurd (let e = is in cc)
+code_of_device code.SchemaTooBig is = absurd (let e = is in cc)
+code_of_device code.TransactionState is = absurd (let e = is in cc)
+code_of_device code.NoSuchSavepoint is = absurd (let e = is in cc)
+code_of_device code.OperationInterrupted is = absurd (let e = is in cc)
+code_of_device code.NotADatabase is = absurd (let e = is in cc)
+code_of_device code.CannotOpen is = absurd (let e = is in cc)
+code_of_device code.DatabaseBusy is = absurd (let e = is in cc)
+code_of_device code.OutOfMemory is = absurd (let e = is in cc)
+code_of_device code.Closed is = absurd (let e = is in cc)
+
+-- and so is an error
+of_device : (e : Error) → cause_of e ≡ cause.Device → IsTrue (is_of_device e)
+of_device (error.SqliteFailure c) is = code_of_device c is
+of_device (error.SqlInputError fault) is = absurd (let e = is in cc)
+of_device (error.InvalidParameterCount given wanted) is = absurd (let e = is in cc)
+of_device error.ExecuteReturnedResults is = absurd (let e = is in cc)
+of_device error.InvalidQuery is = absurd (let e = is in cc)
+of_device error.MultipleStatement is = absurd (let e = is in cc)
+of_device error.QueryReturnedNoRows is = absurd (let e = is in cc)
+of_device (error.InvalidColumnIndex at) is = absurd (let e = is in cc)
+of_device (error.InvalidColumnType at kind) is = absurd (let e = is in cc)
+of_device (error.IntegralValueOutOfRange at) is = absurd (let e = is in cc)
+of_device (error.Utf8Error at) is = absurd (let e = is in cc)
+
+-- a reading that failed is told as the disk's by such an error
+told_of_device : (c : Cause) (f : OpenFault) → IsOfOpening c f → f ≡ Storage fault.Device → c ≡ cause.Device
+told_of_device cause.Memory f (inl goes_on) is = absurd (let e = sym goes_on ∙ is in cc)
+told_of_device cause.Memory f (inr shut) is = absurd (let e = sym shut ∙ is in cc)
+told_of_device cause.Device f told is = refl
+told_of_device cause.Other f told is = absurd (let e = sym told ∙ is in cc)
+
+-- so the disk met a fault
+pub opening_met : (old mid new : State) (e : Error) (f : OpenFault) → IsOfOpening (cause_of e) f → IsMet old mid e → Asks mid new → IsMetFault old new f
+opening_met old mid new e f told met asks is = met_on old mid new e asks met (of_device e (told_of_device (cause_of e) f told is))
+
+-- behind a call that failed not
+pub met_later : (old mid new : State) (f : OpenFault) → Asks old mid → IsMetFault mid new f → IsMetFault old new f
+met_later old mid new f asks met is =
+    let more : MoreFaults mid.faults new.faults = met is in
+    let le : old.faults ≤ mid.faults = asks.survives.counts in
+    omega (arith, more, le)
+
+-- whatever it answers
+pub fails_met : {R : Type 0} (old mid new : State) (result : Result R OpenFault) → Asks old mid → IfErr result (IsMetFault mid new)
+    → IfErr result (IsMetFault old new)
+fails_met old mid new (Ok done) asks met = tt
+fails_met old mid new (Err f) asks met = met_later old mid new f asks met
+
+-- rows that no book has are none of it
+pub book_met : {R : Type 0} (Other : Type 0) (old new : State) (result : Result R OpenFault)
+    → IfErr result (λ why. (why ≡ Storage fault.Memory) ⊎ ((why ≡ NotADesk) × Other)) → IfErr result (IsMetFault old new)
+book_met Other old new (Ok book) is = tt
+book_met Other old new (Err f) (inl memory) = λ is. absurd (let e = sym memory ∙ is in cc)
+book_met Other old new (Err f) (inr none) = λ is. absurd (let e = sym none.0 ∙ is in cc)

@@ -1,5 +1,6 @@
 -- Which fault an error of the engine is.
 use Rattle.std.specs.Prelude.{◌≡◌, ◌⊎◌, List, false, Option, None, Some}
+use Rattle.sqlite_disk.specs.Disk.{MoreFaults}
 use Rattle.sqlite.specs.Held.{Held, state}
 use Rattle.sqlite.specs.State.{State, HasCleanDisk}
 use Rattle.sqlite.specs.Store.{Ghosts}
@@ -69,6 +70,15 @@ IsOfReading NotARow f = f ≡ fault.Device
 pub record LeavesNothing (old new : State) : Type 0 where
   pub honest : HasCleanDisk new → HasCleanDisk old
   pub left : HasCleanDisk new → (trees : Trees) → new.may_leave trees → old.may_leave trees
+
+-- the fault of the disk comes only where the disk met one more
+abbrev pub IsMetFault : State → State → OpenFault → Type 0
+IsMetFault old new f = f ≡ Storage fault.Device → MoreFaults old.faults new.faults
+
+-- a reading failed by this fault, and wrote nothing
+pub record FailedToRead (old new : State) (why : StorageFault) : Type 0 where
+  pub nothing : LeavesNothing old new
+  pub met : HasCleanDisk new → IsMetFault old new (Storage why)
 
 module _ {S : Type 0} (g : Ghosts S) where
   -- a transaction of these statements failed by this refusal, which has a cause, and of which the fault comes; only a commit may

@@ -15,7 +15,7 @@ use Rattle.desk_saving.specs.Statements.{upgrade_statements}
 use Rattle.desk_schema.specs.Names.{has_all_indexes, uses_key_table}
 use Rattle.desk_schema.specs.Stays.{Asks}
 use Rattle.desk_storage.specs.declared.fault.StorageFault.{StorageFault}
-use Rattle.desk_store.specs.Causes.{FailedToSave, LeavesNothing}
+use Rattle.desk_store.specs.Causes.{FailedToRead, FailedToSave, LeavesNothing}
 use Rattle.desk_store.specs.Desks.{AreOfDesk}
 use Rattle.desk_store.specs.declared.open_fault.OpenFault.{OpenFault}
 use Rattle.desk_store.specs.declared.open_fault.OpenFault.TheVariants.{NewerFormat, NotADesk, Storage}
@@ -75,9 +75,9 @@ module _ {S : Type 0} (g : Ghosts S) where
     pub rows : HasCleanDisk (state g from) → (T : Tables) → HasFirst (state g old) T → book ≡ blank T
     pub save : FailedToWiden book from new why
 
-  -- an opening failed: it wrote nothing, or the store failed in the upgrade
+  -- an opening failed: a reading did, or the store in the upgrade; or the database is refused, and nothing was written
   abbrev pub FailedToOpen : Held S → Held S → OpenFault → Type 0
-  FailedToOpen old new (Storage why) = LeavesNothing (state g old) (state g new) ⊎ FailedToUpgrade old new why
+  FailedToOpen old new (Storage why) = FailedToRead (state g old) (state g new) why ⊎ FailedToUpgrade old new why
   FailedToOpen old new NotADesk = LeavesNothing (state g old) (state g new)
   FailedToOpen old new NewerFormat = LeavesNothing (state g old) (state g new)
 

@@ -8,7 +8,7 @@ ghost use Rattle.desk_saving.specs.Committing.{GoesBack, IsLeft};
 ghost use Rattle.desk_schema.specs.Names.{uses_key_table};
 ghost use Rattle.desk_schema.specs.Stays.{Asks};
 ghost use Rattle.desk_storage.specs.declared.fault.StorageFault.TheVariants.{Memory as memory};
-ghost use Rattle.desk_store.specs.Causes.{IsOfOpening, cause_of};
+ghost use Rattle.desk_store.specs.Causes.{IsMetFault, IsOfOpening, cause_of};
 ghost use Rattle.desk_store.specs.Desks.{AreOfDesk, HasDesk};
 ghost use Rattle.desk_store.specs.Making.{IsOfStorage};
 ghost use Rattle.desk_store.specs.Opening.{FailedToOpen, FailedToWiden, HasLaterFormat, IsUpgraded, IsWhole, IsWholeFirst, ShowsBook, ShowsFirstBook};
@@ -53,6 +53,7 @@ fn check_format<S: Alter>(conn: &mut Connection<S>) -> Result<(), OpenFault>
     ensures first { HasCleanDisk (state S.Store conn.new) → IfErr result (λ why. (T : Tables) → HasFirst (state S.Store conn.old) T → IsOfStorage why) }
     ensures later { HasCleanDisk (state S.Store conn.new) → HasLaterFormat (state S.Store conn.old)
         → MatchResult result (λ _. ⊥) (λ why. (why ≡ newer_format) ⊎ IsOfStorage why) }
+    ensures met { HasCleanDisk (state S.Store conn.new) → IfErr result (IsMetFault (state S.Store conn.old) (state S.Store conn.new)) }
     ensures answering { HasCleanDisk (state S.Store conn.new) → result ≡ Err (of_storage memory) → IsTrue (state S.Store conn.new).is_open }
     ensures asks { Asks (state S.Store conn.old) (state S.Store conn.new) }
 {
@@ -89,6 +90,7 @@ pub(crate) fn read_book<S: Alter>(
     ensures no_newer { result ≢ Err newer_format }
     ensures unchanged { HasCleanDisk (state S.Store conn.new) → OnOk result (IsUnchanged (state S.Store conn.old) (state S.Store conn.new)) }
     ensures desk { HasCleanDisk (state S.Store conn.new) → IfErr result (λ why. (T : Tables) → HasDesk (state S.Store conn.old) T → IsOfStorage why) }
+    ensures met { HasCleanDisk (state S.Store conn.new) → IfErr result (IsMetFault (state S.Store conn.old) (state S.Store conn.new)) }
     ensures answering { HasCleanDisk (state S.Store conn.new) → result ≡ Err (of_storage memory) → IsTrue (state S.Store conn.new).is_open }
     ensures asks { Asks (state S.Store conn.old) (state S.Store conn.new) }
 {
@@ -112,6 +114,7 @@ pub(crate) fn read_first<S: Alter>(
     ensures no_newer { result ≢ Err newer_format }
     ensures unchanged { HasCleanDisk (state S.Store conn.new) → OnOk result (IsUnchanged (state S.Store conn.old) (state S.Store conn.new)) }
     ensures desk { HasCleanDisk (state S.Store conn.new) → IfErr result (λ why. (T : Tables) → HasFirst (state S.Store conn.old) T → IsOfStorage why) }
+    ensures met { HasCleanDisk (state S.Store conn.new) → IfErr result (IsMetFault (state S.Store conn.old) (state S.Store conn.new)) }
     ensures answering { HasCleanDisk (state S.Store conn.new) → result ≡ Err (of_storage memory) → IsTrue (state S.Store conn.new).is_open }
     ensures asks { Asks (state S.Store conn.old) (state S.Store conn.new) }
 {
@@ -179,6 +182,7 @@ fn check_book<S: Alter>(alloc: Global, conn: &mut Connection<S>) -> Result<(), O
     ensures no_newer { result ≢ Err newer_format }
     ensures unchanged { HasCleanDisk (state S.Store conn.new) → OnOk result (IsUnchanged (state S.Store conn.old) (state S.Store conn.new)) }
     ensures desk { HasCleanDisk (state S.Store conn.new) → IfErr result (λ why. (T : Tables) → HasDesk (state S.Store conn.old) T → IsOfStorage why) }
+    ensures met { HasCleanDisk (state S.Store conn.new) → IfErr result (IsMetFault (state S.Store conn.old) (state S.Store conn.new)) }
     ensures answering { HasCleanDisk (state S.Store conn.new) → result ≡ Err (of_storage memory) → IsTrue (state S.Store conn.new).is_open }
     ensures asks { Asks (state S.Store conn.old) (state S.Store conn.new) }
 {
@@ -198,6 +202,7 @@ fn check_rows<S: Alter>(alloc: Global, conn: &mut Connection<S>) -> Result<(), O
     ensures no_newer { result ≢ Err newer_format }
     ensures unchanged { HasCleanDisk (state S.Store conn.new) → OnOk result (IsUnchanged (state S.Store conn.old) (state S.Store conn.new)) }
     ensures desk { HasCleanDisk (state S.Store conn.new) → IfErr result (λ why. (T : Tables) → HasDesk (state S.Store conn.old) T → IsOfStorage why) }
+    ensures met { HasCleanDisk (state S.Store conn.new) → IfErr result (IsMetFault (state S.Store conn.old) (state S.Store conn.new)) }
     ensures answering { HasCleanDisk (state S.Store conn.new) → result ≡ Err (of_storage memory) → IsTrue (state S.Store conn.new).is_open }
     ensures asks { Asks (state S.Store conn.old) (state S.Store conn.new) }
 {

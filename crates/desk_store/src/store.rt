@@ -13,7 +13,7 @@ ghost use Rattle.desk_schema.specs.Stays.{Asks};
 ghost use Rattle.desk_storage.specs.Sight.{ForTables, Keeps, Reads};
 ghost use Rattle.desk_storage.specs.Storing.{Loads, Saves, SavesOf};
 ghost use Rattle.desk_storage.specs.declared.fault.StorageFault.TheVariants.{Memory as memory, Reopen as reopen};
-ghost use Rattle.desk_store.specs.Causes.{Failed, FailedToChange};
+ghost use Rattle.desk_store.specs.Causes.{Failed, FailedToChange, IsMetFault};
 ghost use Rattle.desk_store.specs.Desks.{HasDesk, store_sight};
 ghost use Rattle.desk_store.specs.Making.{FailedToMake, IsNewDesk, IsOfStorage};
 ghost use Rattle.desk_store.specs.Opening.{FailedToOpen, HasLaterFormat, IsUpgraded, IsWhole, IsWholeFirst, ShowsKnownFormat, ShowsNewerFormat};
@@ -105,7 +105,8 @@ impl<S: Alter> Store<S> {
     /// `NewerFormat` where `meta` has one row of a later format; else `NotADesk` where a table, a column or an index is
     /// missing, or where no book has the rows: nothing was changed. `Storage` where the store failed: after `Memory` the
     /// database is as it was; else a stop leaves what it left before or, of a desk in format 1, the same desk in today's format.
-    /// A reading that is refused for what is neither memory, the disk nor a size is `NotADesk`, a statement of the upgrade `Device`.
+    /// A reading that is refused for what is neither memory, the disk nor a size is `NotADesk`, a statement of the upgrade `Device`; a
+    /// reading has `Device` only where the disk failed.
     pub fn open(alloc: Global, conn: Connection<S>) -> Result<Store<S>, Unopened<S>>
         requires idle { conn.in_transaction ≡ false }
         ensures idle { MatchResult result (λ store. store.conn.in_transaction ≡ false) (λ un. un.conn.in_transaction ≡ false) }
@@ -151,10 +152,14 @@ impl<S: Alter> Store<S> {
     ///
     /// # Errors
     ///
-    /// `Memory`: the store has what it had. `Device` or `Reopen`: it is to be opened again.
+    /// `Memory`: the store has what it had. `Device` or `Reopen`: it is to be opened again. Of a desk's tables `Device` comes only
+    /// where the disk failed.
     pub fn load(&mut self, alloc: Global) -> Result<Book, StorageFault>
         ensures reads { Reads (store_sight S.Store) self.old self.new result }
         ensures book { ForTables (store_sight S.Store) self.old self.new (λ T. IfOk result (λ book. book ≡ T)) }
+        ensures failed { IfErr result (Failed S.Store None self.old.conn self.new.conn) }
+        ensures met { ForTables (store_sight S.Store) self.old self.new (λ T.
+            IfErr result (λ why. IsMetFault (state S.Store self.old.conn) (state S.Store self.new.conn) (of_storage why))) }
     {
         match read_book(alloc, &mut self.conn) {
             Ok(book) => Ok(book),

@@ -14,3 +14,6 @@ returns-in-Err-clause-desk g c = c.in-Err.ensures.desk
 
 pub returns-in-Err-clause-asks : goal.returns-in-Err-clause-asks
 returns-in-Err-clause-asks g c = c.read_book.ensures.asks
+
+pub returns-in-Err-clause-met : goal.returns-in-Err-clause-met
+returns-in-Err-clause-met g c = c.in-Err.ensures.met

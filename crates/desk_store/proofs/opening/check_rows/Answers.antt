@@ -4,7 +4,7 @@ use Rattle.sqlite.specs.State.{HasCleanDisk}
 use Rattle.desk_reading.proofs.Results.{unchanged_after}
 use Rattle.desk_schema.proofs.StaysLemmas.{asks_then}
 use Rattle.desk_store.proofs.Books.{may_read, shows_still}
-use Rattle.desk_store.proofs.OpeningFaults.{failure_is_storage, fails_later, reading_is_known}
+use Rattle.desk_store.proofs.OpeningFaults.{failure_is_storage, fails_later, fails_met, opening_met, reading_is_known}
 use Rattle.desk_store.proofs.Standing.{same_fault}
 use Rattle.desk_store.specs.Causes.{cause_of}
 use Rattle.desk_store.proofs.opening.check_rows.Goals as goal
@@ -61,3 +61,15 @@ pub returns-in-Err-clause-asks : goal.returns-in-Err-clause-asks
 returns-in-Err-clause-asks g c =
     asks_then (state g.S.Store c.args.conn.now) (state g.S.Store c.has_book_rows.new.conn) (state g.S.Store c.opening_fault.new.conn)
     c.has_book_rows.ensures.asks c.opening_fault.ensures.asks
+
+pub returns-in-Err-clause-met : goal.returns-in-Err-clause-met
+returns-in-Err-clause-met g c clean =
+    let mid = state g.S.Store c.has_book_rows.new.conn in
+    let clean_mid : HasCleanDisk mid = let le = c.opening_fault.ensures.asks.survives.clean in omega (arith, clean, le) in
+    opening_met (state g.S.Store c.args.conn.now) mid (state g.S.Store c.opening_fault.new.conn) c.in-Err.error c.opening_fault.result
+    c.opening_fault.ensures.fault (c.in-Err.ensures.met clean_mid) c.opening_fault.ensures.asks
+
+pub returns-in-Ok-false-clause-met : goal.returns-in-Ok-false-clause-met
+returns-in-Ok-false-clause-met g c clean =
+    fails_met (state g.S.Store c.args.conn.now) (state g.S.Store c.has_book_rows.new.conn) (state g.S.Store c.check_book.new.conn) c.check_book.result
+    c.has_book_rows.ensures.asks (c.check_book.ensures.met clean)

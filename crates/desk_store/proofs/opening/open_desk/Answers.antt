@@ -155,3 +155,4 @@ returns-in-Ok-clause-later g c clean later =
 pub returns-in-Err-clause-failed : goal.returns-in-Err-clause-failed
 returns-in-Err-clause-failed g c =
     opened_nothing g.S.Store c.args.conn.now c.check_format.new.conn c.in-Err.fault (leaves_nothing _ _ c.check_format.ensures.asks.survives)
+    c.in-Err.ensures.met

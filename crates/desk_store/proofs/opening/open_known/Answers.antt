@@ -139,3 +139,4 @@ returns-then-not-has_indexes-clause-failed g c =
 pub returns-then-uses_key_table-clause-failed : goal.returns-then-uses_key_table-clause-failed
 returns-then-uses_key_table-clause-failed g c =
     asked_to_open g.S.Store c.args.conn.now c.check_rows.new.conn c.check_rows.result c.check_rows.ensures.asks
+    c.check_rows.ensures.met

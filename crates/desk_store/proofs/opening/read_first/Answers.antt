@@ -2,7 +2,7 @@ use Rattle.std.proofs.Common.{arith}
 use Rattle.sqlite.specs.Held.{state}
 use Rattle.sqlite.specs.State.{HasCleanDisk}
 use Rattle.desk_store.proofs.FirstBooks.{first_fails, first_may_read, first_shown, first_told}
-use Rattle.desk_store.proofs.OpeningFaults.{book_is_known, failure_is_storage, reading_is_known}
+use Rattle.desk_store.proofs.OpeningFaults.{book_is_known, book_met, failure_is_storage, opening_met, reading_is_known}
 use Rattle.desk_store.specs.Causes.{cause_of}
 use Rattle.desk_store.proofs.opening.read_first.Goals as goal
 
@@ -30,3 +30,14 @@ returns-in-Ok-clause-no_newer g c newer = book_is_known _ c.book_of.result c.boo
 
 pub returns-in-Err-clause-no_newer : goal.returns-in-Err-clause-no_newer
 returns-in-Err-clause-no_newer g c newer = reading_is_known (cause_of c.in-Err.error) c.opening_fault.result c.opening_fault.ensures.fault (let e = newer in cc)
+
+pub returns-in-Err-clause-met : goal.returns-in-Err-clause-met
+returns-in-Err-clause-met g c clean =
+    let mid = state g.S.Store c.load_first.new.conn in
+    let clean_mid : HasCleanDisk mid = let le = c.opening_fault.ensures.asks.survives.clean in omega (arith, clean, le) in
+    opening_met (state g.S.Store c.args.conn.now) mid (state g.S.Store c.opening_fault.new.conn) c.in-Err.error c.opening_fault.result
+    c.opening_fault.ensures.fault (c.in-Err.ensures.met clean_mid) c.opening_fault.ensures.asks
+
+pub returns-in-Ok-clause-met : goal.returns-in-Ok-clause-met
+returns-in-Ok-clause-met g c clean =
+    book_met _ (state g.S.Store c.args.conn.now) (state g.S.Store c.load_first.new.conn) c.book_of.result c.book_of.ensures.fault

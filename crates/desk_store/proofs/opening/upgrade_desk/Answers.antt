@@ -76,3 +76,4 @@ returns-in-Err-upgrade_book-clause-failed g c =
 pub returns-in-Err-clause-failed : goal.returns-in-Err-clause-failed
 returns-in-Err-clause-failed g c =
     opened_nothing g.S.Store c.args.conn.now c.read_first.new.conn c.in-Err.fault (leaves_nothing _ _ c.read_first.ensures.asks.survives)
+    c.in-Err.ensures.met

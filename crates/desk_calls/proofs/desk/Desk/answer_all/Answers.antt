@@ -1,7 +1,8 @@
 use Rattle.std.proofs.Common.{◌≡◌, Some, subst, sym, length, ◌++◌, ◌∷◌, [], ◌+◌, ap, ◌∙◌, length-append}
-use Rattle.desk_calls.specs.Runs.{RunsAs}
+use Rattle.desk_calls.specs.Runs.{EndsCaused, RunsAs}
 use Rattle.desk_calls.specs.declared.fault.DeskFault.TheVariants as deskfault
-use Rattle.desk_calls.proofs.Running.{answers_more, declines, ends_at, ends_with_all, take_one_more}
+use Rattle.desk_calls.proofs.Running.{answers_more, caused_at, declines, ends_at, ends_with_all, late_at, take_one_more}
+use Rattle.desk_calls.proofs.Running.{tells_late, tells_memory}
 use Rattle.desk_calls.proofs.desk.Desk.answer_all.Goals as goal
 
 pub loop-call-preserved : goal.loop-call-preserved
@@ -40,3 +41,27 @@ pub returns-clause-chain : goal.returns-clause-chain
 returns-clause-chain g c =
     ends_with_all g.K.Storage.sight c.args.self.now.store c.loop-call.self.store c.args.calls.now c.loop-call.replies.items c.loop-call.call-index
     c.loop-call.invariant.counted c.loop-call-test.false c.loop-call.invariant.answered
+
+pub returns-then-is_err-clause-caused : goal.returns-then-is_err-clause-caused
+returns-then-is_err-clause-caused g c =
+    subst (λ replies. EndsCaused g.K.Storage.sight g.K.Storage.causes c.args.self.now.store c.loop-call.self.store c.args.calls.now replies deskfault.Memory)
+    (sym c.reserve.ensures.items)
+    (caused_at g.K.Storage.sight g.K.Storage.causes c.args.self.now.store c.loop-call.self.store c.loop-call.self.store c.args.calls.now
+    c.loop-call.replies.items c.loop-call.call-index deskfault.Memory c.loop-call.invariant.counted c.loop-call.invariant.answered tt)
+
+pub returns-then-is_err-clause-late : goal.returns-then-is_err-clause-late
+returns-then-is_err-clause-late g c = tells_memory _
+
+pub returns-in-Err-clause-caused : goal.returns-in-Err-clause-caused
+returns-in-Err-clause-caused g c =
+    subst (λ replies. EndsCaused g.K.Storage.sight g.K.Storage.causes c.args.self.now.store c.answer.new.self.store c.args.calls.now replies c.in-Err.fault)
+    (sym c.reserve.ensures.items)
+    (caused_at g.K.Storage.sight g.K.Storage.causes c.args.self.now.store c.loop-call.self.store c.answer.new.self.store c.args.calls.now
+    c.loop-call.replies.items c.loop-call.call-index c.in-Err.fault c.loop-call.invariant.counted c.loop-call.invariant.answered
+    (c.in-Err.ensures.caused c.loop-call.invariant.opened))
+
+pub returns-in-Err-clause-late : goal.returns-in-Err-clause-late
+returns-in-Err-clause-late g c =
+    late_at c.args.calls.now _ c.loop-call.call-index c.call-item.result c.in-Err.fault (ap length c.reserve.ensures.items ∙ c.loop-call.invariant.counted)
+    c.loop-call-test.true c.call-item.is
+    (λ rest. tells_late c.call-item.result rest c.in-Err.fault (c.in-Err.ensures.late c.loop-call.invariant.opened))

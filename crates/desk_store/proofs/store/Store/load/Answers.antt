@@ -1,4 +1,6 @@
 use Rattle.std.proofs.Common.{refl}
+use Rattle.sqlite.specs.Held.{state}
+use Rattle.desk_store.proofs.Failing.{leaves_nothing}
 use Rattle.desk_store.proofs.Standing.{reads_failed, reads_ok}
 use Rattle.desk_store.proofs.store.Store.load.Goals as goal
 
@@ -11,3 +13,7 @@ pub returns-in-Err-Storage-clause-reads : goal.returns-in-Err-Storage-clause-rea
 returns-in-Err-Storage-clause-reads g c =
     reads_failed g.S.Store c.args.self.now (record c.args.self.now { conn = c.read_book.new.conn }) c.in-Err-Storage.fault refl c.read_book.ensures.asks
     (λ clean memory. c.read_book.ensures.answering clean (let e = memory in cc))
+
+pub returns-in-Err-Storage-clause-failed : goal.returns-in-Err-Storage-clause-failed
+returns-in-Err-Storage-clause-failed g c =
+    leaves_nothing (state g.S.Store c.args.self.now.conn) (state g.S.Store c.read_book.new.conn) c.read_book.ensures.asks.survives
