@@ -38,24 +38,33 @@ ran_out F call calls n some = rw some refl
 
 -- ---- calls that are too late
 
+-- a result has one fault
+same_error : (result : Result Reply DeskFault) (a b : DeskFault) → result ≡ Err a → result ≡ Err b → a ≡ b
+same_error result a b one other = cc
+
 -- the next call ended the run as it was answered
-pub tells_late : (call : Call) (rest : List Call) (why : DeskFault) → ((Err {A = Reply} why ≡ Err deskfault.Moment) ↔ (last_moment < call.at))
-    → TellsLate (call ∷ rest) why
-tells_late call rest why told = record {
-  late = λ is. told.0 (ap Err is);
-  told = λ past. let same = told.1 past in inl (cc);
+pub tells_late : (call : Call) (rest : List Call) (why : DeskFault) (result : Result Reply DeskFault) → result ≡ Err why
+    → ((result ≡ Err deskfault.Moment) ↔ (last_moment < call.at)) → TellsLate (call ∷ rest) why
+tells_late call rest why result is told = record {
+  late = λ moment. told.0 (is ∙ ap (λ f. Err f) moment);
+  told = λ past. inl (same_error result why deskfault.Moment is (told.1 past));
 }
 
 -- memory was refused before it
 pub tells_memory : (rest : List Call) → TellsLate rest deskfault.Memory
 tells_memory rest = record { late = λ is. absurd (let e = is in cc); told = λ past. inr refl }
 
+-- a list of calls that begins with it
+late_cons : (calls rest : List Call) (first call : Call) (why : DeskFault) → calls ≡ first ∷ rest → call ≡ first
+    → ((more : List Call) → TellsLate (call ∷ more) why) → TellsLate calls why
+late_cons calls rest first call why are is tells =
+    subst (λ l. TellsLate l why) (sym are) (subst (λ c. TellsLate (c ∷ rest) why) is (tells rest))
+
 -- as the next call of all
 pub late_at : (calls : List Call) (n i : ℕ) (call : Call) (why : DeskFault) → n ≡ i → i < length calls → call ≡ get_or calls i call
     → ((rest : List Call) → TellsLate (call ∷ rest) why) → TellsLate (drop n calls) why
 late_at calls n i call why counted lt is tells =
-    subst (λ k. TellsLate (drop k calls) why) (sym counted)
-    (subst (λ l. TellsLate l why) (sym (drop-cons calls i call lt)) (subst (λ c. TellsLate (c ∷ drop (i + 1) calls) why) is (tells (drop (i + 1) calls))))
+    subst (λ k. TellsLate (drop k calls) why) (sym counted) (late_cons (drop i calls) _ _ call why (drop-cons calls i call lt) is tells)
 
 module _ {S C : Type 0} (v : Sight S C) where
   -- ---- the chain

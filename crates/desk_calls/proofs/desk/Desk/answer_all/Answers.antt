@@ -1,4 +1,4 @@
-use Rattle.std.proofs.Common.{◌≡◌, Some, subst, sym, length, ◌++◌, ◌∷◌, [], ◌+◌, ap, ◌∙◌, length-append}
+use Rattle.std.proofs.Common.{◌≡◌, Err, Some, refl, subst, sym, length, ◌++◌, ◌∷◌, [], ◌+◌, ap, ◌∙◌, length-append}
 use Rattle.desk_calls.specs.Runs.{EndsCaused, RunsAs}
 use Rattle.desk_calls.specs.declared.fault.DeskFault.TheVariants as deskfault
 use Rattle.desk_calls.proofs.Running.{answers_more, caused_at, declines, ends_at, ends_with_all, late_at, take_one_more}
@@ -64,4 +64,4 @@ pub returns-in-Err-clause-late : goal.returns-in-Err-clause-late
 returns-in-Err-clause-late g c =
     late_at c.args.calls.now _ c.loop-call.call-index c.call-item.result c.in-Err.fault (ap length c.reserve.ensures.items ∙ c.loop-call.invariant.counted)
     c.loop-call-test.true c.call-item.is
-    (λ rest. tells_late c.call-item.result rest c.in-Err.fault (c.in-Err.ensures.late c.loop-call.invariant.opened))
+    (λ rest. tells_late c.call-item.result rest c.in-Err.fault (Err c.in-Err.fault) refl (c.in-Err.ensures.late c.loop-call.invariant.opened))
