@@ -4,7 +4,7 @@ use Rattle.std.specs.Prelude.{IsTrue}
 use Rattle.sqlite_disk.specs.declared.Disk as disk
 use Rattle.sqlite_store.specs.declared.store.FileStore.{FileStore}
 use Rattle.sqlite.specs.Files.{IsEmpty, IsOpened, file_state}
-use Rattle.sqlite.specs.Held.{Held, IsNew}
+use Rattle.sqlite.specs.Held.{Held}
 use Rattle.sqlite.specs.Recovery.{Image}
 use Rattle.sqlite.specs.Start.{FindsIn}
 use Rattle.sqlite.specs.State.{State, HasCleanDisk, Survives}
@@ -23,7 +23,7 @@ use Rattle.desk_upgrading.specs.FirstDesks.{HasFirst}
 use Rattle.desk_openings.specs.Formats.{AreOfFirst, HasEither}
 use Rattle.desk_openings.specs.LeftFiles.{AreOfOpening, LeftFiles, file_sight, schema_in}
 use Rattle.desk_openings.proofs.Finding.{empty_files_are_opened, first_files_are_opened, found_files_are_opened, reads_files}
-use Rattle.desk_files.specs.Opening.{IsEarly, IsTaken, LeavesNewDesk}
+use Rattle.desk_files.specs.Opening.{Connects, IsEarly, IsTaken, LeavesNewDesk}
 
 -- by cases on a test
 pub by_cases : (test : Bool) (P : Type 0) → (test ≡ true → P) → (test ≡ false → P) → P
@@ -53,12 +53,6 @@ new_desk_left policy at Was Is why s means leaves = record {
 }
 
 module _ {D : Type 0} {g : disk.Ghosts D} where
-  -- what a connection that was newly opened says
-  pub record Connects (image : Image) (conn : Held (FileStore D g)) : Type 0 where
-    pub fresh : IsNew conn
-    pub opened : HasCleanDisk (file_state conn) → IsOpened conn
-    pub found : HasCleanDisk (file_state conn) → FindsIn image (file_state conn)
-
   -- what its files held is what it has
   pub record HasFound (files : LeftFiles) (conn : Held (FileStore D g)) : Type 0 where
     pub is_open : IsTrue (file_state conn).is_open

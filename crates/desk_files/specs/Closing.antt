@@ -1,18 +1,21 @@
 -- What closing the two files of a desk leaves.
-use Rattle.std.specs.Prelude.{[]}
+use Rattle.std.specs.Prelude.{◌≡◌, []}
 use Rattle.sqlite.specs.FileStore as engine
 use Rattle.sqlite.specs.View.{IsClean}
 use Rattle.sqlite_disk.specs.declared.Disk as disk
 use Rattle.sqlite_disk.specs.declared.Files.{Files}
 use Rattle.sqlite_store.specs.declared.store.FileStore.{FileStore}
-use Rattle.sqlite.specs.Files.{file_state, image_of}
+use Rattle.sqlite.specs.Files.{FailsToClose, file_state, image_of}
 use Rattle.sqlite.specs.Recovery.{Image}
 use Rattle.sqlite.specs.WalFiles.{outcomes}
 use Rattle.sqlite.specs.WalReads.{AreClean}
 use Rattle.desk_model.specs.Tables.{Tables}
+use Rattle.sqlite.specs.declared.error.Error.{Error}
 use Rattle.desk_store.specs.Desks.{HasDesk}
+use Rattle.desk_store.specs.declared.open_fault.OpenFault.{OpenFault}
 use Rattle.desk_store.specs.declared.store.Store.{Store}
 use Rattle.desk_openings.specs.LeftFiles.{HoldDesk, LeavesFound}
+use Rattle.desk_files.specs.Opening.{fault_of_close}
 
 -- the desk is in the two files, and in the database file without its log
 pub record IsInFile (image : Image) (T : Tables) : Type 0 where
@@ -36,3 +39,9 @@ module _ {D : Type 0} {g : disk.Ghosts D} where
   -- the store's files were given up as they are: whatever bytes a stop then leaves, they hold a database that it could leave of the store
   abbrev pub LeavesAsStop : Store (FileStore D g) → FileStore D g → Type 0
   LeavesAsStop store last = IsClean (engine.view last) → (image : Image) → (engine.state last).may_leave image → LeavesFound store image
+
+  -- the engine did not close them, by an error of which the fault is
+  pub record FailedToCloseBy (store : Store (FileStore D g)) (why : OpenFault) (last : FileStore D g) : Type 0 where
+    pub error : Error
+    pub fault : why ≡ fault_of_close error
+    pub cause : IsClean (engine.view last) → FailsToClose store.conn last error

@@ -1,9 +1,11 @@
 -- What making and opening the desk of two files gives.
 use Rattle.std.specs.Prelude.{◌≡◌, ◌⊎◌, [], false, ℕ, IsTrue}
 use Rattle.sqlite_disk.specs.declared.Disk as disk
+use Rattle.sqlite_disk.specs.declared.Files.{Files}
 use Rattle.sqlite_store.specs.declared.store.FileStore.{FileStore}
-use Rattle.sqlite.specs.Files.{IsCleanLeft, IsEmpty, faults_left, file_state}
-use Rattle.sqlite.specs.Held.{Held}
+use Rattle.sqlite.specs.Files.{FailsToOpenFiles, IsCleanLeft, IsEmpty, IsOpened, faults_left, faults_of, file_state, image_of, over_files}
+use Rattle.sqlite.specs.Held.{Held, IsNew}
+use Rattle.sqlite.specs.Start.{FindsIn}
 use Rattle.sqlite.specs.Recovery.{Image}
 use Rattle.sqlite.specs.State.{State, HasCleanDisk}
 use Rattle.sqlite.specs.declared.error.Error.{Error}
@@ -18,7 +20,8 @@ use Rattle.desk_schema.specs.Names.{uses_names}
 use Rattle.desk_storage.specs.Sight.{Keeps, Opens}
 use Rattle.desk_store.specs.Causes.{cause_of}
 use Rattle.desk_store.specs.Desks.{AreOfDesk}
-use Rattle.desk_store.specs.Making.{IsOfStorage}
+use Rattle.desk_store.specs.Making.{FailedToMake, IsOfStorage}
+use Rattle.desk_store.specs.Opening.{FailedToOpen, ShowsNewerFormat}
 use Rattle.desk_storage.specs.declared.fault.StorageFault.{StorageFault}
 use Rattle.desk_storage.specs.declared.fault.StorageFault.TheVariants as fault
 use Rattle.desk_store.specs.declared.faults.Cause.{Cause}
@@ -32,6 +35,10 @@ use Rattle.desk_openings.specs.LeftFiles.{AreOfOpening, LeftFiles, file_sight, s
 abbrev pub fault_of_files : Cause → StorageFault
 fault_of_files cause.Memory = fault.Memory
 fault_of_files _ = fault.Device
+
+-- the fault of files that the engine does not close
+abbrev pub fault_of_close : Error → OpenFault
+fault_of_close error = Storage (fault_of_files (cause_of error))
 
 -- the fault of files that the engine refuses
 abbrev pub fault_of_refusal : Error → OpenFault
@@ -57,6 +64,35 @@ pub record IsTaken (Was : Trees → Type 0) (why : OpenFault) (s : State) : Type
   pub left : (trees : Trees) → s.may_leave trees → Was trees
 
 module _ {D : Type 0} {g : disk.Ghosts D} where
+  -- ---- what a fault comes from
+
+  -- a connection that was newly opened on these bytes
+  pub record Connects (image : Image) (conn : Held (FileStore D g)) : Type 0 where
+    pub fresh : IsNew conn
+    pub opened : HasCleanDisk (file_state conn) → IsOpened conn
+    pub found : HasCleanDisk (file_state conn) → FindsIn image (file_state conn)
+
+  -- the engine refused files with these bytes, which had met no fault, by an error of which the fault is
+  pub record RefusedBy (image : Image) (why : OpenFault) (left : Leftover D g) : Type 0 where
+    pub error : Error
+    pub fault : why ≡ fault_of_refusal error
+    pub cause : IsCleanLeft left → (files : Files D) × (image_of g files ≡ image) × (faults_of g files ≡ 0) × FailsToOpenFiles files left error
+
+  -- it opened them, and over that connection no desk was opened, by the fault of the store's opening
+  pub record FailedOver (image : Image) (why : OpenFault) (conn : Held (FileStore D g)) : Type 0 where
+    pub from : Held (FileStore D g)
+    pub connects : Connects image from
+    pub failed : FailedToOpen (over_files {g = g}) from conn why
+    pub newer : HasCleanDisk (file_state conn) → why ≡ NewerFormat → ShowsNewerFormat (over_files {g = g}) from
+
+  -- or none was made, where no name is taken, by that of the store's making
+  pub record FailedToMakeOver (policy : Terms) (at : ℕ) (image : Image) (why : OpenFault) (conn : Held (FileStore D g)) : Type 0 where
+    pub from : Held (FileStore D g)
+    pub connects : Connects image from
+    pub failed : uses_names (file_state from).now.schema ≡ false → FailedToMake (over_files {g = g}) policy at from conn why
+
+  -- ---- what is there afterwards
+
   -- whatever desk the bytes held, in either format, the store has it in today's, and a stop leaves that alone
   abbrev pub OpensFiles : Image → Store (FileStore D g) → Type 0
   OpensFiles image store = (file_sight g).is_honest store → (files : LeftFiles) → files.image ≡ image → Opens (file_sight g) files store

@@ -3,7 +3,7 @@ ghost use Rattle.std.specs.Prelude.{◌≡◌, IfErr, IfOk};
 ghost use Rattle.sqlite.specs.FileStore.{recovers, view};
 ghost use Rattle.sqlite.specs.Tree.{Trees};
 ghost use Rattle.sqlite.specs.View.{IsClean};
-ghost use Rattle.desk_files.specs.Closing.{EndsAsStop, KeepsInFile, LeavesAsStop};
+ghost use Rattle.desk_files.specs.Closing.{EndsAsStop, FailedToCloseBy, KeepsInFile, LeavesAsStop};
 ghost use Rattle.desk_store.specs.Making.{IsOfStorage};
 
 use crate::fault::close_fault;
@@ -18,13 +18,14 @@ use sqlite_disk::Disk;
 ///
 /// # Errors
 ///
-/// `Storage` where the copy failed: a stop then leaves no more than it did, and the next opening reads both files.
+/// `Storage` where the copy failed, by the fault of the engine's error: a stop then leaves no more than it did, and the next opening reads both files.
 pub fn close_from<D: Disk + Drop>(
     store: Store<FileStore<D>>,
 ) -> Result<Files<D>, (OpenFault, FileStore<D>)>
     ensures closed { IfOk result (KeepsInFile store) }
     ensures ended { IfOk result (EndsAsStop store) }
     ensures fault { IfErr result (λ e. IsOfStorage e.0) }
+    ensures failed { IfErr result (λ e. FailedToCloseBy store e.0 e.1) }
     ensures left { IfErr result (λ e. (trees : Trees) → recovers e.1 trees → recovers store.conn.store trees) }
 {
     match store.close().close_files() {

@@ -1,8 +1,7 @@
 //! The faults of files that are not opened or closed.
 ghost use Rattle.std.specs.Prelude.{◌≡◌};
 ghost use Rattle.desk_store.specs.Causes.{cause_of};
-ghost use Rattle.desk_store.specs.Making.{IsOfStorage};
-ghost use Rattle.desk_files.specs.Opening.{fault_of_files, fault_of_refusal};
+ghost use Rattle.desk_files.specs.Opening.{fault_of_close, fault_of_files, fault_of_refusal};
 
 use desk_storage::StorageFault;
 use desk_store::{Cause, OpenFault, cause_of};
@@ -23,7 +22,7 @@ pub(crate) fn refusal_fault(error: Error) -> OpenFault
 
 /// The fault of files that the engine does not close.
 pub(crate) fn close_fault(error: Error) -> OpenFault
-    ensures { IsOfStorage result }
+    ensures { result ≡ fault_of_close error }
 {
     OpenFault::Storage(files_fault(error))
 }

@@ -4,7 +4,7 @@
 //! call, while the disk is clean: nobody else writes them, and the disk returns what was written. Then
 //!
 //! - of files that held a desk, in format 1 or in today's, `open_from` gives that desk, in today's (`opened`), or fails for
-//!   memory or the disk alone (`unopened`);
+//!   memory or the disk alone (`unopened`); any fault is that of the engine's error, or of the store's opening (`cause`, `failed`);
 //! - of files that held a database, the engine refuses none but for memory or the disk (`refused`), and where no desk is
 //!   opened, a stop leaves the database that was there, or the desk of format 1 that was there in today's format (`left`);
 //!   the second only where the disk failed (`spared`);

@@ -5,8 +5,8 @@ ghost use Rattle.sqlite.specs.Held.{IsNew};
 ghost use Rattle.sqlite.specs.Start.{FindsIn};
 ghost use Rattle.sqlite.specs.State.{HasCleanDisk};
 ghost use Rattle.sqlite.specs.WalFiles.{image_at};
-ghost use Rattle.desk_files.specs.Opening.{FailsToMake, FoundNoName, LeavesAnOpening, LeavesAsFound, MakesFiles, OpensFiles, RefusesName};
-ghost use Rattle.desk_files.specs.Opening.{RefusesNoDatabase, RefusesNoDesk};
+ghost use Rattle.desk_files.specs.Opening.{FailedOver, FailedToMakeOver, FailsToMake, FoundNoName, LeavesAnOpening, LeavesAsFound, MakesFiles};
+ghost use Rattle.desk_files.specs.Opening.{OpensFiles, RefusedBy, RefusesName, RefusesNoDatabase, RefusesNoDesk};
 ghost use Rattle.desk_store.specs.Making.{IsOfStorage};
 
 use crate::fault::refusal_fault;
@@ -42,6 +42,7 @@ fn connect<S: Start>(
     ensures unconnected { IfErr result (λ un. un.conn ≡ None) }
     ensures unreached { IfErr result (λ un. un.refused ≡ None → IsOfStorage un.fault) }
     ensures refused { IfErr result (λ un. IfSome un.refused (RefusesNoDatabase (image_at S.Start) un.fault)) }
+    ensures cause { IfErr result (λ un. IfSome un.refused (RefusedBy (image_at S.Start) un.fault)) }
 {
     match Connection::open_from(rt, path, false, start) {
         Ok(conn) => Ok(conn),
@@ -64,12 +65,15 @@ fn begin_from<S: Start>(
     ensures made { IfSome first (λ it. IfOk result (MakesFiles it.policy it.at (image_at S.Start))) }
     ensures unreached { IfErr result (λ un. un.conn ≡ None → un.refused ≡ None → IsOfStorage un.fault) }
     ensures refused { IfErr result (λ un. IfSome un.refused (RefusesNoDatabase (image_at S.Start) un.fault)) }
+    ensures cause { IfErr result (λ un. IfSome un.refused (RefusedBy (image_at S.Start) un.fault)) }
     ensures unopened { first ≡ None → IfErr result (λ un. IfSome un.conn (RefusesNoDesk (image_at S.Start) un.fault)) }
     ensures left { first ≡ None → IfErr result (λ un. IfSome un.conn (LeavesAnOpening (image_at S.Start))) }
     ensures spared { first ≡ None → IfErr result (λ un. IfSome un.conn (LeavesAsFound (image_at S.Start) un.fault)) }
     ensures unmade { IfSome first (λ it. IfErr result (λ un. IfSome un.conn (FailsToMake it.policy it.at (image_at S.Start) un.fault))) }
     ensures free { IfSome first (λ _. IfOk result (FoundNoName (image_at S.Start))) }
     ensures taken { IfSome first (λ _. IfErr result (λ un. IfSome un.conn (RefusesName (image_at S.Start) un.fault))) }
+    ensures failed { first ≡ None → IfErr result (λ un. IfSome un.conn (FailedOver (image_at S.Start) un.fault)) }
+    ensures making { IfSome first (λ it. IfErr result (λ un. IfSome un.conn (FailedToMakeOver it.policy it.at (image_at S.Start) un.fault))) }
 {
     let conn = match connect(rt, path, start) {
         Ok(conn) => conn,
@@ -103,9 +107,11 @@ pub fn open_from<S: Start>(
     ensures opened { IfOk result (OpensFiles (image_at S.Start)) }
     ensures unreached { IfErr result (λ un. un.conn ≡ None → un.refused ≡ None → IsOfStorage un.fault) }
     ensures refused { IfErr result (λ un. IfSome un.refused (RefusesNoDatabase (image_at S.Start) un.fault)) }
+    ensures cause { IfErr result (λ un. IfSome un.refused (RefusedBy (image_at S.Start) un.fault)) }
     ensures unopened { IfErr result (λ un. IfSome un.conn (RefusesNoDesk (image_at S.Start) un.fault)) }
     ensures left { IfErr result (λ un. IfSome un.conn (LeavesAnOpening (image_at S.Start))) }
     ensures spared { IfErr result (λ un. IfSome un.conn (LeavesAsFound (image_at S.Start) un.fault)) }
+    ensures failed { IfErr result (λ un. IfSome un.conn (FailedOver (image_at S.Start) un.fault)) }
 {
     begin_from(rt, path, start, None)
 }
@@ -129,9 +135,11 @@ pub fn make_from<S: Start>(
     ensures made { IfOk result (MakesFiles policy at (image_at S.Start)) }
     ensures unreached { IfErr result (λ un. un.conn ≡ None → un.refused ≡ None → IsOfStorage un.fault) }
     ensures refused { IfErr result (λ un. IfSome un.refused (RefusesNoDatabase (image_at S.Start) un.fault)) }
+    ensures cause { IfErr result (λ un. IfSome un.refused (RefusedBy (image_at S.Start) un.fault)) }
     ensures unmade { IfErr result (λ un. IfSome un.conn (FailsToMake policy at (image_at S.Start) un.fault)) }
     ensures free { IfOk result (FoundNoName (image_at S.Start)) }
     ensures taken { IfErr result (λ un. IfSome un.conn (RefusesName (image_at S.Start) un.fault)) }
+    ensures failed { IfErr result (λ un. IfSome un.conn (FailedToMakeOver policy at (image_at S.Start) un.fault)) }
 {
     begin_from(rt, path, start, Some(First { policy, at }))
 }

@@ -10,8 +10,9 @@ ghost use Rattle.desk_schema.specs.Names.{uses_names};
 ghost use Rattle.desk_schema.specs.Schema.{no_schema};
 ghost use Rattle.desk_storage.specs.Sight.{Keeps};
 ghost use Rattle.desk_store.specs.Desks.{store_sight};
-ghost use Rattle.desk_store.specs.Making.{IsOfStorage};
-ghost use Rattle.desk_store.specs.Opening.{IsUpgraded};
+ghost use Rattle.desk_store.specs.Making.{FailedToMake, IsOfStorage};
+ghost use Rattle.desk_store.specs.Opening.{FailedToOpen, IsUpgraded, ShowsNewerFormat};
+ghost use Rattle.desk_store.specs.declared.open_fault.OpenFault.TheVariants.{NewerFormat as newer_format};
 ghost use Rattle.desk_openings.specs.Formats.{HasEither};
 ghost use Rattle.desk_files.specs.Opening.{IsEarly, IsTaken, LeavesNewDesk};
 
@@ -33,6 +34,8 @@ fn open_tables<A: Alter>(alloc: Global, conn: Connection<A>) -> Result<Store<A>,
         → (state A.Store un.conn).may_leave trees → (trees ≡ (state A.Store conn).committed.trees) ⊎ IsUpgraded (state A.Store conn) trees) }
     ensures spared { IfErr result (λ un. IsEarly un.fault → HasCleanDisk (state A.Store un.conn) → IsTrue (state A.Store conn).is_open
         → (trees : Trees) → (state A.Store un.conn).may_leave trees → trees ≡ (state A.Store conn).committed.trees) }
+    ensures failed { IfErr result (λ un. FailedToOpen A.Store conn un.conn un.fault) }
+    ensures newer { IfErr result (λ un. HasCleanDisk (state A.Store un.conn) → un.fault ≡ newer_format → ShowsNewerFormat A.Store conn) }
 {
     match Store::open(alloc, conn) {
         Ok(store) => Ok(store),
@@ -59,6 +62,7 @@ fn make_tables<A: Alter>(
     ensures taken { IsTrue (uses_names (state A.Store conn).now.schema) → MatchResult result (λ store. ⊥)
         (λ un. IsTrue (state A.Store conn).is_open
         → IsTaken (λ trees. trees ≡ (state A.Store conn).committed.trees) un.fault (state A.Store un.conn)) }
+    ensures failed { uses_names (state A.Store conn).now.schema ≡ false → IfErr result (λ un. FailedToMake A.Store policy at conn un.conn un.fault) }
 {
     match Store::make(alloc, conn, policy, at) {
         Ok(store) => Ok(store),
@@ -100,6 +104,10 @@ pub(crate) fn begin<A: Alter>(
     ensures taken { IfSome first (λ _. IsTrue (uses_names (state A.Store conn).now.schema) → MatchResult result (λ store. ⊥)
         (λ un. IsTrue (state A.Store conn).is_open
         → IsTaken (λ trees. trees ≡ (state A.Store conn).committed.trees) un.fault (state A.Store un.conn))) }
+    ensures failed { first ≡ None → IfErr result (λ un. FailedToOpen A.Store conn un.conn un.fault) }
+    ensures newer { first ≡ None → IfErr result (λ un. HasCleanDisk (state A.Store un.conn) → un.fault ≡ newer_format → ShowsNewerFormat A.Store conn) }
+    ensures making { IfSome first (λ it. uses_names (state A.Store conn).now.schema ≡ false
+        → IfErr result (λ un. FailedToMake A.Store it.policy it.at conn un.conn un.fault)) }
 {
     match first {
         None => open_tables(alloc, conn),

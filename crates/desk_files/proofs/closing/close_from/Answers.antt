@@ -1,5 +1,6 @@
 use Rattle.std.proofs.Common.{subst}
 use Rattle.sqlite.specs.Closing.{IsCopied}
+use Rattle.sqlite.specs.Files.{FailsToClose}
 use Rattle.desk_files.proofs.Closed.{ends_as_stop, has_closed, left_of}
 use Rattle.desk_files.proofs.closing.close_from.Goals as goal
 
@@ -15,3 +16,14 @@ returns-in-Ok-clause-ended g c clean image may =
 pub returns-in-Err-clause-left : goal.returns-in-Err-clause-left
 returns-in-Err-clause-left g c trees may =
     left_of trees _ _ c.close.ensures (c.in-Err.ensures.err.0.quiet.outcomes trees may)
+
+pub returns-in-Err-clause-fault : goal.returns-in-Err-clause-fault
+returns-in-Err-clause-fault g c = (_, c.close_fault.ensures)
+
+pub returns-in-Err-clause-failed : goal.returns-in-Err-clause-failed
+returns-in-Err-clause-failed g c =
+    record {
+      error = c.in-Err.error;
+      fault = c.close_fault.ensures;
+      cause = λ clean. subst (λ conn. FailsToClose conn c.in-Err.last c.in-Err.error) c.close.ensures (c.in-Err.ensures.err.1 clean);
+    }

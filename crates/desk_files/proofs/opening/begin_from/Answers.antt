@@ -7,8 +7,9 @@ use Rattle.std.specs.Prelude.{IsTrue}
 use Rattle.desk_schema.specs.Names.{uses_names}
 use Rattle.desk_openings.specs.LeftFiles.{files_have}
 use Rattle.desk_openings.proofs.Finding.{in_todays, keeps_within}
-use Rattle.desk_files.proofs.Opened.{Connects, files_found, is_free, new_desk_left, nothing_found, opening_left, taken_left}
+use Rattle.desk_files.proofs.Opened.{files_found, is_free, new_desk_left, nothing_found, opening_left, taken_left}
 use Rattle.desk_files.proofs.Refused.{if_there}
+use Rattle.desk_files.specs.Opening.{Connects}
 use Rattle.desk_files.proofs.opening.begin_from.Goals as goal
 
 pub returns-in-Ok-begin-clause-opened : goal.returns-in-Ok-begin-clause-opened
@@ -83,3 +84,24 @@ returns-in-Err-begin-clause-taken g c =
     let found = files_found (image_at g.S.Start) c.in-Ok.conn connects (file_state c.in-Err-begin.unopened.conn) failed.honest clean files same in
     taken_left files c.in-Ok.conn found c.in-Err-begin.unopened.fault (file_state c.in-Err-begin.unopened.conn)
     (it (subst (λ schema. IsTrue (uses_names schema)) found.schema taken) found.is_open))
+
+pub returns-in-Err-begin-clause-failed : goal.returns-in-Err-begin-clause-failed
+returns-in-Err-begin-clause-failed g c none =
+    let connected = c.in-Ok.ensures in
+    let failed = c.in-Err-begin.ensures in
+    record {
+      from = c.in-Ok.conn;
+      connects = record { fresh = connected.fresh; opened = connected.opened; found = connected.found };
+      failed = failed.failed none;
+      newer = failed.newer none;
+    }
+
+pub returns-in-Err-begin-clause-making : goal.returns-in-Err-begin-clause-making
+returns-in-Err-begin-clause-making g c =
+    let connected = c.in-Ok.ensures in
+    let failed = c.in-Err-begin.ensures in
+    if_there c.args.first failed.making (λ first it. record {
+      from = c.in-Ok.conn;
+      connects = record { fresh = connected.fresh; opened = connected.opened; found = connected.found };
+      failed = it;
+    })

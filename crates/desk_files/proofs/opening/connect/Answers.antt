@@ -25,3 +25,16 @@ returns-in-Err-clause-refused g c =
     let none = ap₂ (λ m n. m + n) (ap₂ (faults g.S.Start.log g.S.Start.db) it.1.0 it.1.1) (ap₂ (faults g.S.Start.log g.S.Start.db) it.2.0 it.2.1) in
     subst IsOfStorage (sym c.refusal_fault.ensures)
     (refuses_no_database it.0 left (image_at g.S.Start) c.in-Err.error shown none (it.3 clean).0 still found same))
+
+pub returns-in-Err-clause-cause : goal.returns-in-Err-clause-cause
+returns-in-Err-clause-cause g c =
+    if_there c.in-Err.refused c.in-Err.ensures.cause (λ left it. record {
+      error = c.in-Err.error;
+      fault = c.refusal_fault.ensures;
+      cause = λ clean. (
+        it.0,
+        ap₂ image (ap₂ (seen g.S.Start.log g.S.Start.db) it.1.0 it.1.1) (ap₂ (seen g.S.Start.log g.S.Start.db) it.2.0 it.2.1),
+        ap₂ (λ m n. m + n) (ap₂ (faults g.S.Start.log g.S.Start.db) it.1.0 it.1.1) (ap₂ (faults g.S.Start.log g.S.Start.db) it.2.0 it.2.1),
+        (it.3 clean).0,
+      );
+    })

@@ -2,3 +2,12 @@ use Rattle.desk_files.proofs.tables.begin.Goals as goal
 
 pub returns-in-Some-clause-taken : goal.returns-in-Some-clause-taken
 returns-in-Some-clause-taken g c = c.make_tables.ensures.taken
+
+pub returns-in-None-clause-failed : goal.returns-in-None-clause-failed
+returns-in-None-clause-failed g c none = c.open_tables.ensures.failed
+
+pub returns-in-None-clause-newer : goal.returns-in-None-clause-newer
+returns-in-None-clause-newer g c none = c.open_tables.ensures.newer
+
+pub returns-in-Some-clause-making : goal.returns-in-Some-clause-making
+returns-in-Some-clause-making g c = c.make_tables.ensures.failed

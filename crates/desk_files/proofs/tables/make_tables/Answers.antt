@@ -47,3 +47,6 @@ returns-in-Err-clause-taken g c taken is_open =
       fault = why;
       left = λ trees may. g.met.A.Store.settled c.args.conn.store trees is_open (subst (λ conn. (state g.A.Store conn).may_leave trees) same may);
     }
+
+pub returns-in-Err-clause-failed : goal.returns-in-Err-clause-failed
+returns-in-Err-clause-failed g c = c.in-Err.ensures.failed

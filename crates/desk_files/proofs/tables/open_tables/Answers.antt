@@ -33,3 +33,9 @@ returns-in-Err-clause-spared g c early clean is_open =
     let new = state g.A.Store c.in-Err.unopened.conn in
     same_left old new (early_survives c.in-Err.unopened.fault old new early c.in-Err.ensures.refused c.in-Err.ensures.spared) clean
     (λ trees may. g.met.A.Store.settled c.args.conn.store trees is_open may)
+
+pub returns-in-Err-clause-failed : goal.returns-in-Err-clause-failed
+returns-in-Err-clause-failed g c = c.in-Err.ensures.failed
+
+pub returns-in-Err-clause-newer : goal.returns-in-Err-clause-newer
+returns-in-Err-clause-newer g c = c.in-Err.ensures.newer
