@@ -1,8 +1,8 @@
 //! The format of the tables.
-ghost use Rattle.std.specs.Prelude.{◌≡◌, ◌↔◌, IfOk, OnOk, IsTrue, false, ◌≢◌, ℤ, MatchOption, IfErr};
+ghost use Rattle.std.specs.Prelude.{◌≡◌, ◌↔◌, [], IfOk, OnOk, IsTrue, false, ◌≢◌, ℤ, MatchOption, IfErr};
 ghost use Rattle.sqlite.specs.Order.{column};
 ghost use Rattle.sqlite.specs.declared.types.Value.TheVariants.{Int};
-ghost use Rattle.sqlite.specs.State.{HasCleanDisk, IsUnchanged};
+ghost use Rattle.sqlite.specs.State.{FailsToQuery, HasCleanDisk, IsUnchanged};
 ghost use Rattle.sqlite.specs.Held.{state};
 ghost use Rattle.desk_schema.specs.Failing.{IsFailure};
 ghost use Rattle.desk_schema.specs.Stays.{Asks};
@@ -10,6 +10,7 @@ ghost use Rattle.desk_reading.specs.Failures.{IsMet, MayRead};
 ghost use Rattle.desk_reading.specs.First.{ForFirst};
 ghost use Rattle.desk_reading.specs.Format.{IsNewer, IsOfLaterFormat, ShowsFormats};
 ghost use Rattle.desk_reading.specs.Held.{ForHeld};
+ghost use Rattle.desk_reading.specs.Texts.{select_format};
 
 use crate::query::all_rows;
 use desk_columns::FORMAT;
@@ -56,6 +57,8 @@ pub fn is_newer<S: Alter>(conn: &mut Connection<S>) -> Result<bool, Error>
     ensures later { HasCleanDisk (state S.Store conn.new) → IsOfLaterFormat (state S.Store conn.old).now → IfOk result IsTrue }
     ensures later_fails { HasCleanDisk (state S.Store conn.new) → IsOfLaterFormat (state S.Store conn.old).now → MayRead (state S.Store conn.old)
         → IfErr result IsFailure }
+    ensures refused { HasCleanDisk (state S.Store conn.new)
+        → IfErr result (FailsToQuery select_format [] (state S.Store conn.old) (state S.Store conn.new)) }
     ensures met { HasCleanDisk (state S.Store conn.new) → IfErr result (IsMet (state S.Store conn.old) (state S.Store conn.new)) }
     ensures unchanged { HasCleanDisk (state S.Store conn.new) → OnOk result (IsUnchanged (state S.Store conn.old) (state S.Store conn.new)) }
     ensures asks { Asks (state S.Store conn.old) (state S.Store conn.new) }

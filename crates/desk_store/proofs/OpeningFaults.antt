@@ -49,6 +49,13 @@ reading_is_known cause.Memory why (inr shut) newer = absurd (let e = sym shut �
 reading_is_known cause.Device why is newer = absurd (let e = sym is ∙ newer in cc)
 reading_is_known cause.Other why is newer = absurd (let e = sym is ∙ newer in cc)
 
+-- one that tells of no desk failed for neither memory nor the disk
+pub no_desk_is_other : (cause : Cause) (why : OpenFault) → IsOfOpening cause why → why ≡ NotADesk → cause ≡ cause.Other
+no_desk_is_other cause.Memory why (inl goes_on) none = absurd (let e = sym goes_on ∙ none in cc)
+no_desk_is_other cause.Memory why (inr shut) none = absurd (let e = sym shut ∙ none in cc)
+no_desk_is_other cause.Device why is none = absurd (let e = sym is ∙ none in cc)
+no_desk_is_other cause.Other why is none = refl
+
 -- neither do rows that no book has
 pub book_is_known : {R : Type 0} (Other : Type 0) (result : Result R OpenFault)
     → IfErr result (λ why. (why ≡ Storage fault.Memory) ⊎ ((why ≡ NotADesk) × Other))

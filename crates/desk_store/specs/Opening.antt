@@ -1,22 +1,25 @@
 -- What an opening finds, and what it leaves.
-use Rattle.std.specs.Prelude.{◌≡◌, ◌⊎◌, false, IsTrue}
+use Rattle.std.specs.Prelude.{◌≡◌, ◌⊎◌, [], false, IsTrue}
 use Rattle.sqlite.specs.Held.{Held, state}
-use Rattle.sqlite.specs.State.{State, HasCleanDisk}
+use Rattle.sqlite.specs.State.{State, FailsToQuery, HasCleanDisk}
 use Rattle.sqlite.specs.Store.{Ghosts}
 use Rattle.sqlite.specs.Tree.{Trees}
+use Rattle.sqlite.specs.declared.error.Error.{Error}
 use Rattle.desk_columns.specs.declared.columns.StoredRows.{StoredRows}
 use Rattle.desk_model.specs.Tables.{Tables}
 use Rattle.desk_reading.specs.First.{AreFirstShown}
 use Rattle.desk_reading.specs.Failures.{MayRead}
 use Rattle.desk_reading.specs.Format.{IsNewer, IsOfLaterFormat, ShowsFormats}
 use Rattle.desk_reading.specs.Shown.{AreShown}
+use Rattle.desk_reading.specs.Texts.{select_format}
 use Rattle.desk_saving.specs.Numbers.{FitsUpgrade}
 use Rattle.desk_saving.specs.Statements.{upgrade_statements}
 use Rattle.desk_schema.specs.Names.{has_all_indexes, uses_key_table}
 use Rattle.desk_schema.specs.Stays.{Asks}
 use Rattle.desk_storage.specs.declared.fault.StorageFault.{StorageFault}
-use Rattle.desk_store.specs.Causes.{FailedToRead, FailedToSave, LeavesNothing}
+use Rattle.desk_store.specs.Causes.{FailedToRead, FailedToSave, LeavesNothing, cause_of}
 use Rattle.desk_store.specs.Desks.{AreOfDesk}
+use Rattle.desk_store.specs.declared.faults.Cause.TheVariants as cause
 use Rattle.desk_store.specs.declared.open_fault.OpenFault.{OpenFault}
 use Rattle.desk_store.specs.declared.open_fault.OpenFault.TheVariants.{NewerFormat, NotADesk, Storage}
 use Rattle.desk_upgrading.specs.FirstDesks.{HasFirst}
@@ -56,6 +59,17 @@ module _ {S : Type 0} (g : Ghosts S) where
   -- it showed anything else
   abbrev pub ShowsKnownFormat : Held S → Type 0
   ShowsKnownFormat conn = (after : Held S) × ShowsFormats (state g conn) (state g after) (λ rows. ¬ IsNewer rows)
+
+  -- it refused the query, for what is neither memory nor the disk
+  pub record RefusesFormat (conn : Held S) : Type 0 where
+    pub after : Held S
+    pub error : Error
+    pub refused : FailsToQuery select_format [] (state g conn) (state g after) error
+    pub other : cause_of error ≡ cause.Other
+
+  -- it showed no later format: a known one, something else, or none
+  abbrev pub ShowsNoLaterFormat : Held S → Type 0
+  ShowsNoLaterFormat conn = ShowsKnownFormat conn ⊎ RefusesFormat conn
 
 -- an open connection without a limit on steps has the tables of a desk and one row of `meta`, of a later format
 pub record HasLaterFormat (s : State) : Type 0 where

@@ -12,7 +12,7 @@ ghost use Rattle.desk_store.specs.Causes.{IsMetFault, IsOfOpening, cause_of};
 ghost use Rattle.desk_store.specs.Desks.{AreOfDesk, HasDesk};
 ghost use Rattle.desk_store.specs.Making.{IsOfStorage};
 ghost use Rattle.desk_store.specs.Opening.{FailedToOpen, FailedToWiden, HasLaterFormat, IsUpgraded, IsWhole, IsWholeFirst, ShowsBook, ShowsFirstBook};
-ghost use Rattle.desk_store.specs.Opening.{ShowsKnownFormat, ShowsNewerFormat};
+ghost use Rattle.desk_store.specs.Opening.{RefusesFormat, ShowsKnownFormat, ShowsNewerFormat, ShowsNoLaterFormat};
 ghost use Rattle.desk_store.specs.declared.open_fault.OpenFault.TheVariants.{NewerFormat as newer_format, NotADesk as not_a_desk, Storage as of_storage};
 ghost use Rattle.desk_upgrading.specs.FirstDesks.{BringsDesk, HasFirst, HasSecond, UpgradesDesk};
 ghost use Rattle.stored_laws.specs.Blank.{blank};
@@ -48,6 +48,7 @@ fn check_format<S: Alter>(conn: &mut Connection<S>) -> Result<(), OpenFault>
     ensures known { HasCleanDisk (state S.Store conn.new)
         → OnOk result (ShowsFormats (state S.Store conn.old) (state S.Store conn.new) (λ rows. ¬ IsNewer rows)) }
     ensures newer { HasCleanDisk (state S.Store conn.new) → result ≡ Err newer_format → ShowsFormats (state S.Store conn.old) (state S.Store conn.new) IsNewer }
+    ensures refused { HasCleanDisk (state S.Store conn.new) → result ≡ Err not_a_desk → RefusesFormat S.Store conn.old }
     ensures unchanged { HasCleanDisk (state S.Store conn.new) → OnOk result (IsUnchanged (state S.Store conn.old) (state S.Store conn.new)) }
     ensures desk { HasCleanDisk (state S.Store conn.new) → IfErr result (λ why. (T : Tables) → HasDesk (state S.Store conn.old) T → IsOfStorage why) }
     ensures first { HasCleanDisk (state S.Store conn.new) → IfErr result (λ why. (T : Tables) → HasFirst (state S.Store conn.old) T → IsOfStorage why) }
@@ -263,6 +264,7 @@ pub(crate) fn open_desk<S: Alter>(alloc: Global, conn: &mut Connection<S>) -> Re
     ensures refused { IfErr result (λ why. (why ≡ not_a_desk) ⊎ (why ≡ newer_format) → Asks (state S.Store conn.old) (state S.Store conn.new)) }
     ensures newer { HasCleanDisk (state S.Store conn.new) → result ≡ Err newer_format → ShowsNewerFormat S.Store conn.old }
     ensures known { HasCleanDisk (state S.Store conn.new) → OnOk result (ShowsKnownFormat S.Store conn.old) }
+    ensures no_later { HasCleanDisk (state S.Store conn.new) → result ≡ Err not_a_desk → ShowsNoLaterFormat S.Store conn.old }
     ensures upgraded { HasCleanDisk (state S.Store conn.new)
         → OnOk result ((T : Tables) → HasFirst (state S.Store conn.old) T → HasSecond (state S.Store conn.new) T) }
     ensures back { (state S.Store conn.old).now ≡ (state S.Store conn.old).committed → HasCleanDisk (state S.Store conn.new)

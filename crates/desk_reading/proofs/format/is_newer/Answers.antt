@@ -1,8 +1,10 @@
-use Rattle.std.proofs.Common.{IsTrue, sym, ◌∙◌}
+use Rattle.std.proofs.Common.{[], IsTrue, sym, ◌∙◌}
 use Rattle.sqlite.specs.Held.{state}
+use Rattle.sqlite.specs.State.{FailsToQuery}
 use Rattle.desk_reading.proofs.FormatLemmas.{first_never_newer, later_fails, later_is_newer, never_newer}
 use Rattle.desk_reading.proofs.Readings.{format_reading}
 use Rattle.desk_schema.specs.Failing.{IsFailure}
+use Rattle.desk_reading.specs.Texts.{select_format}
 use Rattle.desk_reading.proofs.Results.{failed_as, not_true}
 use Rattle.desk_reading.proofs.FirstTables as first
 use Rattle.desk_reading.proofs.TableFailures.{format_fails}
@@ -57,4 +59,10 @@ pub returns-in_err-rows-clause-later_fails : goal.returns-in_err-rows-clause-lat
 returns-in_err-rows-clause-later_fails g c clean later may =
     failed_as c.from_residual.result c.in_err-rows.field-0.0 IsFailure
     (later_fails (state g.S.Store c.args.conn.now) (state g.S.Store c.all_rows.new.conn) c.in_err-rows.field-0.0 later may (c.in_err-rows.ensures.err clean))
+    c.from_residual.ensures.1
+
+pub returns-in_err-rows-clause-refused : goal.returns-in_err-rows-clause-refused
+returns-in_err-rows-clause-refused g c clean =
+    failed_as c.from_residual.result c.in_err-rows.field-0.0
+    (FailsToQuery select_format [] (state g.S.Store c.args.conn.now) (state g.S.Store c.all_rows.new.conn)) (c.in_err-rows.ensures.err clean)
     c.from_residual.ensures.1

@@ -4,7 +4,7 @@ use Rattle.sqlite.specs.State.{HasCleanDisk}
 use Rattle.desk_schema.proofs.StaysLemmas.{asks_then}
 use Rattle.desk_store.proofs.Books.{may_read}
 use Rattle.desk_store.proofs.FirstBooks.{first_may_read}
-use Rattle.desk_store.proofs.OpeningFaults.{failure_is_storage, opening_met, reading_is_known}
+use Rattle.desk_store.proofs.OpeningFaults.{failure_is_storage, no_desk_is_other, opening_met, reading_is_known}
 use Rattle.desk_store.proofs.Standing.{same_fault}
 use Rattle.desk_store.specs.Causes.{cause_of}
 use Rattle.desk_store.proofs.opening.check_format.Goals as goal
@@ -45,3 +45,13 @@ returns-in-Err-clause-met g c clean =
     let clean_mid : HasCleanDisk mid = let le = c.opening_fault.ensures.asks.survives.clean in omega (arith, clean, le) in
     opening_met (state g.S.Store c.args.conn.now) mid (state g.S.Store c.opening_fault.new.conn) c.in-Err.error c.opening_fault.result
     c.opening_fault.ensures.fault (c.in-Err.ensures.met clean_mid) c.opening_fault.ensures.asks
+
+pub returns-in-Err-clause-refused : goal.returns-in-Err-clause-refused
+returns-in-Err-clause-refused g c clean none =
+    let clean_mid : HasCleanDisk (state g.S.Store c.is_newer.new.conn) = let le = c.opening_fault.ensures.asks.survives.clean in omega (arith, clean, le) in
+    record {
+      after = c.is_newer.new.conn;
+      error = c.in-Err.error;
+      refused = c.in-Err.ensures.refused clean_mid;
+      other = no_desk_is_other (cause_of c.in-Err.error) c.opening_fault.result c.opening_fault.ensures.fault (same_fault _ _ none);
+    }

@@ -1,4 +1,4 @@
-use Rattle.std.proofs.Common.{arith, ◌∙◌}
+use Rattle.std.proofs.Common.{arith, inl, inr, ◌∙◌}
 use Rattle.sqlite.specs.Held.{state}
 use Rattle.sqlite.specs.State.{HasCleanDisk}
 use Rattle.sqlite.proofs.StateLemmas.{survives_then}
@@ -156,3 +156,12 @@ pub returns-in-Err-clause-failed : goal.returns-in-Err-clause-failed
 returns-in-Err-clause-failed g c =
     opened_nothing g.S.Store c.args.conn.now c.check_format.new.conn c.in-Err.fault (leaves_nothing _ _ c.check_format.ensures.asks.survives)
     c.in-Err.ensures.met
+
+pub returns-in-Ok-clause-no_later : goal.returns-in-Ok-clause-no_later
+returns-in-Ok-clause-no_later g c clean none =
+    let mid = state g.S.Store c.check_format.new.conn in
+    let clean_mid : HasCleanDisk mid = let le = c.open_known.ensures.left.clean in omega (arith, clean, le) in
+    inl (c.check_format.new.conn, c.in-Ok.ensures.known clean_mid)
+
+pub returns-in-Err-clause-no_later : goal.returns-in-Err-clause-no_later
+returns-in-Err-clause-no_later g c clean none = inr (c.in-Err.ensures.refused clean none)

@@ -79,3 +79,6 @@ returns-in-Err-clause-later g c later clean = c.in-Err.ensures.later clean later
 
 pub returns-in-Err-clause-failed : goal.returns-in-Err-clause-failed
 returns-in-Err-clause-failed g c = c.in-Err.ensures.failed
+
+pub returns-in-Err-clause-no_later : goal.returns-in-Err-clause-no_later
+returns-in-Err-clause-no_later g c clean none = c.in-Err.ensures.no_later clean (ap (failed (Unit {0})) none)
