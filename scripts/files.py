@@ -98,6 +98,7 @@ STRANGE = [
     ("format 2 without its table of keys", ["DROP TABLE chall_key"], 23),
     ("a later format", ["UPDATE meta SET format = 3"], 27),
     ("a later format without a table of keys", ["DROP TABLE chall_key", "UPDATE meta SET format = 3"], 27),
+    ("a later format with one table more", ["UPDATE meta SET format = 3", "CREATE TABLE later (num INTEGER PRIMARY KEY)"], 27),
     ("a status that is wrong", ["UPDATE ord SET status = 'ready'"], None),
 ]
 
