@@ -1,7 +1,7 @@
 -- Tables that are checked one after the other.
-use Rattle.std.proofs.Common.{◌≡◌, ℕ, List, map, Bool, true, false, Result, Ok, Err, IfErr, IfOk, IsErrAnd, OnOk, refl, sym, ap, subst, ◌∙◌, arith}
+use Rattle.std.proofs.Common.{◌≡◌, inl, inr, ℕ, List, map, Bool, true, false, Result, Ok, Err, IfErr, IfOk, IsErrAnd, OnOk, refl, sym, ap, subst, ◌∙◌, arith}
 use Rattle.std.proofs.lemmas.Result.{IfOk-from_err}
-use Rattle.std.specs.Prelude.{IsErr, IsTrue}
+use Rattle.std.specs.Prelude.{◌⊎◌, IsErr, IsTrue}
 use Rattle.sqlite.specs.Effect.{Database}
 use Rattle.sqlite.specs.Held.{Held, state}
 use Rattle.sqlite.specs.Order.{Row}
@@ -10,9 +10,10 @@ use Rattle.sqlite.specs.Store.{Ghosts}
 use Rattle.sqlite.specs.declared.error.Error.{Error}
 use Rattle.sqlite.proofs.Callers.{unchanged_then}
 use Rattle.desk_model.specs.Tables.{Tables}
+use Rattle.desk_reading.specs.AllTables.{FailsAtFirst, FailsAtTable}
 use Rattle.desk_reading.specs.BookShown.{Checks}
 use Rattle.desk_reading.specs.Checking.{ShowsTable}
-use Rattle.desk_reading.specs.Failures.{HasTexts, IsMet, MayRead}
+use Rattle.desk_reading.specs.Failures.{FailsHere, HasTexts, IsMet, IsOutOfMemory, MayRead}
 use Rattle.desk_reading.proofs.Failing.{may_read_still}
 use Rattle.desk_reading.proofs.MetFaults.{met_behind}
 use Rattle.desk_reading.proofs.Results.{failed_as, fails_then}
@@ -22,14 +23,42 @@ use Rattle.desk_schema.proofs.StaysLemmas.{asks_then}
 use Rattle.desk_tables.specs.Holds.{Holds}
 
 module _ {S : Type 0} (g : Ghosts S) where
+  -- a reading that failed over a database failed wherever it stood as that
+  here_still : (old mid : Held S) (text : List ℕ) (Fits : Row → Type 0) (e : Error) → (state g mid).now ≡ (state g old).now → FailsHere g mid text Fits e
+      → FailsHere g old text Fits e
+  here_still old mid text Fits e is h = record { before = h.before; after = h.after; same = h.same ∙ is; fails = h.fails }
+
+  -- whichever table it was of
+  pub first_still : (old mid : Held S) (e : Error) → (state g mid).now ≡ (state g old).now → FailsAtFirst g mid e → FailsAtFirst g old e
+  first_still old mid e is (inr challenges) = inr (here_still old mid _ _ e is challenges)
+  first_still old mid e is (inl (inr authorizations)) = inl (inr (here_still old mid _ _ e is authorizations))
+  first_still old mid e is (inl (inl (inr listed))) = inl (inl (inr (here_still old mid _ _ e is listed)))
+  first_still old mid e is (inl (inl (inl (inr orders)))) = inl (inl (inl (inr (here_still old mid _ _ e is orders))))
+  first_still old mid e is (inl (inl (inl (inl (inr accounts))))) = inl (inl (inl (inl (inr (here_still old mid _ _ e is accounts)))))
+  first_still old mid e is (inl (inl (inl (inl (inl (inr nonces)))))) = inl (inl (inl (inl (inl (inr (here_still old mid _ _ e is nonces))))))
+  first_still old mid e is (inl (inl (inl (inl (inl (inl metas)))))) = inl (inl (inl (inl (inl (inl (here_still old mid _ _ e is metas))))))
+
+  -- of those of both formats, or of the keys
+  pub table_still : (old mid : Held S) (e : Error) → (state g mid).now ≡ (state g old).now → FailsAtTable g mid e → FailsAtTable g old e
+  table_still old mid e is (inl first) = inl (first_still old mid e is first)
+  table_still old mid e is (inr keys) = inr (here_still old mid _ _ e is keys)
+
+  -- a reading that failed so failed at its table
+  pub at_table : (here : Held S) (text : List ℕ) (Fits : Row → Type 0) (e : Error) → (FailsHere g here text Fits e → FailsAtTable g here e)
+      → IsOutOfMemory e ⊎ FailsHere g here text Fits e → IsOutOfMemory e ⊎ FailsAtTable g here e
+  at_table here text Fits e is (inl memory) = inl memory
+  at_table here text Fits e is (inr fails) = inr (is fails)
+
   -- the reading of a table failed
   pub checks_failed : (Readable : Type 0) (P : Database → Type 0) (old new : Held S) (e : Error) (r : Result Bool Error) → IsErr r → IsErrAnd r (λ x. x ≡ e)
       → ((T : Tables) → Holds (state g old).now T → HasTexts T → Readable)
       → (HasCleanDisk (state g new) → MayRead (state g old) → Readable → IsFailure e)
+      → (HasCleanDisk (state g new) → IsOutOfMemory e ⊎ FailsAtTable g old e)
       → (HasCleanDisk (state g new) → IsMet (state g old) (state g new) e) → Asks (state g old) (state g new) → Checks g old new P r
-  checks_failed Readable P old new e r is_err same readable fails met asks = record {
+  checks_failed Readable P old new e r is_err same readable fails refused met asks = record {
     known = λ clean. IfOk-from_err r _ is_err;
     fails = λ clean T has may texts. failed_as r e IsFailure (fails clean may (readable T has texts)) same;
+    refused = λ clean. failed_as r e (λ e. IsOutOfMemory e ⊎ FailsAtTable g old e) (refused clean) same;
     met = λ clean. failed_as r e (IsMet (state g old) (state g new)) (met clean) same;
     unchanged = λ clean. IfOk-from_err r _ is_err;
     asks = asks;
@@ -41,6 +70,7 @@ module _ {S : Type 0} (g : Ghosts S) where
   checks_stopped P old new same asks = record {
     known = λ clean is. absurd (cc is);
     fails = λ clean T has may texts. tt;
+    refused = λ clean. tt;
     met = λ clean. tt;
     unchanged = same;
     asks = asks;
@@ -52,6 +82,7 @@ module _ {S : Type 0} (g : Ghosts S) where
   checks_last P old new known same asks = record {
     known = λ clean _. known clean;
     fails = λ clean T has may texts. tt;
+    refused = λ clean. tt;
     met = λ clean. tt;
     unchanged = same;
     asks = asks;
@@ -66,6 +97,10 @@ module _ {S : Type 0} (g : Ghosts S) where
     fails = λ clean T has may texts.
         let still = same (honest clean) in
         rest.fails clean T (subst (λ db. Holds db T) (sym still.0.now_is) has) (may_read_still (state g old) (state g mid) still asks may) texts;
+    refused = λ clean. fails_then r (rest.refused clean) (λ e fails. elim fails [
+      | inl memory ↦ inl memory
+      | inr at ↦ inr (table_still old mid e (same (honest clean)).0.now_is at)
+    ]);
     met = λ clean. fails_then r (rest.met clean) (λ e is. met_behind (state g old) (state g mid) (state g new) e asks is);
     unchanged = λ clean. unchanged r (honest clean) (rest.unchanged clean);
     asks = asks_then (state g old) (state g mid) (state g new) asks rest.asks;

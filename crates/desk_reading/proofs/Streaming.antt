@@ -58,13 +58,19 @@ module _ {S : Type 0} (g : Ghosts S) (text : List ℕ) (is : IsQuery text) where
     idle = refused.mode;
   }
 
+  -- failed as a query does
+  pub refused_query : {A : Type 0} (r : Result A Error) (old new : Held S) (e : Error) → r ≡ Err e → OnErr r (IsRefused g text [] old r new)
+      → HasCleanDisk (state g new) → FailsToQuery text [] (state g old) (state g new) e
+  refused_query (Ok a) old new e was refused clean = absurd (cc was)
+  refused_query (Err d) old new e was refused clean =
+      let same : d ≡ e = cc in
+      subst (FailsToQuery text [] (state g old) (state g new)) same (refused.err clean)
+
   -- its error is the disk's only where that met a fault
   pub met_refused : {A : Type 0} (r : Result A Error) (old new : Held S) (e : Error) → r ≡ Err e → OnErr r (IsRefused g text [] old r new)
       → HasCleanDisk (state g new) → IsMet (state g old) (state g new) e
-  met_refused (Ok a) old new e was refused clean = absurd (cc was)
-  met_refused (Err d) old new e was refused clean =
-      let same : d ≡ e = cc in
-      query_met text [] (state g old) (state g new) e is (subst (FailsToQuery text [] (state g old) (state g new)) same (refused.err clean))
+  met_refused r old new e was refused clean =
+      query_met text [] (state g old) (state g new) e is (refused_query r old new e was refused clean)
 
   -- one that did has given nothing yet
   pub begun_query : (old new : Held S) → HasBegun g text [] old new → HasGiven g text [] new [] × IsUnchanged (state g old) (state g new)

@@ -1,7 +1,8 @@
 -- All tables, in the order in which they are read.
-use Rattle.std.specs.Prelude.{List}
+use Rattle.std.specs.Prelude.{◌⊎◌, List}
 use Rattle.sqlite.specs.Held.{Held}
 use Rattle.sqlite.specs.Store.{Ghosts}
+use Rattle.sqlite.specs.declared.error.Error.{Error}
 use Rattle.desk_columns.specs.declared.columns.AccountColumns.{AccountColumns}
 use Rattle.desk_columns.specs.declared.columns.AuthzColumns.{AuthzColumns}
 use Rattle.desk_columns.specs.declared.columns.ChallColumns.{ChallColumns}
@@ -10,7 +11,7 @@ use Rattle.desk_columns.specs.declared.columns.MetaColumns.{MetaColumns}
 use Rattle.desk_columns.specs.declared.columns.NonceColumns.{NonceColumns}
 use Rattle.desk_columns.specs.declared.columns.OrderAuthzColumns.{OrderAuthzColumns}
 use Rattle.desk_columns.specs.declared.columns.OrderColumns.{OrderColumns}
-use Rattle.desk_reading.specs.Failures.{IsReadable}
+use Rattle.desk_reading.specs.Failures.{FailsHere, IsReadable}
 use Rattle.desk_reading.specs.Fitting.{FitsAccount, FitsAuthorization, FitsChallenge, FitsKey, FitsListed, FitsMeta, FitsNonce, FitsOrder}
 use Rattle.desk_reading.specs.Shown.{IsShown}
 use Rattle.desk_reading.specs.Spelled.{account_in, authorization_in, challenge_in, key_in, listed_in, meta_in, nonce_in, order_in}
@@ -55,3 +56,15 @@ module _ {S : Type 0} (g : Ghosts S) (conn : Held S) where
   -- and that of each of them
   abbrev pub AreReadable : Type 0
   AreReadable = AreFirstReadable × IsReadable g conn select_keys FitsKey
+
+  -- the reading of a table that both formats have failed so
+  abbrev pub FailsAtFirst : Error → Type 0
+  FailsAtFirst e =
+      (((((FailsHere g conn select_meta FitsMeta e ⊎ FailsHere g conn select_nonces FitsNonce e)
+      ⊎ FailsHere g conn select_accounts FitsAccount e) ⊎ FailsHere g conn select_orders FitsOrder e)
+      ⊎ FailsHere g conn select_listed FitsListed e) ⊎ FailsHere g conn select_authorizations FitsAuthorization e)
+      ⊎ FailsHere g conn select_challenges FitsChallenge e
+
+  -- and that of any
+  abbrev pub FailsAtTable : Error → Type 0
+  FailsAtTable e = FailsAtFirst e ⊎ FailsHere g conn select_keys FitsKey e

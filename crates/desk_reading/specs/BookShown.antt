@@ -1,5 +1,5 @@
 -- What readings of all tables, row by row, tell of the database.
-use Rattle.std.specs.Prelude.{◌≡◌, ℕ, Bool, List, Result, IfErr, IfOk, IsTrue, OnOk, map}
+use Rattle.std.specs.Prelude.{◌≡◌, ◌⊎◌, ℕ, Bool, List, Result, IfErr, IfOk, IsTrue, OnOk, map}
 use Rattle.sqlite.specs.Effect.{Database}
 use Rattle.sqlite.specs.Held.{Held, state}
 use Rattle.sqlite.specs.State.{HasCleanDisk, IsUnchanged}
@@ -13,8 +13,9 @@ use Rattle.desk_columns.specs.Limits.{IsStoredAccount, IsStoredAuthorization, Is
 use Rattle.desk_columns.specs.Limits.{IsStoredMeta, IsStoredNonce, IsStoredOrder}
 use Rattle.desk_laws.specs.Ordered.{IsTable}
 use Rattle.desk_model.specs.declared.rows.Counters.{Counters}
+use Rattle.desk_reading.specs.AllTables.{FailsAtTable}
 use Rattle.desk_reading.specs.Checking.{ShowsTable}
-use Rattle.desk_reading.specs.Failures.{HasTexts, IsMet, MayRead}
+use Rattle.desk_reading.specs.Failures.{HasTexts, IsMet, IsOutOfMemory, MayRead}
 use Rattle.desk_reading.specs.Held.{ForHeld}
 use Rattle.desk_reading.specs.Spelled.{account_in, authorization_in, challenge_in, key_in, listed_in, meta_in, nonce_in, order_in}
 use Rattle.desk_reading.specs.Texts.{select_accounts, select_authorizations, select_challenges, select_keys}
@@ -68,6 +69,7 @@ module _ {S : Type 0} (g : Ghosts S) (db : Database) where
 pub record Checks {S : Type 0} (g : Ghosts S) (old new : Held S) (P : Database → Type 0) (result : Result Bool Error) : Type 0 where
   pub known : HasCleanDisk (state g new) → IfOk result (λ known. IsTrue known → P (state g old).now)
   pub fails : ForHeld (state g old) (state g new) (λ T. MayRead (state g old) → HasTexts T → IfErr result IsFailure)
+  pub refused : HasCleanDisk (state g new) → IfErr result (λ e. IsOutOfMemory e ⊎ FailsAtTable g old e)
   pub met : HasCleanDisk (state g new) → IfErr result (IsMet (state g old) (state g new))
   pub unchanged : HasCleanDisk (state g new) → OnOk result (IsUnchanged (state g old) (state g new))
   pub asks : Asks (state g old) (state g new)

@@ -48,6 +48,13 @@ abbrev pub FailsToRead : List ℕ → Row → State → State → (Row → Type 
 FailsToRead text params old new Fits e =
     FailsToQuery text params old new e ⊎ ((rows : List Row) × Shown text params old new rows × (All Fits rows → IsOutOfMemory e))
 
+-- over the database of the connection a reading by this text failed so
+pub record FailsHere {S : Type 0} (g : Ghosts S) (here : Held S) (text : List ℕ) (Fits : Row → Type 0) (e : Error) : Type 0 where
+  pub before : Held S
+  pub after : Held S
+  pub same : (state g before).now ≡ (state g here).now
+  pub fails : FailsToRead text [] (state g before) (state g after) Fits e
+
 -- wherever the database is as it is here and may be read, this reading fails for memory or the disk alone
 abbrev pub IsReadable : {S : Type 0} → Ghosts S → Held S → List ℕ → (Row → Type 0) → Type 0
 IsReadable {S} g here text Fits =

@@ -9,10 +9,12 @@ use Rattle.desk_schema.specs.Stays.{Asks}
 use Rattle.desk_reading.specs.Failures.{IsMet, MayRead}
 
 module _ {S : Type 0} (g : Ghosts S) where
-  -- what was read so far is this, or the readings failed; they fail for memory or the disk alone, where that is known of each
-  pub record Reads {A : Type 0} (first now : Held S) (P : A → Type 0) (Readable : Type 0) (read : Result A Error) : Type 0 where
+  -- what was read so far is this, or the readings failed, one of them so; they fail for memory or the disk alone, where that is known of each
+  pub record Reads {A : Type 0} (first now : Held S) (P : A → Type 0) (Readable : Type 0) (Fails : Error → Type 0) (read : Result A Error)
+      : Type 0 where
     pub shown : HasCleanDisk (state g now) → IfOk read P
     pub fails : HasCleanDisk (state g now) → MayRead (state g first) → Readable → IfErr read IsFailure
+    pub refused : HasCleanDisk (state g now) → IfErr read Fails
     pub met : HasCleanDisk (state g now) → IfErr read (IsMet (state g first) (state g now))
     pub unchanged : HasCleanDisk (state g now) → OnOk read (IsUnchanged (state g first) (state g now))
     pub asks : Asks (state g first) (state g now)

@@ -1,11 +1,12 @@
 //! All tables, read row by row: whether their rows are known to be those of a book.
-ghost use Rattle.std.specs.Prelude.{◌≡◌, IfErr, IfOk, IsTrue, OnOk};
+ghost use Rattle.std.specs.Prelude.{◌≡◌, ◌⊎◌, IfErr, IfOk, IsTrue, OnOk};
 ghost use Rattle.sqlite.specs.State.{HasCleanDisk, IsUnchanged};
 ghost use Rattle.sqlite.specs.Held.{state};
 ghost use Rattle.desk_columns.specs.declared.columns.StoredRows.{StoredRows};
 ghost use Rattle.desk_model.specs.Tables.{Tables};
+ghost use Rattle.desk_reading.specs.AllTables.{FailsAtTable};
 ghost use Rattle.desk_reading.specs.BookShown.{Checks, ShowsAccounts, ShowsAuthorizations, ShowsBookRows, ShowsChallenges, ShowsKeys, ShowsListed, ShowsNonces, ShowsOrders};
-ghost use Rattle.desk_reading.specs.Failures.{HasTexts, IsMet, MayRead};
+ghost use Rattle.desk_reading.specs.Failures.{HasTexts, IsMet, IsOutOfMemory, MayRead};
 ghost use Rattle.desk_reading.specs.Held.{ForHeld};
 ghost use Rattle.desk_reading.specs.Shown.{AreShown};
 ghost use Rattle.desk_schema.specs.Failing.{IsFailure};
@@ -157,6 +158,7 @@ pub fn has_book_rows<S: Alter>(alloc: Global, conn: &mut Connection<S>) -> Resul
     ensures book { HasCleanDisk (state S.Store conn.new) → IfOk result (λ known. IsTrue known
         → (stored : StoredRows) × AreShown S.Store conn.old stored × (T : Tables) × IsBookOfStored stored T) }
     ensures fails { ForHeld (state S.Store conn.old) (state S.Store conn.new) (λ T. MayRead (state S.Store conn.old) → HasTexts T → IfErr result IsFailure) }
+    ensures refused { HasCleanDisk (state S.Store conn.new) → IfErr result (λ e. IsOutOfMemory e ⊎ FailsAtTable S.Store conn.old e) }
     ensures met { HasCleanDisk (state S.Store conn.new) → IfErr result (IsMet (state S.Store conn.old) (state S.Store conn.new)) }
     ensures unchanged { HasCleanDisk (state S.Store conn.new) → OnOk result (IsUnchanged (state S.Store conn.old) (state S.Store conn.new)) }
     ensures asks { Asks (state S.Store conn.old) (state S.Store conn.new) }

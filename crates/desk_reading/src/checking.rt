@@ -1,11 +1,11 @@
 //! The rows of a table, read and checked one after the other.
-ghost use Rattle.std.specs.Prelude.{◌≡◌, [], ◌∷◌, IfErr, IfOk, IfSome, IsTrue, OnOk};
+ghost use Rattle.std.specs.Prelude.{◌≡◌, ◌⊎◌, [], ◌∷◌, IfErr, IfOk, IfSome, IsTrue, OnOk};
 ghost use Rattle.sqlite.specs.State.{HasCleanDisk, IsUnchanged};
 ghost use Rattle.sqlite.specs.Held.{state};
 ghost use Rattle.desk_schema.specs.Failing.{IsFailure};
 ghost use Rattle.desk_schema.specs.Stays.{Asks};
 ghost use Rattle.desk_reading.specs.Checking.{GoesOn, ShowsTable};
-ghost use Rattle.desk_reading.specs.Failures.{IsMet, IsOutOfMemory, IsReadable, MayRead};
+ghost use Rattle.desk_reading.specs.Failures.{FailsHere, IsMet, IsOutOfMemory, IsReadable, MayRead};
 ghost use Rattle.desk_reading.specs.Selecting.{IsQuery};
 
 use crate::columns::Selected;
@@ -57,6 +57,7 @@ fn check_each<S: Alter, C: Selected, K: RowCheck<C>>(
     ensures passed { HasCleanDisk (state S.Store conn.new) → IfOk result (λ passes. IsTrue passes
         → ShowsTable S.Store text.now C.spelled C.Columns.write C.Columns.IsStored (state S.Store conn.old).now (GoesOn K.Passed check.old check.new)) }
     ensures fails { HasCleanDisk (state S.Store conn.new) → MayRead (state S.Store conn.old) → IsReadable S.Store conn.old text.now C.Fits → IfErr result IsFailure }
+    ensures refused { HasCleanDisk (state S.Store conn.new) → IfErr result (λ e. IsOutOfMemory e ⊎ FailsHere S.Store conn.old text.now C.Fits e) }
     ensures met { HasCleanDisk (state S.Store conn.new) → IfErr result (IsMet (state S.Store conn.old) (state S.Store conn.new)) }
     ensures unchanged { HasCleanDisk (state S.Store conn.new) → OnOk result (IsUnchanged (state S.Store conn.old) (state S.Store conn.new)) }
     ensures asks { Asks (state S.Store conn.old) (state S.Store conn.new) }
@@ -89,6 +90,7 @@ pub(crate) fn check_table<S: Alter, C: Selected, K: RowCheck<C>>(
     ensures whole { HasCleanDisk (state S.Store conn.new) → IfOk result (λ kept. IfSome kept (λ kept.
         ShowsTable S.Store text.now C.spelled C.Columns.write C.Columns.IsStored (state S.Store conn.old).now (λ rows. K.IsWhole check rows kept))) }
     ensures fails { HasCleanDisk (state S.Store conn.new) → MayRead (state S.Store conn.old) → IsReadable S.Store conn.old text.now C.Fits → IfErr result IsFailure }
+    ensures refused { HasCleanDisk (state S.Store conn.new) → IfErr result (λ e. IsOutOfMemory e ⊎ FailsHere S.Store conn.old text.now C.Fits e) }
     ensures met { HasCleanDisk (state S.Store conn.new) → IfErr result (IsMet (state S.Store conn.old) (state S.Store conn.new)) }
     ensures unchanged { HasCleanDisk (state S.Store conn.new) → OnOk result (IsUnchanged (state S.Store conn.old) (state S.Store conn.new)) }
     ensures asks { Asks (state S.Store conn.old) (state S.Store conn.new) }

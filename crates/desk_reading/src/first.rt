@@ -1,9 +1,10 @@
 //! The rows of a desk in format 1, as rows of today's format.
-ghost use Rattle.std.specs.Prelude.{◌≡◌, ◌++◌, filter_map, IfErr, IfOk, OnOk, map, option_to_list};
+ghost use Rattle.std.specs.Prelude.{◌≡◌, ◌⊎◌, ◌++◌, filter_map, IfErr, IfOk, OnOk, map, option_to_list};
 ghost use Rattle.sqlite.specs.State.{HasCleanDisk, IsUnchanged};
 ghost use Rattle.sqlite.specs.Held.{state};
 ghost use Rattle.desk_schema.specs.Failing.{IsFailure};
 ghost use Rattle.desk_schema.specs.Stays.{Asks};
+ghost use Rattle.desk_reading.specs.AllTables.{FailsAtFirst};
 ghost use Rattle.desk_reading.specs.Failures.{HasTexts, IsMet, IsOutOfMemory, MayRead};
 ghost use Rattle.desk_reading.specs.First.{AreFirstShown, ForFirst, blank_key, raised, raised_meta};
 ghost use Rattle.desk_reading.specs.Shown.{AreColumnsOf};
@@ -111,6 +112,7 @@ pub fn load_first<S: Alter>(alloc: Global, conn: &mut Connection<S>) -> Result<S
     ensures shown { HasCleanDisk (state S.Store conn.new) → IfOk result (AreFirstShown S.Store conn.old) }
     ensures found { ForFirst (state S.Store conn.old) (state S.Store conn.new) (λ T. IfOk result (λ stored. AreColumnsOf stored (blank T))) }
     ensures fails { ForFirst (state S.Store conn.old) (state S.Store conn.new) (λ T. MayRead (state S.Store conn.old) → HasTexts T → IfErr result IsFailure) }
+    ensures refused { HasCleanDisk (state S.Store conn.new) → IfErr result (λ e. IsOutOfMemory e ⊎ FailsAtFirst S.Store conn.old e) }
     ensures met { HasCleanDisk (state S.Store conn.new) → IfErr result (IsMet (state S.Store conn.old) (state S.Store conn.new)) }
     ensures unchanged { HasCleanDisk (state S.Store conn.new) → OnOk result (IsUnchanged (state S.Store conn.old) (state S.Store conn.new)) }
     ensures asks { Asks (state S.Store conn.old) (state S.Store conn.new) }

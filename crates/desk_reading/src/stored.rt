@@ -6,7 +6,7 @@ ghost use Rattle.desk_schema.specs.Failing.{IsFailure};
 ghost use Rattle.desk_schema.specs.Stays.{Asks};
 ghost use Rattle.desk_reading.specs.Failures.{HasTexts, IsMet, MayRead};
 ghost use Rattle.desk_reading.specs.Held.{ForHeld};
-ghost use Rattle.desk_reading.specs.AllTables.{AreAllShown, AreFirstReadable, AreFirstTablesShown, AreReadable};
+ghost use Rattle.desk_reading.specs.AllTables.{AreAllShown, AreFirstReadable, AreFirstTablesShown, AreReadable, FailsAtFirst, FailsAtTable};
 ghost use Rattle.desk_reading.specs.Reads.{Reads};
 ghost use Rattle.desk_reading.specs.Shown.{AreColumnsOf, AreShown};
 
@@ -48,7 +48,8 @@ pub(crate) fn read_first_tables<S: Alter>(
     alloc: Global,
     conn: &mut Connection<S>,
 ) -> Result<FirstTables, Error>
-    ensures { Reads S.Store conn.old conn.new (AreFirstTablesShown S.Store conn.old) (AreFirstReadable S.Store conn.old) result }
+    ensures { Reads S.Store conn.old conn.new (AreFirstTablesShown S.Store conn.old) (AreFirstReadable S.Store conn.old)
+        (FailsAtFirst S.Store conn.old) result }
 {
     let metas = read_query(alloc, conn, META, &[]);
     let nonces = then_read(metas, alloc, conn, NONCES);
@@ -61,7 +62,7 @@ pub(crate) fn read_first_tables<S: Alter>(
 
 // The columns of all tables.
 fn read_tables<S: Alter>(alloc: Global, conn: &mut Connection<S>) -> Result<AllTables, Error>
-    ensures { Reads S.Store conn.old conn.new (AreAllShown S.Store conn.old) (AreReadable S.Store conn.old) result }
+    ensures { Reads S.Store conn.old conn.new (AreAllShown S.Store conn.old) (AreReadable S.Store conn.old) (FailsAtTable S.Store conn.old) result }
 {
     let first = read_first_tables(alloc, conn);
     then_read(first, alloc, conn, KEYS)
@@ -76,6 +77,7 @@ pub fn load_stored<S: Alter>(alloc: Global, conn: &mut Connection<S>) -> Result<
     ensures shown { HasCleanDisk (state S.Store conn.new) → IfOk result (AreShown S.Store conn.old) }
     ensures found { ForHeld (state S.Store conn.old) (state S.Store conn.new) (λ T. IfOk result (λ stored. AreColumnsOf stored T)) }
     ensures fails { ForHeld (state S.Store conn.old) (state S.Store conn.new) (λ T. MayRead (state S.Store conn.old) → HasTexts T → IfErr result IsFailure) }
+    ensures refused { HasCleanDisk (state S.Store conn.new) → IfErr result (FailsAtTable S.Store conn.old) }
     ensures met { HasCleanDisk (state S.Store conn.new) → IfErr result (IsMet (state S.Store conn.old) (state S.Store conn.new)) }
     ensures unchanged { HasCleanDisk (state S.Store conn.new) → OnOk result (IsUnchanged (state S.Store conn.old) (state S.Store conn.new)) }
     ensures asks { Asks (state S.Store conn.old) (state S.Store conn.new) }

@@ -1,10 +1,10 @@
 //! Whole tables: the statements that read them, and the columns of one after the others.
-ghost use Rattle.std.specs.Prelude.{◌≡◌, ◌⊎◌, Err, IfErr, IfOk, Ok, OnOk};
+ghost use Rattle.std.specs.Prelude.{◌≡◌, ◌⊎◌, [], Err, IfErr, IfOk, IsOk, Ok, OnOk};
 ghost use Rattle.sqlite.specs.State.{HasCleanDisk, IsUnchanged};
 ghost use Rattle.sqlite.specs.Held.{state};
 ghost use Rattle.desk_schema.specs.Failing.{IsFailure};
 ghost use Rattle.desk_schema.specs.Stays.{Asks};
-ghost use Rattle.desk_reading.specs.Failures.{IsMet, IsReadable, MayRead};
+ghost use Rattle.desk_reading.specs.Failures.{FailsToRead, IsMet, IsReadable, MayRead};
 ghost use Rattle.desk_reading.specs.Selecting.{IsQuery};
 ghost use Rattle.desk_reading.specs.Shown.{IsShown};
 
@@ -59,6 +59,8 @@ pub(crate) fn then_read<S: Alter, A: Drop, C: Selected>(
         (λ both. (earlier ≡ Ok both.0) × IsShown S.Store text.now C.spelled conn.old both.1) }
     ensures fails { HasCleanDisk (state S.Store conn.new) → IfErr earlier IsFailure
         → OnOk earlier (MayRead (state S.Store conn.old) × IsReadable S.Store conn.old text.now C.Fits) → IfErr result IsFailure }
+    ensures refused { HasCleanDisk (state S.Store conn.new) → IfErr result (λ e. (earlier ≡ Err e)
+        ⊎ (IsOk earlier × FailsToRead text.now [] (state S.Store conn.old) (state S.Store conn.new) C.Fits e)) }
     ensures met { HasCleanDisk (state S.Store conn.new)
         → IfErr result (λ e. (earlier ≡ Err e) ⊎ IsMet (state S.Store conn.old) (state S.Store conn.new) e) }
     ensures unchanged { HasCleanDisk (state S.Store conn.new) → OnOk result (IsUnchanged (state S.Store conn.old) (state S.Store conn.new)) }

@@ -10,7 +10,10 @@ use Rattle.sqlite.specs.Store.{Ghosts}
 use Rattle.sqlite.specs.Tree.{Trees}
 use Rattle.sqlite_schema.specs.Names.{same_name}
 use Rattle.desk_model.specs.Tables.{Tables}
+use Rattle.desk_reading.proofs.BookChecks.{table_still}
+use Rattle.desk_reading.proofs.BookChecks.{first_still as fails_first}
 use Rattle.desk_reading.proofs.FirstLoading.{first_before}
+use Rattle.desk_reading.proofs.ShownRows.{shown_before}
 use Rattle.desk_saving.specs.Committing.{GoesBack}
 use Rattle.desk_schema.proofs.StaysLemmas.{stays_then, stays_unchanged}
 use Rattle.desk_schema.specs.Names.{has_all_indexes, uses_key_table}
@@ -20,7 +23,7 @@ use Rattle.desk_storage.specs.Sight.{Keeps}
 use Rattle.desk_store.specs.Desks.{IsDesk, store_sight}
 use Rattle.desk_store.specs.Known.{IsKnownOf}
 use Rattle.desk_store.specs.Making.{IsOfStorage}
-use Rattle.desk_store.specs.Opening.{IsUpgraded, IsWhole, IsWholeFirst, ShowsBook, ShowsFirstBook}
+use Rattle.desk_store.specs.Opening.{IsUpgraded, IsWhole, IsWholeFirst, ShowsBook, ShowsFirstBook, ShowsNoBook, ShowsNoDesk, ShowsNoFirstBook}
 use Rattle.desk_store.specs.declared.open_fault.OpenFault.{OpenFault}
 use Rattle.desk_store.specs.declared.open_fault.OpenFault.TheVariants.{NewerFormat, NotADesk}
 use Rattle.desk_store.specs.declared.store.Store.{Store}
@@ -165,6 +168,24 @@ module _ {S : Type 0} (g : Ghosts S) where
     book = whole.book;
     shows = record { stored = whole.shows.stored; shown = first_before g old mid whole.shows.stored same whole.shows.shown; is_book = whole.shows.is_book };
   }
+
+  -- that no book has the rows was so before a call that changed nothing, too
+  pub no_book_still : (old mid : Held S) → (state g mid).now ≡ (state g old).now → ShowsNoBook g mid → ShowsNoBook g old
+  no_book_still old mid same (inl it) = inl (record { error = it.error; fails = table_still g old mid it.error same it.fails; other = it.other })
+  no_book_still old mid same (inr (stored, shown, none)) = inr (stored, shown_before g old mid stored same shown, none)
+
+  -- and of format 1
+  pub no_first_still : (old mid : Held S) → (state g mid).now ≡ (state g old).now → ShowsNoFirstBook g mid → ShowsNoFirstBook g old
+  no_first_still old mid same (inl it) = inl (record { error = it.error; fails = fails_first g old mid it.error same it.fails; other = it.other })
+  no_first_still old mid same (inr (stored, shown, none)) = inr (stored, first_before g old mid stored same shown, none)
+
+  -- and that there is no desk
+  pub no_desk_still : (old mid : Held S) → (state g mid).now ≡ (state g old).now → ShowsNoDesk g mid → ShowsNoDesk g old
+  no_desk_still old mid same (inl lacks) = inl (subst (λ (db : Database). has_all_indexes db.schema ≡ false) same lacks)
+  no_desk_still old mid same (inr (inl (uses, none))) =
+      inr (inl (subst (λ (db : Database). IsTrue (uses_key_table db.schema)) same uses, no_book_still old mid same none))
+  no_desk_still old mid same (inr (inr (lacks, none))) =
+      inr (inr (subst (λ (db : Database). uses_key_table db.schema ≡ false) same lacks, no_first_still old mid same none))
 
 -- ---- a store
 

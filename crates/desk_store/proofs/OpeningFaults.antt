@@ -13,7 +13,7 @@ use Rattle.sqlite.specs.declared.error.Error.{Error}
 use Rattle.sqlite.specs.declared.error.Error.TheVariants as error
 use Rattle.sqlite.specs.declared.error.ErrorCode.{ErrorCode}
 use Rattle.sqlite.specs.declared.error.ErrorCode.TheVariants as code
-use Rattle.desk_reading.specs.Failures.{IsMet, is_of_device}
+use Rattle.desk_reading.specs.Failures.{IsMet, IsOutOfMemory, is_of_device}
 use Rattle.desk_reading.proofs.MetFaults.{met_on}
 use Rattle.desk_schema.specs.Stays.{Asks}
 use Rattle.desk_schema.specs.Failing.{IsFailure}
@@ -21,6 +21,7 @@ use Rattle.desk_storage.specs.declared.fault.StorageFault.{StorageFault}
 use Rattle.desk_storage.specs.declared.fault.StorageFault.TheVariants as fault
 use Rattle.desk_store.specs.Causes.{IsMetFault, IsOfOpening, cause_of}
 use Rattle.desk_store.specs.Making.{IsOfStorage}
+use Rattle.desk_store.specs.Opening.{RefusesReading}
 use Rattle.desk_store.specs.declared.faults.Cause.TheVariants as cause
 use Rattle.desk_store.specs.declared.faults.Cause.{Cause}
 use Rattle.desk_store.specs.declared.open_fault.OpenFault.{OpenFault}
@@ -50,11 +51,23 @@ reading_is_known cause.Device why is newer = absurd (let e = sym is ∙ newer in
 reading_is_known cause.Other why is newer = absurd (let e = sym is ∙ newer in cc)
 
 -- one that tells of no desk failed for neither memory nor the disk
-pub no_desk_is_other : (cause : Cause) (why : OpenFault) → IsOfOpening cause why → why ≡ NotADesk → cause ≡ cause.Other
+pub no_desk_is_other : (from : Cause) (why : OpenFault) → IsOfOpening from why → why ≡ NotADesk → from ≡ cause.Other
 no_desk_is_other cause.Memory why (inl goes_on) none = absurd (let e = sym goes_on ∙ none in cc)
 no_desk_is_other cause.Memory why (inr shut) none = absurd (let e = sym shut ∙ none in cc)
 no_desk_is_other cause.Device why is none = absurd (let e = sym is ∙ none in cc)
 no_desk_is_other cause.Other why is none = refl
+
+-- a reading that failed so is one that was refused
+pub refused_reading : (error : Error) (Fails : Error → Type 0) → IsOutOfMemory error ⊎ Fails error → cause_of error ≡ cause.Other → RefusesReading Fails
+refused_reading error Fails (inl memory) other = absurd (let e = sym (ap cause_of memory) ∙ other in cc)
+refused_reading error Fails (inr fails) other = record { error = error; fails = fails; other = other }
+
+-- where no book was made of rows, for want of none, no book has them
+pub none_has : {R : Type 0} (Has : Tables → Type 0) (made : Result R OpenFault)
+    → IfErr made (λ why. (why ≡ Storage fault.Memory) ⊎ ((why ≡ NotADesk) × ((T : Tables) → Has T → ⊥))) → made ≡ Err NotADesk → (T : Tables) → Has T → ⊥
+none_has Has (Ok book) why none = absurd cc
+none_has Has (Err fault) (inl memory) none = absurd (let e = memory in cc)
+none_has Has (Err fault) (inr no_book) none = no_book.1
 
 -- neither do rows that no book has
 pub book_is_known : {R : Type 0} (Other : Type 0) (result : Result R OpenFault)

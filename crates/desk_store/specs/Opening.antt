@@ -7,6 +7,7 @@ use Rattle.sqlite.specs.Tree.{Trees}
 use Rattle.sqlite.specs.declared.error.Error.{Error}
 use Rattle.desk_columns.specs.declared.columns.StoredRows.{StoredRows}
 use Rattle.desk_model.specs.Tables.{Tables}
+use Rattle.desk_reading.specs.AllTables.{FailsAtFirst, FailsAtTable}
 use Rattle.desk_reading.specs.First.{AreFirstShown}
 use Rattle.desk_reading.specs.Failures.{MayRead}
 use Rattle.desk_reading.specs.Format.{IsNewer, IsOfLaterFormat, ShowsFormats}
@@ -26,6 +27,12 @@ use Rattle.desk_upgrading.specs.FirstDesks.{HasFirst}
 use Rattle.desk_upgrading.specs.FirstKeys.{first_keys}
 use Rattle.stored_laws.specs.Blank.{blank}
 use Rattle.stored_rows.specs.IsBook.{IsBookOfStored}
+
+-- a reading failed so, for what is neither memory nor the disk
+pub record RefusesReading (Fails : Error → Type 0) : Type 0 where
+  pub error : Error
+  pub fails : Fails error
+  pub other : cause_of error ≡ cause.Other
 
 module _ {S : Type 0} (g : Ghosts S) where
   -- the rows that the database showed, of all tables and columns, are those of this book
@@ -66,6 +73,23 @@ module _ {S : Type 0} (g : Ghosts S) where
     pub error : Error
     pub refused : FailsToQuery select_format [] (state g conn) (state g after) error
     pub other : cause_of error ≡ cause.Other
+
+  -- the reading of a table was refused, or no book has the rows that the database showed
+  abbrev pub ShowsNoBook : Held S → Type 0
+  ShowsNoBook conn =
+      RefusesReading (FailsAtTable g conn) ⊎ ((stored : StoredRows) × AreShown g conn stored × ((book : Tables) → IsBookOfStored stored book → ⊥))
+
+  -- so it is of the tables of format 1
+  abbrev pub ShowsNoFirstBook : Held S → Type 0
+  ShowsNoFirstBook conn =
+      RefusesReading (FailsAtFirst g conn) ⊎ ((stored : StoredRows) × AreFirstShown g conn stored × ((book : Tables) → IsBookOfStored stored book → ⊥))
+
+  -- what the database lacks to be a desk: an index, or a book in the format that its table of keys tells
+  abbrev pub ShowsNoDesk : Held S → Type 0
+  ShowsNoDesk conn =
+      (has_all_indexes (state g conn).now.schema ≡ false)
+      ⊎ ((IsTrue (uses_key_table (state g conn).now.schema) × ShowsNoBook conn)
+      ⊎ ((uses_key_table (state g conn).now.schema ≡ false) × ShowsNoFirstBook conn))
 
   -- it showed no later format: a known one, something else, or none
   abbrev pub ShowsNoLaterFormat : Held S → Type 0

@@ -12,7 +12,8 @@ ghost use Rattle.desk_store.specs.Causes.{IsMetFault, IsOfOpening, cause_of};
 ghost use Rattle.desk_store.specs.Desks.{AreOfDesk, HasDesk};
 ghost use Rattle.desk_store.specs.Making.{IsOfStorage};
 ghost use Rattle.desk_store.specs.Opening.{FailedToOpen, FailedToWiden, HasLaterFormat, IsUpgraded, IsWhole, IsWholeFirst, ShowsBook, ShowsFirstBook};
-ghost use Rattle.desk_store.specs.Opening.{RefusesFormat, ShowsKnownFormat, ShowsNewerFormat, ShowsNoLaterFormat};
+ghost use Rattle.desk_store.specs.Opening.{RefusesFormat, ShowsKnownFormat, ShowsNewerFormat};
+ghost use Rattle.desk_store.specs.Opening.{ShowsNoBook, ShowsNoDesk, ShowsNoFirstBook, ShowsNoLaterFormat};
 ghost use Rattle.desk_store.specs.declared.open_fault.OpenFault.TheVariants.{NewerFormat as newer_format, NotADesk as not_a_desk, Storage as of_storage};
 ghost use Rattle.desk_upgrading.specs.FirstDesks.{BringsDesk, HasFirst, HasSecond, UpgradesDesk};
 ghost use Rattle.stored_laws.specs.Blank.{blank};
@@ -89,6 +90,7 @@ pub(crate) fn read_book<S: Alter>(
     ensures book { HasCleanDisk (state S.Store conn.new) → IfOk result (λ book. (T : Tables) → HasDesk (state S.Store conn.old) T → book ≡ T) }
     ensures shown { HasCleanDisk (state S.Store conn.new) → IfOk result (ShowsBook S.Store conn.old) }
     ensures no_newer { result ≢ Err newer_format }
+    ensures no_desk { HasCleanDisk (state S.Store conn.new) → result ≡ Err not_a_desk → ShowsNoBook S.Store conn.old }
     ensures unchanged { HasCleanDisk (state S.Store conn.new) → OnOk result (IsUnchanged (state S.Store conn.old) (state S.Store conn.new)) }
     ensures desk { HasCleanDisk (state S.Store conn.new) → IfErr result (λ why. (T : Tables) → HasDesk (state S.Store conn.old) T → IsOfStorage why) }
     ensures met { HasCleanDisk (state S.Store conn.new) → IfErr result (IsMetFault (state S.Store conn.old) (state S.Store conn.new)) }
@@ -113,6 +115,7 @@ pub(crate) fn read_first<S: Alter>(
     ensures book { HasCleanDisk (state S.Store conn.new) → IfOk result (λ book. (T : Tables) → HasFirst (state S.Store conn.old) T → book ≡ blank T) }
     ensures shown { HasCleanDisk (state S.Store conn.new) → IfOk result (ShowsFirstBook S.Store conn.old) }
     ensures no_newer { result ≢ Err newer_format }
+    ensures no_desk { HasCleanDisk (state S.Store conn.new) → result ≡ Err not_a_desk → ShowsNoFirstBook S.Store conn.old }
     ensures unchanged { HasCleanDisk (state S.Store conn.new) → OnOk result (IsUnchanged (state S.Store conn.old) (state S.Store conn.new)) }
     ensures desk { HasCleanDisk (state S.Store conn.new) → IfErr result (λ why. (T : Tables) → HasFirst (state S.Store conn.old) T → IsOfStorage why) }
     ensures met { HasCleanDisk (state S.Store conn.new) → IfErr result (IsMetFault (state S.Store conn.old) (state S.Store conn.new)) }
@@ -158,6 +161,7 @@ fn upgrade_desk<S: Alter>(alloc: Global, conn: &mut Connection<S>) -> Result<(),
         → OnOk result ((T : Tables) → HasFirst (state S.Store conn.old) T → HasSecond (state S.Store conn.new) T) }
     ensures shown { HasCleanDisk (state S.Store conn.new) → OnOk result ((book : Tables) × ShowsFirstBook S.Store conn.old book) }
     ensures no_newer { result ≢ Err newer_format }
+    ensures no_desk { HasCleanDisk (state S.Store conn.new) → result ≡ Err not_a_desk → ShowsNoFirstBook S.Store conn.old }
     ensures refused { result ≡ Err not_a_desk → Asks (state S.Store conn.old) (state S.Store conn.new) }
     ensures back { (state S.Store conn.old).now ≡ (state S.Store conn.old).committed → HasCleanDisk (state S.Store conn.new)
         → OnErr result (GoesBack (state S.Store conn.old) (state S.Store conn.new)) }
@@ -181,6 +185,7 @@ fn upgrade_desk<S: Alter>(alloc: Global, conn: &mut Connection<S>) -> Result<(),
 fn check_book<S: Alter>(alloc: Global, conn: &mut Connection<S>) -> Result<(), OpenFault>
     ensures shown { HasCleanDisk (state S.Store conn.new) → OnOk result ((book : Tables) × ShowsBook S.Store conn.old book) }
     ensures no_newer { result ≢ Err newer_format }
+    ensures no_desk { HasCleanDisk (state S.Store conn.new) → result ≡ Err not_a_desk → ShowsNoBook S.Store conn.old }
     ensures unchanged { HasCleanDisk (state S.Store conn.new) → OnOk result (IsUnchanged (state S.Store conn.old) (state S.Store conn.new)) }
     ensures desk { HasCleanDisk (state S.Store conn.new) → IfErr result (λ why. (T : Tables) → HasDesk (state S.Store conn.old) T → IsOfStorage why) }
     ensures met { HasCleanDisk (state S.Store conn.new) → IfErr result (IsMetFault (state S.Store conn.old) (state S.Store conn.new)) }
@@ -201,6 +206,7 @@ fn check_book<S: Alter>(alloc: Global, conn: &mut Connection<S>) -> Result<(), O
 fn check_rows<S: Alter>(alloc: Global, conn: &mut Connection<S>) -> Result<(), OpenFault>
     ensures shown { HasCleanDisk (state S.Store conn.new) → OnOk result ((book : Tables) × ShowsBook S.Store conn.old book) }
     ensures no_newer { result ≢ Err newer_format }
+    ensures no_desk { HasCleanDisk (state S.Store conn.new) → result ≡ Err not_a_desk → ShowsNoBook S.Store conn.old }
     ensures unchanged { HasCleanDisk (state S.Store conn.new) → OnOk result (IsUnchanged (state S.Store conn.old) (state S.Store conn.new)) }
     ensures desk { HasCleanDisk (state S.Store conn.new) → IfErr result (λ why. (T : Tables) → HasDesk (state S.Store conn.old) T → IsOfStorage why) }
     ensures met { HasCleanDisk (state S.Store conn.new) → IfErr result (IsMetFault (state S.Store conn.old) (state S.Store conn.new)) }
@@ -223,6 +229,7 @@ fn open_known<S: Alter>(alloc: Global, conn: &mut Connection<S>) -> Result<(), O
         → OnOk result (IsUnchanged (state S.Store conn.old) (state S.Store conn.new)) }
     ensures refused { result ≡ Err not_a_desk → Asks (state S.Store conn.old) (state S.Store conn.new) }
     ensures no_newer { result ≢ Err newer_format }
+    ensures no_desk { HasCleanDisk (state S.Store conn.new) → result ≡ Err not_a_desk → ShowsNoDesk S.Store conn.old }
     ensures upgraded { HasCleanDisk (state S.Store conn.new)
         → OnOk result ((T : Tables) → HasFirst (state S.Store conn.old) T → HasSecond (state S.Store conn.new) T) }
     ensures back { (state S.Store conn.old).now ≡ (state S.Store conn.old).committed → HasCleanDisk (state S.Store conn.new)
@@ -265,6 +272,8 @@ pub(crate) fn open_desk<S: Alter>(alloc: Global, conn: &mut Connection<S>) -> Re
     ensures newer { HasCleanDisk (state S.Store conn.new) → result ≡ Err newer_format → ShowsNewerFormat S.Store conn.old }
     ensures known { HasCleanDisk (state S.Store conn.new) → OnOk result (ShowsKnownFormat S.Store conn.old) }
     ensures no_later { HasCleanDisk (state S.Store conn.new) → result ≡ Err not_a_desk → ShowsNoLaterFormat S.Store conn.old }
+    ensures no_desk { HasCleanDisk (state S.Store conn.new) → result ≡ Err not_a_desk
+        → RefusesFormat S.Store conn.old ⊎ ShowsNoDesk S.Store conn.old }
     ensures upgraded { HasCleanDisk (state S.Store conn.new)
         → OnOk result ((T : Tables) → HasFirst (state S.Store conn.old) T → HasSecond (state S.Store conn.new) T) }
     ensures back { (state S.Store conn.old).now ≡ (state S.Store conn.old).committed → HasCleanDisk (state S.Store conn.new)

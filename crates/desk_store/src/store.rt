@@ -17,7 +17,7 @@ ghost use Rattle.desk_store.specs.Causes.{Failed, FailedToChange, IsMetFault};
 ghost use Rattle.desk_store.specs.Desks.{HasDesk, store_sight};
 ghost use Rattle.desk_store.specs.Making.{FailedToMake, IsNewDesk, IsOfStorage};
 ghost use Rattle.desk_store.specs.Opening.{FailedToOpen, HasLaterFormat, IsUpgraded, IsWhole, IsWholeFirst, ShowsKnownFormat, ShowsNewerFormat};
-ghost use Rattle.desk_store.specs.Opening.{ShowsNoLaterFormat};
+ghost use Rattle.desk_store.specs.Opening.{RefusesFormat, ShowsNoDesk, ShowsNoLaterFormat};
 ghost use Rattle.desk_store.specs.declared.open_fault.OpenFault.TheVariants.{NewerFormat as newer_format, NotADesk as not_a_desk, Storage as of_storage};
 ghost use Rattle.desk_upgrading.specs.FirstDesks.{HasFirst};
 
@@ -128,6 +128,8 @@ impl<S: Alter> Store<S> {
         ensures newer { IfErr result (λ un. HasCleanDisk (state S.Store un.conn) → un.fault ≡ newer_format → ShowsNewerFormat S.Store conn) }
         ensures known { IfOk result (λ store. HasCleanDisk (state S.Store store.conn) → ShowsKnownFormat S.Store conn) }
         ensures no_later { IfErr result (λ un. HasCleanDisk (state S.Store un.conn) → un.fault ≡ not_a_desk → ShowsNoLaterFormat S.Store conn) }
+        ensures no_desk { IfErr result (λ un. HasCleanDisk (state S.Store un.conn) → un.fault ≡ not_a_desk
+            → RefusesFormat S.Store conn ⊎ ShowsNoDesk S.Store conn) }
         ensures whole { IfOk result (λ store. HasCleanDisk (state S.Store store.conn) → IsTrue (uses_key_table (state S.Store conn).now.schema)
             → IsWhole S.Store conn) }
         ensures whole_first { IfOk result (λ store. HasCleanDisk (state S.Store store.conn) → uses_key_table (state S.Store conn).now.schema ≡ false

@@ -1,6 +1,6 @@
-use Rattle.std.proofs.Common.{ap}
+use Rattle.std.proofs.Common.{ap, inl, inr}
 use Rattle.desk_reading.specs.BookShown.{ShowsAccounts, ShowsOrders}
-use Rattle.desk_reading.proofs.BookChecks.{checks_failed, checks_stopped, checks_then}
+use Rattle.desk_reading.proofs.BookChecks.{at_table, checks_failed, checks_stopped, checks_then}
 use Rattle.desk_reading.proofs.Readings.{accounts_reading}
 use Rattle.desk_reading.proofs.ShownTables.{accounts_shown}
 use Rattle.desk_reading.proofs.TableFailures.{accounts_readable}
@@ -14,7 +14,9 @@ returns-in_err-accounts g c =
     checks_failed g.S.Store _ (λ db. ShowsAccounts g.S.Store db c.args.last) c.args.conn.now c.check_table.new.conn
     c.in_err-accounts.field-0.0
     c.from_residual.result c.from_residual.ensures.0 c.from_residual.ensures.1 (λ T has texts. accounts_readable g.S.Store c.args.conn.now T has texts)
-    c.in_err-accounts.ensures.fails c.in_err-accounts.ensures.met c.in_err-accounts.ensures.asks
+    c.in_err-accounts.ensures.fails
+    (λ clean. at_table g.S.Store c.args.conn.now _ _ _ (λ at. inl (inl (inl (inl (inl (inr at)))))) (c.in_err-accounts.ensures.refused clean))
+    c.in_err-accounts.ensures.met c.in_err-accounts.ensures.asks
 
 pub returns-in_default : goal.returns-in_default
 returns-in_default g c =

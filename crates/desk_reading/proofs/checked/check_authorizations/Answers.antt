@@ -1,6 +1,6 @@
-use Rattle.std.proofs.Common.{ap}
+use Rattle.std.proofs.Common.{ap, inl, inr}
 use Rattle.desk_reading.specs.BookShown.{ShowsAuthorizations, ShowsListed}
-use Rattle.desk_reading.proofs.BookChecks.{checks_failed, checks_stopped, checks_then}
+use Rattle.desk_reading.proofs.BookChecks.{at_table, checks_failed, checks_stopped, checks_then}
 use Rattle.desk_reading.proofs.Readings.{authorizations_reading}
 use Rattle.desk_reading.proofs.ShownTables.{authorizations_shown}
 use Rattle.desk_reading.proofs.TableFailures.{authorizations_readable}
@@ -14,7 +14,9 @@ returns-in_err-authorizations g c =
     checks_failed g.S.Store _ (λ db. ShowsAuthorizations g.S.Store db c.args.last c.args.accounts.now c.args.orders.now) c.args.conn.now c.check_table.new.conn
     c.in_err-authorizations.field-0.0
     c.from_residual.result c.from_residual.ensures.0 c.from_residual.ensures.1 (λ T has texts. authorizations_readable g.S.Store c.args.conn.now T has texts)
-    c.in_err-authorizations.ensures.fails c.in_err-authorizations.ensures.met c.in_err-authorizations.ensures.asks
+    c.in_err-authorizations.ensures.fails
+    (λ clean. at_table g.S.Store c.args.conn.now _ _ _ (λ at. inl (inl (inr at))) (c.in_err-authorizations.ensures.refused clean))
+    c.in_err-authorizations.ensures.met c.in_err-authorizations.ensures.asks
 
 pub returns-in_default : goal.returns-in_default
 returns-in_default g c =

@@ -1,6 +1,6 @@
-use Rattle.std.proofs.Common.{ap}
+use Rattle.std.proofs.Common.{ap, inl, inr}
 use Rattle.desk_reading.specs.BookShown.{ShowsChallenges, ShowsKeys}
-use Rattle.desk_reading.proofs.BookChecks.{checks_failed, checks_stopped, checks_then}
+use Rattle.desk_reading.proofs.BookChecks.{at_table, checks_failed, checks_stopped, checks_then}
 use Rattle.desk_reading.proofs.Readings.{challenges_reading}
 use Rattle.desk_reading.proofs.ShownTables.{challenges_shown}
 use Rattle.desk_reading.proofs.TableFailures.{challenges_readable}
@@ -14,7 +14,9 @@ returns-in_err-answered g c =
     checks_failed g.S.Store _ (λ db. ShowsChallenges g.S.Store db c.args.last c.args.authorizations.now) c.args.conn.now c.check_table.new.conn
     c.in_err-answered.field-0.0
     c.from_residual.result c.from_residual.ensures.0 c.from_residual.ensures.1 (λ T has texts. challenges_readable g.S.Store c.args.conn.now T has texts)
-    c.in_err-answered.ensures.fails c.in_err-answered.ensures.met c.in_err-answered.ensures.asks
+    c.in_err-answered.ensures.fails
+    (λ clean. at_table g.S.Store c.args.conn.now _ _ _ (λ at. inl (inr at)) (c.in_err-answered.ensures.refused clean))
+    c.in_err-answered.ensures.met c.in_err-answered.ensures.asks
 
 pub returns-in_default : goal.returns-in_default
 returns-in_default g c =

@@ -1,7 +1,7 @@
-use Rattle.std.proofs.Common.{◌≡◌, ap, subst}
+use Rattle.std.proofs.Common.{◌≡◌, ap, inr, subst}
 use Rattle.checked_rows.specs.BookRows.{AreKeys}
 use Rattle.desk_reading.specs.BookShown.{ShowsKeys}
-use Rattle.desk_reading.proofs.BookChecks.{checks_failed, checks_last, checks_stopped, table_as}
+use Rattle.desk_reading.proofs.BookChecks.{at_table, checks_failed, checks_last, checks_stopped, table_as}
 use Rattle.desk_reading.proofs.Readings.{keys_reading}
 use Rattle.desk_reading.proofs.TableFailures.{keys_readable}
 use Rattle.desk_reading.proofs.checked.check_keys.Goals as goal
@@ -13,7 +13,9 @@ pub returns-in_err-check_table : goal.returns-in_err-check_table
 returns-in_err-check_table g c =
     checks_failed g.S.Store _ (λ db. ShowsKeys g.S.Store db c.args.answered.now) c.args.conn.now c.check_table.new.conn c.in_err-check_table.field-0.0
     c.from_residual.result c.from_residual.ensures.0 c.from_residual.ensures.1 (λ T has texts. keys_readable g.S.Store c.args.conn.now T has texts)
-    c.in_err-check_table.ensures.fails c.in_err-check_table.ensures.met c.in_err-check_table.ensures.asks
+    c.in_err-check_table.ensures.fails
+    (λ clean. at_table g.S.Store c.args.conn.now _ _ _ (λ at. inr at) (c.in_err-check_table.ensures.refused clean))
+    c.in_err-check_table.ensures.met c.in_err-check_table.ensures.asks
 
 pub returns-in_default : goal.returns-in_default
 returns-in_default g c =

@@ -1,6 +1,6 @@
-use Rattle.std.proofs.Common.{◌≡◌, ap, subst}
+use Rattle.std.proofs.Common.{◌≡◌, ap, inl, subst}
 use Rattle.desk_reading.specs.BookShown.{ShowsBookRows, ShowsNonces}
-use Rattle.desk_reading.proofs.BookChecks.{checks_failed, checks_stopped, checks_then, table_as}
+use Rattle.desk_reading.proofs.BookChecks.{at_table, checks_failed, checks_stopped, checks_then, table_as}
 use Rattle.desk_reading.proofs.Readings.{meta_reading}
 use Rattle.desk_reading.proofs.TableFailures.{meta_readable}
 use Rattle.desk_reading.proofs.checked.check_meta.Goals as goal
@@ -13,7 +13,9 @@ returns-in_err-last g c =
     checks_failed g.S.Store _ (λ db. ShowsBookRows g.S.Store db) c.args.conn.now c.check_table.new.conn
     c.in_err-last.field-0.0
     c.from_residual.result c.from_residual.ensures.0 c.from_residual.ensures.1 (λ T has texts. meta_readable g.S.Store c.args.conn.now T has texts)
-    c.in_err-last.ensures.fails c.in_err-last.ensures.met c.in_err-last.ensures.asks
+    c.in_err-last.ensures.fails
+    (λ clean. at_table g.S.Store c.args.conn.now _ _ _ (λ at. inl (inl (inl (inl (inl (inl (inl at))))))) (c.in_err-last.ensures.refused clean))
+    c.in_err-last.ensures.met c.in_err-last.ensures.asks
 
 pub returns-in_default : goal.returns-in_default
 returns-in_default g c =

@@ -1,7 +1,7 @@
-use Rattle.std.proofs.Common.{◌≡◌, ap, subst}
+use Rattle.std.proofs.Common.{◌≡◌, ap, inl, inr, subst}
 use Rattle.desk_laws.specs.Ordered.{IsTable}
 use Rattle.desk_reading.specs.BookShown.{ShowsAccounts, ShowsNonces}
-use Rattle.desk_reading.proofs.BookChecks.{checks_failed, checks_stopped, checks_then, table_as}
+use Rattle.desk_reading.proofs.BookChecks.{at_table, checks_failed, checks_stopped, checks_then, table_as}
 use Rattle.desk_reading.proofs.Readings.{nonces_reading}
 use Rattle.desk_reading.proofs.TableFailures.{nonces_readable}
 use Rattle.desk_reading.proofs.checked.check_nonces.Goals as goal
@@ -14,7 +14,9 @@ returns-in_err-check_table g c =
     checks_failed g.S.Store _ (λ db. ShowsNonces g.S.Store db c.args.last) c.args.conn.now c.check_table.new.conn
     c.in_err-check_table.field-0.0
     c.from_residual.result c.from_residual.ensures.0 c.from_residual.ensures.1 (λ T has texts. nonces_readable g.S.Store c.args.conn.now T has texts)
-    c.in_err-check_table.ensures.fails c.in_err-check_table.ensures.met c.in_err-check_table.ensures.asks
+    c.in_err-check_table.ensures.fails
+    (λ clean. at_table g.S.Store c.args.conn.now _ _ _ (λ at. inl (inl (inl (inl (inl (inl (inr at))))))) (c.in_err-check_table.ensures.refused clean))
+    c.in_err-check_table.ensures.met c.in_err-check_table.ensures.asks
 
 pub returns-in_default : goal.returns-in_default
 returns-in_default g c =

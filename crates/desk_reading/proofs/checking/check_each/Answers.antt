@@ -1,12 +1,13 @@
-use Rattle.std.proofs.Common.{◌≡◌, [], IfErr, refl, sym, ◌∙◌, rules, arith}
+use Rattle.std.proofs.Common.{◌≡◌, [], IfErr, inl, inr, refl, sym, ◌∙◌, rules, arith}
+use Rattle.std.specs.Prelude.{◌⊎◌}
 use Rattle.sqlite.specs.Held.{state}
 use Rattle.sqlite.specs.State.{HasCleanDisk}
 use Rattle.desk_schema.specs.Stays.{Asks}
 use Rattle.desk_schema.proofs.StaysLemmas.{asks_then, stays_unchanged}
-use Rattle.desk_reading.specs.Failures.{IsMet}
+use Rattle.desk_reading.specs.Failures.{FailsHere, IsMet, IsOutOfMemory}
 use Rattle.desk_reading.proofs.MetFaults.{met_behind, query_met}
 use Rattle.desk_reading.proofs.Results.{failed_as}
-use Rattle.desk_reading.proofs.Streaming.{asks_begun, asks_refused, begun_query, given_all, given_more, given_none, met_refused}
+use Rattle.desk_reading.proofs.Streaming.{asks_begun, asks_refused, begun_query, given_all, given_more, given_none, met_refused, refused_query}
 use Rattle.desk_reading.proofs.checking.check_each.Goals as goal
 
 pub returns-in_err-rows-clause-asks : goal.returns-in_err-rows-clause-asks
@@ -78,4 +79,35 @@ returns-in_err-row-clause-met g c =
     let fails = (rw c.in_err-row.was at (moved.err clean)) c.args.text.now [] was.given was.gives in
     failed_as c.from_residual-in_err-row.result e (IsMet old now)
     (met_behind old mid now e c.rows.invariant.1 (query_met c.args.text.now [] mid now e c.requires fails)) c.from_residual-in_err-row.ensures.1 in
+    search (rules, whole)
+
+pub returns-in_err-rows-clause-refused : goal.returns-in_err-rows-clause-refused
+returns-in_err-rows-clause-refused g c clean =
+    let store = g.S.Store in
+    let old = c.args.conn.now in
+    let new = c.query.follows.lender-at-none in
+    let e = c.in_err-rows.field-0.0 in
+    failed_as c.from_residual.result e (λ e. IsOutOfMemory e ⊎ FailsHere store old c.args.text.now g.C.Selected.Fits e)
+    (inr (record {
+      before = old;
+      after = new;
+      same = refl;
+      fails = inl (refused_query store c.args.text.now c.requires c.query.result old new e c.in_err-rows.was c.query.follows.holds-at-none clean);
+    }))
+    c.from_residual.ensures.1
+
+pub returns-in_err-row-clause-refused : goal.returns-in_err-row-clause-refused
+returns-in_err-row-clause-refused g c =
+    let store = g.S.Store in
+    let moved = c.next.follows.holds-at-none in
+    let old = c.args.conn.now in
+    let mid = c.rows.rows.conn.now in
+    let now = c.next.follows.lender-at-none.conn.now in
+    let e = c.in_err-row.field-0.0 in
+    let whole : HasCleanDisk (state store now)
+    → IfErr c.from_residual-in_err-row.result (λ e. IsOutOfMemory e ⊎ FailsHere store old c.args.text.now g.C.Selected.Fits e) = λ clean.
+    let was = c.rows.invariant.2 (omega (arith, clean, moved.survives.clean)) in
+    let fails = (rw c.in_err-row.was at (moved.err clean)) c.args.text.now [] was.given was.gives in
+    failed_as c.from_residual-in_err-row.result e (λ e. IsOutOfMemory e ⊎ FailsHere store old c.args.text.now g.C.Selected.Fits e)
+    (inr (record { before = mid; after = now; same = was.same.0.now_is; fails = inl fails })) c.from_residual-in_err-row.ensures.1 in
     search (rules, whole)

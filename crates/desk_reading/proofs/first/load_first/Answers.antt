@@ -1,6 +1,9 @@
-use Rattle.std.proofs.Common.{◌≡◌, IfOk, ap, map, subst, ◌∙◌}
+use Rattle.std.proofs.Common.{◌≡◌, IfOk, ap, inr, map, subst, ◌∙◌}
 use Rattle.std.specs.List.{filter_map}
+use Rattle.std.specs.Prelude.{◌⊎◌}
 use Rattle.desk_schema.specs.Failing.{IsFailure}
+use Rattle.desk_reading.specs.AllTables.{FailsAtFirst}
+use Rattle.desk_reading.specs.Failures.{IsOutOfMemory}
 use Rattle.desk_reading.specs.First.{blank_key, raised_meta}
 use Rattle.desk_reading.proofs.FirstLoading.{first_columns}
 use Rattle.desk_reading.proofs.FirstTables.{accounts_readable, authorizations_readable, challenges_readable, listed_readable}
@@ -48,3 +51,8 @@ returns-clause-shown g c clean =
 
 pub returns-clause-found : goal.returns-clause-found
 returns-clause-found g c clean T has = first_columns g.S.Store c.args.conn.now _ T has (returns-clause-shown g c clean)
+
+pub returns-in_err-read-clause-refused : goal.returns-in_err-read-clause-refused
+returns-in_err-read-clause-refused g c clean =
+    failed_as c.from_residual.result c.in_err-read.field-0.0 (λ e. IsOutOfMemory e ⊎ FailsAtFirst g.S.Store c.args.conn.now e)
+    (inr (c.in_err-read.ensures.refused clean)) c.from_residual.ensures.1

@@ -1,4 +1,5 @@
 use Rattle.std.proofs.lemmas.Result.{IfOk-from_err}
+use Rattle.desk_reading.specs.AllTables.{FailsAtTable}
 use Rattle.desk_schema.specs.Failing.{IsFailure}
 use Rattle.desk_reading.proofs.Loading.{shown_columns}
 use Rattle.desk_reading.proofs.Results.{failed_as}
@@ -60,3 +61,8 @@ returns-in_err-metas-clause-unchanged g c clean = IfOk-from_err c.from_residual.
 
 pub returns-in_err-metas-clause-asks : goal.returns-in_err-metas-clause-asks
 returns-in_err-metas-clause-asks g c = c.in_err-metas.ensures.asks
+
+pub returns-in_err-metas-clause-refused : goal.returns-in_err-metas-clause-refused
+returns-in_err-metas-clause-refused g c clean =
+    failed_as c.from_residual.result c.in_err-metas.field-0.0 (FailsAtTable g.S.Store c.args.conn.now) (c.in_err-metas.ensures.refused clean)
+    c.from_residual.ensures.1

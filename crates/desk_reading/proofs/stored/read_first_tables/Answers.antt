@@ -33,17 +33,17 @@ returns g c =
     let one = c.read_query-metas.new.conn in
     let metas = reads_first g.S.Store select_meta meta_in FitsMeta old one _ c.read_query-metas.ensures.read c.read_query-metas.ensures.fails c.read_query-metas.ensures.met
     c.read_query-metas.ensures.unchanged c.read_query-metas.ensures.asks in
-    let nonces = reads_more g.S.Store _ _ select_nonces nonce_in FitsNonce old c.read_query-metas.new.conn c.then_read-nonces.new.conn _ _ metas
-    c.then_read-nonces.ensures.shown c.then_read-nonces.ensures.fails c.then_read-nonces.ensures.met c.then_read-nonces.ensures.unchanged c.then_read-nonces.ensures.asks in
-    let accounts = reads_more g.S.Store _ _ select_accounts account_in FitsAccount old c.then_read-nonces.new.conn c.then_read-accounts.new.conn _ _ nonces
-    c.then_read-accounts.ensures.shown c.then_read-accounts.ensures.fails c.then_read-accounts.ensures.met c.then_read-accounts.ensures.unchanged c.then_read-accounts.ensures.asks in
-    let orders = reads_more g.S.Store _ _ select_orders order_in FitsOrder old c.then_read-accounts.new.conn c.then_read-orders.new.conn _ _ accounts
-    c.then_read-orders.ensures.shown c.then_read-orders.ensures.fails c.then_read-orders.ensures.met c.then_read-orders.ensures.unchanged c.then_read-orders.ensures.asks in
-    let listed = reads_more g.S.Store _ _ select_listed listed_in FitsListed old c.then_read-orders.new.conn c.then_read-listed.new.conn _ _ orders
-    c.then_read-listed.ensures.shown c.then_read-listed.ensures.fails c.then_read-listed.ensures.met c.then_read-listed.ensures.unchanged c.then_read-listed.ensures.asks in
-    let authorizations = reads_more g.S.Store _ _ select_authorizations authorization_in FitsAuthorization old c.then_read-listed.new.conn
+    let nonces = reads_more g.S.Store _ _ _ select_nonces nonce_in FitsNonce old c.read_query-metas.new.conn c.then_read-nonces.new.conn _ _ metas
+    c.then_read-nonces.ensures.shown c.then_read-nonces.ensures.fails c.then_read-nonces.ensures.refused c.then_read-nonces.ensures.met c.then_read-nonces.ensures.unchanged c.then_read-nonces.ensures.asks in
+    let accounts = reads_more g.S.Store _ _ _ select_accounts account_in FitsAccount old c.then_read-nonces.new.conn c.then_read-accounts.new.conn _ _ nonces
+    c.then_read-accounts.ensures.shown c.then_read-accounts.ensures.fails c.then_read-accounts.ensures.refused c.then_read-accounts.ensures.met c.then_read-accounts.ensures.unchanged c.then_read-accounts.ensures.asks in
+    let orders = reads_more g.S.Store _ _ _ select_orders order_in FitsOrder old c.then_read-accounts.new.conn c.then_read-orders.new.conn _ _ accounts
+    c.then_read-orders.ensures.shown c.then_read-orders.ensures.fails c.then_read-orders.ensures.refused c.then_read-orders.ensures.met c.then_read-orders.ensures.unchanged c.then_read-orders.ensures.asks in
+    let listed = reads_more g.S.Store _ _ _ select_listed listed_in FitsListed old c.then_read-orders.new.conn c.then_read-listed.new.conn _ _ orders
+    c.then_read-listed.ensures.shown c.then_read-listed.ensures.fails c.then_read-listed.ensures.refused c.then_read-listed.ensures.met c.then_read-listed.ensures.unchanged c.then_read-listed.ensures.asks in
+    let authorizations = reads_more g.S.Store _ _ _ select_authorizations authorization_in FitsAuthorization old c.then_read-listed.new.conn
     c.then_read-authorizations.new.conn _ _ listed
-    c.then_read-authorizations.ensures.shown c.then_read-authorizations.ensures.fails c.then_read-authorizations.ensures.met c.then_read-authorizations.ensures.unchanged
+    c.then_read-authorizations.ensures.shown c.then_read-authorizations.ensures.fails c.then_read-authorizations.ensures.refused c.then_read-authorizations.ensures.met c.then_read-authorizations.ensures.unchanged
     c.then_read-authorizations.ensures.asks in
-    reads_more g.S.Store _ _ select_challenges challenge_in FitsChallenge old c.then_read-authorizations.new.conn c.then_read.new.conn _ _ authorizations
-    c.then_read.ensures.shown c.then_read.ensures.fails c.then_read.ensures.met c.then_read.ensures.unchanged c.then_read.ensures.asks
+    reads_more g.S.Store _ _ _ select_challenges challenge_in FitsChallenge old c.then_read-authorizations.new.conn c.then_read.new.conn _ _ authorizations
+    c.then_read.ensures.shown c.then_read.ensures.fails c.then_read.ensures.refused c.then_read.ensures.met c.then_read.ensures.unchanged c.then_read.ensures.asks

@@ -1,8 +1,10 @@
-use Rattle.std.proofs.Common.{refl}
+use Rattle.std.proofs.Common.{◌≡◌, [], Err, inl, inr, refl, subst, sym}
+use Rattle.std.specs.Prelude.{◌⊎◌, IsOk}
 use Rattle.std.proofs.lemmas.Result.{IfOk-from_err}
 use Rattle.sqlite.specs.Held.{state}
 use Rattle.desk_schema.proofs.StaysLemmas.{asks_nothing}
 use Rattle.desk_schema.specs.Failing.{IsFailure}
+use Rattle.desk_reading.specs.Failures.{FailsToRead}
 use Rattle.desk_reading.proofs.Results.{failed_as}
 use Rattle.desk_reading.proofs.ShownRows.{shown_now}
 use Rattle.desk_reading.proofs.tables.then_read.Goals as goal
@@ -45,3 +47,17 @@ returns-clause-unchanged g c clean = c.in_ok-columns.ensures.unchanged clean
 
 pub returns-clause-asks : goal.returns-clause-asks
 returns-clause-asks g c = c.in_ok-columns.ensures.asks
+
+pub returns-in_err-found-clause-refused : goal.returns-in_err-found-clause-refused
+returns-in_err-found-clause-refused g c clean =
+    failed_as c.from_residual.result c.in_err-found.field-0.0
+    (λ e. (c.args.earlier ≡ Err e)
+    ⊎ (IsOk c.args.earlier × FailsToRead c.args.text.now [] (state g.S.Store c.args.conn.now) (state g.S.Store c.args.conn.now) g.C.Selected.Fits e))
+    (inl c.in_err-found.was) c.from_residual.ensures.1
+
+pub returns-in_err-columns-clause-refused : goal.returns-in_err-columns-clause-refused
+returns-in_err-columns-clause-refused g c clean =
+    failed_as c.from_residual-in_err-columns.result c.in_err-columns.field-0.0
+    (λ e. (c.args.earlier ≡ Err e)
+    ⊎ (IsOk c.args.earlier × FailsToRead c.args.text.now [] (state g.S.Store c.args.conn.now) (state g.S.Store c.read_query.new.conn) g.C.Selected.Fits e))
+    (inr (subst IsOk (sym c.in_ok-found.was) refl, c.in_err-columns.ensures.fails clean)) c.from_residual-in_err-columns.ensures.1

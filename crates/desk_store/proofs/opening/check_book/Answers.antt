@@ -1,3 +1,5 @@
+use Rattle.std.proofs.Common.{ap}
+use Rattle.desk_store.proofs.Standing.{failed, same_fault}
 use Rattle.desk_store.proofs.opening.check_book.Goals as goal
 
 pub returns-in-Ok-clause-shown : goal.returns-in-Ok-clause-shown
@@ -17,3 +19,6 @@ returns-in-Err-clause-asks g c = c.read_book.ensures.asks
 
 pub returns-in-Err-clause-met : goal.returns-in-Err-clause-met
 returns-in-Err-clause-met g c = c.in-Err.ensures.met
+
+pub returns-in-Err-clause-no_desk : goal.returns-in-Err-clause-no_desk
+returns-in-Err-clause-no_desk g c clean none = c.in-Err.ensures.no_desk clean (ap (failed _) (same_fault _ _ none))

@@ -1,10 +1,12 @@
-use Rattle.std.proofs.Common.{arith}
+use Rattle.std.proofs.Common.{arith, inl}
 use Rattle.sqlite.specs.Held.{state}
 use Rattle.sqlite.specs.State.{HasCleanDisk}
+use Rattle.desk_reading.specs.AllTables.{FailsAtTable}
 use Rattle.desk_reading.proofs.Results.{unchanged_after}
 use Rattle.desk_schema.proofs.StaysLemmas.{asks_then}
 use Rattle.desk_store.proofs.Books.{may_read, shows_still}
-use Rattle.desk_store.proofs.OpeningFaults.{failure_is_storage, fails_later, fails_met, opening_met, reading_is_known}
+use Rattle.desk_store.proofs.EitherFormat.{no_book_still}
+use Rattle.desk_store.proofs.OpeningFaults.{failure_is_storage, fails_later, fails_met, no_desk_is_other, opening_met, reading_is_known, refused_reading}
 use Rattle.desk_store.proofs.Standing.{same_fault}
 use Rattle.desk_store.specs.Causes.{cause_of}
 use Rattle.desk_store.proofs.opening.check_rows.Goals as goal
@@ -73,3 +75,17 @@ pub returns-in-Ok-false-clause-met : goal.returns-in-Ok-false-clause-met
 returns-in-Ok-false-clause-met g c clean =
     fails_met (state g.S.Store c.args.conn.now) (state g.S.Store c.has_book_rows.new.conn) (state g.S.Store c.check_book.new.conn) c.check_book.result
     c.has_book_rows.ensures.asks (c.check_book.ensures.met clean)
+
+pub returns-in-Ok-false-clause-no_desk : goal.returns-in-Ok-false-clause-no_desk
+returns-in-Ok-false-clause-no_desk g c clean none =
+    let mid = state g.S.Store c.has_book_rows.new.conn in
+    let clean_mid : HasCleanDisk mid = let le = c.check_book.ensures.asks.survives.clean in omega (arith, clean, le) in
+    no_book_still g.S.Store c.args.conn.now c.has_book_rows.new.conn (c.in-Ok-false.ensures.unchanged clean_mid).0.now_is
+    (c.check_book.ensures.no_desk clean none)
+
+pub returns-in-Err-clause-no_desk : goal.returns-in-Err-clause-no_desk
+returns-in-Err-clause-no_desk g c clean none =
+    let clean_mid : HasCleanDisk (state g.S.Store c.has_book_rows.new.conn) =
+    let le = c.opening_fault.ensures.asks.survives.clean in omega (arith, clean, le) in
+    inl (refused_reading c.in-Err.error (FailsAtTable g.S.Store c.args.conn.now) (c.in-Err.ensures.refused clean_mid)
+    (no_desk_is_other (cause_of c.in-Err.error) c.opening_fault.result c.opening_fault.ensures.fault (same_fault _ _ none)))

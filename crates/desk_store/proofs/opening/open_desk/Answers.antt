@@ -6,7 +6,7 @@ use Rattle.desk_reading.proofs.Results.{unchanged_after}
 use Rattle.desk_schema.proofs.StaysLemmas.{asks_then}
 use Rattle.desk_store.proofs.Books.{always_ok, whole_still}
 use Rattle.desk_store.proofs.EitherFormat.{asks_behind, back_asked, back_behind, first_fails_later, first_still, keys_behind}
-use Rattle.desk_store.proofs.EitherFormat.{left_asked, of_answer, of_failure, refused_so, settled_behind, upgraded_behind}
+use Rattle.desk_store.proofs.EitherFormat.{left_asked, no_desk_still, of_answer, of_failure, refused_so, settled_behind, upgraded_behind}
 use Rattle.desk_store.proofs.OpeningFaults.{fails_later}
 use Rattle.desk_store.proofs.Upgrading.{first_unchanged}
 use Rattle.desk_store.proofs.Failing.{leaves_nothing, opened_behind, opened_nothing}
@@ -165,3 +165,13 @@ returns-in-Ok-clause-no_later g c clean none =
 
 pub returns-in-Err-clause-no_later : goal.returns-in-Err-clause-no_later
 returns-in-Err-clause-no_later g c clean none = inr (c.in-Err.ensures.refused clean none)
+
+pub returns-in-Ok-clause-no_desk : goal.returns-in-Ok-clause-no_desk
+returns-in-Ok-clause-no_desk g c clean none =
+    let mid = state g.S.Store c.check_format.new.conn in
+    let clean_mid : HasCleanDisk mid = let le = c.open_known.ensures.left.clean in omega (arith, clean, le) in
+    inr (no_desk_still g.S.Store c.args.conn.now c.check_format.new.conn (c.in-Ok.ensures.unchanged clean_mid).0.now_is
+    (c.open_known.ensures.no_desk clean none))
+
+pub returns-in-Err-clause-no_desk : goal.returns-in-Err-clause-no_desk
+returns-in-Err-clause-no_desk g c clean none = inl (c.in-Err.ensures.refused clean none)

@@ -1,4 +1,4 @@
-use Rattle.std.proofs.Common.{◌∙◌, ap, refl, sym}
+use Rattle.std.proofs.Common.{◌∙◌, ap, inl, inr, refl, sym}
 use Rattle.sqlite.proofs.StateLemmas.{survives_weaker}
 use Rattle.sqlite.specs.Held.{state}
 use Rattle.desk_schema.proofs.StaysLemmas.{asks_nothing}
@@ -140,3 +140,23 @@ pub returns-then-uses_key_table-clause-failed : goal.returns-then-uses_key_table
 returns-then-uses_key_table-clause-failed g c =
     asked_to_open g.S.Store c.args.conn.now c.check_rows.new.conn c.check_rows.result c.check_rows.ensures.asks
     c.check_rows.ensures.met
+
+-- ---- there is no desk
+
+pub returns-then-not-has_indexes-clause-no_desk : goal.returns-then-not-has_indexes-clause-no_desk
+returns-then-not-has_indexes-clause-no_desk g c clean none =
+    inl (sym (c.has_indexes.ensures ∙ ap has_all_indexes c.schema.ensures.value) ∙ c.if-not-has_indexes.true)
+
+pub returns-then-uses_key_table-clause-no_desk : goal.returns-then-uses_key_table-clause-no_desk
+returns-then-uses_key_table-clause-no_desk g c clean none =
+    inr (inl (
+      sym (c.uses_key_table.ensures ∙ ap uses_key_table c.schema-2.ensures.value) ∙ c.if-uses_key_table.true,
+      c.check_rows.ensures.no_desk clean none,
+    ))
+
+pub returns-else-uses_key_table-clause-no_desk : goal.returns-else-uses_key_table-clause-no_desk
+returns-else-uses_key_table-clause-no_desk g c clean none =
+    inr (inr (
+      sym (c.uses_key_table.ensures ∙ ap uses_key_table c.schema-2.ensures.value) ∙ c.if-uses_key_table.false,
+      c.upgrade_desk.ensures.no_desk clean none,
+    ))

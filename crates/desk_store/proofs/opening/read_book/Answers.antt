@@ -1,9 +1,13 @@
-use Rattle.std.proofs.Common.{arith}
+use Rattle.std.proofs.Common.{arith, inl, inr}
 use Rattle.sqlite.specs.Held.{state}
 use Rattle.sqlite.specs.State.{HasCleanDisk}
+use Rattle.desk_reading.specs.AllTables.{FailsAtTable}
 use Rattle.desk_store.proofs.Books.{book_fails, book_shown, book_told, may_read}
-use Rattle.desk_store.proofs.OpeningFaults.{book_is_known, book_met, failure_is_storage, opening_met, reading_is_known}
+use Rattle.desk_store.proofs.OpeningFaults.{book_is_known, book_met, failure_is_storage, no_desk_is_other, none_has, opening_met}
+use Rattle.desk_store.proofs.OpeningFaults.{reading_is_known, refused_reading}
+use Rattle.desk_store.proofs.Standing.{same_fault}
 use Rattle.desk_store.specs.Causes.{cause_of}
+use Rattle.stored_rows.specs.IsBook.{IsBookOfStored}
 use Rattle.desk_store.proofs.opening.read_book.Goals as goal
 
 pub returns-in-Ok-clause-book : goal.returns-in-Ok-clause-book
@@ -40,3 +44,13 @@ returns-in-Err-clause-met g c clean =
 pub returns-in-Ok-clause-met : goal.returns-in-Ok-clause-met
 returns-in-Ok-clause-met g c clean =
     book_met _ (state g.S.Store c.args.conn.now) (state g.S.Store c.load_stored.new.conn) c.book_of.result c.book_of.ensures.fault
+
+pub returns-in-Ok-clause-no_desk : goal.returns-in-Ok-clause-no_desk
+returns-in-Ok-clause-no_desk g c clean none =
+    inr (c.in-Ok.stored, c.in-Ok.ensures.shown clean, none_has (IsBookOfStored c.in-Ok.stored) c.book_of.result c.book_of.ensures.fault none)
+
+pub returns-in-Err-clause-no_desk : goal.returns-in-Err-clause-no_desk
+returns-in-Err-clause-no_desk g c clean none =
+    let clean_mid : HasCleanDisk (state g.S.Store c.load_stored.new.conn) = let le = c.opening_fault.ensures.asks.survives.clean in omega (arith, clean, le) in
+    inl (refused_reading c.in-Err.error (FailsAtTable g.S.Store c.args.conn.now) (inr (c.in-Err.ensures.refused clean_mid))
+    (no_desk_is_other (cause_of c.in-Err.error) c.opening_fault.result c.opening_fault.ensures.fault (same_fault _ _ none)))

@@ -77,3 +77,6 @@ pub returns-in-Err-clause-failed : goal.returns-in-Err-clause-failed
 returns-in-Err-clause-failed g c =
     opened_nothing g.S.Store c.args.conn.now c.read_first.new.conn c.in-Err.fault (leaves_nothing _ _ c.read_first.ensures.asks.survives)
     c.in-Err.ensures.met
+
+pub returns-in-Err-clause-no_desk : goal.returns-in-Err-clause-no_desk
+returns-in-Err-clause-no_desk g c clean none = c.in-Err.ensures.no_desk clean (ap (failed _) (same_fault _ _ none))

@@ -82,3 +82,6 @@ returns-in-Err-clause-failed g c = c.in-Err.ensures.failed
 
 pub returns-in-Err-clause-no_later : goal.returns-in-Err-clause-no_later
 returns-in-Err-clause-no_later g c clean none = c.in-Err.ensures.no_later clean (ap (failed (Unit {0})) none)
+
+pub returns-in-Err-clause-no_desk : goal.returns-in-Err-clause-no_desk
+returns-in-Err-clause-no_desk g c clean none = c.in-Err.ensures.no_desk clean (ap (failed (Unit {0})) none)
