@@ -5,7 +5,7 @@ HAS_RT := command -v rt >/dev/null || { echo 'desk: rt is not on PATH; the kit h
 
 PREFIX ?= /usr/local
 
-.PHONY: all bench edits first growths hostile install kills planted predicted test try
+.PHONY: all bench edits first growths hostile install instructions kills planted predicted test try
 
 all: bin/desk
 
@@ -142,5 +142,13 @@ bench:
 	@python3 bench/reports.py >> bin/PERFORMANCE.md
 	@echo 'Timing the opening of a file of format 1.'
 	@python3 bench/upgrade.py >> bin/PERFORMANCE.md
+	@echo 'Counting the instructions of a call.'
+	@python3 bench/instructions.py --into bin/PERFORMANCE.md
 	@mv bin/PERFORMANCE.md docs/PERFORMANCE.md
 	@cat docs/PERFORMANCE.md
+
+# The same figures on any machine and under any load, in two minutes.
+instructions:
+	@test -x bin/desk || { echo 'desk: there is no bin/desk; make builds it' >&2; exit 1; }
+	@echo 'Counting the instructions of a call, of the program and of C, for docs/PERFORMANCE.md.'
+	@python3 -B bench/instructions.py --into docs/PERFORMANCE.md

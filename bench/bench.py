@@ -680,7 +680,7 @@ def print_comparison(disk, memory):
 def print_page(counts, disk, memory):
     largest = max(disk.sizes)
     who = next(iter(disk.sizes[largest].seconds))
-    print("# Performance\n")
+    print("# Performance\n\n## Calls a second\n")
     say_how()
     say_syncs(counts, disk.sync)
     print_rates(disk.sizes, who)

@@ -1,0 +1,169 @@
+#!/usr/bin/env python3
+"""Counts the instructions of a call by callgrind, of bin/desk and of bench/desk.c, for a section of docs/PERFORMANCE.md.
+
+Both answer the same lines over a file of 10,000 orders of their own, kind by kind, in turns of ten calls as bench.py's;
+the first turn is not counted. An instruction is counted once however long it takes, so the figures are the same on a
+machine under any load. Copying and clearing memory is left out, as the C library does it by other instructions on other
+processors.
+
+    python3 bench/instructions.py --into FILE       writes the section below the title of the page, in the place of the one there
+    python3 bench/instructions.py --against FILE    compares the desk with the section of the page, and ends with 1 where a call
+                                                    takes a twentieth more than is written there
+"""
+
+import argparse
+import os
+import re
+import shutil
+import statistics
+import subprocess
+import sys
+import tempfile
+import textwrap
+
+from bench import CALLS, KINDS, TOP, Lines, check_replies, compiled, make_file, orders_of
+
+SIZE, TURNS = 10000, 4
+HEAD = "## Instructions of a call"
+ALLOWED = 1.05
+MEMORY = re.compile(r"mem(cpy|move|set)")
+TITLES = ("call", "desk", "C", "ratio")
+
+
+def instructions_of(path):
+    """The instructions that a dump of callgrind counts, but for those of functions that copy or clear memory."""
+    names, total, name, is_called = {}, 0, "", False
+    with open(path, encoding="utf-8", errors="replace") as dump:
+        for line in dump:
+            if line.startswith("fn="):
+                number, _, text = line[3:].strip().partition(" ")
+                name = names.setdefault(number, text)
+            elif line.startswith("calls="):
+                is_called = True
+            elif line[:1] in "0123456789+-*" and line.strip():
+                if not is_called and not MEMORY.search(name):
+                    total += int(line.split()[1])
+                is_called = False
+    return total
+
+
+class Counted:
+    """A program under callgrind, which answers lines over a file of its own."""
+
+    def __init__(self, words, folder, name):
+        self.out, self.dumps = f"{folder}/{name}.callgrind", 0
+        tool = ["valgrind", "--tool=callgrind", "-q", f"--callgrind-out-file={self.out}"]
+        self.process = subprocess.Popen([*tool, *words], stdin=subprocess.PIPE, stdout=subprocess.PIPE, text=True, bufsize=1 << 20)
+
+    def answer(self, line):
+        self.process.stdin.write(line)
+        self.process.stdin.flush()
+        return self.process.stdout.readline()
+
+    def counted(self):
+        """The instructions since this was asked last."""
+        subprocess.run(["callgrind_control", "-d", str(self.process.pid)], stdout=subprocess.DEVNULL, stderr=subprocess.DEVNULL, check=True)
+        self.dumps += 1
+        return instructions_of(f"{self.out}.{self.dumps}")
+
+    def close(self):
+        self.process.stdin.close()
+        if self.process.wait() != 0:
+            sys.exit(f"{self.process.args[-1]}: ended with status {self.process.returncode}")
+
+
+def ask(programs, lines, turn, counts):
+    """The calls of one turn, kind by kind; all but the first turn are counted."""
+    for name, line_of in KINDS:
+        asked = [line_of(lines, order) for order in orders_of(SIZE, turn)]
+        check_replies(name, [[program.answer(line) for line in asked] for program in programs.values()])
+        for who, program in programs.items():
+            count = program.counted()
+            if turn > 0:
+                counts[who].setdefault(name, []).append(count / CALLS)
+
+
+def measure(folder, with_c):
+    """The instructions of a call of each kind, the median of the turns, of each program."""
+    path = make_file(f"{folder}/orders.db", SIZE)
+    words = {"desk": [f"{TOP}/bin/desk", "batch", "--file"]}
+    in_c = compiled(folder) if with_c else None
+    if in_c:
+        words["c"] = [in_c]
+    programs = {who: Counted([*said, shutil.copyfile(path, f"{path}.{who}")], folder, who) for who, said in words.items()}
+    lines, counts = Lines(), {who: {} for who in programs}
+    first = lines.nonce()
+    check_replies("newNonce", [[program.answer(first)] for program in programs.values()])
+    for program in programs.values():
+        program.counted()
+    for turn in range(TURNS):
+        ask(programs, lines, turn, counts)
+    for program in programs.values():
+        program.close()
+    return {who: {name: statistics.median(turns) for name, turns in found.items()} for who, found in counts.items()}
+
+
+def row(*cells):
+    return "| " + " | ".join(cells) + " |"
+
+
+def section(counts):
+    """The section of docs/PERFORMANCE.md."""
+    said = (f"`make instructions` counts them by callgrind, over a file of {SIZE:,} orders: thousands of instructions, without those that copy or "
+            "clear memory. A list of work has ten items, an account ten orders and those of the calls before. They are the same on any "
+            "machine and under any load.")
+    lines = [HEAD, "", *textwrap.wrap(said, 118), "", row(*TITLES), "|" + "---|" * len(TITLES)]
+    for name, _ in KINDS:
+        desk, in_c = counts["desk"][name], counts.get("c", {}).get(name)
+        lines.append(row(name, f"{desk / 1000:.1f}", f"{in_c / 1000:.1f}" if in_c else "-", f"{desk / in_c:.2f}" if in_c else "-"))
+    return "\n".join(lines)
+
+
+def written(path):
+    """The thousands of instructions that a section has of the desk, by kinds of calls."""
+    with open(path, encoding="utf-8") as page:
+        part = page.read().partition(HEAD)[2].partition("\n## ")[0]
+    rows = (line.strip("| ").split(" | ") for line in part.split("\n") if line.startswith("| "))
+    return {cells[0]: float(cells[1]) for cells in rows if cells[0] != TITLES[0]}
+
+
+def write_into(page, counts):
+    """Puts the section below the title of the page, in the place of the one that is there."""
+    with open(page, encoding="utf-8") as file:
+        title, _, rest = file.read().partition("\n\n")
+    before, _, old = rest.partition(HEAD)
+    behind = old.partition("\n## ")
+    rest = before + (behind[1].lstrip("\n") + behind[2] if old else "")
+    with open(page, "w", encoding="utf-8") as file:
+        file.write(f"{title}\n\n{section(counts)}\n\n{rest}")
+
+
+def compare(counts, path):
+    """The lines that say which calls take more than is written."""
+    known = written(path)
+    if set(known) != {name for name, _ in KINDS}:
+        sys.exit(f"instructions: the calls in {path} are not those that are counted")
+    now = {name: count / 1000 for name, count in counts["desk"].items()}
+    return [f"{name}: {now[name]:.1f} thousand instructions, and {known[name]:.1f} are written" for name in known if now[name] > ALLOWED * known[name]]
+
+
+def main():
+    parser = argparse.ArgumentParser(description=__doc__.split("\n", maxsplit=1)[0])
+    page = parser.add_mutually_exclusive_group(required=True)
+    page.add_argument("--into", metavar="FILE")
+    page.add_argument("--against", metavar="FILE")
+    words = parser.parse_args()
+    if not shutil.which("callgrind_control"):
+        sys.exit("instructions: valgrind is missing; scripts/setup.sh installs it")
+    with tempfile.TemporaryDirectory(dir="/dev/shm" if os.path.isdir("/dev/shm") else None) as folder:
+        counts = measure(folder, with_c=words.against is None)
+    if words.against is None:
+        write_into(words.into, counts)
+        return
+    more = compare(counts, words.against)
+    print("\n".join(more + [f"{len(KINDS)} kinds of calls, {len(more)} that take more than is written"]))
+    sys.exit(1 if more else 0)
+
+
+if __name__ == "__main__":
+    main()
