@@ -5,9 +5,10 @@
   scripts/house.py serve PROGRAM     makes a desk and starts the house, says what to type, and waits for control C
   scripts/house.py clients PROGRAM   has certbot, lego and uacme get a certificate each, where they are installed
   scripts/house.py try               as run, over the crates as they are, WITHOUT PROOF (`rt try`), as each line says
-  scripts/house.py packages          says which packages are missing for the house itself, and ends with 1 where some are
+  scripts/house.py packages [MORE..] says which packages are missing for the house itself, or these programs, and ends with 1 where some are
 
-Everything is on the loopback and in a folder of its own, which is removed at the end.
+Everything is on the loopback and in a folder of its own, which is removed at the end. Where something fails, a line says what, and
+bin/house.log (of a try bin/try-house.log) has all that was said.
 """
 import contextlib
 import functools
@@ -23,7 +24,7 @@ import tempfile
 import threading
 import time
 
-from housed import House, TriedHouse, free_port
+from housed import ROOT, House, TriedHouse, free_port
 
 NAME = "web.house.test"
 # The packages of Debian that the house needs, by what is looked for in its Python.
@@ -34,19 +35,35 @@ case $1 in begin) [ "$2" = http-01 ] && printf %s "$5" > "{web}/$4" ;; esac
 """
 
 
-def say(text, before=""):
-    for line in text.splitlines():
-        print(before + line, flush=True)
+class Talk:
+    """What is said: printed line by line, each with something before it, and written to a log of bin/, which has what is only noted, too."""
 
+    def __init__(self, name, before=""):
+        os.makedirs(f"{ROOT}/bin", exist_ok=True)
+        self.before, self.log = before, f"{ROOT}/bin/{name}.log"
+        self.file = open(self.log, "w", encoding="utf-8")
 
-def say_unproved(text):
-    say(text, "UNPROVED: ")
+    def note(self, text):
+        print(text, file=self.file, flush=True)
+
+    def say(self, text):
+        self.note(text)
+        for line in text.splitlines():
+            print(self.before + line, flush=True)
+
+    def fail(self, failure):
+        """Says what failed, and gives the exit status."""
+        self.say(f"{' '.join(str(failure).split())}: the whole output is in {self.log}")
+        return 1
 
 
 def call(words, **environment):
-    """The status of a program, and its lines, standard error too."""
-    ran = subprocess.run(words, stdin=subprocess.DEVNULL, stdout=subprocess.PIPE, stderr=subprocess.STDOUT, text=True, timeout=120,
-                         env={**os.environ, **environment})
+    """The status of a program, and its lines, standard error too; a program that does not end has the status of timeout(1)."""
+    try:
+        ran = subprocess.run(words, stdin=subprocess.DEVNULL, stdout=subprocess.PIPE, stderr=subprocess.STDOUT, text=True, timeout=120,
+                             env={**os.environ, **environment})
+    except subprocess.TimeoutExpired as late:
+        return 124, [*(late.output or b"").decode(errors="replace").splitlines(), f"{words[0]} did not end in {late.timeout} s"]
     return ran.returncode, ran.stdout.splitlines()
 
 
@@ -87,48 +104,52 @@ class Files(http.server.SimpleHTTPRequestHandler):
 def is_installed(client):
     """Whether the machine has a client; where it has not, that is said."""
     if not shutil.which(client.__name__):
-        say(f"{client.__name__}: not installed")
+        print(f"{client.__name__}: not installed", flush=True)
         return False
     return True
 
 
-def certificate_by(client, house, port):
-    """Has a client get a certificate, and says in a line what came of it."""
+def failure_of(client, house, port, talk):
+    """Has a client get a certificate, says in a line what came of it, and gives what failed, if something did."""
     start = time.monotonic()
     folder = f"{house.folder}/{client.__name__}"
     os.makedirs(folder)
     words, environment, chain = client(house, folder, port)
     status, lines = call(words, **environment)
+    talk.note("\n".join(lines))
     if status:
-        house.say("\n".join([*lines, f"{client.__name__} ended with status {status}"]))
-        return False
-    took = time.monotonic() - start
+        return f"{client.__name__} ended with status {status}"
+    talk.say(f"{client.__name__}: a certificate of {NAME} after {time.monotonic() - start:.1f} s")
     status, lines = call(["openssl", "verify", "-x509_strict", "-CAfile", house.root, "-verify_hostname", NAME, chain])
-    house.say(f"{client.__name__}: a certificate of {NAME} after {took:.1f} s")
-    house.say(f"openssl: {'the chain is verified' if status == 0 else lines}")
-    return status == 0
+    talk.note("\n".join(lines))
+    if status:
+        return f"openssl does not verify the chain of {client.__name__}"
+    talk.say("openssl: the chain is verified")
+    return None
 
 
-def run(house_kind, say, *given, clients=(certbot,)):
+def run(talk, start, clients=(certbot,), last=""):
     """Starts a house, has each client get a certificate, and gives the exit status."""
     with tempfile.TemporaryDirectory(prefix="desk-house-") as folder:
         port = free_port()
-        with house_kind(*given, folder, say, web=port) as house:
-            well = all([certificate_by(client, house, port) for client in clients])
-    say("All has ended, and nothing is left." if well else "A client has no certificate.")
-    return 0 if well else 1
+        with start(folder, talk.say, web=port, errors=talk.file) as house:
+            failures = [failure for client in clients if (failure := failure_of(client, house, port, talk))]
+    if failures:
+        return talk.fail(", ".join(failures))
+    talk.say(f"All has ended, and nothing is left.{last}")
+    return 0
 
 
-def serve(program):
+def serve(talk, program):
     """Starts a house, says what to type, and waits."""
     with tempfile.TemporaryDirectory(prefix="desk-house-") as folder:
         port = free_port()
-        with House(program, folder, say, web=port, requests=True) as house:
+        with House(program, folder, talk.say, web=port, requests=True) as house:
             words, environment, _ = certbot(house, f"{folder}/certbot", port)
             before = " ".join(f"{name}={value}" for name, value in environment.items())
-            say(f"Challenges by http-01 are tried at 127.0.0.1:{port}, whatever their name. In another terminal:")
-            say(f"  {before} {shlex.join(words)}")
-            say("Control C ends it, and removes all of it.")
+            talk.say(f"Challenges by http-01 are tried at 127.0.0.1:{port}, whatever their name. In another terminal:")
+            talk.say(f"  {before} {shlex.join(words)}")
+            talk.say("Control C ends it, and removes all of it.")
             with contextlib.suppress(SystemExit):
                 signal.pause()
     return 0
@@ -139,27 +160,34 @@ def are_there(programs):
     missing = [package for module, package in PACKAGES.items() if not importlib.util.find_spec(module)]
     missing += [program for program in programs if not shutil.which(program)]
     if missing:
-        say(f"The house lacks {', '.join(missing)}; scripts/setup.sh installs them from Debian's packages.")
+        print(f"The house lacks {', '.join(missing)}; scripts/setup.sh installs them from Debian's packages.", flush=True)
     return not missing
+
+
+def do(word, given, talk):
+    """Does what a word asks for, and gives the exit status."""
+    if word == "serve":
+        return serve(talk, *given)
+    if word == "try":
+        return run(talk, functools.partial(TriedHouse, note=talk.note), last=" Nobody proved the program that ran.")
+    clients = [client for client in (certbot, lego, uacme) if is_installed(client)] if word == "clients" else (certbot,)
+    return run(talk, functools.partial(House, *given), clients)
 
 
 def main():
     word, *given = sys.argv[1:]
-    if not are_there(("openssl",) if word in ("packages", "clients") else ("openssl", "certbot")):
-        return 1
     if word == "packages":
-        return 0
+        return 0 if are_there(("openssl", *given)) else 1
+    if not are_there(("openssl",) if word == "clients" else ("openssl", "certbot")):
+        return 1
     # What ends the script ends all that it started.
     for end in (signal.SIGINT, signal.SIGTERM, signal.SIGHUP):
         signal.signal(end, lambda number, _: sys.exit(128 + number))
-    if word == "serve":
-        return serve(*given)
-    if word == "try":
-        return run(TriedHouse, say_unproved)
-    if word == "clients":
-        there = [client for client in (certbot, lego, uacme) if is_installed(client)]
-        return run(House, say, *given, clients=there)
-    return run(House, say, *given)
+    talk = Talk("try-house", "UNPROVED: ") if word == "try" else Talk("house")
+    try:
+        return do(word, given, talk)
+    except (OSError, RuntimeError, subprocess.SubprocessError) as failure:
+        return talk.fail(failure)
 
 
 if __name__ == "__main__":

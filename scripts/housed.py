@@ -1,7 +1,6 @@
 """A house around a desk, for a while: the desk served, front, validator and offices running, and all of them ended by their ids."""
 import os
 import re
-import shutil
 import socket
 import subprocess
 import sys
@@ -10,71 +9,7 @@ import time
 
 ROOT = os.path.dirname(os.path.dirname(os.path.abspath(__file__)))
 # How long a program has to say that it is there, and how long to end; how long to be compiled, and to run then, in seconds.
-PATIENCE, COMPILING, RUNNING = 20, 900, 200
-# What serves a desk that it makes in a file, with fewer crates to compile than the program `desk`.
-MAIN = """\
-//! Makes a desk in a file, and serves it.
-#![tactic(auto)]
-use connections::{bind, serve_all};
-use desk_calls::Desk;
-use desk_loading::RowsAbove;
-use desk_model::Policy;
-use desk_storage::Storage;
-use desk_store::OpenFault;
-use file_tasks::{Task, Wary, make_desk, run_over_file};
-use std::io::Write;
-use std::process::ExitCode;
-
-#[derive(Drop)]
-struct Serve<'a> {
-    rt: &'a HostRuntime,
-}
-
-#[derive(Drop)]
-struct Failed;
-
-impl From<OpenFault> for Failed {
-    fn from(_: OpenFault) -> Failed {
-        Failed
-    }
-}
-
-impl<'a> Task for Serve<'a> {
-    type Fault = Failed;
-
-    ghost does = { λ _ _ _ _ _ _ _ _ _ _ _ _. Unit {0} };
-
-    fn run<K: Storage + RowsAbove + Drop, W: Write>(&mut self, store: K, _: &mut W) -> (K, Result<u8, Failed>) {
-        let mut desk = match Desk::adopt(self.rt.alloc(), store) {
-            Ok(desk) => desk,
-            Err(unadopted) => return (unadopted.store, Err(Failed)),
-        };
-        let Ok((listener, _)) = bind(self.rt, PORT) else {
-            return (desk.into_store(), Err(Failed));
-        };
-        let outcome = match serve_all(self.rt.alloc(), self.rt, &listener, &mut desk, None, &mut self.rt.stderr()) {
-            Ok(()) => Ok(0),
-            Err(_) => Err(Failed),
-        };
-        (desk.into_store(), outcome)
-    }
-}
-
-fn main(rt: HostRuntime) -> ExitCode {
-    let Ok(Some(policy)) = Policy::new(rt.alloc(), "BASE", 3600, 604800, 2592000) else {
-        return ExitCode::from(1);
-    };
-    let (made, _) = make_desk(&rt, "ca.db", Wary, policy);
-    if made.is_err() {
-        return ExitCode::from(1);
-    }
-    let (ended, _) = run_over_file(&rt, "ca.db", Wary, Serve { rt: &rt }, &mut rt.stderr());
-    match ended {
-        Ok(status) => ExitCode::from(status),
-        Err(_) => ExitCode::from(1),
-    }
-}
-"""
+PATIENCE, COMPILING, RUNNING = 20, 1800, 300
 
 
 def free_port():
@@ -90,8 +25,8 @@ class Run:
         self.name, self.say, self.awaited, self.found = name, say, re.compile(awaited), None
         self.there = threading.Event()
         # Control C is for the script alone, which then ends what it started.
-        self.run = subprocess.Popen(words, stdin=subprocess.DEVNULL, stdout=subprocess.PIPE, stderr=subprocess.STDOUT, text=True,
-                                    process_group=0, **options)
+        self.run = subprocess.Popen(words, text=True, process_group=0, **{
+            "stdin": subprocess.DEVNULL, "stdout": subprocess.PIPE, "stderr": subprocess.STDOUT, **options})
         self.reader = threading.Thread(target=self._read, daemon=True)
         self.reader.start()
 
@@ -122,10 +57,10 @@ class Run:
 
 class House:
     """A desk of a program in a folder, and the house around it, which calls it by `called_port`; `web` and `names` are ports for
-    trials of challenges."""
+    trials of challenges, and `errors` is where the house's standard error goes."""
 
-    def __init__(self, program, folder, say, web=None, names=None, requests=False):
-        self.program, self.folder, self.say, self.runs, self.port = program, folder, say, [], free_port()
+    def __init__(self, program, folder, say, web=None, names=None, requests=False, errors=subprocess.STDOUT):
+        self.program, self.folder, self.say, self.errors, self.runs, self.port = program, folder, say, errors, [], free_port()
         self.base, self.root = f"https://localhost:{self.port}", f"{folder}/ca/root.pem"
         self.options = [f"--{name}=127.0.0.1:{port}" for name, port in (("web", web), ("names", names)) if port]
         self.options += ["--requests"] if requests else []
@@ -156,7 +91,7 @@ class House:
         """Starts the house around the desk."""
         words = [sys.executable, "-B", f"{ROOT}/examples/house/house.py", f"{self.folder}/ca", f"--desk={self.called_port}",
                  f"--port={self.port}", *self.options]
-        self.house = Run("house", words, self.say, "the front serves")
+        self.house = Run("house", words, self.say, "the front serves", stderr=self.errors)
         self.runs.append(self.house)
         self.house.wait()
 
@@ -181,34 +116,32 @@ class House:
 
 
 class TriedHouse(House):
-    """A house around a desk that nobody proved: `rt try` compiles its crates and runs them."""
+    """A house around a desk that nobody proved: `rt try` compiles the program once, and runs it twice, to make the desk and to serve it.
+    It gives what the program says when that ends, so `note` is told all of it."""
 
-    def __init__(self, folder, say, **ports):
-        super().__init__(None, folder, say, **ports)
+    def __init__(self, folder, say, note, **options):
+        super().__init__(None, folder, say, **options)
+        self.note = note
 
     def make_desk(self):
-        """Compiles what makes a desk and serves it, and waits until it does; `rt try` gives its lines when it ends."""
+        """Compiles the program, makes a desk, and waits until it is served."""
         self.desk_port = self.called_port = free_port()
-        self._write_crate()
-        self.say("The desk and its crates are compiled as they are, WITHOUT PROOF: some minutes.")
+        cases, path = f"{self.folder}/cases", f"{self.folder}/ca.db"
+        os.mkdir(cases)
+        write_case(f"{cases}/1-make", "make", path, "--base", self.base)
+        write_case(f"{cases}/2-serve", "serve", path, "--port", str(self.desk_port))
+        self.say("The program is compiled as it is, WITHOUT PROOF: some minutes.")
         start = time.monotonic()
-        self.desk = Run("rt", ["rt", "try", "--seconds", str(RUNNING)], self.say, "run=", cwd=f"{self.folder}/crates/house")
+        words = ["rt", "try", "--seconds", str(RUNNING), "--cases", cases]
+        self.desk = Run("rt", words, self.note, "case=2-serve", cwd=f"{ROOT}/crates/desk")
         self.runs.append(self.desk)
         while not self._is_there():
-            if self.desk.run.poll() is not None or time.monotonic() - start > COMPILING:
-                raise RuntimeError("the desk is not served")
+            if self.desk.run.poll() is not None:
+                raise RuntimeError("rt try ended, and served no desk")
+            if time.monotonic() - start > COMPILING:
+                raise RuntimeError(f"rt try served no desk in {COMPILING} s")
             time.sleep(0.2)
         self.say(f"A desk in a file is served, {time.monotonic() - start:.0f} s later.")
-
-    def _write_crate(self):
-        shutil.copytree(f"{ROOT}/crates", f"{self.folder}/crates", ignore=shutil.ignore_patterns("out", "must-fail"))
-        for name in ("crates.txt", "HANDLES"):
-            shutil.copyfile(f"{ROOT}/{name}", f"{self.folder}/{name}")
-        with open(f"{self.folder}/crates.txt", "a", encoding="utf-8") as crates:
-            crates.write("house: desk_model desk_storage desk_loading desk_store desk_calls file_tasks connections\n")
-        os.makedirs(f"{self.folder}/crates/house/src")
-        with open(f"{self.folder}/crates/house/src/main.rt", "w", encoding="utf-8") as program:
-            program.write(MAIN.replace("PORT", str(self.desk_port)).replace("BASE", self.base))
 
     def _is_there(self):
         try:
@@ -216,3 +149,10 @@ class TriedHouse(House):
                 return True
         except OSError:
             return False
+
+
+def write_case(path, *words):
+    """Writes a case of `rt try`: no standard input, and the words of the command line, one a line."""
+    for name, text in ((path, ""), (f"{path}.args", "".join(f"{word}\n" for word in words))):
+        with open(name, "w", encoding="utf-8") as file:
+            file.write(text)
