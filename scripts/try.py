@@ -3,7 +3,8 @@
 
   scripts/try.py     runs `rt try` on a small program over a copy of the crates: a batch, answered by a new desk over a book in memory
 
-The program `desk` itself takes more than twice as long to compile, for its database, ports and words.
+The program `desk` itself takes more than twice as long to compile, for its database, ports and words. Where something fails, a line
+says what, and bin/try.log has all that `rt try` said.
 """
 import os
 import shutil
@@ -12,7 +13,7 @@ import sys
 import tempfile
 
 ROOT = os.path.dirname(os.path.dirname(os.path.abspath(__file__)))
-CALLS = f"{ROOT}/examples/first.jsonl"
+CALLS, LOG = f"{ROOT}/examples/first.jsonl", f"{ROOT}/bin/try.log"
 MAIN = """\
 //! Answers the lines of standard input by a new desk in memory.
 #![tactic(auto)]
@@ -35,23 +36,43 @@ fn main(rt: HostRuntime) -> ExitCode {
 """
 
 
+def write_crates(room):
+    """Copies the crates into a folder, and writes the small program among them."""
+    shutil.copytree(f"{ROOT}/crates", f"{room}/crates", ignore=shutil.ignore_patterns("out", "must-fail"))
+    shutil.copyfile(f"{ROOT}/crates.txt", f"{room}/crates.txt")
+    with open(f"{room}/crates.txt", "a", encoding="utf-8") as crates:
+        crates.write("first: batches desk_calls desk_model\n")
+    os.makedirs(f"{room}/crates/first/src")
+    with open(f"{room}/crates/first/src/main.rt", "w", encoding="utf-8") as program:
+        program.write(MAIN)
+
+
+def tried():
+    """The exit status and the output of the small program; the log has what was said beside it."""
+    os.makedirs(os.path.dirname(LOG), exist_ok=True)
+    with tempfile.TemporaryDirectory(prefix="desk-try-") as room, open(CALLS, "rb") as calls, open(LOG, "wb") as log:
+        write_crates(room)
+        ran = subprocess.run(["rt", "try"], cwd=f"{room}/crates/first", stdin=calls, stdout=subprocess.PIPE, stderr=log)
+        log.write(ran.stdout)
+    return ran.returncode, ran.stdout
+
+
+def fail(what):
+    print(f"make try: {what}: the whole output is in {LOG}")
+    return 1
+
+
 def main():
     """Returns the exit status: 0 where the replies are the expected ones."""
-    with tempfile.TemporaryDirectory(prefix="desk-try-") as room:
-        shutil.copytree(f"{ROOT}/crates", f"{room}/crates", ignore=shutil.ignore_patterns("out", "must-fail"))
-        shutil.copyfile(f"{ROOT}/crates.txt", f"{room}/crates.txt")
-        with open(f"{room}/crates.txt", "a", encoding="utf-8") as crates:
-            crates.write("first: batches desk_calls desk_model\n")
-        os.makedirs(f"{room}/crates/first/src")
-        with open(f"{room}/crates/first/src/main.rt", "w", encoding="utf-8") as program:
-            program.write(MAIN)
-        with open(CALLS, "rb") as calls:
-            ran = subprocess.run(["rt", "try"], cwd=f"{room}/crates/first", stdin=calls, stdout=subprocess.PIPE)
-    sys.stdout.buffer.write(ran.stdout)
+    status, replies = tried()
+    if status:
+        return fail(f"rt try ended with status {status}")
     with open(CALLS.replace(".jsonl", ".expected"), "rb") as expected:
-        well = ran.stdout == expected.read()
-    print("The replies are the expected ones." if well else "The replies are not those of examples/first.expected.")
-    return 0 if well and not ran.returncode else 1
+        if replies != expected.read():
+            return fail("the replies are not those of examples/first.expected")
+    sys.stdout.buffer.write(replies)
+    print("The replies are the expected ones. Nobody proved the crates that gave them.")
+    return 0
 
 
 if __name__ == "__main__":
