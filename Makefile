@@ -4,6 +4,8 @@ SOURCES := crates.txt $(shell find crates -name out -prune -o -type f -print)
 HAS_RT := command -v rt >/dev/null || { echo 'desk: rt is not on PATH; the kit has it at /usr/local/bin/rt' >&2; exit 1; }
 
 PREFIX ?= /usr/local
+# What has blocks of commands with what they print.
+DOCUMENTS := README.md $(wildcard docs/*.md)
 
 .PHONY: all bench edits first growths hostile install instructions kills planted predicted test try
 
@@ -54,6 +56,8 @@ test: edits
 	@python3 -B scripts/files.py bin/desk
 	@echo 'Comparing random batches with a model of the specification, 40 of them (make predicted: 100).'
 	@python3 -B scripts/predicted.py bin/desk --batches 40
+	@echo 'Running the commands that documents show, and comparing what they print.'
+	@python3 -B scripts/readme.py run bin/desk $(DOCUMENTS)
 	@echo "Trying the operator's words: reports, whole and stopped after each line, and revocations."
 	@python3 -B scripts/words.py bin/desk
 	@echo 'Stopping the program at each write to a file, the upgrade of a file too, and failing each call to the disk once, where it serves, too, and counting syncs.'
@@ -113,6 +117,8 @@ try-house:
 house-test:
 	@$(HAS_DESK)
 	@! $(HOUSE) packages || /usr/bin/python3 -B scripts/house_test.py bin/desk
+	@if $(HOUSE) packages certbot; then set -o pipefail; $(HOUSE) run bin/desk | tee bin/house.said && \
+		python3 -B scripts/readme.py said 'make house' bin/house.said $(DOCUMENTS); fi
 	@if command -v systemd-analyze >/dev/null && command -v nft >/dev/null; then echo 'Verifying the units, as make install-house installs them.'; \
 		rm -rf bin/root && $(MAKE) --silent install-house PREFIX=$(CURDIR)/bin/root >/dev/null && \
 		systemd-analyze verify --man=no bin/root/lib/systemd/system/*.service && rm -rf bin/root; fi
