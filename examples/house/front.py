@@ -4,42 +4,55 @@ import json
 import re
 import ssl
 import sys
+import threading
+import time
 
-from desk import Reply
+from bounded import Reader
+from desk import Down, Reply
+from payloads import looked_at
 from signatures import Jws, Refused
+from worker import log, log_fault
 
-# The bytes of a body, at most, and those that are read of one that is larger.
-BODY, MOST = 65536, 2**20
-# How long a client may be silent, and after how long one that waits asks again, in seconds.
-SILENCE, WAIT = 20, 1
+# The bytes of a body, at most; those that are read of one that is larger, and of a whole request.
+BODY, MOST, REQUEST = 65536, 2**19, 2**20
+# How long a client may be silent, and its whole request may take; after how long one that waits asks again, in seconds.
+SILENCE, WHOLE, WAIT, WAIT_DOWN = 20, 40, 1, 10
+# The connections at one time; one more waits to be taken. Suites of TLS 1.2 with a key of the session's own, and no CBC.
+CONNECTIONS, SUITES = 128, "ECDHE+AESGCM:ECDHE+CHACHA20"
 
 
 class Front(http.server.BaseHTTPRequestHandler):
     """Answers one request of a client, and closes the connection."""
 
     protocol_version = "HTTP/1.1"
-    timeout = SILENCE
-    # Who has work once this request was answered.
-    worker = None
+    # What wakes the office that has work once this request was answered.
+    wake = None
+
+    def setup(self):
+        super().setup()
+        self.rfile = Reader(self.connection, time.monotonic() + WHOLE, REQUEST).makefile()
 
     def relay(self):
         """Answers by the desk's reply, or refuses; then wakes the office that has work now."""
-        try:
-            reply = self._answer()
-        except OSError:
-            self.send_error(503, "the desk does not answer")
-            return
+        self.close_connection = True
+        reply = self._answer()
+        self.connection.settimeout(SILENCE)
         self._send(reply)
-        if self.worker:
-            self.worker.wake()
+        if self.wake:
+            self.wake()
 
     do_GET = do_HEAD = do_POST = do_PUT = do_DELETE = do_PATCH = do_OPTIONS = relay
 
     def _answer(self):
         try:
-            return self._hand_on()
-        except Refused as refused:
-            return self._refusal(refused)
+            try:
+                return self._hand_on()
+            except Refused as refused:
+                # With a fresh nonce for the next request.
+                return problem(refused, self.server.desk.call("HEAD", "/new-nonce").fields)
+        except Down as down:
+            log(str(down))
+            return problem(Refused("serverInternal", "the desk does not answer", 503), [("Retry-After", str(WAIT_DOWN)), ("Connection", "close")])
 
     def _hand_on(self):
         # A connection that is closed with bytes unread may lose the reply: the body comes first.
@@ -64,15 +77,14 @@ class Front(http.server.BaseHTTPRequestHandler):
     def _envelope(self, jws):
         """What the desk reads of a signed request, once its signature was checked."""
         url = self.server.desk.base + self.path
-        jwk = self._key(jws.header)
-        jws.check(url, jwk)
-        payload = key_change(jws, url) if self.path == "/key-change" else jws.payload
+        key, spelling = jws.check(url, self._key(jws.header))
+        payload = looked_at(self.path, jws, url, key)
         if payload and self.path.startswith("/chall/"):
-            self.worker = self.server.validator
+            self.wake = self.server.wake_validator
         elif payload and self.path.endswith("/finalize"):
-            self.worker = self.server.office
+            self.wake = self.server.wake_office
         nonce = {"nonce": jws.header["nonce"]} if "nonce" in jws.header else {}
-        return json.dumps({"jwk": jwk, "payload": payload, **nonce}).encode()
+        return json.dumps({"jwk": spelling, "payload": payload, **nonce}).encode()
 
     def _key(self, header):
         """The key that a request is to be signed by: the one that a newAccount shows, else that of the account it names."""
@@ -80,18 +92,11 @@ class Front(http.server.BaseHTTPRequestHandler):
             raise Refused("malformed", "the request is to have a jwk or a kid, by its path")
         if "jwk" in header:
             return header["jwk"]
-        account = re.fullmatch(re.escape(self.server.desk.base) + "/account/([1-9][0-9]{0,18})", str(header["kid"]))
+        account = re.fullmatch(re.escape(self.server.desk.base) + "/account/([1-9][0-9]{0,18})", header["kid"])
         found = self.server.desk.call("GET", f"/office/key/{account[1]}") if account else None
         if not found or found.status != 200:
             raise Refused("accountDoesNotExist", "the kid names no account")
         return json.loads(found.body)
-
-    def _refusal(self, refused):
-        """A refusal of the front's own, with the fields of a fresh nonce for the next request."""
-        fresh = self.server.desk.call("HEAD", "/new-nonce")
-        body = json.dumps(refused.document).encode()
-        kind = [("Content-Type", "application/problem+json"), ("Content-Length", str(len(body)))]
-        return Reply(refused.status, fresh.fields + kind, body)
 
     def _send(self, reply):
         """The desk's reply, with `Date` (by send_response) and, for what is not done yet, `Retry-After`."""
@@ -105,33 +110,40 @@ class Front(http.server.BaseHTTPRequestHandler):
             self.wfile.write(reply.body)
 
     def log_message(self, form, *words):
-        if self.server.log:
-            self.server.log(form % words)
+        if self.server.says_requests:
+            log(f"{self.client_address[0]} {form % words}")
 
 
-def key_change(jws, url):
-    """The desk's payload for a key change: the inner JWS, checked by the new key that it shows (RFC 8555, 7.3.5)."""
-    inner = Jws(jws.payload)
-    if "nonce" in inner.header or "jwk" not in inner.header:
-        raise Refused("malformed", "the inner JWS is to have a jwk, and no nonce")
-    inner.check(url, inner.header["jwk"])
-    try:
-        asked = json.loads(inner.payload)
-        return json.dumps({"account": asked["account"], "oldKey": asked["oldKey"], "newKey": inner.header["jwk"]})
-    except (ValueError, KeyError, TypeError):
-        raise Refused("malformed", "the inner payload is to name an account and its old key") from None
+def problem(refused, fields):
+    """A refusal of the front's own, behind these fields."""
+    body = json.dumps(refused.document).encode()
+    kind = [("Content-Type", "application/problem+json"), ("Content-Length", str(len(body)))]
+    return Reply(refused.status, fields + kind, body)
 
 
 class Server(http.server.ThreadingHTTPServer):
-    """A port with TLS; each connection has a thread of its own, its handshake too."""
+    """A port with TLS; each connection has a thread of its own, its handshake too, and waits where there are many."""
 
-    request_queue_size = 128
+    request_queue_size = CONNECTIONS
 
-    def __init__(self, address, certificate, desk, validator, office, log):
+    def __init__(self, address, certificate, desk, wake_validator, wake_office, says_requests):
         self.tls = ssl.create_default_context(ssl.Purpose.CLIENT_AUTH)
         self.tls.load_cert_chain(certificate)
-        self.desk, self.validator, self.office, self.log = desk, validator, office, log
+        self.tls.set_ciphers(SUITES)
+        self.desk, self.wake_validator, self.wake_office, self.says_requests = desk, wake_validator, wake_office, says_requests
+        self.room = threading.Semaphore(CONNECTIONS)
         super().__init__(address, Front)
+
+    def process_request(self, request, client_address):
+        """Takes no further connection before one has ended, where there are as many as may be."""
+        self.room.acquire()
+        super().process_request(request, client_address)
+
+    def process_request_thread(self, request, client_address):
+        try:
+            super().process_request_thread(request, client_address)
+        finally:
+            self.room.release()
 
     def finish_request(self, request, client_address):
         request.settimeout(SILENCE)
@@ -141,4 +153,4 @@ class Server(http.server.ThreadingHTTPServer):
     def handle_error(self, request, client_address):
         """A client that is gone, or speaks no TLS, is nobody's fault; all else is shown."""
         if not isinstance(sys.exc_info()[1], OSError):
-            super().handle_error(request, client_address)
+            log_fault(f"{client_address[0]}: a request that was not answered")

@@ -1,43 +1,34 @@
 """The validator: tries challenges over the network, and reports what it found (RFC 8555, 8.3 and 8.4)."""
-import base64
 import http.client
 import json
-import socket
+import math
 import time
-import urllib.request
 from concurrent.futures import ThreadPoolExecutor
 
 import dns.exception
 import dns.resolver
 
-# How long a try may take; the pauses before each try; the bytes of a response that are looked at.
-TIMEOUT, PAUSES, BYTES = 5, (0, 1, 2), 4096
+from addresses import is_name
+from bounded import left
+from fetch import Network
+from keys import encoded
+from worker import log, log_fault
 
-
-def reaching(address):
-    """What opens a URL: the host that it names, or for trials one address and port whatever it names. No proxy is asked."""
-
-    class Connection(http.client.HTTPConnection):
-        def connect(self):
-            self.sock = socket.create_connection(address or (self.host, self.port), self.timeout)
-
-    class Handler(urllib.request.HTTPHandler):
-        def http_open(self, request):
-            return self.do_open(Connection, request)
-
-    return urllib.request.build_opener(Handler, urllib.request.ProxyHandler({}))
+# How long a try may take in all, and the pauses before each; the challenges that are tried side by side.
+TIMEOUT, PAUSES, SIDE_BY_SIDE = 10, (0, 1, 2), 32
+# The TXT records that are reported, and the characters of each: one that fits has 43.
+RECORDS, CHARACTERS = 64, 255
 
 
 class Validator:
     """Tries challenges, some side by side."""
 
-    def __init__(self, desk, log, web=None, names=None):
-        self.desk, self.log, self.opener = desk, log, reaching(web)
-        self.resolver = dns.resolver.Resolver(configure=not names)
-        self.resolver.lifetime = TIMEOUT
+    def __init__(self, desk, web=None, names=None, allow_private=False):
+        self.desk, self.resolver = desk, dns.resolver.Resolver(configure=not names)
         if names:
             self.resolver.nameservers, self.resolver.port = [names[0]], names[1]
-        self.pool, self.taken = ThreadPoolExecutor(8), set()
+        self.network = Network(self.resolver, web, allow_private)
+        self.pool, self.taken = ThreadPoolExecutor(SIDE_BY_SIDE), set()
 
     def work(self):
         """Takes each challenge that is to be tried and that nobody tries yet."""
@@ -47,39 +38,41 @@ class Validator:
                 self.pool.submit(self._try, challenge)
 
     def _try(self, challenge):
-        number, kind = challenge["challenge"], challenge["type"]
-        try:
-            found = self._find(self._look_http if kind == "http-01" else self._look_dns, challenge)
-            reply = self.desk.call("POST", f"/office/report/{number}", json.dumps(found).encode())
-            self.log(f"challenge {number}, {kind} of {challenge['name']}: {json.loads(reply.body)['status']}")
-        finally:
-            self.taken.discard(number)
+        """Tries a challenge, and reports what is found, however long the desk is down."""
+        number, found = challenge["challenge"], json.dumps(self._find(challenge)).encode()
+        reply = self.desk.call("POST", f"/office/report/{number}", found, math.inf)
+        self.taken.discard(number)
+        log(f"challenge {number}, {challenge['type']} of {challenge['name']}: {json.loads(reply.body)['status']}")
 
-    def _find(self, look, challenge):
-        """What is found at once, or a little later where there is nothing."""
+    def _find(self, challenge):
+        """What is found at once, or a little later where there is nothing; whatever fails is a report."""
+        look = self._look_http if challenge["type"] == "http-01" else self._look_dns
         for pause in PAUSES:
             time.sleep(pause)
-            found = look(challenge)
+            try:
+                found = look(challenge, time.monotonic() + TIMEOUT)
+            except Exception:
+                log_fault(f"challenge {challenge['challenge']} of {challenge['name']}")
+                return {"error": "connection"}
             if "error" not in found:
                 break
         return found
 
-    def _look_http(self, challenge):
-        """The body at the well-known URL; redirects are followed."""
-        url = f"http://{challenge['name']}/.well-known/acme-challenge/{challenge['token']}"
+    def _look_http(self, challenge, end):
+        """The body at the well-known URL."""
         try:
-            with self.opener.open(url, timeout=TIMEOUT) as response:
-                body = response.read(BYTES)
-        except urllib.error.HTTPError:
-            body = b""
-        except (OSError, http.client.HTTPException):
+            body = self.network.fetch(f"http://{challenge['name']}/.well-known/acme-challenge/{challenge['token']}", end)
+        except (OSError, http.client.HTTPException) as why:
+            log(f"challenge {challenge['challenge']}: {why}")
             return {"error": "connection"}
-        return {"body": base64.urlsafe_b64encode(body).rstrip(b"=").decode()}
+        return {"body": encoded(body)}
 
-    def _look_dns(self, challenge):
+    def _look_dns(self, challenge, end):
         """The TXT records of the name; aliases are followed."""
         try:
-            answer = self.resolver.resolve(f"_acme-challenge.{challenge['name']}", "TXT")
+            if not is_name(challenge["name"]):
+                return {"error": "dns"}
+            answer = self.resolver.resolve(f"_acme-challenge.{challenge['name']}", "TXT", lifetime=left(end))
         except dns.exception.DNSException:
             return {"error": "dns"}
-        return {"records": [b"".join(record.strings).decode("latin-1") for record in answer]}
+        return {"records": [b"".join(record.strings)[:CHARACTERS].decode("latin-1") for record in answer][:RECORDS]}

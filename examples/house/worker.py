@@ -1,0 +1,60 @@
+"""What the processes of the house share: lines for a log, and work that somebody else wakes."""
+import contextlib
+import os
+import socket
+import threading
+import traceback
+
+# How long after a fault its work is tried again, in seconds.
+AGAIN = 5
+
+
+def log(text):
+    """Prints one line, of characters that no terminal acts upon."""
+    print("".join(letter if " " <= letter <= "~" else ascii(letter)[1:-1] for letter in text), flush=True)
+
+
+def log_fault(what):
+    """Prints what failed, and where."""
+    for line in (what, *traceback.format_exc().splitlines()):
+        log(line)
+
+
+def notify(path, text=b"!"):
+    """Sends a datagram to a socket; where nobody listens nothing is done, since who starts asks for work anyway."""
+    with contextlib.suppress(OSError), socket.socket(socket.AF_UNIX, socket.SOCK_DGRAM) as sender:
+        sender.setblocking(False)
+        sender.sendto(text, path)
+
+
+class Worker(threading.Thread):
+    """Does its work at the start, since an earlier life may have left some, whenever it is woken, and again after a fault."""
+
+    def __init__(self, work):
+        super().__init__(daemon=True)
+        self.work, self.called = work, threading.Event()
+        self.wake = self.called.set
+        self.wake()
+        self.start()
+
+    def run(self):
+        pause = None
+        while True:
+            self.called.wait(pause)
+            self.called.clear()
+            try:
+                self.work()
+                pause = None
+            except Exception:
+                log_fault("work that is tried again")
+                pause = AGAIN
+
+    def wait_at(self, path):
+        """Wakes the work at each datagram to a socket, which the group of the process may send to."""
+        with socket.socket(socket.AF_UNIX, socket.SOCK_DGRAM) as waked:
+            waked.bind(path)
+            os.chmod(path, 0o660)
+            notify(os.environ.get("NOTIFY_SOCKET", ""), b"READY=1")
+            while True:
+                waked.recv(1)
+                self.wake()
