@@ -82,14 +82,19 @@ growths hostile kills predicted:
 	@python3 -B scripts/$@.py bin/desk
 	@! [ $@ = growths ] || python3 -B scripts/library_growths.py
 
-# The program, its manual page from its own help, and a unit for systemd.
+# The program, its manual page from its own help, and for systemd its unit, the socket in front of it, and the users.
+UNITS = $(DESTDIR)$(PREFIX)/lib/systemd/system
 install:
 	@test -x bin/desk || { echo 'desk: there is no bin/desk; make builds it' >&2; exit 1; }
 	@python3 -B scripts/manual.py bin/desk > bin/desk.1
-	@sed 's|@PREFIX@|$(PREFIX)|' packaging/desk.service > bin/desk.service
+	@for unit in desk.service desk-proxy.service desk-proxy.socket; do sed 's|@PREFIX@|$(PREFIX)|' packaging/$$unit > bin/$$unit; done
 	install -D -m 755 bin/desk $(DESTDIR)$(PREFIX)/bin/desk
 	install -D -m 644 bin/desk.1 $(DESTDIR)$(PREFIX)/share/man/man1/desk.1
-	install -D -m 644 bin/desk.service $(DESTDIR)$(PREFIX)/lib/systemd/system/desk.service
+	install -D -m 644 packaging/desk.sysusers $(DESTDIR)$(PREFIX)/lib/sysusers.d/desk.conf
+	install -d $(UNITS)
+	install -m 644 bin/desk.service bin/desk-proxy.service bin/desk-proxy.socket $(UNITS)
+	@echo 'Whoever reaches the port of the desk is trusted. The units keep it behind /run/desk/socket, for the group desk-house alone;'
+	@echo 'by `desk serve` without them it is open to every user of this machine, and while it is stopped any of them may take it.'
 
 # ---- The house around a desk (docs/HOUSE.md), over Debian's packages and their Python.
 HOUSE := /usr/bin/python3 -B scripts/house.py
@@ -116,21 +121,18 @@ try-house:
 
 house-test:
 	@$(HAS_DESK)
-	@! $(HOUSE) packages || /usr/bin/python3 -B scripts/house_test.py bin/desk
+	@! $(HOUSE) packages || { /usr/bin/python3 -B scripts/house_test.py bin/desk && /usr/bin/python3 -B scripts/house_attacks.py bin/desk && \
+		/usr/bin/python3 -B scripts/house_signatures.py bin/desk; }
+	@/usr/bin/python3 -B scripts/house_units.py bin/desk
 	@if $(HOUSE) packages certbot; then set -o pipefail; $(HOUSE) run bin/desk | tee bin/house.said && \
 		python3 -B scripts/readme.py said 'make house' bin/house.said $(DOCUMENTS); fi
-	@if command -v systemd-analyze >/dev/null && command -v nft >/dev/null; then echo 'Verifying the units, as make install-house installs them.'; \
-		rm -rf bin/root && $(MAKE) --silent install-house PREFIX=$(CURDIR)/bin/root >/dev/null && \
-		systemd-analyze verify --man=no bin/root/lib/systemd/system/*.service && rm -rf bin/root; fi
 
-# Beside the program and its unit: the users, the rule for the desk's port, the house and its unit.
+# Beside the program and its units: the house and the units of its three parts.
 install-house: install
 	install -d $(DESTDIR)$(PREFIX)/share/desk/house
 	install -m 644 examples/house/*.py $(DESTDIR)$(PREFIX)/share/desk/house
-	install -D -m 644 packaging/desk.nft $(DESTDIR)$(PREFIX)/share/desk/desk.nft
-	install -D -m 644 packaging/desk.sysusers $(DESTDIR)$(PREFIX)/lib/sysusers.d/desk.conf
-	@for unit in desk-port desk-house; do sed 's|@PREFIX@|$(PREFIX)|' packaging/$$unit.service > bin/$$unit.service; done
-	install -m 644 bin/desk-port.service bin/desk-house.service $(DESTDIR)$(PREFIX)/lib/systemd/system
+	@for part in front validator office; do sed 's|@PREFIX@|$(PREFIX)|' packaging/desk-$$part.service > bin/desk-$$part.service; done
+	install -m 644 bin/desk-front.service bin/desk-validator.service bin/desk-office.service $(UNITS)
 
 planted:
 	@$(HAS_RT)

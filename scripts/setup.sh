@@ -2,7 +2,8 @@
 # Installs from Debian's packages what `make test` and the house need beside the kit; as root, or by sudo. It may be run again.
 set -euo pipefail
 
-packages=(make gcc libc6-dev libsqlite3-dev sqlite3 valgrind openssl curl certbot python3-acme python3-josepy python3-cryptography python3-dnspython)
+packages=(make gcc libc6-dev libsqlite3-dev sqlite3 valgrind systemd openssl curl certbot
+    python3-acme python3-josepy python3-cryptography python3-dnspython)
 missing=()
 for package in "${packages[@]}"; do
     [ "$(dpkg-query --show --showformat='${db:Status-Status}' "$package" 2>/dev/null)" = installed ] || missing+=("$package")

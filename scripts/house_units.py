@@ -1,0 +1,268 @@
+#!/usr/bin/python3
+"""Tries the units of desk and house as `make install-house` installs them: scripts/house_units.py PROGRAM
+
+systemd-analyze verifies them, and says how much each is exposed. Then, for root where the kernel allows it, systemd is started in name
+spaces of its own, over this machine's files and without its network: there the units run, a client gets a certificate by them, and users
+of that machine attack the desk's port and socket. All of it ends with the script; nothing of this machine is changed.
+"""
+import contextlib
+import http.server
+import json
+import os
+import shutil
+import socketserver
+import subprocess
+import sys
+import tempfile
+import threading
+import time
+import traceback
+
+from housed import ROOT
+from trying import faults, see
+
+# The exposure that systemd-analyze may find, in tenths; how long systemd and what is asked of it may take, in seconds.
+EXPOSURE = {"desk": 10, "desk-proxy": 10, "desk-office": 10, "desk-validator": 15, "desk-front": 20}
+PATIENCE = 60
+SPACES = "--mount", "--pid", "--net", "--uts", "--ipc", "--cgroup"
+PYTHON, TRIAL = "/usr/bin/python3", "/usr/local/share/desk/trial"
+# Makes the root of a machine from this one's files and what is installed, in a mount name space of its own, and starts systemd there.
+BOOT = r"""
+set -e
+mount --make-rprivate /
+mount -t tmpfs tmpfs "$1"
+mkdir "$1/upper" "$1/work" "$1/root"
+mount -t overlay overlay -o "lowerdir=/,upperdir=$1/upper,workdir=$1/work" "$1/root"
+cp -a "$2/." "$1/root/"
+cd "$1/root"
+mount -t proc proc proc
+mount -t sysfs sysfs sys
+mount -t cgroup2 cgroup2 sys/fs/cgroup
+mount -t tmpfs tmpfs dev -o mode=755
+for device in null zero full random urandom tty; do touch "dev/$device"; mount --bind "/dev/$device" "dev/$device"; done
+mkdir dev/pts dev/shm
+mount -t devpts devpts dev/pts -o newinstance,ptmxmode=0666
+ln -s pts/ptmx dev/ptmx
+for folder in dev/shm run tmp; do mount -t tmpfs tmpfs "$folder" -o mode=1777; done
+chmod 755 run
+rm -rf etc/systemd/system/*.wants
+: > etc/machine-id
+mkdir -p before
+pivot_root . before
+exec chroot . sh -c 'umount -l before; rmdir before; mount --make-rshared /
+    exec env -i container=trial PATH=/usr/sbin:/usr/bin:/sbin:/bin /lib/systemd/systemd --unit=basic.target'
+"""
+
+
+def installed(program, tree):
+    """Installs all below a folder, as for a machine of its own, and gives what the install says."""
+    if os.path.realpath(program) != f"{ROOT}/bin/desk":
+        sys.exit("the units are tried with bin/desk")
+    return subprocess.run(["make", "--silent", "install-house", f"DESTDIR={tree}"], cwd=ROOT, stdout=subprocess.PIPE, text=True, check=True).stdout
+
+
+def verify(tree):
+    """What systemd-analyze says of the units."""
+    units = f"{tree}/usr/local/lib/systemd/system"
+    # The programs of the units are looked for in this machine's root: those that are installed below the folder are there by their paths.
+    copies = tempfile.mkdtemp(dir=tree)
+    for name in os.listdir(units):
+        with open(f"{units}/{name}", encoding="utf-8") as unit, open(f"{copies}/{name}", "w", encoding="utf-8") as copy:
+            copy.write(unit.read().replace("/usr/local/bin/desk", f"{tree}/usr/local/bin/desk"))
+    ran = subprocess.run(["systemd-analyze", "verify", "--man=no", *(f"{copies}/{name}" for name in os.listdir(copies))],
+                         stdout=subprocess.PIPE, stderr=subprocess.STDOUT, text=True)
+    see("systemd-analyze verify", (ran.returncode, ran.stdout), (0, ""))
+    for name, most in EXPOSURE.items():
+        words = ["systemd-analyze", "security", "--offline=yes", "--no-pager", f"--threshold={most}", f"{copies}/{name}.service"]
+        ran = subprocess.run(words, stdout=subprocess.PIPE, stderr=subprocess.STDOUT, text=True)
+        see(f"systemd-analyze security {name}", (ran.returncode, ran.stdout.splitlines()[-1:] if ran.returncode else []), (0, []))
+    shutil.rmtree(copies)
+
+
+class NoMachine(Exception):
+    """Why systemd can not be started here."""
+
+
+class Machine:
+    """systemd in name spaces of its own, over this machine's files and a tree of what is installed."""
+
+    def __init__(self, tree):
+        if os.getuid() or not shutil.which("unshare") or not shutil.which("nsenter"):
+            raise NoMachine("that takes root, unshare and nsenter")
+        mounts = [line.split() for line in open("/proc/self/mounts", encoding="utf-8")]
+        groups = [words[1] for words in mounts if words[2] == "cgroup2"]
+        if not groups:
+            raise NoMachine("there is no cgroup2")
+        self.group, self.room = f"{groups[0]}/desk-house-{os.getpid()}", tempfile.mkdtemp(prefix="desk-machine-")
+        os.mkdir(self.group)
+        words = ["setpriv", "--pdeathsig=KILL", "unshare", "--fork", "--kill-child", *SPACES, "sh", "-c", BOOT, "boot", self.room, tree]
+        join = f"echo $$ > {self.group}/cgroup.procs && exec \"$@\""
+        self.log = open(f"{self.room}.log", "w+b")
+        self.run = subprocess.Popen(["sh", "-c", join, "join", *words], stdin=subprocess.DEVNULL, stdout=self.log, stderr=subprocess.STDOUT)
+
+    def first(self):
+        """The number of the process that is the first of the machine."""
+        with open(f"/proc/{self.run.pid}/task/{self.run.pid}/children", encoding="utf-8") as children:
+            return children.read().split()[0]
+
+    def started(self):
+        """Waits until systemd answers."""
+        end = time.monotonic() + PATIENCE
+        while self.run.poll() is None and time.monotonic() < end:
+            with contextlib.suppress(OSError, IndexError):
+                if self.call("systemctl", "is-system-running")[1].strip() in ("running", "degraded"):
+                    return
+            time.sleep(0.3)
+        self.log.seek(0)
+        raise NoMachine(f"systemd did not start: {self.log.read().decode(errors='replace')[-300:]}")
+
+    def call(self, *words, user=None):
+        """The status and the output of a program on the machine, of root or of another user with the group of his unit."""
+        group = "nogroup" if user == "nobody" else "desk-house"
+        as_user = ["setpriv", f"--reuid={user}", f"--regid={group}", "--clear-groups"] if user else []
+        ran = subprocess.run(["nsenter", f"--target={self.first()}", *SPACES, "--root", "--wd", *as_user, *words],
+                             stdin=subprocess.DEVNULL, stdout=subprocess.PIPE, stderr=subprocess.STDOUT, text=True, timeout=PATIENCE * 2)
+        return ran.returncode, ran.stdout
+
+    def stop(self):
+        """Ends the first process, and by it all of the machine."""
+        with contextlib.suppress(OSError, IndexError):
+            os.kill(int(self.first()), 9)
+        self.run.kill()
+        self.run.wait()
+        self.log.close()
+        os.unlink(f"{self.room}.log")
+        os.rmdir(self.room)
+        for folder, _, _ in os.walk(self.group, topdown=False):
+            for _ in range(50):
+                with contextlib.suppress(OSError):
+                    os.rmdir(folder)
+                    break
+                time.sleep(0.1)
+
+
+def well(machine, *words, **given):
+    status, said = machine.call(*words, **given)
+    see(" ".join(words), (status, said if status else ""), (0, ""))
+    return said
+
+
+def see_state(machine, name, wanted):
+    """Waits until a unit is in a state, and notes where it does not come to it."""
+    end = time.monotonic() + PATIENCE
+    while (found := machine.call("systemctl", "is-active", name)[1].strip()) != wanted and time.monotonic() < end:
+        time.sleep(0.5)
+    see(f"the state of {name}", found, wanted)
+
+
+def prepare(machine):
+    """The steps of docs/HOUSE.md, with the names of the machine answered at an address that is not loopback's."""
+    well(machine, "systemd-sysusers")
+    well(machine, "install", "-d", "-o", "desk", "-g", "desk", "-m", "700", "/var/lib/desk")
+    well(machine, "systemctl", "start", "desk")
+    see_state(machine, "desk", "inactive")
+    well(machine, "setpriv", "--reuid=desk", "--regid=desk", "--clear-groups", "desk", "make", "/var/lib/desk/desk.db", "--base", "https://localhost")
+    well(machine, "sh", "-c", "echo BASE=https://localhost > /etc/default/desk-house; rm -f /etc/resolv.conf; echo nameserver 10.8.5.55 > /etc/resolv.conf; "
+                              "ip addr add 10.8.5.55/32 dev lo; ip link set lo up")
+    well(machine, "systemctl", "start", "desk-proxy.socket", "desk", "desk-office", "desk-validator", "desk-front")
+    for name in ("desk", "desk-office", "desk-validator", "desk-front", "desk-proxy"):
+        see_state(machine, name, "active")
+
+
+def attack(machine):
+    """What users of the machine try at the desk's port and socket, and how the units stand what happens to them."""
+    for user in ("nobody", "desk-front", None):
+        said = machine.call(PYTHON, "-c", "import socket; socket.create_connection(('127.0.0.1', 8555))", user=user)[1]
+        see(f"{user or 'root'} at port 8555", "ConnectionRefusedError" in said, True)
+    reach = "import socket; socket.socket(socket.AF_UNIX).connect('/run/desk/socket')"
+    see("nobody at the socket", "PermissionError" in machine.call(PYTHON, "-c", reach, user="nobody")[1], True)
+    see("the validator at the socket", machine.call(PYTHON, "-c", reach, user="desk-validator")[0], 0)
+    for path, user in (("/run/desk/socket", "nobody"), ("/run/desk/socket", "desk-front"), ("/run/desk/other", "desk-front")):
+        words = f"import os, socket; os.path.exists('{path}') and os.unlink('{path}'); socket.socket(socket.AF_UNIX).bind('{path}')"
+        see(f"{user} puts a socket at {path}", "PermissionError" in machine.call(PYTHON, "-c", words, user=user)[1], True)
+    see("the key of the root for the front", machine.call("cat", "/var/lib/desk-office/root.key", user="desk-front")[0], 1)
+    see("the file of the desk for the office", machine.call("cat", "/var/lib/desk/desk.db", user="desk-office")[0], 1)
+    well(machine, PYTHON, "-B", f"{TRIAL}/house_units.py", "client")
+    well(machine, "systemctl", "kill", "--signal=KILL", "desk")
+    # The unit keeps the validator from the loopback where its own option lets it go there.
+    well(machine, "sh", "-c", "echo VALIDATOR=--allow-private >> /etc/default/desk-house; systemctl restart desk-validator")
+    see_state(machine, "desk", "active")
+    well(machine, PYTHON, "-B", f"{TRIAL}/house_units.py", "client")
+    well(machine, "mv", "/var/lib/desk-office/root.pem", "/root")
+    machine.call("systemctl", "restart", "desk-office")
+    see_state(machine, "desk-office", "failed")
+    said = machine.call("systemctl", "show", "--property=ActiveState,ExecMainStatus", "desk-office")[1].split()
+    see("an office without its certificate", sorted(said), ["ActiveState=failed", f"ExecMainStatus={os.EX_CONFIG}"])
+
+
+def client():
+    """On the machine: a certificate by dns-01, while somebody else listens at port 8555; and a name that leads to its loopback, where
+    the right answer is."""
+    import dns.message
+    import dns.rrset
+    import house_client
+    import house_test
+
+    class Names(house_client.NamesHandler):
+        def handle(self):
+            asked = dns.message.from_wire(self.request[0])
+            if asked.question[0].rdtype != 1:
+                return super().handle()
+            reply = dns.message.make_response(asked)
+            reply.answer.append(dns.rrset.from_text(asked.question[0].name, 60, "IN", "A", "127.0.0.1"))
+            return self.request[1].sendto(reply.to_wire(), self.client_address)
+
+    names = socketserver.ThreadingUDPServer(("10.8.5.55", 53), Names)
+    names.texts = {}
+    threading.Thread(target=names.serve_forever, daemon=True).start()
+    taken, web = (http.server.ThreadingHTTPServer(("127.0.0.1", port), house_client.WebHandler) for port in (8555, 80))
+    web.bodies = {}
+    threading.Thread(target=web.serve_forever, daemon=True).start()
+    house = type("House", (), {"base": "https://localhost", "root": "/var/lib/desk-office/root.pem", "folder": "/tmp"})
+    trial = house_test.Trial(house, None, names)
+    trial.web = web
+    trial.certified(*trial.ordered("a.house.test", kind="dns-01"), ["a.house.test"])
+    order = json.loads(trial.client.order("inside.house.test").body)
+    found = trial.answer(order["authorizations"][0], "http-01")
+    see("a name that leads into the machine", found["challenges"][0]["error"]["type"], "urn:ietf:params:acme:error:connection")
+    taken.server_close()
+    faults.extend(house_test.faults)
+    print("\n".join(faults))
+    return 1 if faults else 0
+
+
+def main():
+    if sys.argv[1:] == ["client"]:
+        return client()
+    if not shutil.which("systemd-analyze"):
+        sys.exit("systemd-analyze is missing: scripts/setup.sh installs it, by Debian's package systemd.")
+    with tempfile.TemporaryDirectory(prefix="desk-units-") as tree:
+        os.chmod(tree, 0o755)
+        said = installed(sys.argv[1], tree)
+        see("what the install says of the port", "open to every user" in said, True)
+        verify(tree)
+        shutil.copytree(f"{ROOT}/scripts", f"{tree}{TRIAL}", ignore=shutil.ignore_patterns("__pycache__"))
+        try:
+            machine = Machine(tree)
+        except (NoMachine, OSError) as why:
+            print(f"units: verified; they were not run: {why}")
+        else:
+            try:
+                machine.started()
+                prepare(machine)
+                attack(machine)
+                if faults:
+                    print(machine.call("journalctl", "--no-pager", "--lines=80")[1])
+                print("units: verified, and run by a systemd of their own")
+            except NoMachine as why:
+                print(f"units: verified; they were not run: {why}")
+            except Exception:
+                faults.append(traceback.format_exc())
+            finally:
+                machine.stop()
+    print("\n".join(faults + [f"units: {len(faults)} not as they should be."]))
+    return 1 if faults else 0
+
+
+if __name__ == "__main__":
+    sys.exit(main())
