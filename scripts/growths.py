@@ -5,13 +5,16 @@ Each kind of request is made to `serve` again and again, while its first growth 
 request ends without one; once that growth alone, once that growth and all after it. The reply is the one with ample memory,
 refusal 15 without a nonce, or nothing; the tables are those before the request or those after it: the latter, where the reply
 is the one with ample memory. The next request is served, or the program ended by a fault that closes the desk, and a new one
-serves over its file. The same request, sent again with memory, has the reply that it would have had.
+serves over its file; a request that records nothing never closes it. The same request, sent again with memory, has the reply that it
+would have had.
 
 Each growth of a `batch` of one call over a file is refused likewise from the first read of its input on (growths_of_batches.py),
 and each growth of one without calls from the program's start on, over a desk with rows of each kind and over files of format 1,
 which their opening makes format 2. It ends as with ample memory, or by fault 20 or 22 and with status 1; the tables are those
-before the call or those after it, and `check` finds no fault. Where fault 20 left those before it, the same batch, run again with
-memory, ends as with ample memory. A batch of several calls ends with that call not made, or with its line not printed. A moment
+before the call or those after it, and `check` finds no fault. Fault 22 comes only where the batch commits something, of growths that
+come one after the other, behind all with fault 20 that left the tables before and before all that left those after; and with all
+after it refused, too, only where it comes of that growth alone, or none does. Where fault 20 left those before it, the same batch,
+run again with memory, ends as with ample memory. A batch of several calls ends with that call not made, or with its line not printed. A moment
 above the limit takes no more memory over a desk with many rows than over one with few.
 
 With a step only each N-th growth is refused, and of the batches without calls each N * N-th.
@@ -25,9 +28,11 @@ import tempfile
 from functools import partial
 
 from growths_of_batches import ALL, Growths, batches, tell
-from served import DIRECTORY, NEW_NONCE, Client, Reply, Server, refusal, signed
+from served import DIRECTORY, NEW_NONCE, Client, Reply, Server, refusal, request, signed
 from trying import BASE, KEY, finish, fresh, library, order_of, see, side_by_side, tables_of, workspace
 
+# A request that reads rows and records nothing.
+CHALLENGE_WORK = request("GET", "/office/challenges")
 # The ends of the program that a refused growth may bring, by their line on standard error.
 CLOSED = (b"desk: fault 22 reopen\n", b"desk: fault 21 device\n")
 
@@ -52,10 +57,12 @@ class Kind:
     """A kind of request: the status of its reply, and how the counters move."""
 
     def __init__(self, name, status, moves):
-        self.name, self.status, self.moves = name, status, moves
+        self.name, self.status, self.moves, self.records = name, status, moves, any(moves)
 
     def is_after(self, before, after):
-        """Whether the tables have the request's entries."""
+        """Whether the tables have the request's entries, if it has some."""
+        if not self.records:
+            return False
         moved = tuple(new - old for old, new in zip(counters(before), counters(after)))
         finalized = count_processing(after) - count_processing(before)
         changed = (finalized, has_other_key(before, after))
@@ -63,6 +70,7 @@ class Kind:
 
 
 KINDS = [
+    Kind("challenge work", 200, (0, 0, 0, 0, 0)),
     Kind("newNonce", 204, (1, 0, 0, 0, 0)),
     Kind("newAccount", 201, (1, 1, 0, 0, 0)),
     Kind("keyChange", 200, (1, 0, 0, 0, 0)),
@@ -88,6 +96,8 @@ class Tries:
     def prepared(self, kind):
         """The bytes of a request of a kind, which would be accepted."""
         self.client.fetch()
+        if kind.name == "challenge work":
+            return CHALLENGE_WORK
         if kind.name == "newNonce":
             return NEW_NONCE
         self.prepared_count += 1
@@ -120,6 +130,7 @@ class Tries:
         self.count, refused = self.growths.counted()
         said = f"{kind.name} without growth {first}{' and those after it' if last == ALL else ''}"
         ended = self.closed(said)
+        see(f"{said}: closed by a request that records nothing", ended and not kind.records, False)
         after = tables_of(self.server.path, self.folder)
         is_after = kind.is_after(before, after)
         see(f"{said}: the tables before or after", before == after or is_after, True)
@@ -138,7 +149,7 @@ class Tries:
         after = tables_of(self.server.path, self.folder)
         has_entries = not is_after or kind.name == "newNonce"
         came = (found.status, bool(found.field("Replay-Nonce")), kind.is_after(before, after))
-        see(f"{said}: made again", came, (kind.status if has_entries else 400, True, has_entries))
+        see(f"{said}: made again", came, (kind.status if has_entries else 400, kind.records, kind.records and has_entries))
 
     def taken(self, kind):
         """Takes down what an accepted request did."""
@@ -155,7 +166,7 @@ class Tries:
             return "15, closed" if ended else "15, recorded" if is_after else "15"
         found = Reply(came)
         came_whole = (found.status, bool(found.field("Replay-Nonce")), is_after, ended)
-        see(f"{said}: the reply", came_whole, (kind.status, True, True, False))
+        see(f"{said}: the reply", came_whole, (kind.status, kind.records, kind.records, False))
         return "the reply"
 
     def is_served(self):

@@ -10,9 +10,9 @@ from stops import SCENARIOS, Desk, Whole, first_calls, shared_end
 from trying import checked, copy, run, see, tables_of, terms_of
 
 ALL = 2**62
-# How a batch ends where a growth was refused, by its line on standard error.
+# How a batch ends where a growth was refused, by its line on standard error: beside a commit, and in one.
 MEMORY = b"desk: fault 20 memory\n"
-REFUSED = (MEMORY, b"desk: fault 22 reopen\n")
+REOPEN = b"desk: fault 22 reopen\n"
 # A moment that is above the limit.
 LATE = 250000000001
 
@@ -45,10 +45,26 @@ def tell(said, alone, came):
     see(f"{said}: growths refused", len(came) > 0, True)
 
 
+def is_of_commit(what):
+    """Whether a growth was refused to a commit, which closes the desk."""
+    return "fault 22" in what
+
+
+def place_of(what):
+    """Where the growth of a fault was refused: before the commit, in it, or behind it."""
+    return 1 if is_of_commit(what) else 2 if what.endswith("recorded") else 0
+
+
 def look_at_order(said, came):
-    """What was recorded in spite of a fault was refused a growth behind the commit: those come last, and not first."""
-    recorded = [what.endswith("recorded") for what in came if what != HARMLESS]
-    see(f"{said}: first what is not recorded", (recorded[:1], recorded == sorted(recorded)), ([False], True))
+    """What closed the desk was refused a growth in the commit, and what was recorded without that one behind it: they come in turn."""
+    places = [place_of(what) for what in came if what != HARMLESS]
+    see(f"{said}: first what is not recorded, then the commit", (places[:1], places == sorted(places)), ([0], True))
+
+
+def look_at_commits(said, alone, all_after):
+    """With all that come after it refused, too, a growth closes the desk only where it does so alone or does no harm alone."""
+    other = [at for at, what in all_after.items() if is_of_commit(what) and not (is_of_commit(alone[at]) or alone[at] == HARMLESS)]
+    see(f"{said}: growths that close the desk beside a commit", other, [])
 
 
 class Batch:
@@ -73,16 +89,26 @@ class Batch:
     def refuse(self, step):
         """Refuses each growth in turn, alone or with those after it."""
         self.check()
+        came_of = {}
         for alone in (True, False):
-            came = []
+            came = {}
             for first in range(1, ALL, step):
                 ran, count, refused = self.run(first, first if alone else ALL)
                 if not refused:
                     see(f"{self.whole.name}: no growth refused", ran, self.whole.ran)
                     break
-                came.append(self.outcome(f"{self.whole.name} without growth {first}{'' if alone else ' and those after it'}", ran))
-            tell(f"{self.whole.name}, a batch with {count} growths", alone, came)
-            look_at_order(self.whole.name, came)
+                came[first] = self.outcome(f"{self.whole.name} without growth {first}{'' if alone else ' and those after it'}", ran)
+            tell(f"{self.whole.name}, a batch with {count} growths", alone, list(came.values()))
+            self.look_at_order(list(came.values()))
+            came_of[alone] = came
+        look_at_commits(self.whole.name, came_of[True], came_of[False])
+
+    def look_at_order(self, came):
+        look_at_order(self.whole.name, came)
+
+    def faults(self):
+        """The ends that a refused growth may bring: one that closes the desk only where the batch commits something."""
+        return (MEMORY,) if self.whole.before == self.whole.after else (MEMORY, REOPEN)
 
     def outcome(self, said, ran):
         """How the batch ended; the tables are those before it or after it, and it is run again where fault 20 left those before."""
@@ -95,7 +121,7 @@ class Batch:
         if ran == self.whole.ran:
             return HARMLESS
         status, out, errors = ran
-        see(f"{said}: its end {ran!r}", status == 1 and out in (b"", self.whole.reply) and errors in REFUSED, True)
+        see(f"{said}: its end {ran!r}", status == 1 and out in (b"", self.whole.reply) and errors in self.faults(), True)
         return errors.decode()[6:-1] + (", recorded" if left == self.whole.after != self.whole.before else "")
 
 
@@ -115,14 +141,20 @@ class Run(Batch):
     def outcome(self, said, ran):
         """What is answered is a beginning, and of the rest one call at most was made; without that the rest is answered in a run again."""
         answered = ran[1].count(b"\n")
-        see(f"{said}: its end {ran!r}", ran == self.whole.ran or ran[0] == 1 and ran[2] in REFUSED, True)
+        see(f"{said}: its end {ran!r}", ran == self.whole.ran or ran[0] == 1 and ran[2] in self.faults(), True)
         see(f"{said}: what is answered", ran[1], b"".join(self.replies[:answered]))
         left = self.whole.left()
         see(f"{said}: the calls that were made", left in self.stages[answered:answered + 2], True)
         if left == self.stages[answered]:
             rest = run(*self.whole.words, given=b"".join(self.calls[answered:]))
             see(f"{said}: the rest", (rest, self.whole.left()), ((0, b"".join(self.replies[answered:]), b""), self.whole.after))
-        return f"{answered} answered"
+        return f"{answered} answered{', fault 22' if ran[2] == REOPEN else ''}"
+
+    def look_at_order(self, came):
+        """Of the growths with as many answers, those of the commit come one after the other."""
+        for answered in {what.split()[0] for what in came}:
+            closed = [is_of_commit(what) for what in came if what.split()[0] == answered]
+            see(f"{self.whole.name}: one commit behind {answered} answers", "".join("01"[is_closed] for is_closed in closed).strip("0").count("0"), 0)
 
 
 def last_report(at):

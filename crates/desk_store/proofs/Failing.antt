@@ -41,7 +41,7 @@ nothing_then old mid new one next = record {
 
 -- ---- saving
 
--- a save that failed, and the test whether the connection still answers
+-- a save that failed, and the test whether the connection is still open
 pub failed_to_save : {S : Type 0} (g : Ghosts S) (Fits : Type 0) (all : List Sql) (old mid new : Held S) (refusal : SaveFault) (why : StorageFault)
     → IsOfSave refusal why → IsCause g Fits all old mid refusal → (IsBeforeCommit refusal → Survives (state g old) (state g mid) (λ _. ⊥))
     → Asks (state g mid) (state g new) → FailedToSave g Fits all old new why

@@ -6,5 +6,6 @@ pub mod Knowing
 pub mod NewDesks
 pub mod OpeningFaults
 pub mod SavedDesks
+pub mod Silence
 pub mod Standing
 pub mod Upgrading

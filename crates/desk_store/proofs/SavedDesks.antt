@@ -98,7 +98,7 @@ module _ {S : Type 0} (g : Ghosts S) (part : Option Tables) where
     without_memory = tt;
   }
 
-  -- a save that failed, and the test whether the connection still answers
+  -- a save that failed, and the test whether the connection is still open
   pub saves_err : (changes : List Change) (old new : Store S) (mid : State) (why : StorageFault) (cause : SaveFault)
       → ((T : Tables) → IsKnownOf new.known T) → mid.in_transaction ≡ false
       → Survives (state g old.conn) mid (IsLeft (Puts part changes (state g old.conn).now)) → (HasCleanDisk mid → GoesBack (state g old.conn) mid)

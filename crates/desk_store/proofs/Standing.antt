@@ -116,7 +116,7 @@ module _ {S : Type 0} (g : Ghosts S) where
     };
   }
 
-  -- a call that failed; the connection of a store that goes on still answered
+  -- a call that failed; the connection of a store that goes on is still open
   pub reads_err : {R : Type 0} (old new : Store S) (mid : State) (why : StorageFault) → old.known ≡ new.known → Asks (state g old.conn) mid
       → Asks mid (state g new.conn)
       → (HasCleanDisk (state g new.conn) → why ≡ fault.Memory → IsUnchanged mid (state g new.conn)) → Reads (store_sight g) old new (failed R why)

@@ -2,7 +2,7 @@
 use Rattle.std.specs.Prelude.{◌≡◌, ◌⊎◌, List, false, Option, None, Some}
 use Rattle.sqlite_disk.specs.Disk.{MoreFaults}
 use Rattle.sqlite.specs.Held.{Held, state}
-use Rattle.sqlite.specs.State.{State, HasCleanDisk}
+use Rattle.sqlite.specs.State.{State, Fails, HasCleanDisk}
 use Rattle.sqlite.specs.Store.{Ghosts}
 use Rattle.sqlite.specs.Tree.{Trees}
 use Rattle.sqlite.specs.declared.error.Error.{Error}
@@ -37,9 +37,13 @@ cause_of (SqliteFailure code.DiskFull) = cause.Device
 cause_of (SqliteFailure code.TooBig) = cause.Device
 cause_of _ = cause.Other
 
--- out of memory, the store goes on if its connection still answers
+-- out of memory, the store goes on if its connection is still open
 abbrev pub IsOfMemory : StorageFault → Type 0
 IsOfMemory f = (f ≡ fault.Memory) ⊎ (f ≡ fault.Reopen)
+
+-- asked whether a word is a statement, which it tells without memory where it is open, the connection failed
+abbrev pub IsSilent : State → State → Type 0
+IsSilent old new = (e : Error) × Fails old new ⊥ e
 
 -- the fault of a statement that failed
 abbrev pub IsOfStatement : Cause → StorageFault → Type 0

@@ -1,3 +1,4 @@
+pub mod Asked
 pub mod Causes
 pub mod Desks
 pub mod Known

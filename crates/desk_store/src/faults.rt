@@ -1,16 +1,17 @@
 //! Why a call of the store fails.
-ghost use Rattle.std.specs.Prelude.{◌≡◌, IsTrue};
+ghost use Rattle.std.specs.Prelude.{◌≡◌, false, IsTrue};
 ghost use Rattle.sqlite.specs.State.{HasCleanDisk, IsUnchanged};
 ghost use Rattle.sqlite.specs.Held.{state};
 ghost use Rattle.desk_saving.specs.Committing.{IsBeforeCommit};
 ghost use Rattle.desk_schema.specs.Stays.{Asks};
-ghost use Rattle.desk_storage.specs.declared.fault.StorageFault.TheVariants.{Memory as memory};
-ghost use Rattle.desk_store.specs.Causes.{IsOfMemory, IsOfReading, IsOfSave, IsOfStatement, cause_of, commit_fault};
+ghost use Rattle.desk_storage.specs.declared.fault.StorageFault.TheVariants.{Memory as memory, Reopen as reopen};
+ghost use Rattle.desk_store.specs.Asked.{tells_open};
+ghost use Rattle.desk_store.specs.Causes.{IsOfMemory, IsOfReading, IsOfSave, IsOfStatement, IsSilent, cause_of, commit_fault};
 
 use desk_reading::ReadFault;
 use desk_saving::SaveFault;
 use desk_storage::StorageFault;
-use sqlite::{Alter, Connection, Error, ErrorCode};
+use sqlite::{Alter, Connection, Error, ErrorCode, Statement};
 use written_rows::WriteFault;
 
 /// What an error of the engine comes from.
@@ -42,21 +43,32 @@ pub fn cause_of(error: Error) -> Cause
     }
 }
 
-// Whether the connection still answers, since it compiles a statement.
+// Whether the connection is open, since it says that a word is no statement. The engine says so only once it looked that it is
+// open, and takes no memory for it.
 fn is_answering<S: Alter>(conn: &mut Connection<S>) -> bool
     ensures unchanged { HasCleanDisk (state S.Store conn.new) → IsTrue result → IsUnchanged (state S.Store conn.old) (state S.Store conn.new) }
+    ensures silent { HasCleanDisk (state S.Store conn.new) → result ≡ false → IsSilent (state S.Store conn.old) (state S.Store conn.new) }
     ensures asks { Asks (state S.Store conn.old) (state S.Store conn.new) }
 {
-    match conn.prepare("SELECT 1") {
+    tells_open(conn.prepare("ANSWER"))
+}
+
+// Whether what came of a text that is no statement tells that the connection is open.
+fn tells_open(came: Result<Statement, Error>) -> bool
+    ensures { result ≡ tells_open came }
+{
+    match came {
         Ok(_) => true,
+        Err(Error::SqlInputError(_)) => true,
         Err(_) => false,
     }
 }
 
-/// The fault where memory ran out: the store goes on where its connection still answers.
+/// The fault where memory ran out: the store goes on where its connection is still open.
 pub(crate) fn memory_fault<S: Alter>(conn: &mut Connection<S>) -> StorageFault
     ensures fault { IsOfMemory result }
     ensures unchanged { HasCleanDisk (state S.Store conn.new) → result ≡ memory → IsUnchanged (state S.Store conn.old) (state S.Store conn.new) }
+    ensures silent { HasCleanDisk (state S.Store conn.new) → result ≡ reopen → IsSilent (state S.Store conn.old) (state S.Store conn.new) }
     ensures asks { Asks (state S.Store conn.old) (state S.Store conn.new) }
 {
     if is_answering(conn) {
@@ -70,6 +82,7 @@ pub(crate) fn memory_fault<S: Alter>(conn: &mut Connection<S>) -> StorageFault
 pub(crate) fn statement_fault<S: Alter>(conn: &mut Connection<S>, error: Error) -> StorageFault
     ensures fault { IsOfStatement (cause_of error) result }
     ensures unchanged { HasCleanDisk (state S.Store conn.new) → result ≡ memory → IsUnchanged (state S.Store conn.old) (state S.Store conn.new) }
+    ensures silent { HasCleanDisk (state S.Store conn.new) → result ≡ reopen → IsSilent (state S.Store conn.old) (state S.Store conn.new) }
     ensures asks { Asks (state S.Store conn.old) (state S.Store conn.new) }
 {
     match cause_of(error) {
@@ -93,6 +106,8 @@ pub(crate) fn saving_fault<S: Alter>(conn: &mut Connection<S>, fault: SaveFault)
     ensures fault { IsOfSave fault result }
     ensures early { result ≡ memory → IsBeforeCommit fault }
     ensures unchanged { HasCleanDisk (state S.Store conn.new) → result ≡ memory → IsUnchanged (state S.Store conn.old) (state S.Store conn.new) }
+    ensures silent { HasCleanDisk (state S.Store conn.new) → result ≡ reopen → IsBeforeCommit fault
+        → IsSilent (state S.Store conn.old) (state S.Store conn.new) }
     ensures asks { Asks (state S.Store conn.old) (state S.Store conn.new) }
 {
     match fault {
@@ -107,6 +122,7 @@ pub(crate) fn saving_fault<S: Alter>(conn: &mut Connection<S>, fault: SaveFault)
 pub(crate) fn reading_fault<S: Alter>(conn: &mut Connection<S>, fault: ReadFault) -> StorageFault
     ensures fault { IsOfReading fault result }
     ensures unchanged { HasCleanDisk (state S.Store conn.new) → result ≡ memory → IsUnchanged (state S.Store conn.old) (state S.Store conn.new) }
+    ensures silent { HasCleanDisk (state S.Store conn.new) → result ≡ reopen → IsSilent (state S.Store conn.old) (state S.Store conn.new) }
     ensures asks { Asks (state S.Store conn.old) (state S.Store conn.new) }
 {
     match fault {

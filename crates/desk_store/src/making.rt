@@ -20,7 +20,7 @@ use std::alloc::Global;
 ///
 /// # Errors
 ///
-/// `Memory`, where a growth was refused and the connection still answers: it has what it had. `Device` or `Reopen`
+/// `Memory`, where a growth was refused and the connection is still open: it has what it had. `Device` or `Reopen`
 /// otherwise: a stop leaves what it left before, or the new desk.
 pub(crate) fn make_desk<S: Alter>(
     alloc: Global,
