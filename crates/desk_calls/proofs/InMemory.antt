@@ -1,5 +1,5 @@
 -- A store in memory is never out of reach.
-use Rattle.std.proofs.Common.{refl, sym, ◌∙◌, Err}
+use Rattle.std.proofs.Common.{refl, sym, ◌∙◌, Err, inl}
 use Rattle.desk_model.specs.Tables.{Tables}
 use Rattle.desk_model.specs.declared.call.Call.{Call}
 use Rattle.desk_storage.specs.InMemory.{in_memory}
@@ -17,6 +17,7 @@ only_memory call old new cause l =
         left = l.reads.left;
         tables = tt;
         without_memory = λ is h T held. sym (l.reads.left h new refl) ∙ held;
+        failed = λ h T held. inl refl;
       };
       part = λ h. tt;
     }

@@ -4,7 +4,7 @@ use Rattle.std.specs.Prelude.{option_to_list}
 use Rattle.std.specs.Option.{MatchOption}
 use Rattle.std.proofs.lemmas.Result.{on_ok_weaker}
 use Rattle.desk_laws.specs.Placing.{puts}
-use Rattle.desk_loading.specs.Finding.{Finds}
+use Rattle.desk_loading.specs.Finding.{Finds, LacksMemory}
 use Rattle.desk_loading.proofs.Gathered.{put_if_found}
 use Rattle.desk_loading.proofs.Readings.{reads_failing, reads_found, reads_then, stands_read}
 use Rattle.desk_model.specs.Tables.{Tables}
@@ -68,10 +68,10 @@ module _ {S C : Type 0} {v : Sight S C} where
   pub finds_put : {V X B : Type 0} {old new : S} (number : X → ℕ) (items : V → List X) (rows_of : Tables → List X) (rows later : List X)
       (looked : Result V StorageFault) (r : Result B StorageFault) →
       Reads v old new looked → ForTables v old new (λ T. IfOk looked (λ vs. items vs ≡ rows_of T)) →
-      IfOk looked (λ vs. OnOk r (later ≡ puts number (items vs) rows)) → IfErr looked (λ why. r ≡ Err why) →
+      IfOk looked (λ vs. OnOk r (later ≡ puts number (items vs) rows)) → IfOk looked (λ _. IfErr r LacksMemory) → IfErr looked (λ why. r ≡ Err why) →
       Finds v old new r (λ T. later ≡ puts number (rows_of T) rows)
-  finds_put number items rows_of rows later looked r read are put_now passed = record {
-    reads = reads_found looked r read passed;
+  finds_put number items rows_of rows later looked r read are put_now lacks passed = record {
+    reads = reads_found looked r read lacks passed;
     found = λ honest T held. put_if_found number items looked r (rows_of T) rows later put_now passed (are honest T held);
   }
 

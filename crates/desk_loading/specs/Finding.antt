@@ -5,7 +5,12 @@ use Rattle.desk_model.specs.declared.rows.AuthorizationRow.{AuthorizationRow}
 use Rattle.desk_parts.specs.IsEnough.{has_work}
 use Rattle.desk_storage.specs.Sight.{ForTables, Reads, Sight}
 use Rattle.desk_storage.specs.declared.fault.StorageFault.{StorageFault}
+use Rattle.desk_storage.specs.declared.fault.StorageFault.TheVariants as fault
 use Rattle.desk_loading.specs.declared.touched.Rows.{Rows}
+
+-- a growth was refused
+abbrev pub LacksMemory : StorageFault → Type 0
+LacksMemory why = why ≡ fault.Memory
 
 module _ {S C : Type 0} (v : Sight S C) where
   -- a call that looked things up, after which this is so of what it found

@@ -2,7 +2,7 @@
 ghost use Rattle.std.specs.Prelude.{◌≡◌, ◌∷◌, [], Err, IfErr, IfOk, OnOk, option_map};
 ghost use Rattle.std.specs.List.{filter, flat_map};
 ghost use Rattle.desk_laws.specs.Placing.{puts};
-ghost use Rattle.desk_loading.specs.Finding.{Finds};
+ghost use Rattle.desk_loading.specs.Finding.{Finds, LacksMemory};
 ghost use Rattle.desk_model.specs.Name.{same_name};
 ghost use Rattle.desk_parts.specs.Loaded.{authorizations_asked_of, authorizations_for};
 
@@ -34,6 +34,7 @@ fn put_same(
     name: &DnsName,
 ) -> Result<(), StorageFault>
     ensures put { IfOk found (λ rows. OnOk result (table.new ≡ puts (λ r. r.number) (filter (λ r. same_name r.name name.now) rows.items) table.old)) }
+    ensures lacks { IfOk found (λ rows. IfErr result LacksMemory) }
     ensures fails { IfErr found (λ fault. result ≡ Err fault) }
 {
     for row in found? {

@@ -1,9 +1,9 @@
 //! A book in memory as a source of rows.
-ghost use Rattle.std.specs.Prelude.{◌≡◌, ◌==◌, ◌&&◌, ◌++◌, [], ◌∷◌, ℕ, Bool, true, List, nat_lt, bytes_eq, map, filter, IfOk, OnOk};
+ghost use Rattle.std.specs.Prelude.{◌≡◌, ◌==◌, ◌&&◌, ◌++◌, [], ◌∷◌, ℕ, Bool, true, List, nat_lt, bytes_eq, map, filter, IfErr, IfOk, OnOk};
 ghost use Rattle.std.specs.List.{flat_map};
 ghost use Rattle.desk_model.specs.Derived.{authz_code, order_code};
 ghost use Rattle.desk_model.specs.Order.{is_processing};
-ghost use Rattle.desk_loading.specs.Finding.{working};
+ghost use Rattle.desk_loading.specs.Finding.{LacksMemory, working};
 ghost use Rattle.desk_parts.specs.IsEnough.{has_work as has_some};
 
 use crate::look_ups::LookUps;
@@ -41,7 +41,8 @@ fn rows_where<R: Row + Drop, Q: RowTest<R>>(
     table: &Table<R>,
     test: &Q,
 ) -> Result<Vec<R>, StorageFault>
-    ensures { IfOk result (λ rows. rows.items ≡ filter (Q.passed test.now) table.now) }
+    ensures found { IfOk result (λ rows. rows.items ≡ filter (Q.passed test.now) table.now) }
+    ensures lacks { IfErr result LacksMemory }
 {
     let mut rows = Vec::new(alloc);
     for row in table.iter() {
@@ -195,7 +196,8 @@ fn holders<R: Holder + Drop>(
     table: &Table<R>,
     part: u64,
 ) -> Result<Vec<u64>, StorageFault>
-    ensures { IfOk result (λ numbers. numbers.items ≡ flat_map (λ row. R.held row part) table.now) }
+    ensures found { IfOk result (λ numbers. numbers.items ≡ flat_map (λ row. R.held row part) table.now) }
+    ensures lacks { IfErr result LacksMemory }
 {
     let mut numbers = Vec::new(alloc);
     for row in table.iter() {
@@ -228,7 +230,8 @@ fn push_working(numbers: &mut Vec<u64>, row: &AuthorizationRow) -> Result<(), Al
 
 // The numbers of the authorizations of which a challenge waits for the validator.
 fn all_working(alloc: Global, table: &Table<AuthorizationRow>) -> Result<Vec<u64>, StorageFault>
-    ensures { IfOk result (λ numbers. numbers.items ≡ flat_map working table.now) }
+    ensures found { IfOk result (λ numbers. numbers.items ≡ flat_map working table.now) }
+    ensures lacks { IfErr result LacksMemory }
 {
     let mut numbers = Vec::new(alloc);
     for row in table.iter() {

@@ -45,6 +45,7 @@ sight_within part has_in v = record {
   holds = Keeps v;
   leaves = λ s b. v.leaves s (part b);
   has = has_in;
+  fails = v.fails;
 }
 
 -- the files have these tables, in either format

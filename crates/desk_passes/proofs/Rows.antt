@@ -27,6 +27,18 @@ first_is_above number n x (y ∷ ys) e = by (ltb n (number y)) refl (first_is_ab
     by true more later is = let same : y ≡ x = cc is in subst (λ z. n < number z) same (ltb-true n (number y) more)
     by false less later is = later is
 
+-- two rows are not one
+never_two : {X : Type 0} (y : X) (before : List X) (x : X) (zs : List X) → y ∷ (before ++ x ∷ []) ≡ first_of zs → ⊥
+never_two y before x [] e = absurd (cc e)
+never_two y [] x (z ∷ zs) e = absurd (cc e)
+never_two y (b ∷ before) x (z ∷ zs) e = absurd (cc e)
+
+-- nor is the last of those that are the first above a number at or below it
+pub last_is_above : {X : Type 0} (number : X → ℕ) (n : ℕ) (before : List X) (x : X) (xs : List X) → before ++ x ∷ [] ≡ first_of (above number n xs)
+    → n < number x
+last_is_above number n [] x xs e = first_is_above number n x xs (sym e)
+last_is_above number n (y ∷ before) x xs e = absurd (never_two y before x (above number n xs) e)
+
 -- where rows ascend, those above a number are the first of them and those above its number
 pub above_step : {X : Type 0} (number : X → ℕ) (n m : ℕ) (x : X) (xs : List X) → Ascends number m xs → first_of (above number n xs) ≡ x ∷ [] →
     above number n xs ≡ x ∷ above number (number x) xs

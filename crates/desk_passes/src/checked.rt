@@ -73,6 +73,7 @@ fn check_first<R: Faulty + Drop>(
     ensures steps { IfOk found (λ rows. (all : List R) (least : ℕ) → Ascends R.number least all → rows.items ≡ first_of (rows_above R.number above all)
         → IfOk result (λ checked. Steps checked (λ n. flat_map (R.faults moment) (rows_above R.number n all)) above)) }
     ensures onward { IfOk result (λ checked. IfSome checked (λ c. above < c.number)) }
+    ensures orderly { IfOk found (λ rows. (all : List R) → rows.items ≡ first_of (rows_above R.number above all) → IfErr result (λ why. ⊥)) }
     ensures fails { IfErr found (λ why. result ≡ Err why) }
 {
     let Some(row) = first_above(found, above)? else {
@@ -117,6 +118,7 @@ fn order_fault_by(
 ) -> Result<Option<StatusFault>, StorageFault>
     ensures fault { IfOk statuses (λ read. IfOk result (λ fault. (rows : List Authorization) → stored_statuses rows (numbers_of row.now.listed) ≡ read.items
         → listed_fault fault ≡ order_faults moment rows row.now)) }
+    ensures told { IfOk statuses (λ read. IfErr result (λ why. ⊥)) }
     ensures fails { IfErr statuses (λ why. result ≡ Err why) }
 {
     Ok(order_fault(moment, row, &statuses?))

@@ -1,6 +1,6 @@
 //! The first of the rows above a number.
 ghost use Rattle.std.specs.Prelude.{◌≡◌, ◌<◌, List, Err, IfErr, IfOk, OnSome, IfSome};
-ghost use Rattle.desk_parts.specs.Above.{first_of};
+ghost use Rattle.desk_parts.specs.Above.{above as rows_above, first_of};
 ghost use Rattle.desk_passes.specs.Stepping.{IsFirst};
 
 use desk_book::Row;
@@ -17,6 +17,7 @@ pub(crate) fn first_above<R: Row + Drop>(
 ) -> Result<Option<R>, StorageFault>
     ensures first { IfOk found (λ rows. IfOk result (λ row. (all : List R) → rows.items ≡ first_of all → IsFirst row all)) }
     ensures onward { IfOk result (λ row. IfSome row (λ r. above < R.number r)) }
+    ensures orderly { IfOk found (λ rows. (all : List R) → rows.items ≡ first_of (rows_above R.number above all) → IfErr result (λ why. ⊥)) }
     ensures fails { IfErr found (λ fault. result ≡ Err fault) }
 {
     let mut rows = found?;

@@ -1,5 +1,5 @@
 -- What may be said of what keeps the tables of a desk: rows in memory, or a file behind a disk.
-use Rattle.std.specs.Prelude.{◌≡◌, Result, Err, OnOk, IfErr}
+use Rattle.std.specs.Prelude.{◌≡◌, ◌⊎◌, Result, Err, OnOk, IfErr}
 use Rattle.desk_model.specs.Tables.{Tables}
 use Rattle.desk_storage.specs.declared.fault.StorageFault.{StorageFault}
 use Rattle.desk_storage.specs.declared.fault.StorageFault.TheVariants as fault
@@ -14,6 +14,8 @@ pub record Sight (S C : Type 0) : Type 1 where
   pub leaves : S → C → Type 0
   -- the content has these tables
   pub has : C → Tables → Type 0
+  -- a look-up that found the one store and left the other failed by this fault, since what keeps the tables did
+  pub fails : S → S → StorageFault → Type 0
 
 module _ {S C : Type 0} (v : Sight S C) where
   -- the store has these tables, and a stop leaves them alone
@@ -35,12 +37,30 @@ module _ {S C : Type 0} (v : Sight S C) where
     pub left : v.is_honest new → (c : C) → v.leaves new c → v.leaves old c
     pub tables : HasStill old new
 
-  -- a call that looks things up changed nothing; after a fault other than memory's the tables may be out of reach
+  -- up to a look-up that failed by this fault nothing changed
+  pub record FailsBy (old new : S) (why : StorageFault) : Type 0 where
+    pub from : S
+    pub stands : Stands old from
+    pub fails : v.fails from new why
+
+  -- a call changed nothing, whatever came of it; after a fault other than memory's the tables may be out of reach
+  pub record LeavesStanding {R : Type 0} (old new : S) (result : Result R StorageFault) : Type 0 where
+    pub honest : v.is_honest new → v.is_honest old
+    pub left : v.is_honest new → (c : C) → v.leaves new c → v.leaves old c
+    pub tables : OnOk result (HasStill old new)
+    pub without_memory : IfErr result (λ why. why ≡ fault.Memory → HasStill old new)
+
+  -- of tables it failed only for want of memory, or since what keeps the tables failed in a look-up
+  abbrev pub IsCaused : {R : Type 0} → S → S → Result R StorageFault → Type 0
+  IsCaused old new result = ForTables old new (λ T. IfErr result (λ why. (why ≡ fault.Memory) ⊎ FailsBy old new why))
+
+  -- a call that looks things up changed nothing, and failed only so
   pub record Reads {R : Type 0} (old new : S) (result : Result R StorageFault) : Type 0 where
     pub honest : v.is_honest new → v.is_honest old
     pub left : v.is_honest new → (c : C) → v.leaves new c → v.leaves old c
     pub tables : OnOk result (HasStill old new)
     pub without_memory : IfErr result (λ why. why ≡ fault.Memory → HasStill old new)
+    pub failed : IsCaused old new result
 
   -- a call that looks things up failed so, and changed nothing
   abbrev pub FailsToRead : S → S → StorageFault → Type 0

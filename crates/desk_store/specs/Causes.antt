@@ -14,6 +14,7 @@ use Rattle.desk_model.specs.declared.rows.Change.{Change}
 use Rattle.desk_reading.specs.declared.fault.ReadFault.{ReadFault}
 use Rattle.desk_reading.specs.declared.fault.ReadFault.TheVariants.{Engine, NotARow}
 use Rattle.desk_saving.specs.Committing.{IsBeforeCommit}
+use Rattle.desk_schema.specs.Stays.{Asks}
 use Rattle.desk_saving.specs.Numbers.{FitsColumns}
 use Rattle.desk_saving.specs.Refusals.{IsCause}
 use Rattle.desk_saving.specs.Statements.{Sql, save_statements}
@@ -44,6 +45,17 @@ IsOfMemory f = (f ≡ fault.Memory) ⊎ (f ≡ fault.Reopen)
 -- asked whether a word is a statement, which it tells without memory where it is open, the connection failed
 abbrev pub IsSilent : State → State → Type 0
 IsSilent old new = (e : Error) × Fails old new ⊥ e
+
+module _ {S : Type 0} (g : Ghosts S) where
+  -- behind calls that changed nothing the connection, asked so, failed
+  pub record IsShut (old new : Held S) : Type 0 where
+    pub from : Held S
+    pub asked : Asks (state g old) (state g from)
+    pub silent : IsSilent (state g from) (state g new)
+
+  -- a look-up is told to open the store again only where the connection, asked so, failed
+  abbrev pub FailsToLookUp : Held S → Held S → StorageFault → Type 0
+  FailsToLookUp old new why = HasCleanDisk (state g new) → why ≡ fault.Reopen → IsShut old new
 
 -- the fault of a statement that failed
 abbrev pub IsOfStatement : Cause → StorageFault → Type 0

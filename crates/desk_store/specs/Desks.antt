@@ -9,6 +9,7 @@ use Rattle.desk_model.specs.Entry.{History}
 use Rattle.desk_model.specs.Legal.{Legal}
 use Rattle.desk_model.specs.Tables.{Tables, picture}
 use Rattle.desk_storage.specs.Sight.{Sight}
+use Rattle.desk_store.specs.Causes.{FailsToLookUp}
 use Rattle.desk_store.specs.Known.{IsKnownOf}
 use Rattle.desk_store.specs.declared.store.Store.{Store}
 use Rattle.desk_tables.specs.Holds.{Holds}
@@ -47,4 +48,5 @@ store_sight g = record {
   holds = HasTables g;
   leaves = λ store trees. (state g store.conn).may_leave trees;
   has = AreOfDesk;
+  fails = λ old new why. FailsToLookUp g old.conn new.conn why;
 }

@@ -7,8 +7,8 @@ ghost use Rattle.desk_reading.specs.Format.{IsNewer, ShowsFormats};
 ghost use Rattle.desk_saving.specs.Committing.{GoesBack, IsLeft};
 ghost use Rattle.desk_schema.specs.Names.{uses_key_table};
 ghost use Rattle.desk_schema.specs.Stays.{Asks};
-ghost use Rattle.desk_storage.specs.declared.fault.StorageFault.TheVariants.{Memory as memory};
-ghost use Rattle.desk_store.specs.Causes.{IsMetFault, IsOfOpening, cause_of};
+ghost use Rattle.desk_storage.specs.declared.fault.StorageFault.TheVariants.{Memory as memory, Reopen as reopen};
+ghost use Rattle.desk_store.specs.Causes.{IsMetFault, IsOfOpening, IsShut, IsSilent, cause_of};
 ghost use Rattle.desk_store.specs.Desks.{AreOfDesk, HasDesk};
 ghost use Rattle.desk_store.specs.Making.{IsOfStorage};
 ghost use Rattle.desk_store.specs.Opening.{FailedToOpen, FailedToWiden, HasLaterFormat, IsUpgraded, IsWhole, IsWholeFirst, ShowsBook, ShowsFirstBook};
@@ -35,6 +35,7 @@ use stored_rows::{RowsFault, from_rows};
 fn opening_fault<S: Alter>(conn: &mut Connection<S>, error: Error) -> OpenFault
     ensures fault { IsOfOpening (cause_of error) result }
     ensures unchanged { HasCleanDisk (state S.Store conn.new) → result ≡ of_storage memory → IsUnchanged (state S.Store conn.old) (state S.Store conn.new) }
+    ensures silent { HasCleanDisk (state S.Store conn.new) → result ≡ of_storage reopen → IsSilent (state S.Store conn.old) (state S.Store conn.new) }
     ensures asks { Asks (state S.Store conn.old) (state S.Store conn.new) }
 {
     match cause_of(error) {
@@ -95,6 +96,7 @@ pub(crate) fn read_book<S: Alter>(
     ensures desk { HasCleanDisk (state S.Store conn.new) → IfErr result (λ why. (T : Tables) → HasDesk (state S.Store conn.old) T → IsOfStorage why) }
     ensures met { HasCleanDisk (state S.Store conn.new) → IfErr result (IsMetFault (state S.Store conn.old) (state S.Store conn.new)) }
     ensures answering { HasCleanDisk (state S.Store conn.new) → result ≡ Err (of_storage memory) → IsTrue (state S.Store conn.new).is_open }
+    ensures shut { HasCleanDisk (state S.Store conn.new) → result ≡ Err (of_storage reopen) → IsShut S.Store conn.old conn.new }
     ensures asks { Asks (state S.Store conn.old) (state S.Store conn.new) }
 {
     match load_stored(alloc, conn) {

@@ -15,4 +15,4 @@ returns g c =
     (λ honest T held. IfOk-weaker c.authorizations_named.result _ _
     (λ rows same. ap (filter asked) (same ∙ ap (authorizations_named T c.args.account) c.base.ensures.base))
     (c.authorizations_named.ensures.found honest T held))
-    c.put_same.ensures.put c.put_same.ensures.fails
+    c.put_same.ensures.put c.put_same.ensures.lacks c.put_same.ensures.fails

@@ -32,5 +32,5 @@ loop-row-preserved g c =
     row_left (g.Q.RowTest.passed c.args.test.now) c.in-Some.row.now _ _ _ _ (sym c.passes.ensures ∙ c.if-passes.false)
     c.in-Some.ensures.steps c.loop-row.invariant
 
-pub returns-in_err-push_copy : goal.returns-in_err-push_copy
-returns-in_err-push_copy g c = IfOk-from_err c.from_residual.result _ c.from_residual.ensures.0
+pub returns-in_err-push_copy-clause-found : goal.returns-in_err-push_copy-clause-found
+returns-in_err-push_copy-clause-found g c = IfOk-from_err c.from_residual.result _ c.from_residual.ensures.0

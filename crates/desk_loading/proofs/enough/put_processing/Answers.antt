@@ -15,7 +15,7 @@ returns g c =
     finds_then c.put_linked.result
     (finds_as c.in_ok-put_found.was
     (finds_put order (λ rows. rows.items) (λ T. orders_processing T) _ _ c.orders_processing.result _ c.orders_processing.ensures.reads
-    c.orders_processing.ensures.found c.put_found.ensures.put c.put_found.ensures.fails))
+    c.orders_processing.ensures.found c.put_found.ensures.put c.put_found.ensures.lacks c.put_found.ensures.fails))
     c.put_linked.ensures
     (λ T first second ordered none no_orders.
     let all : c.put_found.new.table ≡ orders_processing T =

@@ -4,7 +4,7 @@ use Rattle.desk_model.specs.declared.rows.Meta.{Meta}
 use Rattle.desk_parts.proofs.FewLoading.{loaded_few}
 use Rattle.desk_parts.specs.FewLoaded.{few_loaded}
 use Rattle.desk_loading.proofs.Gathered.{made_of}
-use Rattle.desk_loading.proofs.Readings.{reads_and, reads_failing, reads_standing, reads_then, stands_read}
+use Rattle.desk_loading.proofs.Readings.{reads_and, reads_failing, lacks_by, reads_standing, reads_then, stands_read}
 use Rattle.desk_loading.proofs.Tabled.{book_are}
 use Rattle.desk_loading.proofs.few.few_book.Goals as goal
 
@@ -35,7 +35,7 @@ pub returns-in_err-meta-clause-found : goal.returns-in_err-meta-clause-found
 returns-in_err-meta-clause-found g c honest T held ordered = IfOk-from_err c.from_residual.result _ c.from_residual.ensures.0
 
 pub returns-in_err-needs-clause-reads : goal.returns-in_err-needs-clause-reads
-returns-in_err-needs-clause-reads g c = reads_standing _ (stands_read c.in_ok-meta.ensures.reads)
+returns-in_err-needs-clause-reads g c = reads_standing _ (lacks_by _ c.from_residual-in_err-needs.ensures.1) (stands_read c.in_ok-meta.ensures.reads)
 
 pub returns-in_err-needs-clause-found : goal.returns-in_err-needs-clause-found
 returns-in_err-needs-clause-found g c honest T held ordered = IfOk-from_err c.from_residual-in_err-needs.result _ c.from_residual-in_err-needs.ensures.0

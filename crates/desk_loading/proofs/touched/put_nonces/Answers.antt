@@ -12,7 +12,7 @@ returns g c =
     let number = λ (n : Nonce). n.serial in
     finds_then c.put_found.result c.in_ok-put_each.ensures
     (finds_put number (λ rows. rows.items) (λ T. nonces_before T c.first_lasting.result) _ _ c.nonces_before.result _
-    c.nonces_before.ensures.reads c.nonces_before.ensures.found c.put_found.ensures.put c.put_found.ensures.fails)
+    c.nonces_before.ensures.reads c.nonces_before.ensures.found c.put_found.ensures.put c.put_found.ensures.lacks c.put_found.ensures.fails)
     (λ T carried past same.
     put_then number (flat_map (nonces_numbered T) (serials c.args.ask.now)) (nonces_before T (c.args.moment - T.meta.policy.nonce_life)) _ _ _
     (put_by number (flat_map (nonces_numbered T)) _ _ _ _ carried (listed_as _ _ _ c.as_slice.ensures c.serial.ensures))

@@ -9,7 +9,7 @@ use Rattle.desk_parts.proofs.Loading.{loaded_touched}
 use Rattle.desk_parts.specs.Loaded.{loaded_at}
 use Rattle.desk_loading.proofs.Gathered.{made_of}
 use Rattle.desk_loading.proofs.Tabled.{book_are}
-use Rattle.desk_loading.proofs.Readings.{reads_and, reads_failing, reads_standing, reads_then, stands_here, stands_read}
+use Rattle.desk_loading.proofs.Readings.{reads_and, reads_failing, lacks_by, reads_standing, reads_then, stands_here, stands_read}
 use Rattle.desk_loading.proofs.touched.touched_book.Goals as goal
 
 -- the row of the desk is loaded as it is
@@ -53,7 +53,7 @@ pub returns-in_err-meta-clause-touched : goal.returns-in_err-meta-clause-touched
 returns-in_err-meta-clause-touched g c honest T held ordered = IfOk-from_err c.from_residual-in_err-meta.result _ c.from_residual-in_err-meta.ensures.0
 
 pub returns-in_err-names-clause-reads : goal.returns-in_err-names-clause-reads
-returns-in_err-names-clause-reads g c = reads_standing _ stands_here
+returns-in_err-names-clause-reads g c = reads_standing _ (lacks_by _ c.from_residual.ensures.1) stands_here
 
 pub returns-in_err-names-clause-touched : goal.returns-in_err-names-clause-touched
 returns-in_err-names-clause-touched g c honest T held ordered = IfOk-from_err c.from_residual.result _ c.from_residual.ensures.0

@@ -1,12 +1,24 @@
 use Rattle.std.proofs.Common.{IfOk, subst, sym}
-use Rattle.desk_loading.proofs.Readings.{reads_found}
+use Rattle.std.specs.List.{flat_map}
+use Rattle.desk_loading.proofs.Readings.{reads_of_tables}
+use Rattle.desk_model.specs.Derived.{sorted_challenges}
+use Rattle.desk_model.specs.declared.rows.AccountRow.{AccountRow}
+use Rattle.desk_model.specs.declared.rows.AuthorizationRow.{AuthorizationRow}
+use Rattle.desk_model.specs.declared.rows.ChallengeRow.{ChallengeRow}
+use Rattle.desk_parts.specs.Above.{above, first_of}
 use Rattle.desk_passes.specs.Left.{faults_above}
 use Rattle.desk_passes.specs.Stepping.{Steps}
+use Rattle.desk_passes.proofs.Passing.{not_refused}
 use Rattle.desk_passes.proofs.Rows.{made_when_found}
 use Rattle.desk_passes.proofs.checked.check_after.Goals as goal
 
 pub returns-in-Account-clause-reads : goal.returns-in-Account-clause-reads
-returns-in-Account-clause-reads g c = reads_found _ c.check_first.result c.account_above.ensures.reads c.check_first.ensures.fails
+returns-in-Account-clause-reads g c =
+    reads_of_tables _ c.check_first.result c.account_above.ensures.reads
+    (λ honest T held.
+    not_refused (λ v. v.items) (λ all. first_of (above (λ (x : AccountRow). x.number) c.args.above all)) T.accounts _ c.check_first.result
+    c.check_first.ensures.orderly (c.account_above.ensures.found honest T held))
+    c.check_first.ensures.fails
 
 pub returns-in-Account-clause-steps : goal.returns-in-Account-clause-steps
 returns-in-Account-clause-steps g c honest T holds h =
@@ -18,7 +30,20 @@ returns-in-Account-clause-steps g c honest T holds h =
 
 pub returns-in-Authorization-clause-reads : goal.returns-in-Authorization-clause-reads
 returns-in-Authorization-clause-reads g c =
-    reads_found _ c.check_first-in-Authorization.result c.authorization_above.ensures.reads c.check_first-in-Authorization.ensures.fails
+    reads_of_tables _ c.check_first-in-Authorization.result c.authorization_above.ensures.reads
+    (λ honest T held.
+    not_refused (λ v. v.items) (λ all. first_of (above (λ (r : AuthorizationRow). r.number) c.args.above all)) T.authorizations _
+    c.check_first-in-Authorization.result c.check_first-in-Authorization.ensures.orderly (c.authorization_above.ensures.found honest T held))
+    c.check_first-in-Authorization.ensures.fails
+
+pub returns-in-Challenge-clause-reads : goal.returns-in-Challenge-clause-reads
+returns-in-Challenge-clause-reads g c =
+    reads_of_tables _ c.check_first-in-Challenge.result c.challenge_above.ensures.reads
+    (λ honest T held.
+    not_refused (λ v. v.items) (λ all. first_of (above (λ (r : ChallengeRow). r.number) c.args.above all))
+    (sorted_challenges (flat_map (λ r. r.challenges) T.authorizations)) _ c.check_first-in-Challenge.result
+    c.check_first-in-Challenge.ensures.orderly (c.challenge_above.ensures.found honest T held))
+    c.check_first-in-Challenge.ensures.fails
 
 pub returns-in-Authorization-clause-steps : goal.returns-in-Authorization-clause-steps
 returns-in-Authorization-clause-steps g c honest T holds h =

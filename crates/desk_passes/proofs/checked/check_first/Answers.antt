@@ -1,4 +1,4 @@
-use Rattle.std.proofs.Common.{◌++◌, ap, subst, sym, ◌∙◌}
+use Rattle.std.proofs.Common.{◌++◌, IfErr, ap, subst, sym, ◌∙◌}
 use Rattle.std.specs.List.{flat_map}
 use Rattle.std.proofs.lemmas.Result.{IfOk-from_err, IfOk-weaker}
 use Rattle.desk_parts.specs.Above.{above}
@@ -29,3 +29,8 @@ pub returns-in_err-row-clause-steps : goal.returns-in_err-row-clause-steps
 returns-in_err-row-clause-steps g c =
     IfOk-weaker c.args.found _ _ (λ rows told all least ascends is. IfOk-from_err c.from_residual.result _ c.from_residual.ensures.0)
     c.first_above.ensures.first
+
+pub returns-in_err-row-clause-orderly : goal.returns-in_err-row-clause-orderly
+returns-in_err-row-clause-orderly g c =
+    IfOk-weaker c.args.found _ _ (λ rows never all are. absurd (subst (λ r. IfErr r (λ why. ⊥)) c.in_err-row.was (never all are)))
+    c.first_above.ensures.orderly

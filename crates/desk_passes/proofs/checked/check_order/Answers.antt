@@ -6,14 +6,15 @@ use Rattle.desk_parts.specs.Above.{orders_above}
 use Rattle.stored_rows.specs.RowFaults.{listed_fault}
 use Rattle.desk_loading.proofs.Readings.{read_as, reads_failing, reads_found, reads_standing, stands_read, stands_then}
 use Rattle.desk_passes.specs.Stepping.{IsFirst}
-use Rattle.desk_passes.proofs.Passing.{fails_then}
+use Rattle.desk_passes.proofs.Passing.{fails_then, never_lacks}
 use Rattle.desk_passes.proofs.Rows.{answer_when_found, found_step, nothing_left}
 use Rattle.desk_passes.proofs.checked.check_order.Goals as goal
 
 pub returns-clause-reads : goal.returns-clause-reads
 returns-clause-reads g c =
-    let read = reads_found _ c.order_fault_by-fault.result c.listed_statuses-statuses.ensures.reads c.order_fault_by-fault.ensures.fails in
-    reads_standing _ (stands_then (stands_read c.in_ok-row.ensures.reads) (read_as read c.in_ok-fault.was))
+    let read = reads_found _ c.order_fault_by-fault.result c.listed_statuses-statuses.ensures.reads
+    (never_lacks c.listed_statuses-statuses.result c.order_fault_by-fault.result c.order_fault_by-fault.ensures.told) c.order_fault_by-fault.ensures.fails in
+    reads_standing _ tt (stands_then (stands_read c.in_ok-row.ensures.reads) (read_as read c.in_ok-fault.was))
 
 pub returns-clause-steps : goal.returns-clause-steps
 returns-clause-steps g c honest T holds h =
@@ -34,7 +35,7 @@ pub returns-clause-onward : goal.returns-clause-onward
 returns-clause-onward g c = rw c.in-Some.is at c.in_ok-row.ensures.onward
 
 pub returns-in_default-clause-reads : goal.returns-in_default-clause-reads
-returns-in_default-clause-reads g c = reads_standing _ (stands_read c.in_ok-row.ensures.reads)
+returns-in_default-clause-reads g c = reads_standing _ tt (stands_read c.in_ok-row.ensures.reads)
 
 pub returns-in_default-clause-steps : goal.returns-in_default-clause-steps
 returns-in_default-clause-steps g c honest T holds h =
@@ -53,7 +54,8 @@ returns-in_err-row-clause-onward g c = IfOk-from_err c.from_residual.result _ c.
 
 pub returns-in_err-fault-clause-reads : goal.returns-in_err-fault-clause-reads
 returns-in_err-fault-clause-reads g c =
-    let read = reads_found _ c.order_fault_by-fault.result c.listed_statuses-statuses.ensures.reads c.order_fault_by-fault.ensures.fails in
+    let read = reads_found _ c.order_fault_by-fault.result c.listed_statuses-statuses.ensures.reads
+    (never_lacks c.listed_statuses-statuses.result c.order_fault_by-fault.result c.order_fault_by-fault.ensures.told) c.order_fault_by-fault.ensures.fails in
     fails_then _ (stands_read c.in_ok-row.ensures.reads) (read_as read c.in_err-fault.was) c.from_residual-in_err-fault.ensures.1
 
 pub returns-in_err-fault-clause-steps : goal.returns-in_err-fault-clause-steps

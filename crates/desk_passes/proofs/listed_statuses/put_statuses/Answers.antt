@@ -33,7 +33,7 @@ returns-clause-found g c h T held =
     ∙ c.loop-place.invariant.found h T held
 
 pub returns-clause-reads : goal.returns-clause-reads
-returns-clause-reads g c = reads_standing _ c.loop-place.invariant.stands
+returns-clause-reads g c = reads_standing _ tt c.loop-place.invariant.stands
 
 pub returns-in_err-push_stored-clause-reads : goal.returns-in_err-push_stored-clause-reads
 returns-in_err-push_stored-clause-reads g c =

@@ -3,7 +3,7 @@ use Rattle.sqlite.specs.Held.{state}
 use Rattle.sqlite.specs.State.{HasCleanDisk}
 use Rattle.desk_reading.specs.AllTables.{FailsAtTable}
 use Rattle.desk_store.proofs.Books.{book_fails, book_shown, book_told, may_read}
-use Rattle.desk_store.proofs.OpeningFaults.{book_is_known, book_met, failure_is_storage, no_desk_is_other, none_has, opening_met}
+use Rattle.desk_store.proofs.OpeningFaults.{book_is_known, book_keeps_open, book_met, failure_is_storage, no_desk_is_other, none_has, opening_met}
 use Rattle.desk_store.proofs.OpeningFaults.{reading_is_known, refused_reading}
 use Rattle.desk_store.proofs.Standing.{same_fault}
 use Rattle.desk_store.specs.Causes.{cause_of}
@@ -54,3 +54,10 @@ returns-in-Err-clause-no_desk g c clean none =
     let clean_mid : HasCleanDisk (state g.S.Store c.load_stored.new.conn) = let le = c.opening_fault.ensures.asks.survives.clean in omega (arith, clean, le) in
     inl (refused_reading c.in-Err.error (FailsAtTable g.S.Store c.args.conn.now) (inr (c.in-Err.ensures.refused clean_mid))
     (no_desk_is_other (cause_of c.in-Err.error) c.opening_fault.result c.opening_fault.ensures.fault (same_fault _ _ none)))
+
+pub returns-in-Ok-clause-shut : goal.returns-in-Ok-clause-shut
+returns-in-Ok-clause-shut g c clean shut = absurd (book_keeps_open _ c.book_of.result c.book_of.ensures.fault shut)
+
+pub returns-in-Err-clause-shut : goal.returns-in-Err-clause-shut
+returns-in-Err-clause-shut g c clean shut =
+    record { from = c.load_stored.new.conn; asked = c.load_stored.ensures.asks; silent = c.opening_fault.ensures.silent clean (let e = shut in cc) }

@@ -12,4 +12,4 @@ returns-clause-found c honest T held =
     IfOk-weaker c.holders.result _ _ (λ numbers found. found
     ∙ ap (flat_map (λ (o : OrderRow). map (λ l. o.number) (filter (λ l. l.authorization == c.args.authorization) o.listed)))
     (c.orders.ensures ∙ ap (λ (B : Tables). B.orders) held)
-    ∙ sym (orders_listing_rows T c.args.authorization)) c.holders.ensures
+    ∙ sym (orders_listing_rows T c.args.authorization)) c.holders.ensures.found

@@ -12,4 +12,4 @@ returns-clause-found c honest T held =
     IfOk-weaker c.holders.result _ _ (λ numbers found. found
     ∙ ap (flat_map (λ (a : AuthorizationRow). map (λ k. a.number) (filter (λ k. k.number == c.args.challenge) a.challenges)))
     (c.authorizations.ensures ∙ ap (λ (B : Tables). B.authorizations) held)
-    ∙ sym (owners_of_rows T c.args.challenge)) c.holders.ensures
+    ∙ sym (owners_of_rows T c.args.challenge)) c.holders.ensures.found

@@ -11,4 +11,4 @@ returns-clause-found c honest T held =
     IfOk-weaker c.all_working.result _ _
     (λ numbers found p. ap (λ (l : List ℕ). list_any p l) (found
     ∙ ap (flat_map working) (c.authorizations.ensures ∙ ap (λ (B : Tables). B.authorizations) held))
-    ∙ working_are_owners T p) c.all_working.ensures
+    ∙ working_are_owners T p) c.all_working.ensures.found

@@ -6,4 +6,4 @@ use Rattle.desk_parts.specs.LookUps.{authorizations_past}
 pub returns : goal.returns
 returns g c =
     finds_put (λ (a : AuthorizationRow). a.number) (λ rows. rows.items) (λ T. authorizations_past T c.args.self.now.0 c.args.self.now.1) _ _
-    c.authorizations_past.result _ c.authorizations_past.ensures.reads c.authorizations_past.ensures.found c.put_found.ensures.put c.put_found.ensures.fails
+    c.authorizations_past.result _ c.authorizations_past.ensures.reads c.authorizations_past.ensures.found c.put_found.ensures.put c.put_found.ensures.lacks c.put_found.ensures.fails

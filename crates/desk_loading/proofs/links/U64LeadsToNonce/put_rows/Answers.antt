@@ -6,4 +6,4 @@ use Rattle.desk_parts.specs.LookUps.{nonces_numbered}
 pub returns : goal.returns
 returns g c =
     finds_put (λ (n : Nonce). n.serial) (λ rows. rows.items) (λ T. nonces_numbered T c.args.self.now) _ _ c.nonces_numbered.result _
-    c.nonces_numbered.ensures.reads c.nonces_numbered.ensures.found c.put_found.ensures.put c.put_found.ensures.fails
+    c.nonces_numbered.ensures.reads c.nonces_numbered.ensures.found c.put_found.ensures.put c.put_found.ensures.lacks c.put_found.ensures.fails

@@ -13,6 +13,7 @@ pub returns-in-Err-Storage-clause-reads : goal.returns-in-Err-Storage-clause-rea
 returns-in-Err-Storage-clause-reads g c =
     reads_failed g.S.Store c.args.self.now (record c.args.self.now { conn = c.read_book.new.conn }) c.in-Err-Storage.fault refl c.read_book.ensures.asks
     (λ clean memory. c.read_book.ensures.answering clean (let e = memory in cc))
+    (λ clean shut. c.read_book.ensures.shut clean (let e = shut in cc))
 
 pub returns-in-Err-Storage-clause-failed : goal.returns-in-Err-Storage-clause-failed
 returns-in-Err-Storage-clause-failed g c =

@@ -12,5 +12,5 @@ returns-in-Ok-clause-reads g c was known asked same =
 
 pub returns-in-Err-clause-reads : goal.returns-in-Err-clause-reads
 returns-in-Err-clause-reads g c was known asked same =
-    reads_err g.S.Store was (record c.args.self.now { conn = c.reading_fault.new.conn }) (state g.S.Store c.args.self.now.conn)
-    c.reading_fault.result known asked c.reading_fault.ensures.asks c.reading_fault.ensures.unchanged
+    reads_err g.S.Store was (record c.args.self.now { conn = c.reading_fault.new.conn }) c.args.self.now.conn
+    c.reading_fault.result known asked c.reading_fault.ensures.asks c.reading_fault.ensures.unchanged c.reading_fault.ensures.silent
