@@ -6,7 +6,7 @@ use Rattle.desk_columns.specs.declared.flat_rows.BareChallenge.{BareChallenge}
 use Rattle.desk_columns.specs.declared.flat_rows.FlatRows.{FlatRows}
 use Rattle.desk_columns.specs.declared.flat_rows.Owned.{Owned}
 use Rattle.desk_laws.specs.Distinct.{Distinct}
-use Rattle.desk_laws.specs.Ordered.{IsTable}
+use Rattle.desk_laws.specs.Ordered.{Ascends, IsTable}
 use Rattle.desk_model.specs.Kept.{EachOf}
 use Rattle.desk_model.specs.Tables.{Tables}
 use Rattle.desk_model.specs.declared.rows.AccountRow.{AccountRow}
@@ -19,6 +19,10 @@ use Rattle.stored_rows.specs.IsBook.{IsBookOf}
 -- this number is one of these
 abbrev pub IsAmong : List ℕ → ℕ → Type 0
 IsAmong numbers n = IsSome (find (λ m. m == n) numbers)
+
+-- they rise
+abbrev pub Rise : List ℕ → Type 0
+Rise numbers = Ascends (λ n. n) 1 numbers
 
 -- the places of one order rise
 abbrev pub PlacesRise : List (Owned Listed) → Type 0

@@ -1,6 +1,7 @@
 //! The rows of `account`.
 ghost use Rattle.std.specs.Prelude.{◌≡◌, ◌↔◌, [], IfOk, IsTrue, map};
 ghost use Rattle.desk_laws.specs.Distinct.{Distinct};
+ghost use Rattle.desk_laws.specs.Ordered.{IsTable};
 ghost use Rattle.checked_rows.specs.BookRows.{AreAccounts};
 ghost use Rattle.checked_rows.specs.Passing.{IsUpTo};
 
@@ -42,6 +43,10 @@ impl RowCheck<AccountColumns> for AccountCheck {
         × (now.keys.items ≡ map (λ a. a.key) rows) };
 
     ghost IsWhole = { λ first rows kept. AreAccounts first.counter.last rows × (kept ≡ map (λ a. a.number) rows) };
+
+    ghost MayBegin = { λ first rows. IsTable (λ a. a.number) first.counter.last rows };
+
+    ghost AreAll = { λ first rows. AreAccounts first.counter.last rows };
 
     fn passes(&mut self, row: AccountRow) -> Result<bool, AllocError> {
         if !self.counter.passes(row.number) {

@@ -1,5 +1,5 @@
 //! What checks the rows of a table.
-ghost use Rattle.std.specs.Prelude.{◌++◌, [], ◌∷◌, IfOk, IfSome, IsTrue, List};
+ghost use Rattle.std.specs.Prelude.{◌++◌, [], ◌∷◌, IfOk, IfSome, IsSome, IsTrue, List};
 
 use desk_columns::Columns;
 use std::alloc::{AllocError, Global};
@@ -15,20 +15,31 @@ pub trait RowCheck<C: Columns>: Drop {
     // What these rows are, as this is kept of them, where they passed from here on.
     ghost IsWhole: { Self → List C.Row → Self.Kept → Type 0 };
 
-    /// Whether the next row passes. Behind one that does not, nothing is said of the others.
+    // These rows, from here on, may begin a book's table.
+    ghost MayBegin: { Self → List C.Row → Type 0 };
+
+    // These rows, from here on, are a book's table.
+    ghost AreAll: { Self → List C.Row → Type 0 };
+
+    /// Whether the next row passes, as it does where with those before it it may begin a book's table. Behind one that does not,
+    /// nothing is said of the others.
     ///
     /// # Errors
     ///
     /// Where there is no memory for what is kept of it.
     fn passes(&mut self, row: C::Row) -> Result<bool, AllocError>
-        ensures { IfOk result (λ passes. IsTrue passes → (first : Self) (rows : List C.Row) → Passed first self.old rows
-            → Passed first self.new (rows ++ row ∷ [])) };
+        ensures passed { IfOk result (λ passes. IsTrue passes → (first : Self) (rows : List C.Row) → Passed first self.old rows
+            → Passed first self.new (rows ++ row ∷ [])) }
+        ensures fine { IfOk result (λ passes. (first : Self) (rows : List C.Row) → Passed first self.old rows
+            → MayBegin first (rows ++ row ∷ []) → IsTrue passes) };
 
-    /// What is kept of the rows that passed, behind the last one, if they are a whole table.
+    /// What is kept of the rows that passed, behind the last one, if they are a whole table, as all rows of a book are.
     ///
     /// # Errors
     ///
     /// Where there is no memory to tell.
     fn finish(self, alloc: Global) -> Result<Option<Self::Kept>, AllocError>
-        ensures { IfOk result (λ kept. IfSome kept (λ kept. (first : Self) (rows : List C.Row) → Passed first self rows → IsWhole first rows kept)) };
+        ensures whole { IfOk result (λ kept. IfSome kept (λ kept. (first : Self) (rows : List C.Row) → Passed first self rows
+            → IsWhole first rows kept)) }
+        ensures fine { IfOk result (λ kept. (first : Self) (rows : List C.Row) → Passed first self rows → AreAll first rows → IsSome kept) };
 }

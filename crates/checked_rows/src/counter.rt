@@ -1,5 +1,5 @@
 //! How far the numbers of a table have come.
-ghost use Rattle.std.specs.Prelude.{◌≡◌, IsTrue};
+ghost use Rattle.std.specs.Prelude.{◌≡◌, ◌<◌, ◌≤◌, IsTrue};
 ghost use Rattle.checked_rows.specs.Passing.{Counts};
 
 /// The number of the row before, and the last one given.
@@ -19,7 +19,8 @@ impl Counter {
 
     /// Whether the number is above that of the row before, and not above the last one given.
     pub(crate) fn passes(&mut self, number: u64) -> bool
-        ensures { IsTrue result → Counts self.old number self.new }
+        ensures counts { IsTrue result → Counts self.old number self.new }
+        ensures fine { self.old.top < number → number ≤ self.old.last → IsTrue result }
     {
         if number <= self.top || number > self.last {
             return false;

@@ -1,6 +1,7 @@
 //! The rows of `chall_key`.
 ghost use Rattle.std.specs.Prelude.{◌≡◌, ◌++◌, map};
 ghost use Rattle.checked_rows.specs.BookRows.{AreKeys};
+ghost use Rattle.checked_rows.specs.Passing.{Begin};
 
 use crate::check::RowCheck;
 use crate::numbers::Numbers;
@@ -30,6 +31,10 @@ impl<'a> RowCheck<ChallKeyColumns> for KeyCheck<'a> {
     ghost Passed = { λ first now rows. map (λ k. k.challenge) rows ++ now.left.now ≡ first.left.now };
 
     ghost IsWhole = { λ first rows kept. AreKeys first.left.now rows };
+
+    ghost MayBegin = { λ first rows. Begin (map (λ k. k.challenge) rows) first.left.now };
+
+    ghost AreAll = { λ first rows. AreKeys first.left.now rows };
 
     fn passes(&mut self, row: AnswerKey) -> Result<bool, AllocError> {
         let Some((first, behind)) = self.left.split_first() else {

@@ -1,6 +1,6 @@
 //! The row of `meta`.
 ghost use Rattle.std.specs.Prelude.{◌≡◌, None};
-ghost use Rattle.checked_rows.specs.Passing.{IsOnlyRow, IsRowSoFar};
+ghost use Rattle.checked_rows.specs.Passing.{IsOneRow, IsOnlyRow, IsRowSoFar};
 
 use crate::check::RowCheck;
 use desk_columns::MetaColumns;
@@ -28,6 +28,10 @@ impl RowCheck<MetaColumns> for MetaCheck {
     ghost Passed = { λ first now rows. IsRowSoFar now.counters rows };
 
     ghost IsWhole = { λ first rows kept. IsOnlyRow kept rows };
+
+    ghost MayBegin = { λ first rows. IsOneRow rows };
+
+    ghost AreAll = { λ first rows. IsOneRow rows };
 
     fn passes(&mut self, row: Meta) -> Result<bool, AllocError> {
         if self.counters.is_some() {

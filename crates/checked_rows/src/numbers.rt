@@ -1,6 +1,6 @@
 //! The numbers of rows.
 ghost use Rattle.std.specs.Prelude.{◌≡◌, ◌++◌, [], ◌∷◌, IsTrue, OnOk};
-ghost use Rattle.checked_rows.specs.BookRows.{IsAmong};
+ghost use Rattle.checked_rows.specs.BookRows.{IsAmong, Rise};
 
 use std::alloc::{AllocError, Global};
 use std::marker::Model;
@@ -40,9 +40,10 @@ impl Numbers {
         Ok(self.items.push(number)?)
     }
 
-    /// Whether this number is found among them, which it is where they ascend and have it.
+    /// Whether this number is found among them, as it is where they rise and have it.
     pub(crate) fn has(&self, number: u64) -> bool
-        ensures { IsTrue result → IsAmong self.now number }
+        ensures among { IsTrue result → IsAmong self.now number }
+        ensures found { Rise self.now → IsAmong self.now number → IsTrue result }
     {
         self.items.binary_search(&number).is_ok()
     }

@@ -1,7 +1,7 @@
 //! The rows of `ord`, `authz` and `chall`, each of which belongs to another.
-ghost use Rattle.std.specs.Prelude.{◌≡◌, ◌++◌, [], ◌∷◌, IfOk, IsTrue, OnOk, map, option_to_list};
+ghost use Rattle.std.specs.Prelude.{◌≡◌, ◌<◌, ◌≤◌, ◌++◌, [], ◌∷◌, IfOk, IsTrue, OnOk, map, option_to_list};
 ghost use Rattle.desk_model.specs.Kept.{EachOf};
-ghost use Rattle.checked_rows.specs.BookRows.{AreAuthorizations, AreChallenges, AreOrders, IsAmong, answered_number, answered_numbers};
+ghost use Rattle.checked_rows.specs.BookRows.{AreAuthorizations, AreChallenges, AreOrders, IsAmong, Rise, answered_number, answered_numbers};
 ghost use Rattle.checked_rows.specs.Passing.{Counts, IsUpTo};
 
 use crate::check::RowCheck;
@@ -38,6 +38,8 @@ impl<'a> OwnedCheck<'a> {
         ensures counts { IfOk result (λ passes. IsTrue passes → Counts self.old.counter number self.new.counter) }
         ensures numbers { IfOk result (λ passes. IsTrue passes → self.new.numbers ≡ self.old.numbers ++ number ∷ []) }
         ensures among { IfOk result (λ passes. IsTrue passes → IsAmong self.old.owners.now owner) }
+        ensures fine { IfOk result (λ passes. self.old.counter.top < number → number ≤ self.old.counter.last
+            → Rise self.old.owners.now → IsAmong self.old.owners.now owner → IsTrue passes) }
         ensures owners { self.new.owners.now ≡ self.old.owners.now }
     {
         if !self.counter.passes(number) || !self.owners.has(owner) {
@@ -56,6 +58,10 @@ impl<'a> RowCheck<OrderColumns> for OwnedCheck<'a> {
 
     ghost IsWhole = { λ first rows kept. AreOrders first.counter.last first.owners.now rows × (kept ≡ map (λ o. o.number) rows) };
 
+    ghost MayBegin = { λ first rows. Rise first.owners.now × AreOrders first.counter.last first.owners.now rows };
+
+    ghost AreAll = { λ first rows. AreOrders first.counter.last first.owners.now rows };
+
     fn passes(&mut self, row: OrderRow) -> Result<bool, AllocError> {
         self.takes(row.number, row.account)
     }
@@ -72,6 +78,10 @@ impl<'a> RowCheck<AuthzColumns> for OwnedCheck<'a> {
         × (now.owners.now ≡ first.owners.now) × EachOf (λ a. IsAmong first.owners.now a.account) rows };
 
     ghost IsWhole = { λ first rows kept. AreAuthorizations first.counter.last first.owners.now rows × (kept ≡ map (λ a. a.number) rows) };
+
+    ghost MayBegin = { λ first rows. Rise first.owners.now × AreAuthorizations first.counter.last first.owners.now rows };
+
+    ghost AreAll = { λ first rows. AreAuthorizations first.counter.last first.owners.now rows };
 
     fn passes(&mut self, row: AuthorizationRow) -> Result<bool, AllocError> {
         self.takes(row.number, row.account)
@@ -123,6 +133,10 @@ impl<'a> RowCheck<ChallColumns> for ChallengeCheck<'a> {
         × (now.authorizations.now ≡ first.authorizations.now) × EachOf (λ c. IsAmong first.authorizations.now c.owner) rows };
 
     ghost IsWhole = { λ first rows kept. AreChallenges first.counter.last first.authorizations.now rows × (kept ≡ answered_numbers rows) };
+
+    ghost MayBegin = { λ first rows. Rise first.authorizations.now × AreChallenges first.counter.last first.authorizations.now rows };
+
+    ghost AreAll = { λ first rows. AreChallenges first.counter.last first.authorizations.now rows };
 
     fn passes(&mut self, row: Owned<BareChallenge>) -> Result<bool, AllocError> {
         if !self.counter.passes(row.row.number) || !self.authorizations.has(row.owner) {
