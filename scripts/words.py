@@ -11,7 +11,7 @@ import subprocess
 import time
 
 from stops import Desk
-from trying import NOT_A_DESK, begin, bytes_of, change, finish, nonce_text, order_of, run, see, small_files, tables_of, workspace
+from trying import BASE, NOT_A_DESK, begin, bytes_of, change, finish, nonce_text, order_of, run, see, small_files, tables_of, workspace
 
 NO_FIT = (1, b"", b"desk: the report does not fit the records\n")
 NOTHING_HERE = (1, b"", b"desk: there is nothing here\n")
@@ -126,7 +126,7 @@ def narrowed(program, folder):
     with open("/dev/full", "wb") as full:
         see("JSON on a full output", run(program, "status", desk.path, "--json", stdout=full), FULL)
         see("no JSON on a full output", run(program, "status", desk.path, "--json", *two, *ready, stdout=full), (0, None, b""))
-    wrong = [("--account", number) for number in ("0", str(LAST + 1), "-1", "one", "")]
+    wrong = [("--account", number) for number in ("0", str(LAST + 1), "-1", "one", "", "+1", "01")]
     wrong += [("--status", word) for word in ("expired", "Pending", "pend", "")]
     for words in (*wrong, ("--account",), ("--status",), one + two, pending + ready, ("--json", "--json"), ("--json=true",)):
         see(f"status {words}", run(program, "status", desk.path, *words)[:2], (2, b""))
@@ -271,7 +271,7 @@ def wrong_words(program, folder):
     """Words that are wrong, and files that are missing."""
     desk = desk_with_orders(program, folder, "words")
     for word in ("revoke-authz", "revoke-account"):
-        for number in ("0", str(LAST + 1), "-1", "one", "", "1.0", "0x1"):
+        for number in ("0", str(LAST + 1), "-1", "one", "", "1.0", "0x1", "+1", "007", "00", " 1"):
             see(f"{word} {number!r}", run(program, word, desk.path, number)[::2][0], 2)
         see(f"{word} without a number", run(program, word, desk.path)[:2], (2, b""))
         see(f"{word} without a file", run(program, word, f"{folder}/none.db", "1"), NOT_A_DESK)
@@ -280,6 +280,22 @@ def wrong_words(program, folder):
         see(f"{word} of a missing file", run(program, word, f"{folder}/none.db"), NOT_A_DESK)
         see(f"{word} with more words", run(program, word, desk.path, "1")[:2], (2, b""))
     see("no file is made", os.path.exists(f"{folder}/none.db"), False)
+
+
+def numbers_of_other_forms(program, folder):
+    """A number with a sign or a zero in front is a wrong word wherever one is asked for, and nothing is done."""
+    desk = desk_with_orders(program, folder, "numbers", at=int(time.time()))
+    before, made = tables_of(desk.path, folder), f"{folder}/numbers.db"
+    rows = [(word, desk.path, form) for word in ("revoke-authz", "revoke-account") for form in ("+1", "007", "01")]
+    rows += [("status", desk.path, "--account", form) for form in ("+1", "01")]
+    rows += [("serve", desk.path, "--port", form) for form in ("+0", "00", "08080")]
+    rows += [("serve", desk.path, "--port", "0", "--count", form) for form in ("+0", "00", "01")]
+    rows += [("make", made, "--base", BASE, f"--{life}-life", form) for life in ("nonce", "order", "authz") for form in ("+60", "060")]
+    for words in rows:
+        ended, said, errors = run(program, *words)
+        see(f"{words}", (ended, said, b"written in decimal, without a sign and without a zero in front" in errors), (2, b"", True))
+    see("numbers of other forms: nothing is done", (tables_of(desk.path, folder), os.path.exists(made)), (before, False))
+    see("the number 0", run(program, "serve", desk.path, "--port", "0", "--count", "0")[::2], (0, b""))
 
 
 def helps(program, folder):
@@ -296,7 +312,7 @@ def helps(program, folder):
 def main(program):
     with workspace("words") as folder:
         for tries in (reports, wrong_statuses, interleaved, narrowed, wrong_statuses_as_json, stopped_reports, readers_gone, revocations, shared_revocation,
-                      wrong_words, helps):
+                      wrong_words, numbers_of_other_forms, helps):
             tries(program, folder)
     return finish("Words")
 

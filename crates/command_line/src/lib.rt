@@ -6,6 +6,7 @@ mod fault;
 mod grammar;
 mod help;
 mod lives;
+mod numbers;
 mod order;
 mod reading;
 mod task;

@@ -2,11 +2,17 @@
 use crate::arguments;
 use crate::fault::WordsFault;
 use crate::grammar::desk;
+use crate::numbers::number_in;
 use crate::order::{Listing, Order, SyncedFile, Syncs, Target, Terms};
 use crate::task::Task;
+use crate::words::{Argument, word_named};
 use clap::error::ErrorKind;
 use clap::{ArgMatches, Command};
 use std::alloc::Global;
+
+// What is said of a number that is written otherwise.
+const NOT_DECIMAL: &str =
+    "a number is written in decimal, without a sign and without a zero in front";
 
 // What the matches ask for.
 fn order<'a>(matches: &ArgMatches<'a>) -> Option<Order<'a>> {
@@ -105,12 +111,38 @@ fn listing<'a>(given: &ArgMatches<'a>) -> Listing<'a> {
     }
 }
 
-// What the matches of a command ask for, or that they ask for nothing.
+// Whether each number that is given is written in decimal, which the parser does not ask: it takes a sign, and zeros in front.
+fn are_decimal(matches: &ArgMatches<'_>) -> bool {
+    match matches.subcommand() {
+        Some((name, given)) => match word_named(name) {
+            Some(word) => word
+                .arguments
+                .iter()
+                .all(|argument| is_decimal(given, *argument)),
+            None => true,
+        },
+        None => true,
+    }
+}
+
+// Whether an argument is written in decimal, where it is a number and given.
+fn is_decimal(given: &ArgMatches<'_>, argument: Argument) -> bool {
+    match argument.number_id().and_then(|id| given.get_str(id)) {
+        Some(text) => number_in(text).is_some(),
+        None => true,
+    }
+}
+
+// What the matches of a command ask for, or why they ask for nothing.
 fn asked<'a>(
     alloc: Global,
     command: &mut Command<'a>,
     matches: &ArgMatches<'a>,
 ) -> Result<Order<'a>, WordsFault> {
+    if !are_decimal(matches) {
+        let error = command.error(ErrorKind::ValueValidation, NOT_DECIMAL)?;
+        return Err(WordsFault::of(alloc, &error));
+    }
     match order(matches) {
         Some(order) => Ok(order),
         None => {

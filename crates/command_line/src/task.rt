@@ -1,5 +1,5 @@
 //! What the program does, a word each.
-use crate::words::words;
+use crate::words::word_named;
 
 /// What the program does, a word each.
 #[derive(Clone, Copy)]
@@ -23,7 +23,6 @@ pub(crate) enum Task {
 impl Task {
     /// The task that a word asks for.
     pub(crate) fn named(name: &str) -> Option<Task> {
-        let word = words().iter().find(|word| word.name == name)?;
-        Some(word.task)
+        Some(word_named(name)?.task)
     }
 }

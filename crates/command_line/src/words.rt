@@ -83,7 +83,24 @@ pub(crate) enum Value {
     Syncs,
 }
 
+impl Argument {
+    /// Its name, if its value is a number.
+    pub(crate) fn number_id(self) -> Option<&'static str> {
+        match self {
+            Argument::Positional { id, value, .. } | Argument::Option { id, value, .. }
+                if value.is_number() => Some(id),
+            Argument::Seconds { id, .. } => Some(id),
+            _ => None,
+        }
+    }
+}
+
 impl Value {
+    // Whether it is a number.
+    fn is_number(self) -> bool {
+        matches!(self, Value::Count | Value::Port | Value::Number)
+    }
+
     /// What checks it.
     pub(crate) fn parser<'a>(self) -> ValueParser<'a> {
         match self {
@@ -267,6 +284,11 @@ const WORDS: &[Word] = &[
         arguments: REVOKE,
     },
 ];
+
+/// The word of this name.
+pub(crate) fn word_named(name: &str) -> Option<&'static Word> {
+    words().iter().find(|word| word.name == name)
+}
 
 /// The words, as help lists them. A function, so that the table is unfolded in one proof alone.
 pub(crate) fn words() -> &'static [Word] {
