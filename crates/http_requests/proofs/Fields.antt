@@ -1,20 +1,18 @@
 -- The values of a name, with one field more; tokens.
-use Rattle.std.proofs.Common.{◌≡◌, ◌<◌, ◌+◌, length, take, get_or, add-one, arith, ℕ, Bool, true, false, List, [], ◌∷◌, ◌++◌, map, refl, ap, ◌∙◌, sym, subst}
+use Rattle.std.proofs.Common.{◌≡◌, ◌<◌, ◌+◌, length, take, get_or, add-one, arith, ℕ, Bool, true, false, List, [], ◌∷◌, ◌++◌, map, refl, ap, ◌∙◌, sym}
 use Rattle.std.specs.List.{filter}
 use Rattle.std.specs.Prelude.{if◌then◌else◌}
 use Rattle.std.proofs.lemmas.List.{map-append}
 use Rattle.std.proofs.lemmas.Bool.Decides.{nat_tests}
 use Rattle.std.proofs.lemmas.List.Elements.{All-weaker, filter-append}
-use Rattle.std.proofs.lemmas.Slice.Eq.{bytes_eq-Decides}
 use Rattle.std.proofs.lemmas.Str.{IsUtf8-from_ascii}
 use Rattle.std.proofs.lemmas.Str.Ascii.{IsAscii-from_all}
 use Rattle.std.proofs.Math.Seq.{take-suc}
-use Rattle.std.specs.Prelude.{◌≤◌, All, IsUtf8, bytes_eq, codes}
+use Rattle.std.specs.Prelude.{◌≤◌, All, IsUtf8}
 use Rattle.httparse.specs.Spans.{IsHeaderWithin, IsRequestWithin, header_bytes, span_bytes}
 use Rattle.httparse.specs.declared.spans.RequestSpans.{RequestSpans}
 use Rattle.httparse.specs.declared.spans.HeaderSpan.{HeaderSpan}
 use Rattle.httparse.specs.Grammar.{IsToken, is_token_byte}
-use Rattle.http.specs.Token.{IsToken as IsMethod, is_token_byte as is_method_byte}
 use Rattle.http_requests.specs.Framing.{values_of, same_name}
 
 -- the values of one field, or of none
@@ -39,19 +37,6 @@ token_byte_below b passes = grind (arith, nat_tests)
 pub token_is_text : (bytes : List ℕ) → IsToken bytes → IsUtf8 bytes
 token_is_text bytes h =
     IsUtf8-from_ascii bytes (IsAscii-from_all bytes (All-weaker (λ b. is_token_byte b ≡ true) (λ b. b < 128) token_byte_below bytes h.1))
-
--- the method of a head is one that `http` takes
-pub token_is_method : (bytes : List ℕ) → IsToken bytes → IsMethod bytes
-unfolding is_token_byte is_method_byte
-token_is_method bytes h = h
-
--- what is too long for a method that takes no memory is not HEAD
-pub long_is_not_head : (bytes : List ℕ) → IsToken bytes → (IsMethod bytes → length bytes ≤ 15 → false ≡ true) → bytes_eq bytes (codes "HEAD") ≡ false
-long_is_not_head bytes token long = by (bytes_eq bytes (codes "HEAD")) refl where
-  by : (b : Bool) → bytes_eq bytes (codes "HEAD") ≡ b → b ≡ false
-  by false e = refl
-  by true e = let is : bytes ≡ codes "HEAD" = (bytes_eq-Decides bytes (codes "HEAD")).0 e in
-      sym (long (token_is_method bytes token) (subst (λ l. length l ≤ 15) (sym is) (omega arith)))
 
 -- the fields of one span more
 pub headers_more : (buffer : List ℕ) (headers : List HeaderSpan) (i : ℕ) (d : HeaderSpan) (name value : List ℕ) → i < length headers

@@ -5,7 +5,6 @@ ghost use Rattle.http_requests.specs.Heard.{IsAnswerTo, IsBody};
 
 use crate::filling::{ReadFailed, fill_from};
 use desk_model::{Allow, Refusal};
-use http::Method;
 use requests::{Request, Resource, ask_in, refusal_reply};
 use std::alloc::{AllocError, Global};
 use std::io::Read;
@@ -63,7 +62,7 @@ fn room_for(alloc: Global, begun: &[u8], count: usize) -> Result<Vec<u8>, AllocE
 pub(crate) fn answer_to(
     alloc: Global,
     resource: Resource,
-    method: &Method,
+    method: &str,
     index: bool,
     body: Result<Option<Vec<u8>>, AllocError>,
 ) -> Result<Request, AllocError>

@@ -1,5 +1,5 @@
 //! A request, from the bytes of its reader to what it asks.
-ghost use Rattle.std.specs.Prelude.{◌≡◌, ◌≤◌, ◌+◌, ◌++◌, ℕ, List, IfOk, IfSome, IsErr, IsUtf8, length, take, drop, true, false};
+ghost use Rattle.std.specs.Prelude.{◌≡◌, ◌≤◌, ◌+◌, ◌++◌, ℕ, List, IfOk, IfSome, IsUtf8, length, take, drop, true, false};
 ghost use Rattle.httparse.specs.Grammar.{IsToken};
 ghost use Rattle.httparse.specs.Spans.{IsRequestWithin, span_bytes};
 ghost use Rattle.requests.specs.Request.{refused_request};
@@ -14,7 +14,6 @@ use crate::filling::ReadFailed;
 use crate::head::{HeadRead, MOST_FIELDS, read_head};
 use crate::plan::{Plan, plan_for};
 use desk_model::{Allow, LONGEST_HEAD, Refusal};
-use http::Method;
 use httparse::spans::{EMPTY_HEADER_SPAN, HeaderSpan, RequestSpans};
 use requests::{Request, Routes, has_index, refusal_reply};
 use std::alloc::{AllocError, Global};
@@ -94,31 +93,12 @@ fn read_headed<R: Read>(
         (λ q. IfSome (R.remaining reader.old) (λ left. IsRequestAt bytes.now headers.now spans left q))) }
     ensures taken { TakesAtMost (R.remaining reader.old) (R.remaining reader.new) longest_body }
 {
+    let method = text_of(spans.method.of(bytes));
     let path = text_of(spans.path.of(bytes));
     let fields = first(headers, spans.headers);
     let begun = behind(bytes, spans.len);
-    match Method::from_bytes(alloc, spans.method.of(bytes)) {
-        Ok(method) => {
-            let plan = plan_for(alloc, routes, &method, path, bytes, fields);
-            read_as(alloc, reader, plan, &method, path, begun)
-        }
-        // The name of a method that the desk serves takes no memory.
-        Err(_) => Ok(unread_method(path)),
-    }
-}
-
-// What is known of a request for whose method there is no memory.
-fn unread_method(path: &str) -> Heard
-    ensures manner { result.manner ≡ record { head_only = false; index = has_index path.now } }
-    ensures request { IsErr result.request }
-{
-    Heard {
-        manner: Manner {
-            head_only: false,
-            index: has_index(path),
-        },
-        request: Err(AllocError),
-    }
+    let plan = plan_for(alloc, routes, method, path, bytes, fields);
+    read_as(alloc, reader, plan, method, path, begun)
 }
 
 // The request of this method and path by what its head says, and how its reply is written.
@@ -126,7 +106,7 @@ fn read_as<R: Read>(
     alloc: Global,
     reader: &mut R,
     plan: Result<Plan, AllocError>,
-    method: &Method,
+    method: &str,
     path: &str,
     begun: &[u8],
 ) -> Result<Heard, ReadFailed>
@@ -156,11 +136,11 @@ fn text_of(bytes: &[u8]) -> &str
 }
 
 // How the reply to a request of this method and path is written.
-fn manner_by(method: &Method, path: &str) -> Manner
+fn manner_by(method: &str, path: &str) -> Manner
     ensures { result ≡ manner_by method.now path.now }
 {
     Manner {
-        head_only: *method == Method::HEAD,
+        head_only: method == "HEAD",
         index: has_index(path),
     }
 }
@@ -202,7 +182,7 @@ fn read_with<R: Read>(
     alloc: Global,
     reader: &mut R,
     plan: Result<Plan, AllocError>,
-    method: &Method,
+    method: &str,
     path: &str,
     begun: &[u8],
 ) -> Result<Result<Request, AllocError>, ReadFailed>

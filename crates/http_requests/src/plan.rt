@@ -5,7 +5,6 @@ ghost use Rattle.http_requests.specs.Heard.{IsPlan};
 
 use crate::framing::{Framing, framing_for};
 use desk_model::{Allow, Refusal, Reply};
-use http::Method;
 use httparse::spans::HeaderSpan;
 use requests::{Place, Resource, Routes, has_index, place_of, refusal_reply};
 use std::alloc::{AllocError, Global};
@@ -27,7 +26,7 @@ pub enum Plan {
 pub(crate) fn plan_for(
     alloc: Global,
     routes: &mut Routes,
-    method: &Method,
+    method: &str,
     path: &str,
     buffer: &[u8],
     headers: &[HeaderSpan],

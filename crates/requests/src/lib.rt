@@ -9,6 +9,6 @@ mod router;
 mod routes;
 
 pub use lines::{Line, LineFault, read_line, reply_line};
-pub use request::{Place, Request, ask_in, place_of, refusal_reply, unserved};
+pub use request::{Place, Request, ask_in, place_of, refusal_reply};
 pub use router::Routes;
 pub use routes::{OfficeResource, Resource, has_index, is_visible, methods_of};

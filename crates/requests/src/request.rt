@@ -9,7 +9,6 @@ use crate::offices::finding;
 use crate::router::Routes;
 use crate::routes::{OfficeResource, Resource, has_index, methods_of, resource_at, serves};
 use desk_model::{Allow, Ask, OfficeAsk, Refusal, Reply, Sequence, Target};
-use http::Method;
 use json_values::{order_problem, value_of};
 use std::alloc::{AllocError, Global};
 
@@ -39,7 +38,7 @@ pub enum Place {
 pub fn place_of(
     alloc: Global,
     routes: &mut Routes,
-    method: &Method,
+    method: &str,
     path: &str,
 ) -> Result<Place, AllocError>
     ensures { IfOk result (λ p. IsPlace method.now path.now p) }
@@ -51,19 +50,7 @@ pub fn place_of(
     }
 }
 
-/// The refusal of a request of a method that this path does not serve.
-///
-/// # Errors
-///
-/// Where there is no memory for the routes.
-pub fn unserved(alloc: Global, routes: &mut Routes, path: &str) -> Result<Reply, AllocError>
-    ensures { IfOk result (λ reply. IsUnserved path.now reply) }
-{
-    let found = resource_at(alloc, routes, path)?;
-    Ok(unserved_at(alloc, found, path))
-}
-
-// The same, by what the path leads to.
+// The refusal of a request of a method that this path does not serve, by what it leads to.
 fn unserved_at(alloc: Global, found: Option<Resource>, path: &str) -> Reply
     requires { MatchOption found ((r : Resource) → ¬ (IsResourceAt path.now r)) (λ r. IsResourceAt path.now r) }
     ensures { IsUnserved path.now result }
@@ -89,7 +76,7 @@ fn unserved_at(alloc: Global, found: Option<Resource>, path: &str) -> Reply
 pub fn ask_in(
     alloc: Global,
     resource: Resource,
-    method: &Method,
+    method: &str,
     body: &[u8],
 ) -> Result<Option<Ask>, AllocError>
     ensures { IfOk result (λ o. IsAskIn resource method.now body.now o) }
@@ -97,7 +84,7 @@ pub fn ask_in(
     match resource {
         Resource::Directory => Ok(Some(Ask::Office(OfficeAsk::Directory))),
         Resource::NewNonce => Ok(Some(Ask::NewNonce {
-            head: *method == Method::HEAD,
+            head: method == "HEAD",
         })),
         Resource::Signed(target) => signed_ask(alloc, target, body),
         Resource::Office(resource) => office_ask(alloc, resource, body),

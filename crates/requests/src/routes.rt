@@ -6,7 +6,6 @@ ghost use Rattle.requests.specs.Routes.{is_visible, is_visible_byte, methods_of,
 
 use crate::router::{Routes, route_at};
 use desk_model::{Allow, LAST_NUMBER, Target};
-use http::Method;
 use std::alloc::{AllocError, Global};
 
 /// A resource of the desk.
@@ -206,14 +205,14 @@ pub fn methods_of(resource: Resource) -> Allow
 }
 
 /// Whether these methods hold this one.
-pub(crate) fn serves(methods: Allow, method: &Method) -> bool
+pub(crate) fn serves(methods: Allow, method: &str) -> bool
     ensures { result ≡ serves methods method.now }
 {
     match methods {
         Allow::No => false,
-        Allow::Get => *method == Method::GET,
-        Allow::GetHead => *method == Method::GET || *method == Method::HEAD,
-        Allow::Post => *method == Method::POST,
+        Allow::Get => method == "GET",
+        Allow::GetHead => method == "GET" || method == "HEAD",
+        Allow::Post => method == "POST",
     }
 }
 
