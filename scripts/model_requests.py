@@ -32,7 +32,9 @@ def route(call):
     method, path, body = call["method"], call["path"], call["body"].encode()
     if any(not "!" <= letter <= "~" for letter in method + path):
         raise Refused(1)
-    if path and method and len(f"{method} {path} HTTP/1.1\r\nContent-Length: {len(body)}\r\n\r\n") > HEAD:
+    if not method or not path:
+        raise Refused(1)
+    if len(f"{method} {path} HTTP/1.1\r\nContent-Length: {len(body)}\r\n\r\n") > HEAD:
         raise Refused(16)
     for pattern, methods, name in ROUTES:
         found = pattern.fullmatch(path)

@@ -188,8 +188,8 @@ def batch_of(name):
 
 
 def is_sendable(call):
-    """Whether the method and the path can stand in a head."""
-    return all(call[part] and all("!" <= letter <= "~" for letter in call[part]) for part in ("method", "path"))
+    """Whether the method and the path can stand in a head, if only as nothing."""
+    return all(all("!" <= letter <= "~" for letter in call[part]) for part in ("method", "path"))
 
 
 def stories(program, folder):

@@ -4,10 +4,10 @@ use Rattle.std.specs.Prelude.{IfOk}
 use Rattle.requests.specs.declared.lines.Line.{Line}
 use Rattle.requests.specs.declared.request.Request.{Request}
 use Rattle.http_requests.specs.Spelled.{Spells}
-use Rattle.batches.specs.LineRequests.{IsRequestOf, are_given, are_visible, request_bytes, spelled}
+use Rattle.batches.specs.LineRequests.{IsRequestOf, are_visible, request_bytes, spelled}
 
--- a line with a method and a path asks what their bytes spell
-pub asks_by_bytes : {E : Type 0} (l : Line) (res : Result Request E) → are_visible l ≡ true → are_given l ≡ true
+-- a line of visible characters asks what its bytes spell
+pub asks_by_bytes : {E : Type 0} (l : Line) (res : Result Request E) → are_visible l ≡ true
     → IfOk res (λ r. Spells (request_bytes l) r) → IfOk res (λ r. IsRequestOf l r)
-asks_by_bytes {E} l (Err e) visible given h = tt
-asks_by_bytes {E} l (Ok r) visible given h = spelled r visible given h
+asks_by_bytes {E} l (Err e) visible h = tt
+asks_by_bytes {E} l (Ok r) visible h = spelled r visible h

@@ -1,11 +1,10 @@
 -- What the line of a batch asks: the bytes of its request, read as those of a connection are.
-use Rattle.std.specs.Prelude.{◌≡◌, ◌++◌, ℕ, Bool, true, false, ◌&&◌, nat_lt, List, length, codes, decimal}
+use Rattle.std.specs.Prelude.{◌≡◌, ◌++◌, ℕ, Bool, true, false, ◌&&◌, List, length, codes, decimal}
 use Rattle.desk_model.specs.declared.call.Ask.{Ask}
 use Rattle.desk_model.specs.declared.call.Call.{Call}
 use Rattle.desk_model.specs.declared.refusal.Refusal.TheVariants as refusal
 use Rattle.desk_model.specs.declared.reply.Allow.TheVariants as allow
-use Rattle.desk_model.specs.declared.reply.Reply.{Reply}
-use Rattle.requests.specs.Request.{IsUnserved, refused_request}
+use Rattle.requests.specs.Request.{refused_request}
 use Rattle.requests.specs.Routes.{is_visible}
 use Rattle.requests.specs.declared.lines.Line.{Line}
 use Rattle.requests.specs.declared.request.Request.{Request}
@@ -25,16 +24,10 @@ request_bytes l = head_bytes l.method l.path (length l.body) ++ l.body
 abbrev pub are_visible : Line → Bool
 are_visible l = is_visible l.method && is_visible l.path
 
--- a method and a path that make a request line: neither is empty
-abbrev pub are_given : Line → Bool
-are_given l = nat_lt 0 (length l.method) && nat_lt 0 (length l.path)
-
--- what the line asks, or how it is refused: its characters are looked at first; without a method or a path it has no bytes,
--- and is refused as not served; else its bytes are read
+-- what the line asks, or how it is refused: its characters are looked at first, and then its bytes are read, whatever they are
 pub data IsRequestOf (l : Line) : Request → Type 0 where
   ill_formed : are_visible l ≡ false → IsRequestOf l (request.Refused (refused_request refusal.Malformed allow.No true))
-  not_given : (reply : Reply) → are_visible l ≡ true → are_given l ≡ false → IsUnserved l.path reply → IsRequestOf l (request.Refused reply)
-  spelled : (r : Request) → are_visible l ≡ true → are_given l ≡ true → Spells (request_bytes l) r → IsRequestOf l r
+  spelled : (r : Request) → are_visible l ≡ true → Spells (request_bytes l) r → IsRequestOf l r
 
 -- the call of a line that asks this
 abbrev pub call_of : Line → Ask → Call

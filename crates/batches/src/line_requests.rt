@@ -1,11 +1,11 @@
 //! What the lines of a batch ask: their requests, written and read as those of connections are.
 ghost use Rattle.std.specs.Prelude.{◌≡◌, IfOk, string_bytes};
 ghost use Rattle.http_requests.specs.Spelled.{Spells};
-ghost use Rattle.batches.specs.LineRequests.{IsRequestOf, are_given, are_visible, head_bytes, request_bytes};
+ghost use Rattle.batches.specs.LineRequests.{IsRequestOf, are_visible, head_bytes, request_bytes};
 
 use desk_model::{Allow, Refusal};
 use http_requests::read_call_by;
-use requests::{Line, Request, Routes, is_visible, refusal_reply, unserved};
+use requests::{Line, Request, Routes, is_visible, refusal_reply};
 use std::alloc::{AllocError, Global};
 
 /// What a line asks, or the refusal of its request, which is read by the rules for a connection (RFC 9112, 2 to 6).
@@ -24,10 +24,6 @@ pub(crate) fn request_of(
         let reply = refusal_reply(alloc, Refusal::Malformed, Allow::No, true);
         return Ok(Request::Refused(reply));
     }
-    // Without a method or a path no bytes can be made of it.
-    if !are_given(line) {
-        return Ok(Request::Refused(unserved(alloc, routes, line.path.as_str())?));
-    }
     spelled_by(alloc, routes, line)
 }
 
@@ -36,13 +32,6 @@ fn are_visible(line: &Line) -> bool
     ensures { result ≡ are_visible line.now }
 {
     is_visible(line.method.as_str()) && is_visible(line.path.as_str())
-}
-
-// Whether the method and the path make a request line.
-fn are_given(line: &Line) -> bool
-    ensures { result ≡ are_given line.now }
-{
-    0 < line.method.as_str().len() && 0 < line.path.as_str().len()
 }
 
 // What the bytes of a line's request ask.
