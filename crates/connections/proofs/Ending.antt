@@ -58,8 +58,8 @@ module _ {S C : Type 0} (v : Sight S C) (causes : Causes S) (at : ℕ) (random :
 
 -- by a connection, whatever became of it
 pub client_ends : {S C : Type 0} (v : Sight S C) (causes : Causes S) (served : Result Served IoFault) (old new : DeskState S) → old.is_closed ≡ false
-    → ServesClient v causes old new served → EndsBy (fault_after served new.is_closed) new
-client_ends v causes (Ok served) old new opened (unread same failed) = absurd (cc failed)
+    → ServesClient v causes None None None old new served → EndsBy (fault_after served new.is_closed) new
+client_ends v causes (Ok served) old new opened (unread same kept failed) = absurd (cc failed)
 client_ends v causes (Ok served) old new opened (heard s) =
-    let does = s.does None tt in served_ends v causes s.at s.random old new opened new.policy.base does.0 served.cause served.written does.2
+    let does = s.does in served_ends v causes s.at s.random old new opened new.policy.base does.0 served.cause served.written does.2
 client_ends v causes (Err why) old new opened s = reopens_if new.is_closed new refl

@@ -16,9 +16,9 @@ use Rattle.connections.specs.declared.fault.ServeFault.TheVariants as servefault
 
 module _ {S C : Type 0} (v : Sight S C) (causes : Causes S) where
   -- a connection does nothing to a desk, or what an answer to one call does
-  client_acts : (served : Result Served IoFault) (old new : DeskState S) → ServesClient v causes old new served → ActsOnce v old new
-  client_acts served old new (unread same failed) = inl same
-  client_acts served old new (heard s) = once_acts v causes s.at s.random new.policy.base old new served (s.does None tt)
+  client_acts : (served : Result Served IoFault) (old new : DeskState S) → ServesClient v causes None None None old new served → ActsOnce v old new
+  client_acts served old new (unread same kept failed) = inl same
+  client_acts served old new (heard s) = once_acts v causes s.at s.random new.policy.base old new served s.does
 
   -- after what was seen of an open desk, one connection more
   seen_next_one : (why : Option DeskFault) (old mid new : DeskState S) → IsSeenOn v old mid → ServesOne v causes why mid new → IsSeenOn v old new

@@ -1,9 +1,9 @@
 -- Connections that are served one after the other.
-use Rattle.std.proofs.Common.{◌<◌, Err, ℕ, ◌+◌, None, add-one}
+use Rattle.std.proofs.Common.{◌≡◌, ◌<◌, Err, ℕ, ◌+◌, None, add-one, false, inl, inr}
 use Rattle.desk_storage.specs.Sight.{Sight}
 use Rattle.desk_storage.specs.Storing.{Causes}
 use Rattle.desk_calls.specs.State.{DeskState}
-use Rattle.connections.specs.InTurn.{ServesAll, ServesMany, ServesNext, ServesOne}
+use Rattle.connections.specs.InTurn.{Ends, IsOfMachine, ServesAll, ServesMany, ServesNext, ServesOne}
 use Rattle.connections.specs.declared.fault.ServeFault.{ServeFault}
 use Rattle.connections.specs.declared.fault.ServeFault.TheVariants as servefault
 
@@ -21,3 +21,13 @@ module _ {S C : Type 0} (v : Sight S C) (causes : Causes S) where
   serves_last servefault.Accept n most old mid new le many same = (n, le, rw same many)
   serves_last servefault.Clock n most old mid new le many same = (n, le, rw same many)
   serves_last servefault.Random n most old mid new le many same = (n, le, rw same many)
+
+  -- where the machine failed nothing was done
+  pub machine_fails : (e : ServeFault) (old new : DeskState S) → IsOfMachine e → new ≡ old → ServesNext v causes old new (Err e)
+  machine_fails e old new (inl is) same = rw is same
+  machine_fails e old new (inr is) same = rw is same
+
+-- and a desk that was open still is
+pub machine_ends : {S : Type 0} (e : ServeFault) (desk : DeskState S) → IsOfMachine e → desk.is_closed ≡ false → Ends (Err e) desk
+machine_ends e desk (inl is) opened = rw is opened
+machine_ends e desk (inr is) opened = rw is opened

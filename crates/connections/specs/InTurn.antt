@@ -1,5 +1,6 @@
 -- What serving connections one after the other does to a desk.
-use Rattle.std.specs.Prelude.{◌≡◌, ◌<◌, ℕ, length, List, zero, suc, Bool, true, false, Option, Some, None, Result, Ok, Err, MatchResult}
+use Rattle.std.specs.Prelude.{◌≡◌, ◌⊎◌, ◌<◌, ℕ, length, List, zero, suc, Bool, true, false, Option, Some, None, Result, Ok, Err, MatchResult}
+use Rattle.std.specs.Io.KnownBytes.{Keeps}
 use Rattle.desk_storage.specs.Sight.{Sight}
 use Rattle.desk_storage.specs.Storing.{Causes}
 use Rattle.desk_calls.specs.Faults.{closes}
@@ -56,25 +57,27 @@ random_for (Ok (request.Asks what)) = random_for_ask what
 random_for _ = 0
 
 module _ {S C : Type 0} (v : Sight S C) (causes : Causes S) where
-  -- how a request that was read was served, or that its connection failed; its call had some moment, and the random bytes that
-  -- it may take. A socket does not tell its bytes, so what they spell is not known
-  pub record ServesHeard (old new : DeskState S) (served : Result Served IoFault) : Type 0 where
+  -- how the request of a client was served that sends these bytes, and what was written behind these earlier ones, where they are known;
+  -- or that its connection failed. Its call had some moment, and the random bytes that it may take
+  pub record ServesHeard (known before after : Option (List ℕ)) (old new : DeskState S) (served : Result Served IoFault) : Type 0 where
     pub heard : Heard
+    pub is_heard : IsHeardOf known heard
     pub at : ℕ
     pub random : List ℕ
     pub enough : length random ≡ random_for heard.request
     pub does :
-        (known : Option (List ℕ)) → IsHeardOf known heard
-        → MatchResult served (Serves v causes at random new.policy.base known None None old new) (Breaks v causes at random known None None old new)
+        MatchResult served (Serves v causes at random new.policy.base known before after old new) (Breaks v causes at random known before after old new)
 
-  -- a connection whose request could not be read, or was served
-  pub data ServesClient (old new : DeskState S) (served : Result Served IoFault) : Type 0 where
-    unread : new ≡ old → served ≡ Err iofault.Read → ServesClient old new served
-    heard : ServesHeard old new served → ServesClient old new served
+  -- a client whose request could not be read, and then nothing was done, or was served
+  pub data ServesClient (known before after : Option (List ℕ)) (old new : DeskState S) (served : Result Served IoFault) : Type 0 where
+    unread : new ≡ old → Keeps before after → served ≡ Err iofault.Read → ServesClient known before after old new served
+    heard : ServesHeard known before after old new served → ServesClient known before after old new served
 
-  -- one connection, and the fault by which the desk is closed after it, if it is
+  -- one connection, and the fault by which the desk is closed after it, if it is. A socket tells neither what its client sends nor what it
+  -- was given
   abbrev pub ServesOne : Option DeskFault → DeskState S → DeskState S → Type 0
-  ServesOne why old new = (served : Result Served IoFault) × ServesClient old new served × (fault_after served new.is_closed ≡ why)
+  ServesOne why old new =
+      (served : Result Served IoFault) × ServesClient None None None old new served × (fault_after served new.is_closed ≡ why)
 
   -- so many connections, one after the other, none of which closed the desk
   abbrev pub ServesMany : ℕ → DeskState S → DeskState S → Type 0
@@ -98,6 +101,10 @@ module _ {S C : Type 0} (v : Sight S C) (causes : Causes S) where
 pub record IsClosedBy {S : Type 0} (why : DeskFault) (desk : DeskState S) : Type 0 where
   pub closes : closes why ≡ true
   pub closed : desk.is_closed ≡ true
+
+-- the machine failed before a request was answered: its clock, or its source of random bytes
+abbrev pub IsOfMachine : ServeFault → Type 0
+IsOfMachine e = (e ≡ servefault.Clock) ⊎ (e ≡ servefault.Random)
 
 -- a desk that was open is closed exactly where a fault of it is told
 abbrev pub Ends : {S : Type 0} → Result Unit ServeFault → DeskState S → Type 0

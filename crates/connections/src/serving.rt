@@ -1,7 +1,8 @@
 //! Clients, one after the other.
-ghost use Rattle.std.specs.Prelude.{◌≡◌, false, IfErr, IfOk, unwrap_or};
+ghost use Rattle.std.specs.Prelude.{◌≡◌, ℕ, List, Option, false, IfErr, IfOk, unwrap_or};
 ghost use Rattle.connections.specs.declared.fault.ServeFault.TheVariants as fault;
-ghost use Rattle.connections.specs.InTurn.{Ends, ServesAll, ServesClient, ServesHeard, ServesNext, fault_after, random_for};
+ghost use Rattle.connections.specs.InTurn.{Ends, IsOfMachine, ServesAll, ServesClient, ServesHeard, ServesNext, fault_after, random_for};
+ghost use Rattle.desk_http.specs.Serving.{IsHeardOf};
 ghost use Rattle.desk_calls.specs.SeenDesks.{IsSeenOn};
 
 use crate::client::{Patient, end};
@@ -13,7 +14,7 @@ use desk_storage::Storage;
 use rand::TryRng;
 use rand::rngs::SysRng;
 use std::alloc::Global;
-use std::io::Write;
+use std::io::{Read, Write};
 use std::net::{Ipv4Addr, Net, SocketAddr, TcpListener, TcpStream};
 use std::random::RandomSource;
 use std::time::{Clock, SystemTime, UNIX_EPOCH};
@@ -69,7 +70,7 @@ pub fn serve_all<M: Clock + RandomSource, K: Storage + Drop, E: Write>(
         let Ok((stream, _)) = listener.accept() else {
             return Err(ServeFault::Accept);
         };
-        match serve_client(alloc, machine, &mut routes, &stream, desk, errors) {
+        match serve_stream(alloc, machine, &mut routes, &stream, desk, errors) {
             Ok(()) => {}
             Err(fault) => return Err(fault),
         }
@@ -77,8 +78,8 @@ pub fn serve_all<M: Clock + RandomSource, K: Storage + Drop, E: Write>(
     Ok(())
 }
 
-// Serves one connection.
-fn serve_client<M: Clock + RandomSource, K: Storage + Drop, E: Write>(
+// Serves the client at the other end of a stream, and tells on `errors` where its connection failed.
+fn serve_stream<M: Clock + RandomSource, K: Storage + Drop, E: Write>(
     alloc: Global,
     machine: &M,
     routes: &mut Routes,
@@ -90,8 +91,9 @@ fn serve_client<M: Clock + RandomSource, K: Storage + Drop, E: Write>(
     ensures served { ServesNext K.Storage.sight K.Storage.causes desk.old desk.new result }
     ensures ends { desk.old.is_closed ≡ false → Ends result desk.new }
 {
-    let at = moment(machine)?;
-    let served = serve_request(alloc, machine, routes, stream, desk, at)?;
+    let mut reader = Patient::new(stream, machine);
+    let mut writer = Patient::new(stream, machine);
+    let served = serve_client(alloc, machine, routes, &mut reader, &mut writer, desk)?;
     match served {
         Ok(_) => end(stream, machine),
         Err(_) => {
@@ -104,44 +106,45 @@ fn serve_client<M: Clock + RandomSource, K: Storage + Drop, E: Write>(
     }
 }
 
-// Reads a request and serves it.
-fn serve_request<M: Clock + RandomSource, K: Storage + Drop>(
+// Serves a client: at the machine's moment it reads one request, and writes the reply.
+fn serve_client<M: Clock + RandomSource, R: Read, W: Write, K: Storage + Drop>(
     alloc: Global,
     machine: &M,
     routes: &mut Routes,
-    stream: &TcpStream,
+    reader: &mut R,
+    writer: &mut W,
     desk: &mut Desk<K>,
-    at: u64,
 ) -> Result<Result<Served, IoFault>, ServeFault>
     ensures policy { desk.new.policy ≡ desk.old.policy }
-    ensures served { IfOk result (ServesClient K.Storage.sight K.Storage.causes desk.old desk.new) }
-    ensures failed { IfErr result (λ e. (e ≡ fault.Random) × (desk.new ≡ desk.old)) }
+    ensures served { IfOk result (ServesClient K.Storage.sight K.Storage.causes
+        (R.remaining reader.old) (W.contents writer.old) (W.contents writer.new) desk.old desk.new) }
+    ensures failed { IfErr result (λ e. IsOfMachine e × (desk.new ≡ desk.old)) }
 {
-    let mut reader = Patient::new(stream, machine);
-    match read_call_by(alloc, routes, &mut reader) {
-        Ok(heard) => serve_read(alloc, machine, stream, desk, at, heard),
+    let at = moment(machine)?;
+    match read_call_by(alloc, routes, reader) {
+        Ok(heard) => serve_read(alloc, machine, writer, desk, at, heard),
         Err(_) => Ok(Err(IoFault::Read)),
     }
 }
 
 // Serves a request that was read, with as many random bytes as its call may take.
-fn serve_read<M: Clock + RandomSource, K: Storage + Drop>(
+fn serve_read<M: RandomSource, W: Write, K: Storage + Drop>(
     alloc: Global,
     machine: &M,
-    stream: &TcpStream,
+    writer: &mut W,
     desk: &mut Desk<K>,
     at: u64,
     heard: Heard,
 ) -> Result<Result<Served, IoFault>, ServeFault>
     ensures policy { desk.new.policy ≡ desk.old.policy }
-    ensures served { IfOk result (ServesHeard K.Storage.sight K.Storage.causes desk.old desk.new) }
+    ensures served { (known : Option (List ℕ)) → IsHeardOf known heard → IfOk result (ServesHeard K.Storage.sight K.Storage.causes
+        known (W.contents writer.old) (W.contents writer.new) desk.old desk.new) }
     ensures failed { IfErr result (λ e. (e ≡ fault.Random) × (desk.new ≡ desk.old)) }
 {
     let mut random = [0u8; MOST_RANDOM];
     let random = &mut random[..random_for(&heard)];
     draw(machine, random)?;
-    let mut writer = Patient::new(stream, machine);
-    Ok(serve_heard(alloc, &mut writer, desk, at, random, heard))
+    Ok(serve_heard(alloc, writer, desk, at, random, heard))
 }
 
 // How many random bytes the call of a request may take: a nonce's, and for a new order as many tokens as one may need.

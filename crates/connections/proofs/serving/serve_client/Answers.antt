@@ -1,13 +1,16 @@
-use Rattle.std.proofs.Common.{sym, subst, ◌∙◌}
-use Rattle.connections.proofs.Ending.{EndsBy, client_ends}
+use Rattle.std.proofs.Common.{refl}
+use Rattle.std.proofs.KnownBytes.{Keeps-refl}
+use Rattle.std.proofs.lemmas.Result.{IfErr-weaker, IfOk-weaker}
+use Rattle.std.proofs.Common.{inr}
+use Rattle.connections.specs.InTurn.{heard, unread}
 use Rattle.connections.proofs.serving.serve_client.Goals as goal
 
-pub returns-in-Some-clause-ends : goal.returns-in-Some-clause-ends
-returns-in-Some-clause-ends g c opened =
-    subst (λ found. EndsBy found c.serve_request.new.desk) (sym c.closing_fault.ensures ∙ c.in-Some.is)
-    (client_ends g.K.Storage.sight g.K.Storage.causes c.in_ok-served.served c.args.desk.now c.serve_request.new.desk opened c.in_ok-served.ensures.served)
+pub returns-in-Ok-clause-served : goal.returns-in-Ok-clause-served
+returns-in-Ok-clause-served g c =
+    IfOk-weaker c.serve_read.result _ _ (λ served s. heard s) (c.serve_read.ensures.served (g.R.Read.remaining c.args.reader.now) c.in-Ok.ensures.heard)
 
-pub returns-in-None-clause-ends : goal.returns-in-None-clause-ends
-returns-in-None-clause-ends g c opened =
-    subst (λ found. EndsBy found c.serve_request.new.desk) (sym c.closing_fault.ensures ∙ c.in-None.is)
-    (client_ends g.K.Storage.sight g.K.Storage.causes c.in_ok-served.served c.args.desk.now c.serve_request.new.desk opened c.in_ok-served.ensures.served)
+pub returns-in-Ok-clause-failed : goal.returns-in-Ok-clause-failed
+returns-in-Ok-clause-failed g c = IfErr-weaker c.serve_read.result _ _ (λ e f. (inr f.0, f.1)) c.serve_read.ensures.failed
+
+pub returns-in-Err-clause-served : goal.returns-in-Err-clause-served
+returns-in-Err-clause-served g c = unread refl (Keeps-refl (g.W.Write.contents c.args.writer.now)) refl
