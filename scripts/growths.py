@@ -15,7 +15,8 @@ before the call or those after it, and `check` finds no fault. Fault 22 comes on
 come one after the other, behind all with fault 20 that left the tables before and before all that left those after; and with all
 after it refused, too, only where it comes of that growth alone, or none does. Where fault 20 left those before it, the same batch,
 run again with memory, ends as with ample memory. A batch of several calls ends with that call not made, or with its line not printed. A moment
-above the limit takes no more memory over a desk with many rows than over one with few.
+above the limit takes no more memory over a desk with many rows than over one with few, and a request of a long method no more than
+one of a short method.
 
 With a step only each N-th growth is refused, and of the batches without calls each N * N-th.
 """
@@ -201,6 +202,16 @@ def served(program, preload, step, kind, alone, folder):
     see(f"{kind.name}: the end", tries.server.stop()[0], -signal.SIGTERM)
 
 
+def long_methods(program, preload, folder):
+    """A head is read without memory, so a request of a long method takes no more growths than one of a short method."""
+    tries, counts = Tries(program, preload, folder), []
+    for length in (1, 15, 16, 200, 8000):
+        see(f"a method of {length} bytes", Reply(tries.server.ask(request("X" * length, "/new-nonce"))).status, 405)
+        counts.append(tries.growths.counted()[0])
+    see("the growths of requests of short methods and of long ones", counts, counts[:1] * len(counts))
+    see("long methods: the end", tries.server.stop()[0], -signal.SIGTERM)
+
+
 def main():
     parser = argparse.ArgumentParser()
     parser.add_argument("program")
@@ -209,7 +220,7 @@ def main():
     with workspace("growths") as folder, tempfile.TemporaryDirectory() as built:
         given = os.path.abspath(words.program), library("refuse_growth", built), words.step
         tries = [partial(served, *given, kind, alone) for kind in KINDS for alone in (True, False)]
-        side_by_side([*batches(*given), *tries], folder)
+        side_by_side([*batches(*given), *tries, partial(long_methods, *given[:2])], folder)
     return finish("Growths")
 
 

@@ -7,7 +7,7 @@ from functools import partial
 
 from first_format import RICH, restore
 from stops import SCENARIOS, Desk, Whole, first_calls, shared_end
-from trying import checked, copy, run, see, tables_of, terms_of
+from trying import checked, copy, nonce_text, order_of, run, see, tables_of, terms_of
 
 ALL = 2**62
 # How a batch ends where a growth was refused, by its line on standard error: beside a commit, and in one.
@@ -126,12 +126,12 @@ class Batch:
 
 
 class Run(Batch):
-    """The first calls in one run over a file, with the reply to each and the tables behind it."""
+    """Several calls in one run over a desk's file, with the reply to each and the tables behind it."""
 
-    def __init__(self, program, preload, folder):
-        desk, path = Desk(program, folder), f"{folder}/stages.db"
-        self.calls = [call for _, call, _ in first_calls(desk)]
-        super().__init__(Whole("the first calls in one run", program, desk.path, b"".join(self.calls), folder), preload, "input")
+    def __init__(self, name, desk, calls, preload):
+        program, folder, path = desk.program, desk.folder, f"{desk.folder}/stages.db"
+        self.calls = calls
+        super().__init__(Whole(name, program, desk.path, b"".join(calls), folder), preload, "input")
         copy(desk.path, path)
         self.replies, self.stages = [], [tables_of(path, folder)]
         for call in self.calls:
@@ -190,9 +190,46 @@ def first_requests(program, preload, step, folder):
         desk.answer(call)
 
 
-def first_run(program, preload, step, folder):
-    """The same in one run."""
-    Run(program, preload, folder).refuse(step)
+def past_its_life(desk):
+    """A report past the end of an order and of its authorization, and the order read then."""
+    report = last_report(101)(desk)
+    return [report, desk.signed("/order/1", "", at=101)]
+
+
+def behind_an_end(desk):
+    """The end of an account with a pending order, and its next requests, of a new account too."""
+    desk.open_account()
+    desk.order("a.example")
+    nonces = [nonce_text(serial) for serial in (3, 4, 5)]
+    return [desk.signed("/account/1", {"status": "deactivated"}, nonce=nonces[0]),
+            desk.signed("/new-order", order_of("b.example"), nonce=nonces[1], random="00" * 48), desk.signed("/new-account", {}, nonce=nonces[2])]
+
+
+def while_processing(desk):
+    """An order from ready to processing, which is not finalized again, to its certificate, which is handed in twice."""
+    desk.ready_order()
+    nonces = [nonce_text(serial) for serial in (4, 5, 6)]
+    finalized = [desk.signed("/order/1/finalize", {"csr": "AQID"}, nonce=nonce) for nonce in nonces[:2]]
+    certified = [desk.line("POST", "/office/certify/1", "certificate")] * 2
+    return [*finalized, desk.line("GET", "/office/orders"), *certified, desk.signed("/cert/1", "", nonce=nonces[2])]
+
+
+# Calls in one run, with the terms of their desk and the statuses of their replies.
+SCRIPTS = [
+    ("the first calls in one run", lambda desk: [call for _, call, _ in first_calls(desk)], (), "204 201 400 200 400 201"),
+    ("calls past the life of an order", past_its_life, SHORT, "409 200"),
+    ("calls behind the end of an account", behind_an_end, (), "200 401 401"),
+    ("calls on a processing order", while_processing, (), "200 403 200 200 200 200"),
+]
+
+
+def script(program, preload, step, row, folder):
+    """Calls in one run over a desk that is prepared for them."""
+    name, prepared, terms, statuses = row
+    desk = Desk(program, folder, terms)
+    tried = Run(name, desk, prepared(desk), preload)
+    see(f"{name}: the replies", b" ".join(reply[:3] for reply in tried.replies).decode(), statuses)
+    tried.refuse(step)
 
 
 def opening(program, preload, step, folder):
@@ -225,4 +262,4 @@ def batches(program, preload, step):
     """The tries of batches: the longest first."""
     given = program, preload, step
     tries = [partial(late_moments, program, preload), partial(opening, *given), *(partial(upgrade, *given, name) for name in RICH)]
-    return [*tries, partial(first_run, *given), partial(first_requests, *given), *(partial(scenario, *given, row) for row in GROWN)]
+    return [*tries, *(partial(script, *given, row) for row in SCRIPTS), partial(first_requests, *given), *(partial(scenario, *given, row) for row in GROWN)]

@@ -1,5 +1,5 @@
 #!/usr/bin/env python3
-"""Refuses each growth in turn to `Book::apply`, `from_rows` and `Desk::run`, over the crates as they are, without proof.
+"""Refuses each growth in turn to `Book::apply`, `from_rows`, `Desk::run` and to calls that take none, over the crates as they are, without proof.
 
   scripts/library_growths.py [--step N]     runs `rt try --fail-alloc` on a small program over a copy of the crates, which is compiled once; with
                                             a step, only each growth of so many
@@ -7,7 +7,8 @@
 `rt try` refuses one growth, by its number. So that each is refused in turn, the program first makes so many growths of its own as its input says.
 
 After a refusal `apply` leaves the book as it was, `from_rows` gives none, and the replies of `run` are those of the calls before; with memory
-each then does the rest. The program ends by a fault of its own where one of these is not so.
+each then does the rest. A desk that is closed answers 22 to each call, and a moment above the limit is answered 24, whichever growth is
+refused. The program ends by a fault of its own where one of these is not so.
 """
 import argparse
 import os
@@ -18,9 +19,9 @@ import sys
 import tempfile
 
 ROOT = os.path.dirname(os.path.dirname(os.path.abspath(__file__)))
-CRATES = "desk_model desk_book desk_columns stored_rows written_rows desk_decisions desk_calls"
+CRATES = "desk_model desk_book desk_storage desk_columns stored_rows written_rows desk_decisions desk_calls"
 # More growths than the program makes by its calls, and than it makes before them.
-MOST = 600
+MOST = 900
 MAIN = r"""
 //! Calls of the library, one growth refused; each is made again with memory.
 #![tactic(auto)]
@@ -29,8 +30,10 @@ use desk_calls::{Desk, DeskFault, Memory};
 use desk_columns::StoredRows;
 use desk_decisions::decide;
 use desk_model::*;
+use desk_storage::{Storage, StorageFault};
 use std::alloc::Global;
 use std::io::BufRead;
+use std::marker::Model;
 use std::process::ExitCode;
 use stored_rows::{RowsFault, from_rows};
 use written_rows::*;
@@ -201,8 +204,95 @@ fn make_book(alloc: Global, book: &Book) -> Option<bool> {
     Some(is_refused)
 }
 
+// ---- calls that take no memory
+
+// Tables in memory, none of which can be saved.
+#[derive(Drop)]
+struct Unsaved {
+    memory: Memory,
+}
+
+impl Model for Unsaved {
+    ghost use Rattle.desk_model.specs.Tables.{Tables};
+
+    ghost Value = { Tables };
+
+    ghost view = { λ unsaved. unsaved.memory };
+}
+
+impl Storage for Unsaved {
+    ghost use Rattle.desk_model.specs.Tables.{Tables};
+    ghost use Rattle.desk_storage.specs.InMemory.{in_memory};
+
+    ghost Content = { Tables };
+
+    ghost sight = { in_memory };
+
+    ghost causes = { λ _ _ _ _. Unit {0} };
+
+    fn policy(&mut self, alloc: Global) -> Result<Policy, StorageFault> {
+        self.memory.policy(alloc)
+    }
+
+    fn load_part(&mut self, alloc: Global, call: &Call) -> Result<Book, StorageFault> {
+        self.memory.load_part(alloc, call)
+    }
+
+    fn save(&mut self, _: Global, _: &Book, _: Vec<Change>) -> Result<(), StorageFault> {
+        Err(StorageFault::Device)
+    }
+}
+
+// Each call is answered by this fault, and the desk's run of all of them ends at once by it.
+fn declines<K: Storage + Drop>(alloc: Global, desk: &mut Desk<K>, calls: &[Call], fault: DeskFault) {
+    for call in calls {
+        expect(desk.answer(alloc, call).err() == Some(fault));
+    }
+    let (replies, ended) = desk.run(alloc, calls);
+    expect(replies.len() == 0 && ended == Some(fault));
+}
+
+// A desk that a failure closed answers so to whatever it is asked, also past the last moment, until it is opened again.
+fn ask_closed(alloc: Global) -> Option<()> {
+    let calls = calls(alloc)?;
+    let store = Unsaved { memory: Memory::make(alloc, policy(alloc)?, Clock::at(0)) };
+    let mut desk = Desk::adopt(alloc, store).ok()?;
+    match desk.answer(alloc, calls.first()?).err() {
+        Some(DeskFault::Device) => {}
+        Some(DeskFault::Memory) => return None,
+        _ => wrong(),
+    }
+    expect(desk.is_closed());
+    let late = late(alloc)?;
+    declines(alloc, &mut desk, calls.as_slice(), DeskFault::Reopen);
+    declines(alloc, &mut desk, late.as_slice(), DeskFault::Reopen);
+    expect(desk.answer_office(alloc, 0, OfficeAsk::RevokeAccount(1)).err() == Some(DeskFault::Reopen));
+    Some(())
+}
+
+// The calls past the last moment.
+fn late(alloc: Global) -> Option<Vec<Call>> {
+    let mut late = calls(alloc)?;
+    for call in late.iter_mut() {
+        call.at = 250000000001;
+    }
+    Some(late)
+}
+
+// An open desk declines calls past the last moment, and stays open.
+fn ask_late(alloc: Global) -> Option<()> {
+    let late = late(alloc)?;
+    let mut desk = Desk::adopt(alloc, Memory::make(alloc, policy(alloc)?, Clock::at(0))).ok()?;
+    declines(alloc, &mut desk, late.as_slice(), DeskFault::Moment);
+    expect(desk.answer_office(alloc, 250000000001, OfficeAsk::RevokeAccount(1)).err() == Some(DeskFault::Moment));
+    expect(!desk.is_closed() && shape(desk.into_store().book()) == [0; 10]);
+    Some(())
+}
+
 // What was refused: a growth of one of the three, or none of theirs.
 fn refused(alloc: Global) -> Option<&'static str> {
+    ask_closed(alloc)?;
+    ask_late(alloc)?;
     if run_calls(alloc)? {
         return Some("run");
     }
