@@ -221,9 +221,9 @@ module _ {S C : Type 0} (v : Sight S C) where
 
   module _ (causes : Causes S) where
     -- a connection does nothing to a desk, or what an answer to one call does
-    client_acts : (sent : Result Served IoFault) (old new : DeskState S) → ServesClient v causes old new sent → ActsOnce v old new
-    client_acts sent old new (turn.unread same failed) = inl same
-    client_acts sent old new (turn.heard s) = once_acts v causes s.at s.random new.policy.base old new sent (s.does None tt)
+    client_acts : (sent : Result Served IoFault) (old new : DeskState S) → ServesClient v causes None None None old new sent → ActsOnce v old new
+    client_acts sent old new (turn.unread same kept failed) = inl same
+    client_acts sent old new (turn.heard s) = once_acts v causes s.at s.random new.policy.base old new sent s.does
 
     -- so many of them
     many_calls : (n : ℕ) (old new : DeskState S) → ServesMany v causes n old new → AreCalls v (Any v) old new
