@@ -163,7 +163,8 @@ class Tries:
         """What came: the reply, refusal 15 or nothing, and whether the request was recorded or closed the desk."""
         if came == b"":
             return "nothing, closed" if ended else "nothing, recorded" if is_after else "nothing"
-        if came == refusal(15, ""):
+        # A reply to an office has no link to the directory, but where memory was refused in reading its call.
+        if came in (refusal(15, ""), refusal(15, "" if kind.records else "/office/challenges")):
             return "15, closed" if ended else "15, recorded" if is_after else "15"
         found = Reply(came)
         came_whole = (found.status, bool(found.field("Replay-Nonce")), is_after, ended)
